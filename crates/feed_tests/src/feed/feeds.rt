@@ -1,12 +1,8 @@
 //! Feeds through gates that record, refuse and wait for one another.
-ghost use Rattle.std.specs.Prelude.{◌≡◌, ◌≤◌, [], ◌∷◌, ◌++◌, IfOk, OnErr};
-ghost use Rattle.std.proofs.Common.{sym, ◌∙◌, append-nil};
-ghost use Rattle.rt_shared.specs.Visits.{reply_to};
-ghost use Rattle.rt_feed.specs.Visits.{concatenated};
+ghost use Rattle.std.specs.Prelude.{◌≤◌};
 
+use recording_gate::{Asked, Judge, Recorder};
 use rt_feed::*;
-use rt_rib::{Cmd, Refused, Reply};
-use rt_shared::Outcome;
 use std::alloc::{AllocError, Global};
 use std::process::Abort;
 use std::sync::Wait;
@@ -17,81 +13,25 @@ use std::thread::{self, Threads};
 /// How many commands are asked at once.
 const BATCH: usize = 3;
 
-/// Commands that were answered, each as a dump of no route, in order.
-#[derive(Drop)]
-struct Answered {
-    visit: Vec<(Cmd, Reply)>,
-}
-
-impl Answered {
-    fn new(alloc: Global) -> Answered
-        ensures { result.visit.items ≡ [] }
-    {
-        Answered {
-            visit: Vec::new(alloc),
-        }
-    }
-
-    /// Answers a command more, or refuses it for want of memory.
-    fn serve(&mut self, cmd: Cmd) -> Outcome
-        ensures { self.new.visit.items ≡ self.old.visit.items ++ reply_to cmd result }
-    {
-        match self.visit.push((cmd, Reply::Dumped(0))) {
-            Ok(()) => Outcome::Did(Reply::Dumped(0)),
-            Err(_) => Outcome::Refused,
-        }
-    }
-
-    /// The same of a command that is asked alone.
-    fn serve_one(&mut self, cmd: Cmd) -> Result<Reply, Refused>
-        ensures ok { IfOk result (λ reply. self.new.visit.items ≡ self.old.visit.items ++ (cmd, reply) ∷ []) }
-        ensures err { OnErr result (self.new.visit.items ≡ self.old.visit.items) }
-    {
-        match self.serve(cmd) {
-            Outcome::Did(reply) => Ok(reply),
-            Outcome::Refused => Err(Refused),
-        }
-    }
-}
-
-/// Answers each command alone but the second, which it refuses. Refuses every batch (M2), and records how many commands
-/// each had.
+/// Admits each command alone but the second. Refuses every batch (M2), and records how many commands each had.
 #[derive(Drop)]
 struct Recording {
     calls: u32,
     lengths: Vec<usize>,
-    answered: Answered,
 }
 
-impl Gate for Recording {
-    ghost Name = { Unit {0} };
-
-    ghost name = { λ _. tt };
-
-    ghost holds = { λ gate visits. gate.answered.visit.items ≡ concatenated visits };
-
-    ghost holds_some = { λ gate. (gate.answered.visit.items ∷ [], sym (append-nil gate.answered.visit.items)) };
-
-    ghost holds_one = { λ _ _ _ a b. sym a ∙ b };
-
-    #[tactic(auto, using(rt_feed::proofs::Remembered::gains_nothing))]
-    fn apply<R: Wait>(&mut self, _rt: &R, cmd: Cmd) -> Result<Reply, Refused> {
-        self.calls = self.calls.wrapping_add(1);
-        if self.calls == 2 {
-            return Err(Refused);
+impl Judge for Recording {
+    fn admits(&mut self, asked: Asked) -> bool {
+        match asked {
+            Asked::One => {
+                self.calls = self.calls.wrapping_add(1);
+                self.calls != 2
+            }
+            Asked::Batch(commands) => {
+                let _ = self.lengths.push(commands);
+                false
+            }
         }
-        self.answered.serve_one(cmd)
-    }
-
-    #[tactic(auto, using(rt_feed::proofs::Remembered::gains_nothing))]
-    fn apply_batch<R: Wait>(
-        &mut self,
-        _rt: &R,
-        cmds: &[Cmd],
-        _out: &mut Vec<Outcome>,
-    ) -> Result<(), Refused> {
-        let _ = self.lengths.push(cmds.len());
-        Err(Refused)
     }
 }
 
@@ -122,57 +62,23 @@ impl Gathering {
     }
 }
 
-/// Holds its one call until each of its gathering was called, and then answers; refuses where that does not come to pass.
+/// Holds its gate's one call until each gate of the gathering was called, and then admits it, if that has come to pass.
 #[derive(Drop)]
 struct Meeting<'a> {
     gathering: &'a Gathering,
-    answered: Answered,
 }
 
-impl<'a> Gate for Meeting<'a> {
-    ghost Name = { Unit {0} };
-
-    ghost name = { λ _. tt };
-
-    ghost holds = { λ gate visits. gate.answered.visit.items ≡ concatenated visits };
-
-    ghost holds_some = { λ gate. (gate.answered.visit.items ∷ [], sym (append-nil gate.answered.visit.items)) };
-
-    ghost holds_one = { λ _ _ _ a b. sym a ∙ b };
-
-    #[tactic(auto, using(rt_feed::proofs::Remembered::gains_nothing))]
-    fn apply<R: Wait>(&mut self, _rt: &R, cmd: Cmd) -> Result<Reply, Refused> {
-        if !self.gathering.have_met() {
-            return Err(Refused);
-        }
-        self.answered.serve_one(cmd)
-    }
-
-    #[tactic(auto, using(rt_feed::proofs::Remembered::gains_nothing))]
-    fn apply_batch<R: Wait>(
-        &mut self,
-        _rt: &R,
-        cmds: &[Cmd],
-        out: &mut Vec<Outcome>,
-    ) -> Result<(), Refused> {
-        if cmds.len() > BATCH || !self.gathering.have_met() {
-            return Err(Refused);
-        }
-        out.try_reserve(cmds.len())?;
-        for cmd in cmds {
-            let outcome = self.answered.serve(*cmd);
-            out.push_reserved(outcome);
-        }
-        Ok(())
+impl<'a> Judge for Meeting<'a> {
+    fn admits(&mut self, _asked: Asked) -> bool {
+        self.gathering.have_met()
     }
 }
 
-fn new_recording(alloc: Global) -> Recording {
-    Recording {
+fn new_recording(alloc: Global) -> Recorder<Recording> {
+    Recorder::new(Recording {
         calls: 0,
         lengths: Vec::new(alloc),
-        answered: Answered::new(alloc),
-    }
+    })
 }
 
 /// Asks the text of a recording gate, up to so many commands at once: the batches have these lengths, and the report says this.
@@ -190,7 +96,7 @@ fn assert_asked<R: Wait + Abort>(
     let report = run_feed(rt, alloc, text, batch, &mut gate).expect(rt, "memory");
     let mut printed = Vec::new(alloc);
     let is_printed = write_report(&mut printed, 1, &report).is_ok();
-    assert_eq!(rt; gate.lengths.as_slice(), lengths);
+    assert_eq!(rt; gate.judge().lengths.as_slice(), lengths);
     assert!(rt; is_printed);
     assert_eq!(rt; printed.as_slice(), wanted);
 }
@@ -230,7 +136,7 @@ fn a_batch_may_have_more_than_a_million_commands(rt: HostRuntime) -> Result<(), 
     let text = "dump\n".repeat(rt.alloc(), 1_000_001)?;
     let mut gate = new_recording(rt.alloc());
     let report = run_feed(&rt, rt.alloc(), text.as_bytes(), usize::MAX, &mut gate)?;
-    assert!(rt; gate.lengths.as_slice() == [1_000_001].as_slice());
+    assert!(rt; gate.judge().lengths.as_slice() == [1_000_001].as_slice());
     assert!(rt; report.lines().len() == 1_000_001);
     Ok(())
 }
@@ -262,7 +168,7 @@ fn a_run_without_texts_or_with_other_feeds_asks_nothing(rt: HostRuntime) -> Resu
     let none = run_feeds(&rt, rt.alloc(), &[], 1, &mut feeds);
     let two = run_feeds(&rt, rt.alloc(), texts.as_slice(), 1, &mut feeds);
     assert!(rt; none == Err(RunFault::NoText) && two == Err(RunFault::FeedCount));
-    assert!(rt; feeds[0].gate.calls == 0 && feeds[0].report.is_none());
+    assert!(rt; feeds[0].gate.judge().calls == 0 && feeds[0].report.is_none());
     Ok(())
 }
 
@@ -270,16 +176,11 @@ fn a_run_without_texts_or_with_other_feeds_asks_nothing(rt: HostRuntime) -> Resu
 fn gathered<'a>(
     alloc: Global,
     gathering: &'a Gathering,
-) -> Result<Vec<Feed<Meeting<'a>>>, AllocError> {
+) -> Result<Vec<Feed<Recorder<Meeting<'a>>>>, AllocError> {
     let mut feeds = Vec::new(alloc);
     for _ in 0..gathering.gates {
-        feeds.push(Feed {
-            gate: Meeting {
-                gathering,
-                answered: Answered::new(alloc),
-            },
-            report: None,
-        })?;
+        let gate = Recorder::new(Meeting { gathering });
+        feeds.push(Feed { gate, report: None })?;
     }
     Ok(feeds)
 }
@@ -316,7 +217,7 @@ fn assert_meet<R: Threads + Wait + Sync + Abort>(
 }
 
 /// Whether the feed has a report of so many lines, none refused.
-fn is_answered(feed: &Feed<Meeting<'_>>, commands: usize) -> bool {
+fn is_answered(feed: &Feed<Recorder<Meeting<'_>>>, commands: usize) -> bool {
     match &feed.report {
         Some(report) => !report.has_refusal() && report.lines().len() == commands,
         None => false,

@@ -1,9 +1,9 @@
 use Rattle.std.proofs.Common.{◌+◌, ◌≤◌, take, length, vec_len, vec_capacity}
 use Rattle.rt_feed.proofs.Remembered.{HasAnswered}
-use Rattle.feed_tests.proofs.feed.feeds.MeetingGate.apply_batch.Given as goal
+use Rattle.recording_gate.proofs.gate.RecorderGate.apply_batch.Given as goal
 
 abbrev pub invariant-loop-cmd : goal.invariant-loop-cmd
 invariant-loop-cmd g l = record {
-  answered : HasAnswered (take l.cmd-index l.cmds) l.initial.self.answered.visit.items l.initial.out.items l.self.answered.visit.items l.out.items;
+  answered : HasAnswered (take l.cmd-index l.cmds) l.initial.self.answered l.initial.out.items l.self.answered l.out.items;
   room : vec_len l.out + length l.cmds ≤ vec_capacity l.out + l.cmd-index;
 }
