@@ -84,7 +84,7 @@ impl<A: Allocator + Copy, B: Allocator + Copy> Fib<A, B> {
     }
 
     /// The answer to a look-up of each address, in order: the answers take the place of what stood in their list, which is as
-    /// long as that of the addresses. The memory has several reads under way at once, so it is faster than one by one.
+    /// long as that of the addresses.
     pub fn look_up_each(&self, addresses: &[Addr], answers: &mut [Option<Route>])
         requires { length answers.old ≡ length addresses.now }
         ensures { answers.new ≡ map (λ addr. look_up addr self.now) addresses.now }
