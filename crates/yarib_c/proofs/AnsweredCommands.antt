@@ -1,5 +1,5 @@
 -- What the libraries say of new tables and of answered commands, as it is said of what a handle holds.
-use Rattle.std.proofs.Common.{◌≡◌, ℕ, [], refl, ap, ◌∙◌}
+use Rattle.std.proofs.Common.{◌≡◌, ℕ, [], refl, ap}
 use Rattle.std.specs.Prelude.{Some, Result, Ok, Err, IfOk, OnErr, MatchResult}
 use Rattle.rt_rib.specs.declared.commands.Cmd.{Cmd}
 use Rattle.rt_rib.specs.declared.commands.Reply.{Reply}

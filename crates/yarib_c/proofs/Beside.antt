@@ -1,5 +1,5 @@
 -- What is beside a table follows the command that the table was answered.
-use Rattle.std.proofs.Common.{◌≡◌, List, Option, Some, None, subst, sym}
+use Rattle.std.proofs.Common.{List, Option, Some, None, subst, sym}
 use Rattle.rt_rib.specs.declared.routes.Route.{Route}
 use Rattle.rt_rib.specs.declared.commands.Cmd.{Cmd}
 use Rattle.rt_fib.specs.Laws.{KeepsOutside}

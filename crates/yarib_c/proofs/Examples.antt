@@ -46,7 +46,7 @@ use Rattle.yarib_c.specs.Lists.{ShowsRoutes, ShowsEntries, ShowsJournal, IsPlace
 use Rattle.yarib_c.specs.declared.sizes.TheConstants.{NODE_BYTES, ENTRY_BYTES}
 use Rattle.yarib_c.specs.Sizes.{bytes_of, TakesBytes}
 use Rattle.yarib_c.specs.Selections.{IsOutOfRange, IsTo, IsPart, feed_asked, best_number, IsSelection, ShowsSelected}
-use Rattle.yarib_c.specs.Differences.{by_number, told_as, difference_as, TellsDifference, IsAlikeFrom}
+use Rattle.yarib_c.specs.Differences.{by_number, told_as, told_difference, TellsDifference, IsAlikeFrom}
 
 -- 10.0.0.0/8, and a route to it through 192.0.2.1
 abbrev ten_8 : Prefix
@@ -437,14 +437,14 @@ answers_in_numbers :
     (hop : Hop) (r : Route) → (told_as answer.NoRoute ≡ no_route) × (told_as (answer.Hop hop) ≡ hop_as hop) × (told_as (answer.Route r) ≡ route_as r)
 answers_in_numbers hop r = (refl, refl, refl)
 
--- difference_as
-a_range_in_numbers : (d : Difference) → difference_as d ≡ record { first = d.first.0; last = d.last.0; before = told_as d.old; after = told_as d.new }
+-- told_difference
+a_range_in_numbers : (d : Difference) → told_difference d ≡ record { first = d.first.0; last = d.last.0; before = told_as d.old; after = told_as d.new }
 a_range_in_numbers d = refl
 
 -- TellsDifference
 what_a_told_difference_is :
     (number : ℕ) (old new : List Route) (from : ℕ) (told : YaribDifference) → TellsDifference number old new from told
-    ↔ ((way : By) × (by_number way ≡ number) × (range : Difference) × IsFirstDifference way (by_own old) (by_own new) (addr from) (Some range) × (told ≡ difference_as range))
+    ↔ ((way : By) × (by_number way ≡ number) × (range : Difference) × IsFirstDifference way (by_own old) (by_own new) (addr from) (Some range) × (told ≡ told_difference range))
 what_a_told_difference_is number old new from told = (
   λ h. (h.way, h.way_is, h.range, h.is_first, h.is),
   λ (way, way_is, range, is_first, is). record { way = way; way_is = way_is; range = range; is_first = is_first; is = is },

@@ -1,5 +1,5 @@
 -- Outcomes of commands, one command after another.
-use Rattle.std.proofs.Common.{◌≡◌, ℕ, ◌+◌, ◌<◌, List, [], ◌∷◌, ◌++◌, length, take, set, get_or, refl, subst, sym}
+use Rattle.std.proofs.Common.{ℕ, ◌+◌, ◌<◌, List, [], ◌∷◌, ◌++◌, length, take, set, get_or, refl, subst}
 use Rattle.std.proofs.lemmas.List.{take_more, take_more_set}
 use Rattle.yarib_c.specs.declared.held.Held.{Held}
 use Rattle.yarib_c.specs.declared.commands.YaribCommand.{YaribCommand}

@@ -1,19 +1,18 @@
 -- What a call does to what a handle holds, and why it did nothing.
-use Rattle.std.specs.Prelude.{◌≡◌, ℕ, suc, ◌≤◌, ◌⊎◌, List, Option, Some, None, [], ◌∷◌, length, map, take}
+use Rattle.std.specs.Prelude.{◌≡◌, ℕ, ◌≤◌, ◌⊎◌, List, Option, Some, None, [], ◌∷◌, length, map, take}
 use Rattle.rt_cidr.specs.declared.address.Addr.{Addr}
 use Rattle.rt_rib.specs.declared.routes.Route.{Route}
 use Rattle.rt_rib.specs.declared.commands.Cmd.{Cmd}
 use Rattle.rt_rib.specs.declared.commands.Reply.{Reply}
-use Rattle.rt_rib.specs.declared.commands.Entry.{Entry}
 use Rattle.rt_rib.specs.LookUp.{look_up}
-use Rattle.rt_rib.specs.Book.{IsLimit, IsFeed}
+use Rattle.rt_rib.specs.Book.{IsFeed}
 use Rattle.yarib_c.specs.declared.held.Held.{Held}
 use Rattle.yarib_c.specs.declared.handle.Yarib.{Yarib}
 use Rattle.yarib_c.specs.declared.routes.YaribRoute.{YaribRoute}
 use Rattle.yarib_c.specs.declared.commands.YaribCommand.{YaribCommand}
 use Rattle.yarib_c.specs.declared.commands.YaribReply.{YaribReply}
 use Rattle.yarib_c.specs.Handle.{held_at}
-use Rattle.yarib_c.specs.Kinds.{limit_of, routes_in, journal_in, IsForwarding, IsSame, Applied, NotApplied}
+use Rattle.yarib_c.specs.Kinds.{routes_in, IsForwarding, IsSame, Applied, NotApplied}
 use Rattle.yarib_c.specs.Forms.{IsCommand, reply_as, answer_as, unanswered}
 
 -- what the handle holds

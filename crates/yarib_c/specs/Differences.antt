@@ -25,8 +25,8 @@ told_as (answer.Hop hop) = hop_as hop
 told_as (answer.Route r) = route_as r
 
 -- a range with its two answers
-abbrev pub difference_as : Difference → YaribDifference
-difference_as d = record { first = d.first.0; last = d.last.0; before = told_as d.old; after = told_as d.new }
+abbrev pub told_difference : Difference → YaribDifference
+told_difference d = record { first = d.first.0; last = d.last.0; before = told_as d.old; after = told_as d.new }
 
 -- it is the first range from there on
 pub record TellsDifference (number : ℕ) (old new : List Route) (from : ℕ) (told : YaribDifference) : Type 0 where
@@ -34,7 +34,7 @@ pub record TellsDifference (number : ℕ) (old new : List Route) (from : ℕ) (t
   pub way_is : by_number way ≡ number
   pub range : Difference
   pub is_first : IsFirstDifference way (by_own old) (by_own new) (addr from) (Some range)
-  pub is : told ≡ difference_as range
+  pub is : told ≡ told_difference range
 
 -- there is none
 pub record IsAlikeFrom (number : ℕ) (old new : List Route) (from : ℕ) : Type 0 where

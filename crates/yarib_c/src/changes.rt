@@ -7,9 +7,9 @@ ghost use Rattle.yarib_c.specs.Forms.{IsCommand};
 ghost use Rattle.yarib_c.specs.Calls.{held_in, Holds, Goes, IsKept, Answers, Refused, HasOutcome, HaveOutcomes};
 
 use crate::commands::{YaribCommand, YaribReply};
-use crate::handle::Yarib;
+use crate::handle::{Yarib, with_held};
 use crate::held::Held;
-use crate::status::{BAD_COMMAND, BAD_NUMBER, BAD_SIZE, DONE, NO_MEMORY, NOTHING, WRONG_KIND};
+use crate::status::{BAD_COMMAND, BAD_NUMBER, BAD_SIZE, DONE, NO_MEMORY, WRONG_KIND};
 use rt_rib::{feed_ok, limit_ok};
 use std::alloc::Global;
 
@@ -51,15 +51,10 @@ pub extern "C" fn yarib_reserve(alloc: Global, table: &mut Yarib, entries: usize
     ensures kept { IsKept table.old table.new }
     ensures known { (result ≡ 0) ⊎ ((result ≡ 1) ⊎ (result ≡ 4)) }
 {
-    let Some(mut held) = table.take(alloc) else {
-        return NOTHING;
-    };
-    let reserved = held.reserve(entries);
-    *table = Yarib::of(held);
-    match reserved {
+    with_held!(table, alloc, held => match held.reserve(entries) {
         Ok(()) => DONE,
         Err(_) => NO_MEMORY,
-    }
+    })
 }
 
 /// Answers a command, and keeps command and reply in the journal, where there is one. A look-up or a dump changes no route.
@@ -80,12 +75,7 @@ pub extern "C" fn yarib_apply(
     ensures kind { result ≡ 10 → Holds table.old IsForwarding }
     ensures known { (result ≡ 0) ⊎ ((result ≡ 1) ⊎ ((result ≡ 2) ⊎ ((result ≡ 3) ⊎ ((result ≡ 4) ⊎ (result ≡ 10))))) }
 {
-    let Some(mut held) = table.take(alloc) else {
-        return NOTHING;
-    };
-    let status = apply(&mut held, command, reply);
-    *table = Yarib::of(held);
-    status
+    with_held!(table, alloc, held => apply(&mut held, command, reply))
 }
 
 fn apply(held: &mut Held, command: &YaribCommand, reply: &mut YaribReply) -> u32
@@ -133,12 +123,10 @@ pub extern "C" fn yarib_apply_each(
     if replies.len() != commands.len() {
         return BAD_SIZE;
     }
-    let Some(mut held) = table.take(alloc) else {
-        return NOTHING;
-    };
-    apply_each(&mut held, commands, replies);
-    *table = Yarib::of(held);
-    DONE
+    with_held!(table, alloc, held => {
+        apply_each(&mut held, commands, replies);
+        DONE
+    })
 }
 
 fn apply_each(held: &mut Held, commands: &[YaribCommand], replies: &mut [YaribReply])

@@ -22,7 +22,14 @@ impl YaribCommand {
     ghost use Rattle.std.specs.Prelude.{◌≡◌, MatchOption};
     ghost use Rattle.rt_rib.specs.declared.commands.Cmd.{Cmd as Command};
     ghost use Rattle.rt_rib.specs.declared.routes.Hop.{Hop as NextHop};
-    ghost use Rattle.yarib_c.specs.Forms.{IsCommand, IsHop, command_of, put_of};
+    ghost use Rattle.rt_cidr.specs.Cidr.{IsPrefix};
+    ghost use Rattle.yarib_c.specs.Forms.{IsCommand, IsAt, IsHop, command_of, put_of};
+
+    fn prefix(&self) -> Option<Prefix>
+        ensures { MatchOption result (¬ IsPrefix self.now.base self.now.len) (λ prefix. IsAt self.now prefix) }
+    {
+        Prefix::new(self.base, self.len).ok()
+    }
 
     fn hop(&self) -> Option<Hop>
         ensures { MatchOption result ((hop : NextHop) → ¬ IsHop self.now hop) (λ hop. IsHop self.now hop) }
@@ -38,36 +45,27 @@ impl YaribCommand {
     pub(crate) fn read(&self) -> Option<Cmd>
         ensures { MatchOption result ((cmd : Command) → ¬ IsCommand self.now cmd) (λ cmd. IsCommand self.now cmd) }
     {
-        match self.operation {
-            1 => {
-                let prefix = Prefix::new(self.base, self.len).ok()?;
-                let hop = self.hop()?;
-                Some(Cmd::Add {
-                    prefix,
-                    pref: self.pref,
-                    hop,
-                })
-            }
-            2 => {
-                let prefix = Prefix::new(self.base, self.len).ok()?;
-                let hop = self.hop()?;
-                Some(Cmd::Replace {
-                    prefix,
-                    pref: self.pref,
-                    hop,
-                })
-            }
-            3 => {
-                let prefix = Prefix::new(self.base, self.len).ok()?;
-                Some(Cmd::Withdraw { prefix })
-            }
-            4 => Some(Cmd::Lookup {
+        Some(match self.operation {
+            1 => Cmd::Add {
+                prefix: self.prefix()?,
+                pref: self.pref,
+                hop: self.hop()?,
+            },
+            2 => Cmd::Replace {
+                prefix: self.prefix()?,
+                pref: self.pref,
+                hop: self.hop()?,
+            },
+            3 => Cmd::Withdraw {
+                prefix: self.prefix()?,
+            },
+            4 => Cmd::Lookup {
                 addr: Addr(self.base),
-            }),
-            5 => Some(Cmd::Dump),
-            6 => Some(Cmd::Purge),
-            _ => None,
-        }
+            },
+            5 => Cmd::Dump,
+            6 => Cmd::Purge,
+            _ => return None,
+        })
     }
 
     /// The numbers of a feed's command. Those that it doesn't speak of are 0.

@@ -4,10 +4,10 @@ ghost use Rattle.yarib_c.specs.Kinds.{routes_in, IsForwarding};
 ghost use Rattle.yarib_c.specs.Calls.{held_in, Holds};
 ghost use Rattle.yarib_c.specs.Differences.{TellsDifference, IsAlikeFrom};
 
-use crate::handle::Yarib;
+use crate::handle::{Yarib, with_held};
 use crate::held::Held;
 use crate::routes::YaribRoute;
-use crate::status::{BAD_NUMBER, DONE, NONE_LEFT, NOTHING, WRONG_KIND};
+use crate::status::{BAD_NUMBER, DONE, NONE_LEFT, WRONG_KIND};
 use rt_cidr::Addr;
 use rt_diff::{By, Comparison, TableAnswer};
 use std::alloc::Global;
@@ -57,17 +57,9 @@ pub extern "C" fn yarib_first_difference(
     ensures new { held_in new.new ≡ held_in new.old }
     ensures known { (result ≡ 0) ⊎ ((result ≡ 1) ⊎ ((result ≡ 2) ⊎ ((result ≡ 6) ⊎ (result ≡ 10)))) }
 {
-    let Some(old_held) = old.take(alloc) else {
-        return NOTHING;
-    };
-    let Some(new_held) = new.take(alloc) else {
-        *old = Yarib::of(old_held);
-        return NOTHING;
-    };
-    let status = compare(&old_held, &new_held, by, from, difference);
-    *old = Yarib::of(old_held);
-    *new = Yarib::of(new_held);
-    status
+    with_held!(old, alloc, old_held => with_held!(new, alloc, new_held => {
+        compare(&old_held, &new_held, by, from, difference)
+    }))
 }
 
 fn compare(old: &Held, new: &Held, by: u32, from: u32, difference: &mut YaribDifference) -> u32

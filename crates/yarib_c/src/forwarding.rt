@@ -5,9 +5,9 @@ ghost use Rattle.yarib_c.specs.Kinds.{routes_in, IsForwarding, IsFollowed, IsPla
 ghost use Rattle.yarib_c.specs.Sizes.{TakesBytes};
 ghost use Rattle.yarib_c.specs.Calls.{held_in, Holds, Forwards, IsKept};
 
-use crate::handle::Yarib;
+use crate::handle::{Yarib, with_held};
 use crate::held::Held;
-use crate::status::{DONE, NO_MEMORY, NOTHING, WRONG_KIND};
+use crate::status::{DONE, NO_MEMORY, WRONG_KIND};
 use rt_fib::Fib;
 use std::alloc::Global;
 use std::sync::Arc;
@@ -22,12 +22,7 @@ pub extern "C" fn yarib_forward(alloc: Global, table: &mut Yarib, forwarding: &m
     ensures kind { result ≡ 10 → Holds table.old IsForwarding }
     ensures known { (result ≡ 0) ⊎ ((result ≡ 1) ⊎ ((result ≡ 4) ⊎ (result ≡ 10))) }
 {
-    let Some(held) = table.take(alloc) else {
-        return NOTHING;
-    };
-    let status = forward(alloc, &held, forwarding);
-    *table = Yarib::of(held);
-    status
+    with_held!(table, alloc, held => forward(alloc, &held, forwarding))
 }
 
 fn forward(alloc: Global, held: &Held, forwarding: &mut Yarib) -> u32
@@ -63,12 +58,7 @@ pub extern "C" fn yarib_share(alloc: Global, forwarding: &mut Yarib, other: &mut
     ensures kind { result ≡ 10 → Holds forwarding.old (λ held. ¬ IsForwarding held) }
     ensures known { (result ≡ 0) ⊎ ((result ≡ 1) ⊎ ((result ≡ 4) ⊎ (result ≡ 10))) }
 {
-    let Some(held) = forwarding.take(alloc) else {
-        return NOTHING;
-    };
-    let status = share(alloc, &held, other);
-    *forwarding = Yarib::of(held);
-    status
+    with_held!(forwarding, alloc, held => share(alloc, &held, other))
 }
 
 fn share(alloc: Global, held: &Held, other: &mut Yarib) -> u32
@@ -100,27 +90,13 @@ pub extern "C" fn yarib_follow(alloc: Global, table: &mut Yarib) -> u32
     ensures kind { result ≡ 10 → Holds table.old (λ held. ¬ IsPlain held) }
     ensures known { (result ≡ 0) ⊎ ((result ≡ 1) ⊎ ((result ≡ 4) ⊎ (result ≡ 10))) }
 {
-    let Some(mut held) = table.take(alloc) else {
-        return NOTHING;
-    };
-    let status = follow(alloc, &mut held);
-    *table = Yarib::of(held);
-    status
-}
-
-fn follow(alloc: Global, held: &mut Held) -> u32
-    ensures done { result ≡ 0 → IsFollowed held.new }
-    ensures same { IsSame held.old held.new }
-    ensures kind { result ≡ 10 → ¬ IsPlain held.old }
-    ensures known { (result ≡ 0) ⊎ ((result ≡ 4) ⊎ (result ≡ 10)) }
-{
-    let Held::Plain(plain) = held else {
-        return WRONG_KIND;
-    };
-    match plain.follow(alloc) {
-        Ok(()) => DONE,
-        Err(_) => NO_MEMORY,
-    }
+    with_held!(table, alloc, held => match &mut *held {
+        Held::Plain(plain) => match plain.follow(alloc) {
+            Ok(()) => DONE,
+            Err(_) => NO_MEMORY,
+        },
+        Held::Journaled(_) | Held::Forwarding(_) => WRONG_KIND,
+    })
 }
 
 /// How many bytes a forwarding table takes, all its handles together; of a table about how many: those of its trie's nodes, of its
@@ -133,10 +109,8 @@ pub extern "C" fn yarib_memory(alloc: Global, table: &mut Yarib, bytes: &mut usi
     ensures silent { result ≢ 0 → bytes.new ≡ bytes.old }
     ensures known { (result ≡ 0) ⊎ (result ≡ 1) }
 {
-    let Some(held) = table.take(alloc) else {
-        return NOTHING;
-    };
-    *bytes = held.bytes();
-    *table = Yarib::of(held);
-    DONE
+    with_held!(table, alloc, held => {
+        *bytes = held.bytes();
+        DONE
+    })
 }

@@ -11,6 +11,23 @@ use std::marker::Model;
 use std::mem;
 use std::ptr::null_mut;
 
+/// The status of a call on what the handle holds, which it holds again afterwards, and `NOTHING` where it holds nothing. It is a
+/// macro since contracts don't tell what a closure leaves in the lists of its caller.
+macro_rules! with_held {
+    ($handle:ident, $alloc:ident, $held:ident => $status:expr) => {
+        match $handle.take($alloc) {
+            None => $crate::status::NOTHING,
+            Some(mut $held) => {
+                let status = $status;
+                *$handle = $crate::handle::Yarib::of($held);
+                status
+            }
+        }
+    };
+}
+
+pub(crate) use with_held;
+
 /// What C keeps: a pointer that is null where the handle holds nothing. Contracts see what it holds.
 #[repr(C)]
 pub struct Yarib {

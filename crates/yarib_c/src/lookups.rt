@@ -5,7 +5,7 @@ ghost use Rattle.rt_rib.specs.LookUp.{look_up};
 ghost use Rattle.yarib_c.specs.Kinds.{routes_in};
 ghost use Rattle.yarib_c.specs.Forms.{answer_as};
 ghost use Rattle.yarib_c.specs.Calls.{addr, answers_in};
-ghost use Rattle.yarib_c.specs.inside.Places.{number_at, route_at};
+ghost use Rattle.yarib_c.specs.inside.Places.{number_at, told_at};
 
 use crate::held::Held;
 use crate::routes::YaribRoute;
@@ -40,8 +40,8 @@ fn answer_chunk(
     requires within { start + size ≤ length addresses.now }
     requires size { length answers.old ≡ length addresses.now }
     ensures each { (j : ℕ) → j < size
-        → route_at answers.new (start + j) ≡ answer_as (look_up (addr (number_at addresses.now (start + j))) (routes_in held.now)) }
-    ensures rest { (k : ℕ) → k < start → route_at answers.new k ≡ route_at answers.old k }
+        → told_at answers.new (start + j) ≡ answer_as (look_up (addr (number_at addresses.now (start + j))) (routes_in held.now)) }
+    ensures rest { (k : ℕ) → k < start → told_at answers.new k ≡ told_at answers.old k }
 {
     let mut asked = [Addr(0); CHUNK];
     copy_chunk(addresses, &mut asked, start, size);

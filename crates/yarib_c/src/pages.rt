@@ -5,10 +5,10 @@ ghost use Rattle.yarib_c.specs.Kinds.{routes_in, IsForwarding};
 ghost use Rattle.yarib_c.specs.Calls.{held_in, Holds};
 ghost use Rattle.yarib_c.specs.Lists.{PutsRoutes, ShowsFrom};
 
-use crate::handle::Yarib;
+use crate::handle::{Yarib, with_held};
 use crate::held::Held;
 use crate::routes::YaribRoute;
-use crate::status::{BAD_BITS, BAD_LENGTH, DONE, NOTHING, WRONG_KIND};
+use crate::status::{BAD_BITS, BAD_LENGTH, DONE, WRONG_KIND};
 use rt_cidr::{Prefix, TextFault};
 use rt_rib::{Hop, Route, RoutesFrom};
 use std::alloc::Global;
@@ -32,12 +32,7 @@ pub extern "C" fn yarib_routes_from(
     ensures silent { result ≢ 0 → (routes.new ≡ routes.old) × (used.new ≡ used.old) }
     ensures known { (result ≡ 0) ⊎ ((result ≡ 1) ⊎ ((8 ≤ result) × (result ≤ 10))) }
 {
-    let Some(held) = table.take(alloc) else {
-        return NOTHING;
-    };
-    let status = show_from(&held, from, routes, used);
-    *table = Yarib::of(held);
-    status
+    with_held!(table, alloc, held => show_from(&held, from, routes, used))
 }
 
 fn show_from(held: &Held, from: &YaribRoute, routes: &mut [YaribRoute], used: &mut usize) -> u32

@@ -6,12 +6,12 @@ ghost use Rattle.yarib_c.specs.Calls.{held_in, Holds, addr, answers_in};
 ghost use Rattle.yarib_c.specs.Lists.{ShowsRoutes, ShowsEntries, ShowsJournal};
 
 use crate::commands::YaribEntry;
-use crate::handle::Yarib;
+use crate::handle::{Yarib, with_held};
 use crate::held::Held;
 use crate::lists::{put_entries, put_routes};
 use crate::lookups::answer_each;
 use crate::routes::YaribRoute;
-use crate::status::{BAD_SIZE, DONE, NO_MEMORY, NOTHING, WRONG_KIND};
+use crate::status::{BAD_SIZE, DONE, NO_MEMORY, WRONG_KIND};
 use rt_cidr::Addr;
 use std::alloc::Global;
 
@@ -33,12 +33,10 @@ pub extern "C" fn yarib_look_up(
     if answers.len() != addresses.len() {
         return BAD_SIZE;
     }
-    let Some(held) = table.take(alloc) else {
-        return NOTHING;
-    };
-    answer_each(&held, addresses, answers);
-    *table = Yarib::of(held);
-    DONE
+    with_held!(table, alloc, held => {
+        answer_each(&held, addresses, answers);
+        DONE
+    })
 }
 
 /// The routes whose prefix covers the address, the best first, from the index `skip` on, and how many there are in all.
@@ -59,12 +57,7 @@ pub extern "C" fn yarib_look_up_all(
     ensures silent { result ≢ 0 → (routes.new ≡ routes.old) × (total.new ≡ total.old) }
     ensures known { (result ≡ 0) ⊎ ((result ≡ 1) ⊎ ((result ≡ 4) ⊎ (result ≡ 10))) }
 {
-    let Some(held) = table.take(alloc) else {
-        return NOTHING;
-    };
-    let status = show_covering(alloc, &held, address, skip, routes, total);
-    *table = Yarib::of(held);
-    status
+    with_held!(table, alloc, held => show_covering(alloc, &held, address, skip, routes, total))
 }
 
 fn show_covering(
@@ -106,12 +99,7 @@ pub extern "C" fn yarib_routes(
     ensures silent { result ≢ 0 → (routes.new ≡ routes.old) × (total.new ≡ total.old) }
     ensures known { (result ≡ 0) ⊎ ((result ≡ 1) ⊎ ((result ≡ 4) ⊎ (result ≡ 10))) }
 {
-    let Some(held) = table.take(alloc) else {
-        return NOTHING;
-    };
-    let status = show_routes(alloc, &held, skip, routes, total);
-    *table = Yarib::of(held);
-    status
+    with_held!(table, alloc, held => show_routes(alloc, &held, skip, routes, total))
 }
 
 fn show_routes(
@@ -146,27 +134,13 @@ pub extern "C" fn yarib_count(alloc: Global, table: &mut Yarib, total: &mut usiz
     ensures silent { result ≢ 0 → total.new ≡ total.old }
     ensures known { (result ≡ 0) ⊎ ((result ≡ 1) ⊎ (result ≡ 10)) }
 {
-    let Some(held) = table.take(alloc) else {
-        return NOTHING;
-    };
-    let status = count(&held, total);
-    *table = Yarib::of(held);
-    status
-}
-
-fn count(held: &Held, total: &mut usize) -> u32
-    ensures done { result ≡ 0 → total.new ≡ length (routes_in held.now) }
-    ensures kind { result ≡ 10 → IsForwarding held.now }
-    ensures silent { result ≢ 0 → total.new ≡ total.old }
-    ensures known { (result ≡ 0) ⊎ (result ≡ 10) }
-{
-    match held.table() {
+    with_held!(table, alloc, held => match held.table() {
         None => WRONG_KIND,
         Some(table) => {
             *total = table.len() as usize;
             DONE
         }
-    }
+    })
 }
 
 /// The entries of the journal from the index `skip` on, and how many there are in all.
@@ -185,25 +159,11 @@ pub extern "C" fn yarib_journal(
     ensures silent { result ≢ 0 → (entries.new ≡ entries.old) × (total.new ≡ total.old) }
     ensures known { (result ≡ 0) ⊎ ((result ≡ 1) ⊎ (result ≡ 10)) }
 {
-    let Some(held) = table.take(alloc) else {
-        return NOTHING;
-    };
-    let status = show_journal(&held, skip, entries, total);
-    *table = Yarib::of(held);
-    status
-}
-
-fn show_journal(held: &Held, skip: usize, entries: &mut [YaribEntry], total: &mut usize) -> u32
-    ensures done { result ≡ 0 → ShowsJournal (journal_in held.now) skip entries.new total.new }
-    ensures kind { result ≡ 10 → journal_in held.now ≡ None }
-    ensures silent { result ≢ 0 → (entries.new ≡ entries.old) × (total.new ≡ total.old) }
-    ensures known { (result ≡ 0) ⊎ (result ≡ 10) }
-{
-    match held {
+    with_held!(table, alloc, held => match &*held {
         Held::Journaled(book) => {
             *total = put_entries(book.journal(), skip, entries);
             DONE
         }
         Held::Plain(_) | Held::Forwarding(_) => WRONG_KIND,
-    }
+    })
 }

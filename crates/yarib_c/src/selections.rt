@@ -6,11 +6,11 @@ ghost use Rattle.yarib_c.specs.Calls.{held_in, Holds};
 ghost use Rattle.yarib_c.specs.Selections.{IsOutOfRange, ShowsSelected};
 ghost use Rattle.yarib_c.specs.inside.Parts.{AnswersPart};
 
-use crate::handle::Yarib;
+use crate::handle::{Yarib, with_held};
 use crate::held::Held;
 use crate::lists::put_routes;
 use crate::routes::YaribRoute;
-use crate::status::{BAD_BITS, BAD_LENGTH, BAD_NUMBER, DONE, NO_MEMORY, NOTHING, WRONG_KIND};
+use crate::status::{BAD_BITS, BAD_LENGTH, BAD_NUMBER, DONE, NO_MEMORY, WRONG_KIND};
 use rt_cidr::{Prefix, TextFault};
 use rt_rib::{Part, Selection, feed_ok};
 use std::alloc::Global;
@@ -74,12 +74,7 @@ pub extern "C" fn yarib_select(
     ensures silent { result ≢ 0 → (routes.new ≡ routes.old) × (total.new ≡ total.old) }
     ensures known { (result ≡ 0) ⊎ ((result ≡ 1) ⊎ ((result ≡ 2) ⊎ ((result ≡ 4) ⊎ ((8 ≤ result) × (result ≤ 10))))) }
 {
-    let Some(held) = table.take(alloc) else {
-        return NOTHING;
-    };
-    let status = show_selected(alloc, &held, asked, skip, routes, total);
-    *table = Yarib::of(held);
-    status
+    with_held!(table, alloc, held => show_selected(alloc, &held, asked, skip, routes, total))
 }
 
 fn show_selected(

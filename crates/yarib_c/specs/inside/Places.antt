@@ -8,5 +8,5 @@ abbrev pub number_at : List ℕ → ℕ → ℕ
 number_at numbers k = slice_index_or numbers k 0
 
 -- the route at an index
-abbrev pub route_at : List YaribRoute → ℕ → YaribRoute
-route_at routes k = slice_index_or routes k no_route
+abbrev pub told_at : List YaribRoute → ℕ → YaribRoute
+told_at routes k = slice_index_or routes k no_route

@@ -5,7 +5,7 @@ use Rattle.yarib_c.specs.Kinds.{routes_in}
 use Rattle.rt_rib.specs.LookUp.{look_up}
 use Rattle.yarib_c.specs.Forms.{answer_as, no_route}
 use Rattle.yarib_c.specs.Calls.{addr}
-use Rattle.yarib_c.specs.inside.Places.{number_at, route_at}
+use Rattle.yarib_c.specs.inside.Places.{number_at, told_at}
 use Rattle.yarib_c.proofs.lookups.answer_each.Goals as goal
 
 pub loop-start-preserved : goal.loop-start-preserved
@@ -19,7 +19,7 @@ loop-start-preserved c =
         | inl lt ↦ c.answer_chunk.ensures.rest k lt ∙ i.each k lt
         | inr ge ↦
             let e : start + (k - start) ≡ k = omega arith in
-            subst (λ n. route_at answers n ≡ answer_as (look_up (addr (number_at addresses n)) (routes_in c.args.held.now))) e
+            subst (λ n. told_at answers n ≡ answer_as (look_up (addr (number_at addresses n)) (routes_in c.args.held.now))) e
             (c.answer_chunk.ensures.each (k - start) (omega arith))
       ];
       within = omega arith;

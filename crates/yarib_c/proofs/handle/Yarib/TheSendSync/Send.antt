@@ -11,7 +11,6 @@ use Rattle.std.proofs.Crossing as heap
 use Rattle.std.proofs.alloc.Global.TheSendSync as handle
 use Rattle.std.specs.Global.{Global}
 use Rattle.yarib_c.proofs.Crossing.{held_send}
-use Rattle.std.specs.contracts.impls.GlobalAllocator.TheImpl.{ghosts}
 use Rattle.yarib_c.specs.declared.held.Held.{Held}
 use Rattle.yarib_c.specs.inside.Owned.{held_row, owns_held}
 use Rattle.yarib_c.specs.contracts.handle.Yarib.{the_row, the_type}

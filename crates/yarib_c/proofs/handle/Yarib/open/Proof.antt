@@ -5,15 +5,12 @@ use seplogic.Ra.Ura.{Ura}
 use lib.Dec.{lit<}
 use mathlib.Core.Path.{◌≡◌}
 use mir.Val.{Val, vnull, vstruct, vcons, vnil, of_list}
-use base.Logic.{SProp, ent, emp, id⊢}
+use base.Logic.{ent, emp, id⊢}
 use base.Fml.{ftrue, fsep}
-use prog.Memory.{Memory}
-use prog.Routine.{Routine}
-use prog.Wp.{WpFn, Tables}
+use prog.Model.{Model}
+use prog.Wp.{WpFn}
 use types.Logic.{Logic}
-use contract.Monad.{Fun}
-use contract.Running.{tables, tables_of}
-use sound.WpLaws.{WpFn-mono}
+use contract.Running.{Running, MachineTables, tables}
 use types.Kit.{Item, at_ret, given, learn, ‵, raw, ◌⊛◌, ◌$◌, ◌∵◌, !, qed, by, move, drop, use0, use1, join, split, fsplit, fjoin, fpick, feq_l, suffices, done}
 use types.Part.{whole, sub, agg}
 use types.Match.{live}
@@ -24,14 +21,14 @@ use denote.RawPtr.{Ptr, block_ptr, null_ptr, ptr_val, tests_null}
 use Rattle.std.specs.declared.option.Option.TheVariants.{None, Some}
 use denote.Signature.{type_at}
 use denote.Steps.{nothing}
-use denote.Triple.Spec.{triple_of}
-use denote.Triple.Table.{entered}
-use denote.Triple.Walked.{says, Stays, stay_dropped, walk_of, ends_at, Goes-dropped, walk_Meets}
+use denote.Triple.Clauses.{Clauses}
+use denote.Triple.Walked.{says, Stays, stay_dropped, walk_of, ends_at, Goes-dropped}
 use Rattle.std.proofs.alloc.Calls.{handle_tells, token}
 use Rattle.std.proofs.VecSteps.Shapes.{after}
 use Rattle.std.proofs.option.Made.{Some-of, none_of}
 use Rattle.std.specs.Box.Ownership.{box_owns}
 use Rattle.std.proofs.ResultValues.{and_tt}
+use Rattle.std.proofs.raw_atomic.Walks.{proved_at}
 use Rattle.std.proofs.BoxSteps.Form.{D, B, R, word, box_typed}
 use Rattle.std.proofs.BoxSteps.Steps.{box_out, box_in}
 use Rattle.std.specs.declared.alloc.Global.{Global}
@@ -47,17 +44,23 @@ use Rattle.yarib_c.proofs.handle.Yarib.open.Code as code
 abbrev stayed : Stays (F.ended).signature.params (F.ended).kept
 stayed = (stay_dropped From yes, tt)
 
-module _ {M : Type 1} {𝓤 : Ura M} (𝓛 : Logic 𝓤) (at_mem : Memory → SProp 𝓤) (run : Routine → Fun 𝓤) (𝓣 : Tables 𝓤 𝓛.H) where
+module _ {M : Type 1} {𝓤 : Ura M} (𝓛 : Logic 𝓤) (𝓜 : Model 𝓤 𝓛.H) (𝓡 : Running 𝓤 𝓛.H 𝓜) where
   open 𝓛 use {H}
 
-  abbrev bound : Ptr → Global → Held → List Val → (walk_of 𝓛 F.ended stayed (F.clauses 𝓛 at_mem run)).Ghost
+  abbrev clauses : Clauses 𝓤 F.ended
+  clauses = F.clauses 𝓛 𝓜.mem 𝓡.returns
+
+  abbrev 𝓣 : MachineTables 𝓤 H 𝓜
+  𝓣 = tables 𝓤 H 𝓜 𝓡 𝓡.env
+
+  abbrev bound : Ptr → Global → Held → List Val → (walk_of 𝓛 F.ended stayed clauses).Ghost
   bound p a x vs = ((tt, tt, tt, (record { at = p; alloc = a; held = x }, tt), (vs, tt)), tt)
 
   at_each : (p : Ptr) (a : Global) (x : Held) (vs : List Val)
-      → ent 𝓤 ((walk_of 𝓛 F.ended stayed (F.clauses 𝓛 at_mem run)).pre (bound p a x vs)) (WpFn 𝓤 H 𝓣.C 𝓣.Λ code.function (vs ++ []) ((walk_of 𝓛 F.ended stayed (F.clauses 𝓛 at_mem run)).post (bound p a x vs)))
+      → ent 𝓤 ((walk_of 𝓛 F.ended stayed clauses).pre (bound p a x vs)) (WpFn 𝓤 H 𝓣.C 𝓣.Λ code.function (vs ++ []) ((walk_of 𝓛 F.ended stayed clauses).post (bound p a x vs)))
   at_each (block_ptr c n) a x vs =
       let z = bound (block_ptr c n) a x vs in
-      let Post = (walk_of 𝓛 F.ended stayed (F.clauses 𝓛 at_mem run)).post z in
+      let Post = (walk_of 𝓛 F.ended stayed clauses).post z in
       let v : D E = record { ptr = block_ptr c n; alloc = a; value = x } in
       let Out = type_at (F.signature).result tt in
       let Lr = Loose.the_row E.row E.al.row E.al.g in
@@ -76,11 +79,11 @@ module _ {M : Type 1} {𝓤 : Ura M} (𝓛 : Logic 𝓤) (at_mem : Memory → SP
       sets_last ! (agg ! (and_then ! (lit ! tt) (and_then ! (get ! refl) (no_more !)))) refl (and_tt _ typed.0, (record { fits = lit< tt }, (typed.1, tt))) $
       exec ! 𝓣.C 𝓣.Λ Ev (after 4 (code.function).body) (at_ret Ev Post) $ sets ! (of_opd ! (get ! refl)) refl (and_tt _ typed.0, (record { fits = lit< tt }, (typed.1, tt))) $
       use1 𝓛 (‵ (Out.own_val (Some made) (v₁ ∷ []))) (Some-of 𝓛 Lr made w) $ returns ! (look_at ! 0 refl) $ free_all ! refl $
-      suffices ! _ (ends_at 𝓛 F.ended stayed (F.clauses 𝓛 at_mem run) z v₁ (Some made) (tt, tt) (tt, tt)) $ says ! refl $
+      suffices ! _ (ends_at 𝓛 F.ended stayed clauses z v₁ (Some made) (tt, tt) (tt, tt)) $ says ! refl $
       nothing ! $ nothing ! $ fjoin ! $ join ! $ nothing ! $ join ! $ done !))))))
   at_each null_ptr a x vs =
       let z = bound null_ptr a x vs in
-      let Post = (walk_of 𝓛 F.ended stayed (F.clauses 𝓛 at_mem run)).post z in
+      let Post = (walk_of 𝓛 F.ended stayed clauses).post z in
       let Out = type_at (F.signature).result tt in
       let Lr = Loose.the_row E.row E.al.row E.al.g in
       let held : Yarib.the_row.Denot = record { at = null_ptr; alloc = a; held = x } in
@@ -95,17 +98,10 @@ module _ {M : Type 1} {𝓤 : Ura M} (𝓛 : Logic 𝓤) (at_mem : Memory → SP
       sets_last ! (agg ! (and_then ! (lit ! tt) (no_more !))) refl (tt, (record { fits = lit< tt }, tt)) $
       exec ! 𝓣.C 𝓣.Λ Ev (after 4 (code.function).body) (at_ret Ev Post) $ sets ! (of_opd ! (get ! refl)) refl (tt, (record { fits = lit< tt }, tt)) $
       use0 𝓛 (‵ (Out.own_val None (none ∷ []))) (none_of 𝓛 Lr) $ returns ! (look_at ! 0 refl) $ free_all ! refl $
-      suffices ! _ (ends_at 𝓛 F.ended stayed (F.clauses 𝓛 at_mem run) z none None (tt, tt) (tt, tt)) $ says ! refl $
+      suffices ! _ (ends_at 𝓛 F.ended stayed clauses z none None (tt, tt) (tt, tt)) $ says ! refl $
       nothing ! $ nothing ! $ fjoin ! $ join ! $ nothing ! $ join ! $ done !) (λ wrong. absurd wrong))))))))
 
-  walk : (z : (walk_of 𝓛 F.ended stayed (F.clauses 𝓛 at_mem run)).Ghost)
-      → ent 𝓤 ((walk_of 𝓛 F.ended stayed (F.clauses 𝓛 at_mem run)).pre z) (WpFn 𝓤 H 𝓣.C 𝓣.Λ code.function (z.0.4.0 ++ []) ((walk_of 𝓛 F.ended stayed (F.clauses 𝓛 at_mem run)).post z))
-  walk z = at_each z.0.3.0.at z.0.3.0.alloc z.0.3.0.held z.0.4.0
-
 pub open_spec : {M : Type 1} → stated.statement M
-unfolding tables_of
 open_spec 𝓤 𝓛 𝓜 𝓡 wired =
-    let 𝓣 : Tables 𝓤 𝓛.H = tables_of 𝓤 𝓛.H 𝓜 (tables 𝓤 𝓛.H 𝓜 𝓡 𝓡.env) in
-    entered 𝓤 𝓛.H (triple_of 𝓛 F.signature (F.spec 𝓛 𝓜.mem 𝓡.returns)) 𝓣.C 𝓣.Λ #self code.function (code.unfolded 𝓤 𝓛.H 𝓜 𝓡 wired)
-    (walk_Meets 𝓛 F.ended stayed (Goes-dropped 𝓛 0 From yes (λ κs x f. refl), tt) (F.clauses 𝓛 𝓜.mem 𝓡.returns) (WpFn 𝓤 𝓛.H 𝓣.C 𝓣.Λ code.function) (WpFn-mono 𝓤 𝓛.H 𝓛.laws 𝓣 code.function)
-    (walk 𝓛 𝓜.mem 𝓡.returns 𝓣))
+    proved_at 𝓛 F.ended stayed (clauses 𝓛 𝓜 𝓡) 𝓜 𝓡 (Goes-dropped 𝓛 0 From yes (λ κs x f. refl), tt) #self code.function (code.unfolded 𝓤 𝓛.H 𝓜 𝓡 wired)
+    (λ z are. at_each 𝓛 𝓜 𝓡 z.0.3.0.at z.0.3.0.alloc z.0.3.0.held z.0.4.0)
