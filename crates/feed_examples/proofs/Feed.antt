@@ -362,8 +362,8 @@ after_no_name rest answer h = h
 a_withdrawal_of_nothing : IsFaultOfFields One (codes "withdraw" ∷ []) fault.FieldCount
 a_withdrawal_of_nothing = a_field_too_few
 
-no_fault_of_no_field : (answer : LineFault) → ¬ IsFaultOfFields One [] answer
-no_fault_of_no_field answer h = h
+no_fault_of_no_field : (version : Version) (answer : LineFault) → ¬ IsFaultOfFields version [] answer
+no_fault_of_no_field version answer h = h
 
 after_the_name :
     (version : Version) (name : List ℕ) (rest : List (List ℕ)) (answer : LineFault)

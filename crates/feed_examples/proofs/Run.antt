@@ -583,11 +583,17 @@ what_explains_a_text batch feed journal its_text its_lines h = (h.becomes, h.cut
 each_by_its_feed : ExplainsFrom 1 1 tutorial (north ∷ south ∷ east ∷ []) (north_read ∷ (skipped ∷ south_read) ∷ (skipped ∷ east_read) ∷ [])
 each_by_its_feed = (the_lines_of_north, (the_lines_of_south, (the_lines_of_east, tt)))
 
-no_lines_of_no_text : ¬ ExplainsFrom 1 1 tutorial [] (north_read ∷ [])
-no_lines_of_no_text h = h
+nothing_of_no_text : (batch feed : ℕ) (journal : List Entry) → ExplainsFrom batch feed journal [] []
+nothing_of_no_text batch feed journal = tt
 
-no_text_left_out : ¬ ExplainsFrom 1 1 tutorial (north ∷ []) []
-no_text_left_out h = h
+no_lines_of_no_text :
+    (batch feed : ℕ) (journal : List Entry) (lines : List LineOutcome) (outcomes : List (List LineOutcome))
+    → ¬ ExplainsFrom batch feed journal [] (lines ∷ outcomes)
+no_lines_of_no_text batch feed journal lines outcomes h = h
+
+no_text_left_out :
+    (batch feed : ℕ) (journal : List Entry) (text : List ℕ) (texts : List (List ℕ)) → ¬ ExplainsFrom batch feed journal (text ∷ texts) []
+no_text_left_out batch feed journal text texts h = h
 
 a_text_and_those_behind_it :
     (batch feed : ℕ) (journal : List Entry) (text : List ℕ) (texts : List (List ℕ)) (lines : List LineOutcome) (outcomes : List (List LineOutcome))

@@ -515,6 +515,10 @@ not_from_inside h = let process = h.process in cc
 not_with_a_count : ¬ BeginsEntry (walk 1 0 Idle true 1)
 not_with_a_count h = let uncounted = h.uncounted in cc
 
+any_walk_that_begins_its_entry : (w : Walk) → BeginsEntry w ↔ ((w.process ≡ Idle) × (w.begun ≡ true) × (w.remote ≡ 0))
+any_walk_that_begins_its_entry w =
+    (λ h. (h.process, h.begun, h.uncounted), λ (process, begun, uncounted). record { process = process; begun = begun; uncounted = uncounted })
+
 -- BeginsExit
 an_exit_begins : BeginsExit (walk 1 0 Inside true 3)
 an_exit_begins = record { process = refl; begun = refl }
@@ -524,6 +528,9 @@ not_from_idle h = let process = h.process in cc
 
 not_before_it_is_told_to : ¬ BeginsExit (walk 1 0 Inside false 3)
 not_before_it_is_told_to h = let begun = h.begun in cc
+
+any_walk_that_begins_its_exit : (w : Walk) → BeginsExit w ↔ ((w.process ≡ Inside) × (w.begun ≡ true))
+any_walk_that_begins_its_exit w = (λ h. (h.process, h.begun), λ (process, begun). record { process = process; begun = begun })
 
 -- WalkLeadsTo
 alone_three_on_the_way_in : WalkLeadsTo (walk 1 0 Idle true 0) (1 ∷ 1 ∷ 0 ∷ 0 ∷ []) (walk 1 0 Inside false 3)
@@ -1378,6 +1385,9 @@ no_level_is_none h = omega (arith, h.0)
 seven_are_too_many : ¬ HasShape 7
 seven_are_too_many h = omega (arith, h.1)
 
+any_number_of_levels_between_them : (levels : ℕ) → HasShape levels ↔ ((1 ≤ levels) × (levels ≤ 6))
+any_number_of_levels_between_them levels = (λ h. h, λ h. h)
+
 -- Rivals
 on_two_sides_of_one_node : Rivals (node_of 1) (side_of 1) 4 5
 unfolding node_of side_of
@@ -1469,6 +1479,9 @@ a_load_is_not h = h
 
 nothing_due_is_not : ¬ IsStore None
 nothing_due_is_not h = h
+
+any_store_of_any_word : (word : Word) (value : ℕ) → IsStore (Some (Store word value)) × ¬ IsStore (Some (Load word))
+any_store_of_any_word word value = (tt, λ h. h)
 
 -- op_of_access
 a_load_by_its_number : op_of_access 2 (Load (T 2 0)) ≡ op.Load 8

@@ -79,6 +79,11 @@ no_length_of_33 h = omega (arith, h.short)
 no_base_of_33_bits : ¬ IsPrefix 4294967296 0
 no_base_of_33_bits h = omega (arith, h.fits)
 
+any_base_and_length_that_are_one :
+    (base len : ℕ) → IsPrefix base len ↔ ((len ≤ 32) × (base < 2 ^ 32) × (base % size_of len ≡ 0))
+any_base_and_length_that_are_one base len =
+    (λ h. (h.short, h.fits, h.clear), λ (short, fits, clear). record { short = short; fits = fits; clear = clear })
+
 -- covers
 the_first_and_the_last_of_its_addresses : map (λ n. covers ten_8 (at n)) (167772160 ∷ 184549375 ∷ []) ≡ true ∷ true ∷ []
 the_first_and_the_last_of_its_addresses = refl

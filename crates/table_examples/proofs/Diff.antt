@@ -152,6 +152,9 @@ not_where_one_is_another :
     × (¬ HaveSameAnswers (range 10 20) (record (range 21 30) { new = answer.Hop Discard }))
 not_where_one_is_another = (λ h. let old = h.0 in cc, λ h. let new = h.1 in cc)
 
+any_two_with_both_answers_the_same : (c d : Difference) → HaveSameAnswers c d ↔ ((c.old ≡ d.old) × (c.new ≡ d.new))
+any_two_with_both_answers_the_same c d = (λ h. h, λ h. h)
+
 -- IsDifference
 what_a_range_is :
     (old new : ToldTable) → IsDifference by.Hop old new (range 10 20)

@@ -618,6 +618,9 @@ from_one_up_to_the_greatest = ((omega arith, omega arith), (omega arith, omega a
 neither_none_nor_one_above_the_greatest : (¬ IsLimit 0) × (¬ IsLimit 1000001)
 neither_none_nor_one_above_the_greatest = (λ h. omega (arith, h.0), λ h. omega (arith, h.1))
 
+any_count_between_them : (limit : ℕ) → IsLimit limit ↔ ((1 ≤ limit) × (limit ≤ 1000000))
+any_count_between_them limit = (λ h. h, λ h. h)
+
 -- what a feed offers, and a map of two prefixes
 abbrev offer : ℕ → ℕ → Offer
 offer feed pref = record { feed = feed; pref = pref; hop = Discard }
@@ -816,6 +819,9 @@ the_first_and_the_last = ((omega arith, omega arith), (omega arith, omega arith)
 
 none_before_and_none_behind : (¬ IsFeed 0) × (¬ IsFeed 65)
 none_before_and_none_behind = (λ h. omega (arith, h.0), λ h. omega (arith, h.1))
+
+any_number_between_them : (feed : ℕ) → IsFeed feed ↔ ((1 ≤ feed) × (feed ≤ 64))
+any_number_between_them feed = (λ h. h, λ h. h)
 
 -- feed_routes
 those_of_feed_2 : feed_routes 2 (route everything 1 9 ∷ route ten_8 2 30 ∷ route ten_8 3 50 ∷ []) ≡ route ten_8 2 30 ∷ []
