@@ -1,5 +1,6 @@
 #!/usr/bin/env python3
-"""Times `yarib run` beside other work: with several files, with one file of the same lines, and the plain program, in turn.
+"""Times `yarib run` beside other work: with several files, with one file of the same lines, and the plain program, in
+turn.
 
 Needs rustc. It starts twice as many busy processes as there are processors, in the ordinary scheduling class, and ends
 them by their ids. For each number of files and batch all run so many rounds in turn, with so many lines in all. Prints
@@ -40,7 +41,8 @@ def spread(times):
 
 
 def compare(cases, batch, rounds):
-    """Seconds on the clock and of the processors of each case in each round: several files, one file, the plain program."""
+    """Seconds on the clock and of the processors of each case in each round: several files, one file, the plain
+    program."""
     yarib, peer, several, one = cases
     words = [yarib, "run", "--batch", str(batch)]
     runs = [[*words, *several], [*words, *one], [peer, *one]]
@@ -59,7 +61,8 @@ def row(folder, programs, files, batch, others, rounds, lines):
         f" {ours[0] / alone[0]:>7.2f} {ours[0] / plain[0]:>8.2f} {used[0] / used[1]:>10.2f}",
         flush=True,
     )
-    return {"others": others, "files": files, "batch": batch, "lines": lines, "clock": [ours, alone, plain], "processors": used}
+    return {"others": others, "files": files, "batch": batch, "lines": lines, "clock": [ours, alone, plain],
+            "processors": used}
 
 
 def rows(folder, programs, others, rounds, lines):
@@ -83,7 +86,8 @@ def main():
         programs = (yarib, figures.built_peer(folder, "peer.rs"))
         print("                      several files on the clock  one file    plain     ratios of the clock  of processors")
         print("beside files batch    middle   least    most   middle   middle to one  to plain     to one")
-        measured = [found for others in (2 * os.cpu_count(), 0) for found in rows(folder, programs, others, rounds, len(table))]
+        measured = [found for others in (2 * os.cpu_count(), 0)
+                    for found in rows(folder, programs, others, rounds, len(table))]
     figures.keep("busy", rounds, measured)
 
 

@@ -129,8 +129,8 @@ OF_PEERS = (("bgpdump-to-feeds", f"{PEERS} peers", lambda count: dumped(count, P
 
 
 def write(path, lines):
-    """Writes an input, in a process of its own, so that this one stays small: a child's peak memory counts what its parent
-    had."""
+    """Writes an input, in a process of its own, so that this one stays small: a child's peak memory counts what its
+    parent had."""
     child = os.fork()
     if child == 0:
         with open(path, "w") as file:
@@ -167,7 +167,8 @@ def main():
             write(path, lines(words.routes))
             script = EXAMPLES / ("map" if name.endswith("map") else "convert") / name
             call = [script, *([folder] if name.endswith("feeds") else [])]
-            seconds, processors, peak = (min(column) for column in zip(*(measure(call, path) for _ in range(words.rounds))))
+            seconds, processors, peak = (min(column)
+                                         for column in zip(*(measure(call, path) for _ in range(words.rounds))))
         row = f"clock {seconds:6.1f} s | processors {processors:6.1f} s | memory {peak / 1e6:4.0f} MB"
         print(f"{name:16} {about:14} | {row}", flush=True)
 

@@ -50,7 +50,8 @@ def changed(table, changes):
 
 
 def write(path, table):
-    path.write_text("".join(f"add {dotted(base)}/{length} 100 192.0.2.{hop}\n" for (base, length), hop in table.items()))
+    path.write_text("".join(f"add {dotted(base)}/{length} 100 192.0.2.{hop}\n"
+                            for (base, length), hop in table.items()))
 
 
 # Asks py-radix at each border of both tables; prints the seconds of loading and of asking, and how many answers differ.

@@ -1,14 +1,14 @@
 #!/usr/bin/env python3
-"""Times a forwarding table beside the same one in plain C and Rust and the book that it is made of, and beside DPDK's rte_lpm,
-py-radix and Net::Patricia where they are, over the same prefixes and addresses.
+"""Times a forwarding table beside the same one in plain C and Rust and the book that it is made of, and beside DPDK's
+rte_lpm, py-radix and Net::Patricia where they are, over the same prefixes and addresses.
 
-Needs rt, gcc and rustc. The program crates/benches, bench/fib_peer.c, bench/fib_peer.rs and the others run in turn, so many
-rounds over each number of prefixes (500,000 and 1,000,000 if left out) of a real table's lengths. Each is asked for a million
-addresses, random ones, each of which lies in any of the prefixes, and local ones, in a thousand of these. A row has a call, and
-for each who makes it the least of the times: nanoseconds of processor time for one prefix or address, of `renew` for one call
-on the clock, right after the book's own; and megabytes of memory. `reader` is what one of two threads takes on the clock that
-ask for 256 addresses at once, alone and beside a writer that follows a thousand commands a second and publishes ten tables a
-second. Libraries of others run in the first round alone.
+Needs rt, gcc and rustc. The program crates/benches, bench/fib_peer.c, bench/fib_peer.rs and the others run in turn, so
+many rounds over each number of prefixes (500,000 and 1,000,000 if left out) of a real table's lengths. Each is asked
+for a million addresses, random ones, each of which lies in any of the prefixes, and local ones, in a thousand of these.
+A row has a call, and for each who makes it the least of the times: nanoseconds of processor time for one prefix or
+address, of `renew` for one call on the clock, right after the book's own; and megabytes of memory. `reader` is what one
+of two threads takes on the clock that ask for 256 addresses at once, alone and beside a writer that follows a thousand
+commands a second and publishes ten tables a second. Libraries of others run in the first round alone.
 """
 import pathlib
 import subprocess
@@ -114,7 +114,8 @@ def compare(folder, programs, prefixes, rounds):
     least = {key: min(one[key] for one in found if key in one) for key in found[0]}
     calls = [f"{call} {kind}" for kind in KINDS for call in ("look_up", "look_up_each")]
     calls += ["new", "renew_24", "renew_16", "renew_8", "reader alone", "reader beside", "memory"]
-    return [{"prefixes": prefixes, "call": call} | {who: round(least[who, call], 2) for who in WHO if (who, call) in least} for call in calls]
+    times = {call: {who: round(least[who, call], 2) for who in WHO if (who, call) in least} for call in calls}
+    return [{"prefixes": prefixes, "call": call} | times[call] for call in calls]
 
 
 def show(row):
@@ -126,7 +127,8 @@ def built(folder):
     """The programs, by who asks; of rte_lpm none where it isn't."""
     subprocess.run(["gcc", "-O2", "-o", folder / "c", checks.TOP / "bench/fib_peer.c"], check=True)
     rust = figures.built_peer(folder, "fib_peer.rs")
-    return {"Rattle": checks.built_benches("fib", "2000"), "C": folder / "c", "Rust": rust, "rte_lpm": built_lpm(folder)}
+    return {"Rattle": checks.built_benches("fib", "2000"), "C": folder / "c", "Rust": rust,
+            "rte_lpm": built_lpm(folder)}
 
 
 def main():

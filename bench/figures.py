@@ -1,10 +1,11 @@
-"""Where the benches keep what they measured: `bench/figures/NAME.json` has the machine, the day, and a row for each case.
+"""Where the benches keep what they measured: `bench/figures/NAME.json` has the machine, the day, and a row for each
+case.
 
-A bench that is called with `--store` writes its file there. `tools/figures` makes the tables of docs/PERFORMANCE.md out of these
-files, and `tools/draw_figures.py` the pictures. It measures in the ordinary scheduling class, and doesn't begin to measure
-for a file while the machine has other work: half a processor's or more. It measures with the memory that ./yarib and what is
-installed start the program with, or, with `--default-memory`, with the C library's own; the plain programs have the same.
-What benches build besides the program is built here too."""
+A bench that is called with `--store` writes its file there. `tools/figures` makes the tables of docs/PERFORMANCE.md out
+of these files, and `tools/draw_figures.py` the pictures. It measures in the ordinary scheduling class, and doesn't
+begin to measure for a file while the machine has other work: half a processor's or more. It measures with the memory
+that ./yarib and what is installed start the program with, or, with `--default-memory`, with the C library's own; the
+plain programs have the same. What benches build besides the program is built here too."""
 import argparse
 import datetime
 import json
@@ -22,16 +23,19 @@ from common.crates import TOP
 import checks
 
 FOLDER = TOP / "bench" / "figures"
-# What tables and pictures say of the memory that was measured; of counts, and where only one thread uses any, nothing is kept.
+# What tables and pictures say of the memory that was measured; of counts, and where only one thread uses any, nothing
+# is kept.
 MEMORY = {"launcher": "; launcher's memory", "default": "; default memory", None: ""}
 # What the command line says, and the machine's clock and the time that its host kept from it when the measuring began.
 asked, began = argparse.Namespace(store=False, default_memory=False), None
 
 
 def reader(about, **numbers):
-    """What reads a bench's command line: these numbers in this order, each with what it is where it is left out, and flags."""
+    """What reads a bench's command line: these numbers in this order, each with what it is where it is left out, and
+    flags."""
     found = argparse.ArgumentParser(description=about, formatter_class=argparse.RawDescriptionHelpFormatter)
-    found.add_argument("--store", action="store_true", help="keep the figures in bench/figures/; the machine has to be quiet")
+    found.add_argument("--store", action="store_true",
+                       help="keep the figures in bench/figures/; the machine has to be quiet")
     found.add_argument("--default-memory", action="store_true", help="measure with the C library's own memory")
     for name, default in numbers.items():
         found.add_argument(name, nargs="?", type=int, default=default, help=f"{default} if left out")
@@ -60,7 +64,8 @@ def begun(words):
 
 def built_peer(folder, source):
     """The path of a program in plain Rust, of which bench/ has the source, built in the folder."""
-    subprocess.run(["rustc", "--edition", "2024", "-C", "opt-level=3", "-o", folder / "peer", TOP / "bench" / source], check=True)
+    subprocess.run(["rustc", "--edition", "2024", "-C", "opt-level=3", "-o", folder / "peer", TOP / "bench" / source],
+                   check=True)
     return folder / "peer"
 
 
@@ -103,8 +108,8 @@ def machine():
 
 
 def keep(name, rounds, rows):
-    """Writes the file of this name where the command line has `--store`. A row is a dict: what was measured, and each measure as
-    a list, the proved program's first."""
+    """Writes the file of this name where the command line has `--store`. A row is a dict: what was measured, and each
+    measure as a list, the proved program's first."""
     if not asked.store:
         return
     FOLDER.mkdir(exist_ok=True)

@@ -78,8 +78,8 @@ def hash_of(text):
 
 
 def write(folder, files):
-    """Makes the files' lines and writes them, in a process of its own, so that this one stays small: a child's peak memory
-    counts what its parent had when it was forked."""
+    """Makes the files' lines and writes them, in a process of its own, so that this one stays small: a child's peak
+    memory counts what its parent had when it was forked."""
     child = os.fork()
     if child == 0:
         for number, lines in enumerate(files()):

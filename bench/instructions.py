@@ -18,7 +18,8 @@ from inputs import one_prefix, real_table
 PARTS = [
     ("cutting at the ends of lines and at spaces", r"^rt_feed::lines|^memchr"),
     ("reading prefixes, numbers and addresses", r"^rt_feed::(parse|versions)|^rt_cidr::(address::read|prefix)"),
-    ("gathering and asking, reading ahead, the report", r"^rt_feed::(feed_run|running|report|gates|feeds)|^std::thread"),
+    ("gathering and asking, reading ahead, the report",
+     r"^rt_feed::(feed_run|running|report|gates|feeds)|^std::thread"),
     ("the table and the lock", r"^(rt_shared|rt_rib|rt_trie|ya_\w+|atomic_table)::"),
     ("rendering", r"^rt_feed::print|^rt_cidr::|^rt_run::|^rt_app::|^terminal_line::"),
     ("memory: granted, copied, filled", r"malloc|_alloc|free|realloc|^__?mem"),
@@ -34,7 +35,8 @@ def counted(program, lines, folder):
     words = [program, "run", "--limit", "1000000", "--batch", "256", text]
     callgrind = ["valgrind", "--tool=callgrind", f"--callgrind-out-file={out}"]
     subprocess.run([*callgrind, *words], check=True, capture_output=True)
-    listed = subprocess.run(["callgrind_annotate", "--threshold=100", out], check=True, capture_output=True, text=True).stdout
+    listed = subprocess.run(["callgrind_annotate", "--threshold=100", out], check=True, capture_output=True,
+                            text=True).stdout
     sums = dict.fromkeys((part for part, _ in PARTS), 0)
     for count, function in ROW.findall(listed):
         part = next(part for part, pattern in PARTS if re.search(pattern, function))

@@ -1,12 +1,12 @@
 #!/usr/bin/env python3
-"""Times the libraries for C, Rust and Python beside the same calls in Rattle, and beside py-radix, Net::Patricia and DPDK's
-rte_lpm where they are, over the same prefixes and addresses.
+"""Times the libraries for C, Rust and Python beside the same calls in Rattle, and beside py-radix, Net::Patricia and
+DPDK's rte_lpm where they are, over the same prefixes and addresses.
 
-Needs rt, gcc, cargo and what bindings/build needs. All run in turn, so many rounds (3 if left out) over so many prefixes
-(500,000) of a real table's lengths, asked for addresses each of which lies in one of them; crates/benches draws the same, and
-is left out where it times no forwarding table. A row has a call, and for each who makes it the least nanoseconds of processor
-time for one prefix or address. `apply_journaled` is of a table with a journal, `forward` makes a forwarding table, and the
-number behind a look-up says how many one call asks for.
+Needs rt, gcc, cargo and what bindings/build needs. All run in turn, so many rounds (3 if left out) over so many
+prefixes (500,000) of a real table's lengths, asked for addresses each of which lies in one of them; crates/benches
+draws the same, and is left out where it times no forwarding table. A row has a call, and for each who makes it the
+least nanoseconds of processor time for one prefix or address. `apply_journaled` is of a table with a journal, `forward`
+makes a forwarding table, and the number behind a look-up says how many one call asks for.
 """
 import array
 import os
@@ -22,8 +22,8 @@ from others import built_lpm, drawn, each, has_patricia, patricia_rows, printed,
 ASKED = 1 << 17
 BINDINGS = checks.TOP / "bindings"
 WHO = ("Rattle", "C", "Rust", "Python", "py-radix", "Net::Patricia", "rte_lpm")
-CALLS = ("apply", "apply_each", "apply_journaled", "look_up_1", "look_up_text", "look_up_256", "look_up_4096", "look_up_array",
-         "forward", "forwarding_1", "forwarding_256", "forwarding_4096", "forwarding_array")
+CALLS = ("apply", "apply_each", "apply_journaled", "look_up_1", "look_up_text", "look_up_256", "look_up_4096",
+         "look_up_array", "forward", "forwarding_1", "forwarding_256", "forwarding_4096", "forwarding_array")
 
 
 def python_rows(yarib, pairs, asked):
@@ -46,7 +46,8 @@ def rattle_rows(benches, prefixes):
     told = {name: int(value) for name, value in zip(words[::2], words[1::2])}
     yield "apply_journaled", told["load"] / prefixes
     yield "forward", told["new"] / prefixes
-    for which, call in (("book_look_up", "look_up_1"), ("book_look_up_each", "look_up_256"), ("look_up", "forwarding_1"),
+    for which, call in (("book_look_up", "look_up_1"), ("book_look_up_each", "look_up_256"),
+                        ("look_up", "forwarding_1"),
                         ("look_up_each", "forwarding_256")):
         yield call, told[f"random_{which}"] / ASKED
 

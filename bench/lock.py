@@ -2,8 +2,9 @@
 """Times passages of the lock, of the same algorithm in C and of std's mutex, in turn.
 
 Needs rt, gcc and pthreads. Each case runs the program crates/benches, bench/lock.c and the mutex one after another, so
-many rounds, each with so many passages. For each case the time of a passage is printed, in nanoseconds, and its ratio to
-C: on the clock, and of the processors (user and system). It is the least of one thread, and of several the middle one.
+many rounds, each with so many passages. For each case the time of a passage is printed, in nanoseconds, and its ratio
+to C: on the clock, and of the processors (user and system). It is the least of one thread, and of several the middle
+one.
 """
 import os
 import pathlib
@@ -36,8 +37,8 @@ def timed(program, passages, levels, threads):
 
 
 def times(rounds, passages, programs, levels, threads):
-    """Both times for the lock, C and the mutex: the least of one thread, whom other work can only slow down, and the middle one
-    of several, who are fastest when they happen to come one after another."""
+    """Both times for the lock, C and the mutex: the least of one thread, whom other work can only slow down, and the
+    middle one of several, who are fastest when they happen to come one after another."""
     tree, plain = programs
     cases = [(tree, levels), (plain, levels), (tree, 0)]
     runs = [[timed(program, passages, height, threads) for program, height in cases] for _ in range(rounds)]
@@ -59,7 +60,8 @@ def main():
             for lock, plain, mutex in (clock, processors):
                 row += f" {lock:>8.1f} {plain:>8.1f} {mutex:>8.1f} {lock / plain:>6.2f}"
             print(row, flush=True)
-            rows.append({"levels": levels, "threads": threads, "clock": rounded(clock), "processors": rounded(processors)})
+            rows.append({"levels": levels, "threads": threads, "clock": rounded(clock),
+                         "processors": rounded(processors)})
     figures.keep("lock", rounds, rows)
 
 

@@ -1,5 +1,5 @@
-"""What benches of look-ups share: prefixes of a real table's lengths, addresses in them, and libraries of others that are asked the
-same: py-radix, Net::Patricia and DPDK's rte_lpm, where they are."""
+"""What benches of look-ups share: prefixes of a real table's lengths, addresses in them, and libraries of others that
+are asked the same: py-radix, Net::Patricia and DPDK's rte_lpm, where they are."""
 import array
 import shutil
 import subprocess
@@ -90,7 +90,8 @@ def built_lpm(folder):
     """The program that asks rte_lpm, built in the folder, or none where DPDK isn't."""
     if not shutil.which("pkg-config") or subprocess.run(["pkg-config", "--exists", "libdpdk"]).returncode != 0:
         return None
-    flags = subprocess.run(["pkg-config", "--cflags", "--libs", "libdpdk"], check=True, capture_output=True, text=True).stdout
+    flags = subprocess.run(["pkg-config", "--cflags", "--libs", "libdpdk"], check=True, capture_output=True,
+                           text=True).stdout
     source = checks.TOP / "bench/library_lpm.c"
     subprocess.run(["gcc", "-O2", "-o", folder / "lpm", "-march=native", source, *flags.split()], check=True)
     return folder / "lpm"

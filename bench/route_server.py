@@ -5,8 +5,8 @@ Needs rustc. Each of 1, 4, 16 and 64 files announces the same prefixes in an ord
 withdraws a tenth and replaces a tenth of them; the last file takes back all it has by `purge`. Both programs run in
 turn, so many rounds, on one processor, on two and on all, in batches of 256, and on all in single commands; with
 --batches of 20,000 prefixes, in batches of 1, 16 and 256 everywhere. Prints for each the least time on the clock and of
-the processors (user and system) and the peak memory, with the ratios, and fails where the outputs differ: no answer here
-depends on how the threads ran.
+the processors (user and system) and the peak memory, with the ratios, and fails where the outputs differ: no answer
+here depends on how the threads ran.
 """
 import os
 import pathlib
@@ -88,7 +88,8 @@ def main():
         if words.batches:
             figures.keep("batches", rounds, compare_files(folder, 20_000, (1, 16, 256), (1, 16, 256), programs, rounds))
         else:
-            figures.keep("route_server", rounds, compare_files(folder, words.prefixes, (256,), (1, 256), programs, rounds))
+            figures.keep("route_server", rounds,
+                         compare_files(folder, words.prefixes, (256,), (1, 256), programs, rounds))
 
 
 if __name__ == "__main__":

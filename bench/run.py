@@ -62,7 +62,8 @@ def main():
     ]
     if words.sizes:
         inputs = [
-            (f"a table that changes, {size:,}", {"prefixes": size}, lambda size=size: [changing_table(size)], [1, 16, 256])
+            (f"a table that changes, {size:,}", {"prefixes": size}, lambda size=size: [changing_table(size)],
+             [1, 16, 256])
             for size in SIZES
         ]
     else:

@@ -21,7 +21,8 @@ ON_TWO = [(threads, batch) for threads in (2, 64) for batch in (1, 256)]
 def timed(program, commands, is_table, threads, batch, processors):
     """Nanoseconds a command on the clock, and of the processors."""
     words = [program, "shared"] + [str(number) for number in (commands, is_table, threads, batch)]
-    run = subprocess.Popen(words, stderr=subprocess.PIPE, text=True, preexec_fn=lambda: os.sched_setaffinity(0, processors))
+    run = subprocess.Popen(words, stderr=subprocess.PIPE, text=True,
+                           preexec_fn=lambda: os.sched_setaffinity(0, processors))
     row = run.stderr.read().split()
     _, status, used = os.wait4(run.pid, 0)
     run.returncode = os.waitstatus_to_exitcode(status)
@@ -33,7 +34,8 @@ def timed(program, commands, is_table, threads, batch, processors):
 
 def compare(program, rounds, commands, threads, batch, processors):
     """Prints one row, and gives its measures."""
-    runs = [[timed(program, commands, is_table, threads, batch, processors) for is_table in (1, 0)] for _ in range(rounds)]
+    runs = [[timed(program, commands, is_table, threads, batch, processors) for is_table in (1, 0)]
+            for _ in range(rounds)]
     pick = min if threads == 1 else statistics.median
     row = f"{len(processors):>10} {threads:>7} {batch:>5}"
     measures = [[round(pick(run[case][kind] for run in runs), 1) for case in (0, 1)] for kind in (0, 1)]

@@ -27,7 +27,8 @@ def timed(program, prefixes):
 
 
 def compare(programs, prefixes, rounds):
-    """Runs both in turn over so many prefixes, prints a row for each call, from their least times, and gives the rows."""
+    """Runs both in turn over so many prefixes, prints a row for each call, from their least times, and gives the
+    rows."""
     runs = [[timed(program, prefixes) for program in programs] for _ in range(rounds)]
     proved, plain = runs[0]
     for agreed in ("prefixes", "found", "kept", "left"):
@@ -50,7 +51,8 @@ def compare(programs, prefixes, rounds):
         pairs = (row["clock"], row["processors"])
         shown = "".join(f" {ours:8} {theirs:8} {ours / theirs:6.2f}" for ours, theirs in pairs)
         print(f"{prefixes:8} {call:8}{shown}", flush=True)
-    print(f"{prefixes:8} {proved['nodes']} nodes; plain Rust asked for {plain['asked'] / plain['prefixes']:.1f} bytes a prefix")
+    each = plain["asked"] / plain["prefixes"]
+    print(f"{prefixes:8} {proved['nodes']} nodes; plain Rust asked for {each:.1f} bytes a prefix")
     return rows
 
 
@@ -60,7 +62,8 @@ def main():
     words = figures.begin(reader)
     rounds, rows = words.rounds, []
     with tempfile.TemporaryDirectory() as folder:
-        programs = [checks.built_benches("trie", "2000"), "trie"], [figures.built_peer(pathlib.Path(folder), "trie_peer.rs")]
+        peer = figures.built_peer(pathlib.Path(folder), "trie_peer.rs")
+        programs = [checks.built_benches("trie", "2000"), "trie"], [peer]
         print(f"{'prefixes':8} {'call':8} {'clock':>8} {'plain':>8} {'ratio':>6} {'cpu':>8} {'plain':>8} {'ratio':>6}")
         for prefixes in words.prefixes:
             rows += compare(programs, prefixes, rounds * max(1, 100_000 // prefixes))

@@ -1,9 +1,9 @@
 #!/usr/bin/env python3
 """Has tools/bodies try wrong bodies of a small crate, and looks whether it tells of each what is so.
 
-tests/bodies.py, with the toolchain on PATH. Among the bodies are a right one, one that can't be read and is in a round with
-another, and one whose function calls another that is refused in the same round. And what is kept of a refused body has to be
-forgotten where any text changes that the verdict rests on.
+tests/bodies.py, with the toolchain on PATH. Among the bodies are a right one, one that can't be read and is in a round
+with another, and one whose function calls another that is refused in the same round. And what is kept of a refused body
+has to be forgotten where any text changes that the verdict rests on.
 """
 import os
 import pathlib
@@ -39,7 +39,8 @@ pub fn four_times(n: u64) -> u64
 # Of each body its old and new text, where it is to be refused, and how the line that tells of it begins.
 BODIES = {
     "answers-the-number": ("    n + n", "    n", "twice", "refused, as it must be: "),
-    "changes-another-function": ("twice(twice(n))", "twice(n)", "twice", "BAD BODY: it changes more than the text of twice"),
+    "changes-another-function": ("twice(twice(n))", "twice(n)", "twice",
+                                 "BAD BODY: it changes more than the text of twice"),
     "four-times-given-up": ("twice(twice(n))", "twice(n)", "four_times", "refused, as it must be: "),
     "right": ("twice(twice(n))", "twice(n) + twice(n)", "four_times", "NOT REFUSED in four_times"),
     "standing-twice": ("n + n", "n", "twice", "BAD BODY: an 'old:' text is in src/lib.rt 4 times"),
@@ -70,7 +71,8 @@ def wrongly_kept():
         shutil.copytree(TOP / "crates/rt_cidr", top / "crates/rt_cidr", ignore=shutil.ignore_patterns("out"))
         shutil.copy(TOP / "crates.txt", top)
         how = {"cwd": top, "env": os.environ | {"XDG_CACHE_HOME": room, "PYTHONPATH": "tools"}}
-        call = lambda: subprocess.run([sys.executable, "-c", KEEPS], **how, stdout=subprocess.PIPE, text=True).stdout.strip()
+        call = lambda: subprocess.run([sys.executable, "-c", KEEPS], **how, stdout=subprocess.PIPE,
+                                      text=True).stdout.strip()
         if (call(), call()) != ("None None", "kept None"):
             wrong.append("what is kept")
         cidr = top / "crates/rt_cidr"
@@ -97,7 +99,8 @@ def main():
         sections = [listed(name, *body[:3]) for name, body in sorted(BODIES.items())]
         (folder / "must-fail/bodies.md").write_text("\n".join(["# Wrong bodies\n", *sections]))
         ran = subprocess.run([TOP / "tools/bodies", "--of", room], stdout=subprocess.PIPE, text=True)
-    lines = dict(line.removeprefix("body small/").split(": ", 1) for line in ran.stdout.splitlines() if line.startswith("body "))
+    lines = dict(line.removeprefix("body small/").split(": ", 1) for line in ran.stdout.splitlines()
+                 if line.startswith("body "))
     wrong = [name for name, body in BODIES.items() if not lines.get(name, "").startswith(body[3])] + wrongly_kept()
     refused = sum(body[3].startswith("refused") for body in BODIES.values())
     if wrong or ran.returncode != 1 or not ran.stdout.endswith(f"\n{refused} passed, {len(BODIES) - refused} failed\n"):

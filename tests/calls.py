@@ -1,7 +1,8 @@
-"""Calls of the program by their words, and how each has to end: status, standard output and standard error, to the byte.
+"""Calls of the program by their words, and how each has to end: status, standard output and standard error, to the
+byte.
 
-tests/command_line.py makes them, where their files stand. What the pages show of look-ups, lists and comparisons has to be
-one of these calls (tools/check).
+tests/command_line.py makes them, where their files stand. What the pages show of look-ups, lists and comparisons has to
+be one of these calls (tools/check).
 """
 import collections
 import pathlib
@@ -290,8 +291,10 @@ COMPARED = [
 0.0.0.0-0.0.0.0 via 192.0.2.1 -> no route
 10.0.0.0-10.255.255.255 no route -> via 192.0.2.1
 255.255.255.255-255.255.255.255 via 192.0.2.1 -> no route
-""", 2, "yarib: faulty.feed: faulty lines: 1, the first is line 2: E1: the first field is no command of this version\n"),
+""", 2, "yarib: faulty.feed: faulty lines: 1, the first is line 2: E1: the first field is no command of this "
+        "version\n"),
     call("diff faulty.feed -- old.feed",
-         "", 2, "yarib: faulty.feed: faulty lines: 1, the first is line 2: E1: the first field is no command of this version\n"),
+         "", 2, "yarib: faulty.feed: faulty lines: 1, the first is line 2: E1: the first field is no command of this "
+                "version\n"),
     call("diff old.feed -- missing", "", 4, "yarib: cannot read missing\n"),
 ]

@@ -1,5 +1,5 @@
-"""What the scripts share that judge the program: their command line and their cases, a call, and what is noted where something
-else was found."""
+"""What the scripts share that judge the program: their command line and their cases, a call, and what is noted where
+something else was found."""
 import argparse
 import inspect
 import os
@@ -14,7 +14,8 @@ import traceback
 sys.path.append(str(pathlib.Path(__file__).resolve().parents[1] / "tools"))
 from common.crates import TOP
 
-# What the launchers set before the program starts, as ./yarib's own line says it: one arena of large pages for all threads.
+# What the launchers set before the program starts, as ./yarib's own line says it: one arena of large pages for all
+# threads.
 LAUNCHED = {"GLIBC_TUNABLES": re.search(r'^export GLIBC_TUNABLES="(.*?)\$', (TOP / "yarib").read_text(), re.M)[1]}
 
 failures = []  # of each the case's name and what was wrong
@@ -46,11 +47,13 @@ def like(cases):
     """The names of the script's functions that take what its cases take, and so are cases too."""
     takes = {tuple(inspect.signature(case).parameters) for case in cases if inspect.isfunction(case)}
     own = inspect.getmembers(sys.modules["__main__"], inspect.isfunction)
-    return [name for name, one in own if one.__module__ == "__main__" and tuple(inspect.signature(one).parameters) in takes]
+    return [name for name, one in own if one.__module__ == "__main__"
+            and tuple(inspect.signature(one).parameters) in takes]
 
 
 def chosen(about, cases, takes=("program",), flags=()):
-    """A script's command line: the built programs that it takes, and those of its cases, by name, that are to be run."""
+    """A script's command line: the built programs that it takes, and those of its cases, by name, that are to be
+    run."""
     reader = argparse.ArgumentParser(description=about, formatter_class=argparse.RawDescriptionHelpFormatter)
     for name in takes:
         reader.add_argument(name, nargs="?", type=program, help="a built program, which is else built first")
@@ -79,8 +82,8 @@ def built():
 
 
 def compiled(folder, source, *options):
-    """What gcc makes of a source in C, of this repository, in the folder: a program, or with -shared what is loaded before
-    one."""
+    """What gcc makes of a source in C, of this repository, in the folder: a program, or with -shared what is loaded
+    before one."""
     made = folder / pathlib.Path(source).stem
     subprocess.run(["gcc", "-O2", *options, "-o", made, TOP / source], check=True)
     return made

@@ -3,11 +3,11 @@
 
 tests/command_line.py [PROGRAM [CASE..]], or --list for the names of the cases. Linux, python3.
 
-Outputs of the program's own are compared whole, to the byte; tests/calls.py has those that stand by themselves. Of a text of the
-library that reads the command line, no more is wanted than that it is a fault that names the word; the help pages are compared
-with those of tests/help. A replay is compared with a model of the tree, written from docs/FORMATS.md. How many commands are asked
-at once is seen by another feed: its `dump`s change only where a batch of the one and a batch of the other end. In each case's
-folder stand row.feed, empty.feed and faulty.feed.
+Outputs of the program's own are compared whole, to the byte; tests/calls.py has those that stand by themselves. Of a
+text of the library that reads the command line, no more is wanted than that it is a fault that names the word; the help
+pages are compared with those of tests/help. A replay is compared with a model of the tree, written from
+docs/FORMATS.md. How many commands are asked at once is seen by another feed: its `dump`s change only where a batch of
+the one and a batch of the other end. In each case's folder stand row.feed, empty.feed and faulty.feed.
 """
 import collections
 import ipaddress
@@ -45,7 +45,8 @@ def misused(what, found, *parts):
     """A refused command line: status 3, nothing on standard output, and a fault that has these parts."""
     status, out, err = found
     is_fault = err.startswith("error: ") and err.endswith("\n\nFor more information, try '--help'.\n")
-    expect(what, (status, out, is_fault and all(part in err for part in parts), err if not is_fault else ""), (3, "", True, ""))
+    expect(what, (status, out, is_fault and all(part in err for part in parts), err if not is_fault else ""),
+           (3, "", True, ""))
 
 
 # Calls that stand by themselves
@@ -66,8 +67,8 @@ def runs(yarib):
     make(yarib, calls.RUN_FILES, calls.RUNS)
 
 
-# Fails where `lookup_texts`, `lookup_all_texts` or `table_texts` always returns F3 or `Write`, or a faulty line of a text of
-# addresses is answered.
+# Fails where `lookup_texts`, `lookup_all_texts` or `table_texts` always returns F3 or `Write`, or a faulty line of a
+# text of addresses is answered.
 # Fails where the addresses come in another order than the command line's and then the file's: `lookup --address
 # 255.255.255.255 --address 0.0.0.0 --address 255.255.255.254 zero.feed`.
 def what_the_table_says(yarib):
@@ -90,7 +91,8 @@ def file_order(yarib):
     for order in ((1, 2, 3), (3, 1, 2), (2, 3, 1), (3, 2, 1)):
         names = [("one", "two", "three")[hop - 1] + ".feed" for hop in order]
         routes = [route(order.index(hop) + 1, f"10.{hop}.0.0/16", 7, f"192.0.2.{hop}") for hop in (1, 2, 3)]
-        expect(f"the files {names}", yarib("run", *names), (0, "1:1 added\n2:1 added\n3:1 added\n" + table(*routes), ""))
+        expect(f"the files {names}", yarib("run", *names),
+               (0, "1:1 added\n2:1 added\n3:1 added\n" + table(*routes), ""))
 
 
 # Fails where 64 files are too many: `64 files`.
@@ -140,7 +142,8 @@ def names(yarib):
     expect("-- behind the file", yarib("run", "row.feed", "--"), (0, ROW_OUT, ""))
     misused("-- alone", yarib("run", "--"), "<FILE>")
     no_text = (3, "", "yarib: arguments are not UTF-8\n")
-    for words in ([b"run", b"\xff.feed"], [b"run", b"row.feed", b"\xc3"], [b"\x80"], [b"replay", b"--levels", b"\xf0\x9f"]):
+    for words in ([b"run", b"\xff.feed"], [b"run", b"row.feed", b"\xc3"], [b"\x80"],
+                  [b"replay", b"--levels", b"\xf0\x9f"]):
         expect(f"words that are no text: {words}", yarib(*words), no_text)
 
 
@@ -185,9 +188,11 @@ def limits(yarib):
             ended = yarib("run", "four.feed", *more, "four.feed", *words)
             expect(f"{words} {more} behind the files", ended, (0, answers(1) + answers(2) + table(*routes), ""))
     for limit in ("0", "1000001", "4294967297", "18446744073709551617", "-1", "x", "", "1.0", "0x1", "1 "):
-        misused(f"--limit {limit!r}", yarib("run", f"--limit={limit}", "row.feed"), f"'{limit}'" if limit else "", "--limit")
+        misused(f"--limit {limit!r}", yarib("run", f"--limit={limit}", "row.feed"),
+                f"'{limit}'" if limit else "", "--limit")
     for batch in ("0", "1025", "4294967297", "18446744073709551617", "-1", "x", ""):
-        misused(f"--batch {batch!r}", yarib("run", f"--batch={batch}", "row.feed"), f"'{batch}'" if batch else "", "--batch")
+        misused(f"--batch {batch!r}", yarib("run", f"--batch={batch}", "row.feed"),
+                f"'{batch}'" if batch else "", "--batch")
     for words in (["--limit", "0"], ["--limit", "1000001"], ["--limit", "x"], ["--batch", "0"], ["--batch", "1025"]):
         misused(f"{words}", yarib("run", *words, "row.feed"), f"'{words[1]}'", words[0])
     misused("--limit without a number", yarib("run", "--limit"), "--limit")
@@ -198,7 +203,8 @@ def limits(yarib):
 # Fails where 32 commands are asked for `--batch 64`, or 512 for `--batch 1024`: `32 in place of 64`, `512 in place of
 # 1024`.
 def batches(yarib):
-    """Each batch has an effect that no other has: the dumps of a second feed change at its multiples alone, and to those."""
+    """Each batch has an effect that no other has: the dumps of a second feed change at its multiples alone, and to
+    those."""
     expect("--batch 1000", batch_seen(yarib, ["--batch", "1000"], 1000), 1000)
     for batch in (1, 2, 64, 1024):
         expect(f"--batch {batch}", batch_seen(yarib, ["--batch", str(batch)], batch), batch)
@@ -208,7 +214,8 @@ def batches(yarib):
 
 
 def batch_seen(yarib, words, batch):
-    """The greatest number that divides each change between two dumps of a feed, in up to 40 runs beside one that adds."""
+    """The greatest number that divides each change between two dumps of a feed, in up to 40 runs beside one that
+    adds."""
     count = batch * max(48, 16_384 // batch)
     pathlib.Path("adds.feed").write_text("".join(f"add 10.{k >> 8}.{k & 255}.0/24 1 192.0.2.1\n" for k in range(count)))
     pathlib.Path("dumps.feed").write_text("dump\n" * count)
@@ -236,7 +243,8 @@ def twice(yarib):
             misused(f"{name} before and behind", yarib("run", name, first, "row.feed", name, second), name)
         misused("--levels twice", yarib("replay", "--levels", first, "--levels", second, "0"), "--levels")
     for second in ("hop", "route"):
-        misused(f"--by twice: {second}", yarib("diff", "--by", "hop", "--by", second, "row.feed", "--", "row.feed"), "--by")
+        misused(f"--by twice: {second}", yarib("diff", "--by", "hop", "--by", second, "row.feed", "--", "row.feed"),
+                "--by")
 
 
 # Replays
@@ -351,9 +359,11 @@ def replays(yarib):
         misused(f"the pick {pick!r}", yarib("replay", "--levels", "6", "--", "63", pick), f"'{pick}'")
     for levels in ("0", "7", "8", "64", "255"):
         for picks in ([], ["0"], ["200"]):
-            expect(f"{levels} levels, {picks}", yarib("replay", "--levels", levels, *picks), (3, "", "yarib: fault P2\n"))
+            expect(f"{levels} levels, {picks}", yarib("replay", "--levels", levels, *picks),
+                   (3, "", "yarib: fault P2\n"))
     for levels in ("256", "-1", "x", "", "4294967297"):
-        misused(f"{levels!r} levels", yarib("replay", f"--levels={levels}", "0"), f"'{levels}'" if levels else "", "--levels")
+        misused(f"{levels!r} levels", yarib("replay", f"--levels={levels}", "0"),
+                f"'{levels}'" if levels else "", "--levels")
     misused("no levels", yarib("replay", "0"), "--levels")
     misused("no levels and no picks", yarib("replay"), "--levels")
     misused("the pick -1 without --", yarib("replay", "--levels", "1", "-1"), "'-1'")
@@ -374,9 +384,9 @@ def pages(yarib):
         expect(f"{words}", yarib(*words), (0, "yarib 0.1.0\n", ""))
     expect("no word", yarib(), (3, "", page("yarib")))
     for words, part in (
-        (["walk"], "'walk'"), (["help", "walk"], "'walk'"), (["row.feed"], "'row.feed'"), (["run"], "<FILE>"), ([""], "''"),
-        (["run", "--frob", "row.feed"], "'--frob'"), (["replay", "--limit", "1"], "'--limit'"), (["RUN", "row.feed"], "'RUN'"),
-        (["--frob"], "'--frob'"), (["run", "--levels", "1", "row.feed"], "'--levels'"),
+        (["walk"], "'walk'"), (["help", "walk"], "'walk'"), (["row.feed"], "'row.feed'"), (["run"], "<FILE>"),
+        ([""], "''"), (["run", "--frob", "row.feed"], "'--frob'"), (["replay", "--limit", "1"], "'--limit'"),
+        (["RUN", "row.feed"], "'RUN'"), (["--frob"], "'--frob'"), (["run", "--levels", "1", "row.feed"], "'--levels'"),
     ):
         misused(f"{words}", yarib(*words), part)
 
@@ -420,8 +430,10 @@ def help_is_true(yarib):
             expect(f"the status of {said}", yarib("run", *words, stdout=output)[0], int(said[0]))
         expect(f"the help says {said}", f" {said}" in help_text, True)
     pathlib.Path("text.feed").write_text("#" * 128 + "\nversion 2\nadd 10.0.0.0/8 1 discard\npurge\n")
-    expect("version 2 on a later line", yarib("run", "text.feed"), (2, "1:2 fault E1\n1:3 fault E7\n1:4 fault E1\ntable 0\n", ""))
-    pathlib.Path("text.feed").write_text("version 2\nadd 10.0.0.0/8 1 discard\nreplace 10.0.0.0/8 2 discard\npurge\n" + ROW)
+    expect("version 2 on a later line", yarib("run", "text.feed"),
+           (2, "1:2 fault E1\n1:3 fault E7\n1:4 fault E1\ntable 0\n", ""))
+    pathlib.Path("text.feed").write_text("version 2\nadd 10.0.0.0/8 1 discard\nreplace 10.0.0.0/8 2 discard\npurge\n"
+                                         + ROW)
     out = "1:2 added\n1:3 replaced\n1:4 purged 1\n1:5 added\n" + table(route(1))
     expect("version 2", yarib("run", "text.feed"), (0, out, ""))
 
@@ -430,7 +442,8 @@ def help_is_true(yarib):
 
 
 def finished_tables(yarib):
-    """Look-ups and lists of random feeds, beside the model; the same with any batch, and with the files' faults told."""
+    """Look-ups and lists of random feeds, beside the model; the same with any batch, and with the files' faults
+    told."""
     choice = random.Random(27)
     model, names = Table(1_000_000), []
     for feed in range(1, 7):
@@ -443,7 +456,8 @@ def finished_tables(yarib):
             if model.apply(feed, line.split()) == "added":
                 text += f"{line}\nlookup 10.0.0.1\n"
         pathlib.Path(names[-1]).write_text(text)
-    addresses = [dotted(choice.choice((10 << 24, 172 << 24, 192 << 24)) + choice.randrange(1 << 16)) for _ in range(2_000)]
+    addresses = [dotted(choice.choice((10 << 24, 172 << 24, 192 << 24)) + choice.randrange(1 << 16))
+                 for _ in range(2_000)]
     pathlib.Path("asked.txt").write_text("# asked\n\n" + "".join(f"{address}\n" for address in addresses))
     answers = [f"{address} {model.best(address)}\n" for address in addresses]
     every = "".join(line for address in addresses for line in model.all(address))
@@ -461,11 +475,11 @@ def finished_tables(yarib):
     compare("addresses from a pipe", ended, 0, "".join(answers))
 
 
-# Fails where the prefix itself is left out, one beside it or a shorter one is told, a branch beside it is told, or the last block
-# of all addresses is left out: `--within`; where the feed is asked before the best: `--best --feed`.
+# Fails where the prefix itself is left out, one beside it or a shorter one is told, a branch beside it is told, or the
+# last block of all addresses is left out: `--within`; where the feed is asked before the best: `--best --feed`.
 def parts_of_tables(yarib):
-    """The rows of each part of random tables, with any batch: those of the whole list, in its order, whose prefix meets the
-    option's words."""
+    """The rows of each part of random tables, with any batch: those of the whole list, in its order, whose prefix meets
+    the option's words."""
     choice = random.Random(61)
     lies_in = ipaddress.IPv4Network.subnet_of
     holds = {"--within": lies_in, "--covering": lambda row, asked: lies_in(asked, row),
@@ -475,12 +489,14 @@ def parts_of_tables(yarib):
         stored = [ipaddress.IPv4Network(prefix) for prefix in model.offered]
         asked = choice.sample(stored, min(8, len(stored)))
         asked += [prefix.supernet() for prefix in asked if prefix.prefixlen > 0]
-        asked += [ipaddress.IPv4Network(prefix) for prefix in ("0.0.0.0/0", "10.0.0.0/8", "255.0.0.0/8", "255.255.255.255/32")]
+        asked += [ipaddress.IPv4Network(prefix)
+                  for prefix in ("0.0.0.0/0", "10.0.0.0/8", "255.0.0.0/8", "255.255.255.255/32")]
         for best in ([], ["--best"]):
             for feed in ([], ["--feed", "2"]):
                 rows = [row for row in model.listed(bool(best)) if not feed or row.split()[2] == feed[1]]
                 networks = [ipaddress.IPv4Network(row.split()[0]) for row in rows]
-                compare(f"{best} {feed} of {count}", yarib("table", *best, *feed, *names), 0, "".join(row + "\n" for row in rows))
+                compare(f"{best} {feed} of {count}", yarib("table", *best, *feed, *names), 0,
+                        "".join(row + "\n" for row in rows))
                 for option, meets in holds.items():
                     for prefix in asked:
                         part = "".join(row + "\n" for row, network in zip(rows, networks) if meets(network, prefix))
@@ -491,10 +507,12 @@ def parts_of_tables(yarib):
             ended = yarib("table", f"{option}={word}", "missing")
             expect(f"{option} {word!r}", ended, (3, "", f"yarib: not a prefix: {word}\n"))
         misused(f"{option} twice", yarib("table", option, "10.0.0.0/8", option, "10.0.0.0/8", "row.feed"), option)
-        misused(f"{option} of a look-up", yarib("lookup", option, "10.0.0.0/8", "--address", "10.0.0.1", "row.feed"), option)
+        misused(f"{option} of a look-up", yarib("lookup", option, "10.0.0.0/8", "--address", "10.0.0.1", "row.feed"),
+                option)
         other = next(each for each in holds if each != option)
         ended = yarib("table", option, "10.0.0.0/8", other, "10.0.0.0/8", "row.feed")
-        expect(f"{option} and {other}", ended, (3, "", "yarib: only one of --within, --covering and --exact may be given\n"))
+        expect(f"{option} and {other}", ended,
+               (3, "", "yarib: only one of --within, --covering and --exact may be given\n"))
     for word in ("0", "65", "x"):
         misused(f"--feed {word}", yarib("table", "--feed", word, "row.feed"), "--feed")
 
@@ -521,8 +539,8 @@ def counted(line, path_of):
 
 # Fails where a length, a feed or the last of either is forgotten, or routes are counted as prefixes: `--count of 300`.
 def counted_tables(yarib):
-    """How many routes are in each part of random tables, beside the rows that the same command prints; and all feeds and
-    lengths."""
+    """How many routes are in each part of random tables, beside the rows that the same command prints; and all feeds
+    and lengths."""
     choice = random.Random(62)
     for count in (0, 1, 12, 300):
         _, names = random_table(choice, f"counted{count}_", count)
@@ -531,7 +549,8 @@ def counted_tables(yarib):
                 for named in ([], ["--names"]):
                     words = [*part, *more, *named, *names]
                     _, rows, _ = yarib("table", *words)
-                    compare(f"--count of {count} {words}", yarib("table", "--count", *words), 0, counts_text(rows.splitlines()))
+                    compare(f"--count of {count} {words}", yarib("table", "--count", *words), 0,
+                            counts_text(rows.splitlines()))
                 words = [*part, *more, *names]
                 _, lines, _ = yarib("table", "--count", *words)
                 status, out, err = yarib("table", "--count", "--json", *words)
@@ -563,7 +582,8 @@ def cut(number, length):
 # Fails where a faulty address leaves status 0: `faulty addresses`.
 def not_taken(yarib):
     """What standard error tells of each file, and the status."""
-    pathlib.Path("three.feed").write_text(ROW + "frob\nadd 11.0.0.0/8 1 192.0.2.1\nadd 12.0.0.0/8 1 192.0.2.1\nlookup 1\n")
+    pathlib.Path("three.feed").write_text(ROW
+                                          + "frob\nadd 11.0.0.0/8 1 192.0.2.1\nadd 12.0.0.0/8 1 192.0.2.1\nlookup 1\n")
     pathlib.Path("asked.txt").write_text("10.0.0.1\n" + "#" * 129 + "\nx\n10.0.0.2\n")
     answer = "10.0.0.1 route " + route(1)
     faulty = f"yarib: three.feed: faulty lines: 2, the first is line 2: {E1}\n"
@@ -573,16 +593,19 @@ def not_taken(yarib):
     expect("faulty lines", yarib("lookup", "--address", "10.0.0.1", "three.feed"), (2, answer, faulty))
     ended = yarib("lookup", *one, "--address", "10.0.0.1", "three.feed")
     expect("faulty lines and adds over the limit", ended, (2, answer, faulty + over))
-    expect("the same of a table", yarib("table", *one, "three.feed", "row.feed"), (2, route(1) + route(2), faulty + over))
+    expect("the same of a table", yarib("table", *one, "three.feed", "row.feed"),
+           (2, route(1) + route(2), faulty + over))
     both = answer + "10.0.0.2" + answer[8:]
     expect("faulty addresses", yarib("lookup", *by_file, "row.feed"), (2, both, asked))
     expect("faults of all files", yarib("lookup", *one, *by_file, "three.feed"), (2, both, asked + faulty + over))
     for word in ("10.0.0.256", "", "10.0.0.1/32", "10.0.0.01", " 10.0.0.1", "x"):
         ended = yarib("lookup", "--address", "10.0.0.1", f"--address={word}", "missing")
         expect(f"the address {word!r}", ended, (3, "", f"yarib: not an address: {word}\n"))
-    expect("no address", yarib("lookup", "row.feed"), (3, "", "yarib: no address is asked for: give --address or --addresses\n"))
+    expect("no address", yarib("lookup", "row.feed"),
+           (3, "", "yarib: no address is asked for: give --address or --addresses\n"))
     for command in (["lookup", "--address", "10.0.0.1"], ["table"]):
-        expect(f"{command} of a missing file", yarib(*command, "row.feed", "missing"), (4, "", "yarib: cannot read missing\n"))
+        expect(f"{command} of a missing file", yarib(*command, "row.feed", "missing"),
+               (4, "", "yarib: cannot read missing\n"))
         expect(f"{command} of 65 files", yarib(*command, *["missing"] * 65), (3, "", "yarib: more than 64 files\n"))
         missing = yarib(*command, "row.feed", "nor", "missing")
         expect(f"{command}: the first missing file is named", missing, (4, "", "yarib: cannot read nor\n"))
@@ -609,8 +632,8 @@ def not_taken(yarib):
 # What two tables answer otherwise
 
 
-# Fails where a border at the last address of a prefix is forgotten, ranges are split or merged wrongly, or routes are compared
-# where hops were asked: `by hop 0`.
+# Fails where a border at the last address of a prefix is forgotten, ranges are split or merged wrongly, or routes are
+# compared where hops were asked: `by hop 0`.
 def compared_tables(yarib):
     """Ranges of random feeds, beside all borders asked one by one; what is misused, and what is told of both sides."""
     choice = random.Random(40)
@@ -624,8 +647,10 @@ def compared_tables(yarib):
     pathlib.Path("odd.feed").write_text("frob\n" + ROW)
     told = f"yarib: odd.feed: faulty lines: 1, the first is line 1: {E1}\n"
     expect("what was not taken of both", yarib("diff", "odd.feed", "--", "row.feed", "odd.feed"), (2, "", told * 2))
-    expect("more than 64 new files", yarib("diff", "row.feed", "--", *["row.feed"] * 65), (3, "", "yarib: more than 64 files\n"))
-    expect("an old file that is missing", yarib("diff", "missing", "--", "row.feed"), (4, "", "yarib: cannot read missing\n"))
+    expect("more than 64 new files", yarib("diff", "row.feed", "--", *["row.feed"] * 65),
+           (3, "", "yarib: more than 64 files\n"))
+    expect("an old file that is missing", yarib("diff", "missing", "--", "row.feed"),
+           (4, "", "yarib: cannot read missing\n"))
     misused("no new file", yarib("diff", "row.feed"), "<NEW>")
     misused("no file behind --", yarib("diff", "row.feed", "--"), "<NEW>")
     misused("no old file", yarib("diff", "--", "row.feed"), "<OLD>")
@@ -646,7 +671,8 @@ def answer_object(text, path_of):
 
 # Fails where old and new are exchanged, or a range's last address is another: `as JSON by`.
 def compared_as_json(yarib):
-    """Each range is one object, which says what the line of the same command says, and of a feed its file on that side."""
+    """Each range is one object, which says what the line of the same command says, and of a feed its file on that
+    side."""
     choice = random.Random(63)
     for number in (1, 4, 9):
         (_, old), (_, new) = (random_table(choice, side, number) for side in ("old", "new"))
@@ -673,7 +699,8 @@ def compared_as_json(yarib):
 
 # Fails where feeds are paired by their numbers and not by their names: `a file that one side lacks`.
 def compared_by_name(yarib):
-    """Ranges of random feeds, whose files stand in another order on the other side, or lack there: feeds of one name are one."""
+    """Ranges of random feeds, whose files stand in another order on the other side, or lack there: feeds of one name
+    are one."""
     choice = random.Random(64)
     for side in ("older", "newer"):
         pathlib.Path(side).mkdir(exist_ok=True)
@@ -688,7 +715,8 @@ def compared_by_name(yarib):
             wanted = differences_text(old, new, by, (old_names, new_names))
             ended = yarib("diff", "--names", "--by", by, *old_paths, "--", *new_paths)
             expect(f"by {by} and name {number}", ended, (1 if wanted else 0, wanted, ""))
-    text = {"one": "add 10.0.0.0/8 5 192.0.2.1\n", "two": "add 11.0.0.0/8 5 192.0.2.2\n", "three": "add 12.0.0.0/8 5 192.0.2.3\n"}
+    text = {"one": "add 10.0.0.0/8 5 192.0.2.1\n", "two": "add 11.0.0.0/8 5 192.0.2.2\n",
+            "three": "add 12.0.0.0/8 5 192.0.2.3\n"}
     for side in ("older", "newer"):
         for name, lines in text.items():
             pathlib.Path(f"{side}/{name}.feed").write_text(lines)
@@ -703,13 +731,17 @@ def compared_by_name(yarib):
     moved = yarib("diff", "--by", "route", "--names", "--json", *sides)
     told = [json.loads(line) for line in moved[1].splitlines()]
     expect("each side's own number and file", [(one["old"], one["new"]) for one in told], [
-        ({"prefix": "10.0.0.0/8", "feed": 1, "name": "one", "file": "older/one.feed", "pref": 5, "via": "192.0.2.1"}, None),
-        (None, {"prefix": "12.0.0.0/8", "feed": 1, "name": "three", "file": "newer/three.feed", "pref": 5, "via": "192.0.2.3"})])
-    for side in (["older/one.feed", "newer/one.feed", "--", "row.feed"], ["row.feed", "--", "older/one.feed", "newer/one.feed"]):
+        ({"prefix": "10.0.0.0/8", "feed": 1, "name": "one", "file": "older/one.feed", "pref": 5, "via": "192.0.2.1"},
+         None),
+        (None, {"prefix": "12.0.0.0/8", "feed": 1, "name": "three", "file": "newer/three.feed", "pref": 5,
+                "via": "192.0.2.3"})])
+    for side in (["older/one.feed", "newer/one.feed", "--", "row.feed"],
+                 ["row.feed", "--", "older/one.feed", "newer/one.feed"]):
         err = "yarib: one name for two feeds: older/one.feed, newer/one.feed\n"
         compare(f"one name twice in {side}", yarib("diff", "--names", *side), 3, "", err)
     pathlib.Path("a b.feed").write_text(ROW)
-    compare("no name", yarib("diff", "--names", "row.feed", "--", "a b.feed"), 3, "", "yarib: no name for a feed: a b.feed\n")
+    compare("no name", yarib("diff", "--names", "row.feed", "--", "a b.feed"), 3, "",
+            "yarib: no name for a feed: a b.feed\n")
 
 
 def random_feeds(choice, folder, names, count):
@@ -749,9 +781,11 @@ def old_first(yarib):
             f"yarib: faulty.feed: faulty lines: 1, the first is line 1: {E1}\n"]
     for sides, lines in ((("gone", "faulty"), told), (("faulty", "gone"), told[::-1])):
         old, new = (f"{side}.feed" for side in sides)
-        expect("what was not taken of the old files comes first", yarib("diff", old, "--", new), (2, "", "".join(lines)))
+        expect("what was not taken of the old files comes first", yarib("diff", old, "--", new),
+               (2, "", "".join(lines)))
     expect("both are missing", yarib("diff", "missing", "--", "nor"), (4, "", "yarib: cannot read missing\n"))
-    expect("both are missing, the other way round", yarib("diff", "nor", "--", "missing"), (4, "", "yarib: cannot read nor\n"))
+    expect("both are missing, the other way round", yarib("diff", "nor", "--", "missing"),
+           (4, "", "yarib: cannot read nor\n"))
 
 
 # Fails where nothing is told from the third file on, of a file that is named twice, or of it the second time: `a third
@@ -792,8 +826,8 @@ def files_told(yarib):
     expect("tens of thousands of each kind", table("many.feed"), (2, route(1), told))
 
 
-# Fails where the first faulty address is numbered without the lines that are skipped, or only 64 KB of the text are read:
-# `a long text of addresses`.
+# Fails where the first faulty address is numbered without the lines that are skipped, or only 64 KB of the text are
+# read: `a long text of addresses`.
 # Fails where faulty addresses are counted to 255 or 65,535: `256 faulty addresses`, `70001 faulty addresses`.
 # Fails where F3 is given to more than 1,000 or 4,096 `--address`es: `--address 1001 times`, `--address 30000 times`.
 # Fails where F3 is given to more than 2,000 addresses, or status 6 to more than 2,000 answers: `20,000 addresses`.
@@ -814,7 +848,8 @@ def addresses_told(yarib):
             "the field is no prefix or address (the CR of CRLF is part of it)\n"
         expect(f"{count} faulty addresses", yarib(*asked, "row.feed"), (2, answer, told))
     for count in (999, 1_000, 1_001, 1_024, 1_025, 30_000):
-        compare(f"--address {count} times", yarib("lookup", *["--address=10.0.0.1"] * count, "row.feed"), 0, answer * count)
+        compare(f"--address {count} times", yarib("lookup", *["--address=10.0.0.1"] * count, "row.feed"), 0,
+                answer * count)
     pathlib.Path("asked.txt").write_text("10.0.0.1\n" * 20_000)
     expect("20,000 addresses", yarib(*asked, "row.feed"), (0, answer * 20_000, ""))
     pathlib.Path("asked.txt").write_text("frob\n10.0.0.1\n")
@@ -828,9 +863,9 @@ def addresses_told(yarib):
 # Fails where status 0 is given to an output that takes nothing: the status is not 6.
 def closed_outputs(yarib):
     tried = (
-        ["lookup", "--help"], ["table", "--help"], ["lookup", "--address", "10.0.0.1", "row.feed"], ["table", "row.feed"],
-        ["--help"], ["help", "run"], ["run", "--help"], ["replay", "--help"], ["--version"], ["-V"],
-        ["replay", "--levels", "6"], ["replay", "--levels", "2", *["3"] * 12],
+        ["lookup", "--help"], ["table", "--help"], ["lookup", "--address", "10.0.0.1", "row.feed"],
+        ["table", "row.feed"], ["--help"], ["help", "run"], ["run", "--help"], ["replay", "--help"],
+        ["--version"], ["-V"], ["replay", "--levels", "6"], ["replay", "--levels", "2", *["3"] * 12],
         ["run", "row.feed"], ["run", "empty.feed"], ["run", "faulty.feed"],
     )
     for words in tried:
@@ -838,7 +873,8 @@ def closed_outputs(yarib):
         expect(f"{words} to a closed output", closed, CANNOT_WRITE)
         with open("/dev/full", "w") as full:
             expect(f"{words} to a full output", yarib(*words, stdout=full), CANNOT_WRITE)
-        expect(f"{words} where nothing is open", yarib(*words, stdout=None, stderr=None, preexec_fn=close_all), (6, "", ""))
+        expect(f"{words} where nothing is open",
+               yarib(*words, stdout=None, stderr=None, preexec_fn=close_all), (6, "", ""))
     # What has nothing for standard output doesn't meet it.
     for words, wanted in (
         (["table", "empty.feed"], (0, "", "")),
@@ -854,9 +890,9 @@ ERASED = "\r" + " " * 32 + "\r"
 
 
 def on_terminal(words, told=None, go_on=lambda: None, out_too=False, is_short=False):
-    """Status, standard output, and what a terminal as standard error is sent beside the line; it may be standard output too.
-    Where the run is held up, the line has to say what is `told` before `go_on` is called, and may else say `OTHERS`; of a short
-    run only where the machine has made it take a second."""
+    """Status, standard output, and what a terminal as standard error is sent beside the line; it may be standard output
+    too. Where the run is held up, the line has to say what is `told` before `go_on` is called, and may else say
+    `OTHERS`; of a short run only where the machine has made it take a second."""
     began = time.monotonic()
     screen, terminal = pty.openpty()
     tty.setraw(terminal)
@@ -877,8 +913,9 @@ def on_terminal(words, told=None, go_on=lambda: None, out_too=False, is_short=Fa
 
 
 OTHERS = {
-    "yarib: files read: 0 of 1", "yarib: files read: 1 of 2", *(f"yarib: files read: {read} of 64" for read in range(64)),
-    "yarib: feeds running: 1", "yarib: feeds running: 2", "yarib: feeds running: 64", "yarib: writing",
+    "yarib: files read: 0 of 1", "yarib: files read: 1 of 2",
+    *(f"yarib: files read: {read} of 64" for read in range(64)), "yarib: feeds running: 1", "yarib: feeds running: 2",
+    "yarib: feeds running: 64", "yarib: writing",
 }
 
 
@@ -896,10 +933,11 @@ def seconds_on_terminal(words):
     return time.monotonic() - began
 
 
-# Fails where a call on a terminal lasts as long as the line's next second: `some call on a terminal is over in half a second`.
+# Fails where a call on a terminal lasts as long as the line's next second: `some call on a terminal is over in half a
+# second`.
 # Fails where status 1 is 0 on a terminal: `a difference on a terminal`.
-# Fails where a run of less than a second says something, or one that isn't on a terminal; where the line isn't erased before
-# another text and at the end; where nothing is said after a second.
+# Fails where a run of less than a second says something, or one that isn't on a terminal; where the line isn't erased
+# before another text and at the end; where nothing is said after a second.
 def progress(yarib):
     os.mkfifo("slow.feed")
     goes_on = lambda text: lambda: pathlib.Path("slow.feed").write_text(text)
@@ -919,7 +957,8 @@ def progress(yarib):
     two = on_terminal([yarib, "table", "row.feed", "slow.feed"], "yarib: files read: 1 of 2", goes_on("frob\n"))
     expect("a slow second file, and a fault", two, (2, "10.0.0.0/8 feed 1 pref 100 via 192.0.2.1\n", fault))
     asked = [yarib, "lookup", "--address", "10.0.0.1", "slow.feed"]
-    expect("a slow file of a look-up", on_terminal(asked, none_read, goes_on("frob\n")), (2, "10.0.0.1 no route\n", fault))
+    expect("a slow file of a look-up", on_terminal(asked, none_read, goes_on("frob\n")),
+           (2, "10.0.0.1 no route\n", fault))
     child = subprocess.Popen(slow, stdout=subprocess.PIPE, stderr=subprocess.PIPE, text=True)
     time.sleep(1.5)
     goes_on(ROW)()
@@ -961,7 +1000,8 @@ def progress_of_long_runs(yarib):
     picks = [5] * 20_000
     replay = [yarib, "replay", "--levels", "6", *map(str, picks)]
     expect("a long replay", on_terminal(replay, go_on=unread), (0, Tree(6).text(picks), ""))
-    expect("a fault of a replay", on_terminal([yarib, "replay", "--levels", "7"], is_short=True), (3, "", "yarib: fault P2\n"))
+    expect("a fault of a replay", on_terminal([yarib, "replay", "--levels", "7"], is_short=True),
+           (3, "", "yarib: fault P2\n"))
     pathlib.Path("dumps.feed").write_text("dump\n" * 40_000)
     busy = [yarib, "table", "--batch", "1", *["dumps.feed"] * 64]
     expect("64 busy feeds", on_terminal(busy, "yarib: feeds running: 64"), (0, "", ""))
@@ -970,9 +1010,9 @@ def progress_of_long_runs(yarib):
 
 
 CASES = (
-    runs, what_the_table_says, what_two_tables_answer_otherwise, file_order, many_files, unreadable, names, texts, limits,
-    batches, twice, replays, finished_tables, parts_of_tables, counted_tables, compared_tables, compared_as_json,
-    compared_by_name, old_first, not_taken, files_told, addresses_told, pages,
+    runs, what_the_table_says, what_two_tables_answer_otherwise, file_order, many_files, unreadable, names,
+    texts, limits, batches, twice, replays, finished_tables, parts_of_tables, counted_tables, compared_tables,
+    compared_as_json, compared_by_name, old_first, not_taken, files_told, addresses_told, pages,
     examples_of_the_help, help_is_true, closed_outputs, progress, line_each_second, progress_of_long_runs,
 )
 

@@ -3,10 +3,10 @@
 
 tests/costs.py [PROGRAM [CASE..]], or --list for the names of the cases. Needs gcc and glibc.
 
-No clause says how long anything takes. Waits are counted (tests/waits.c), which other work on the machine changes little.
-Processor time has a peer in the same run, which other work makes as much dearer: passages of a mutex in C, or what the same call
-has used before its first output. Each bound is one and a half to three times what was found, and holds for the best of some rounds,
-which a wrong body passes in none. With --tell it prints what it finds.
+No clause says how long anything takes. Waits are counted (tests/waits.c), which other work on the machine changes
+little. Processor time has a peer in the same run, which other work makes as much dearer: passages of a mutex in C, or
+what the same call has used before its first output. Each bound is one and a half to three times what was found, and
+holds for the best of some rounds, which a wrong body passes in none. With --tell it prints what it finds.
 """
 import pathlib
 import random
@@ -22,7 +22,8 @@ WORDS = 1000
 
 
 class Waits(NamedTuple):
-    """The waits of one word, a place's bell: short ones at the door, longer ones in the lock, and how often it was rung."""
+    """The waits of one word, a place's bell: short ones at the door, longer ones in the lock, and how often it was
+    rung."""
 
     naps: int
     sleeps: int
@@ -103,7 +104,8 @@ def door(called):
 def forgotten(called):
     """A file that has met the other one 20 times in a row meets it now and then, and doesn't nap for that."""
     write_meeting(dumps=3_000_000, seldom=70)
-    # Other work can keep the files apart, or hold one up at the door. Who never forgets naps at each meeting, in every round.
+    # Other work can keep the files apart, or hold one up at the door. Who never forgets naps at each meeting, in every
+    # round.
     for _ in range(8):
         waits = met(called, 1, "dumps.feed", "adds.feed")
         called.tell("waits of the file of dumps", waits)
@@ -113,8 +115,8 @@ def forgotten(called):
 
 
 def write_meeting(dumps, seldom):
-    """A long file of `dump`s, and one of `add`s: 20 in a row and then, so seldom that the other one has asked over a thousand
-    times in between, some more."""
+    """A long file of `dump`s, and one of `add`s: 20 in a row and then, so seldom that the other one has asked over a
+    thousand times in between, some more."""
     adds = [f"add 10.{at >> 8}.{at & 255}.0/24 1 192.0.2.1\n" for at in range(20 + seldom)]
     pathlib.Path("dumps.feed").write_text("dump\n" * dumps)
     pathlib.Path("adds.feed").write_text("".join(adds[:20]) + "".join("#\n" * 100_000 + add for add in adds[20:]))
@@ -135,7 +137,8 @@ def passage_alone(called):
     lines, passages, batches = 200_000, [], []
     pathlib.Path("dumps.feed").write_text("dump\n" * lines)
     for _ in range(5):
-        one, batched = (called.call("run", "--batch", batch, "dumps.feed").before_output / lines for batch in ("1", "1024"))
+        one, batched = (called.call("run", "--batch", batch, "dumps.feed").before_output / lines
+                        for batch in ("1", "1024"))
         mutex = float(run([called.mutex, "1000000"])[1])
         passages.append((one - batched) / mutex)
         batches.append(batched / mutex)
@@ -155,7 +158,8 @@ def outputs(called):
     pathlib.Path("asked.txt").write_text("".join(f"{base}\n" for base in choice.sample(high, len(high))))
     asked = ["--addresses", "asked.txt", "side1.feed"]
     for what, status, words, bound in (
-        # The first output has some of the low routes that differ; of the others none does, and so nothing is printed for them.
+        # The first output has some of the low routes that differ; of the others none does, and so nothing is printed
+        # for them.
         ("the answers of a comparison, to its runs", 1, ["diff", "side1.feed", "--", "side2.feed"], 0.4),
         ("the answers of look-ups, to the run", 0, ["lookup", *asked], 0.8),
         ("the rows of a table, to the run", 0, ["table", "side1.feed"], 0.12),

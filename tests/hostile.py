@@ -3,11 +3,11 @@
 
 tests/hostile.py [PROGRAM [CASE..]], or --list for the names of the cases. Linux, python3, gcc and glibc.
 
-Little memory: the program is run under rising limits of its address space, with the memory that the C library gives by itself,
-and as the launchers set it. It must end as with ample memory, or with status 5 and nothing on standard output, or with status 5
-and what the model prints without the commands that it says were refused; never by a signal. Limits under which it can't be loaded
-at all are left out. Then each request of a look-up and of a list is refused in turn, as refused_growth.py does it
-for all kinds of runs, and requests of a forwarding table.
+Little memory: the program is run under rising limits of its address space, with the memory that the C library gives by
+itself, and as the launchers set it. It must end as with ample memory, or with status 5 and nothing on standard output,
+or with status 5 and what the model prints without the commands that it says were refused; never by a signal. Limits
+under which it can't be loaded at all are left out. Then each request of a look-up and of a list is refused in turn, as
+refused_growth.py does it for all kinds of runs, and requests of a forwarding table.
 """
 import os
 import pathlib
@@ -25,8 +25,8 @@ from texts import AGAIN, FORWARDED, ROW, ROW_OUT, many_routes, own_text, written
 
 
 def limited(words, size, memory):
-    """A call with at most so many bytes of address space, with this setting of memory, or None where the program can't be loaded
-    into them."""
+    """A call with at most so many bytes of address space, with this setting of memory, or None where the program can't
+    be loaded into them."""
 
     def limit():
         resource.setrlimit(resource.RLIMIT_AS, (size, size))
@@ -43,7 +43,8 @@ def limited(words, size, memory):
 
 
 def judge(what, ended, ample, texts, words):
-    """Compares a run under a limit with the one that had all it wanted, or with the model where commands were refused."""
+    """Compares a run under a limit with the one that had all it wanted, or with the model where commands were
+    refused."""
     if ended == ample:
         return "as with ample memory"
     status, out, err = ended
@@ -105,8 +106,8 @@ def refused_commands(yarib):
     asked = pathlib.Path("faulty.txt")
     asked.write_text("10.0.0.1\nfrob\n")
     for words in (
-        ["lookup", "--addresses", asked], ["lookup", "--address", "10.0.0.1"], ["lookup", "--all", "--addresses", asked],
-        ["table"], ["diff", "--by=route", paths[1], "--"],
+        ["lookup", "--addresses", asked], ["lookup", "--address", "10.0.0.1"],
+        ["lookup", "--all", "--addresses", asked], ["table"], ["diff", "--by=route", paths[1], "--"],
     ):
         name, kinds = f"{words[:2]} in two files", set()
         try:
@@ -119,8 +120,8 @@ def refused_commands(yarib):
 
 # Fails where a look-up of many addresses ends with F3 where the memory of a forwarding table is refused.
 def refused_forwarding(yarib):
-    """Look-ups of so many addresses that a forwarding table answers them, whose requests for memory are refused: of the last
-    ones, which are that table's and one for the output, only the output's keeps the answers from being printed."""
+    """Look-ups of so many addresses that a forwarding table answers them, whose requests for memory are refused: of the
+    last ones, which are that table's and one for the output, only the output's keeps the answers from being printed."""
     refuse = refuser(pathlib.Path.cwd())
     text, asked, answers = many_routes(FORWARDED[1])
     times = FORWARDED[0] // len(asked) + 1
@@ -166,8 +167,8 @@ def files(yarib):
         expect("a file without leave", yarib("run", locked), unreadable(locked))
 
 
-# Fails where `lookup` or `table` answers F3 to more than 6 texts, or the seventh file of `table` can't be read: `the table
-# of 7 files`.
+# Fails where `lookup` or `table` answers F3 to more than 6 texts, or the seventh file of `table` can't be read: `the
+# table of 7 files`.
 # Fails where F3 is answered to more than 33 texts, or 64 files are too many for `lookup`: `addresses from a pipe and 64
 # files`.
 def one_file_over_and_over(yarib):
@@ -179,7 +180,8 @@ def one_file_over_and_over(yarib):
         listed = "".join(f"10.0.0.0/8 feed {k} pref 100 via 192.0.2.1\n" for k in range(1, count + 1))
         expect(f"the table of {count} files", yarib("table", *[row] * count), (0, listed, ""))
         found = yarib("lookup", "--addresses", "/dev/stdin", *[row] * count, input=b"10.0.0.1\n")
-        expect(f"addresses from a pipe and {count} files", found, (0, "10.0.0.1 route " + listed.splitlines(True)[0], ""))
+        expect(f"addresses from a pipe and {count} files", found,
+               (0, "10.0.0.1 route " + listed.splitlines(True)[0], ""))
         first, *others = listed.splitlines()
         every = f"10.0.0.1 route {first}\n" + "".join(f"10.0.0.1 also {line} feed\n" for line in others)
         found = yarib("lookup", "--all", "--address", "10.0.0.1", *[row] * count)
@@ -225,8 +227,9 @@ def outputs(yarib):
     asked = folder / "asked.txt"
     asked.write_text("10.0.0.1\n" * 5_000)
     for words in (
-        ["run", row], ["run", large], ["lookup", "--addresses", asked, row], ["lookup", "--all", "--addresses", asked, row],
-        ["table", row], ["diff", row, "--", none], ["replay", "--levels", "1", "0"], ["run", "--help"], ["--version"],
+        ["run", row], ["run", large], ["lookup", "--addresses", asked, row],
+        ["lookup", "--all", "--addresses", asked, row], ["table", row], ["diff", row, "--", none],
+        ["replay", "--levels", "1", "0"], ["run", "--help"], ["--version"],
     ):
         name = " ".join(str(word) for word in words if not isinstance(word, pathlib.Path))
         with open("/dev/full", "w") as full:

@@ -1,17 +1,18 @@
 """A judge of runs: whether some order of the feeds' visits explains what a run of their texts wrote.
 
-It reads each text line by line, and beside each command it puts the answer that the output has for that line. Where the output
-has another line, or lacks one, nothing explains it. Each feed's commands are then cut into visits of `batch`, of which the last
-may be shorter. A state of the search says how many commands each feed still has to ask, and which routes stand in the table. From
-a state it goes on with the next visit of each feed: it answers the visit's commands from the table, one after another and with
-nothing between them, and gives that way up at the first answer that differs from the printed one. The output is explained if some
-way leads to the end of all feeds, and what it printed behind the reports is then the table that stands there.
+It reads each text line by line, and beside each command it puts the answer that the output has for that line. Where the
+output has another line, or lacks one, nothing explains it. Each feed's commands are then cut into visits of `batch`, of
+which the last may be shorter. A state of the search says how many commands each feed still has to ask, and which routes
+stand in the table. From a state it goes on with the next visit of each feed: it answers the visit's commands from the
+table, one after another and with nothing between them, and gives that way up at the first answer that differs from the
+printed one. The output is explained if some way leads to the end of all feeds, and what it printed behind the reports
+is then the table that stands there.
 
-No state is looked at twice. A command changes the routes of its own feed alone, so all the ways that leave each feed the same
-commands have left the same table.
+No state is looked at twice. A command changes the routes of its own feed alone, so all the ways that leave each feed
+the same commands have left the same table.
 
-The judge is for texts of good lines and of lines whose fault is E1, and for runs with ample memory: it takes no refusal for an
-answer.
+The judge is for texts of good lines and of lines whose fault is E1, and for runs with ample memory: it takes no refusal
+for an answer.
 """
 from table_model import Table, table_text
 
@@ -31,8 +32,8 @@ def read(text):
 
 
 def explains(feeds, limit, batch, output):
-    """Whether some order of the visits of these feeds, of whose texts the commands were read, explains the output. Each feed
-    may have `limit` routes and asks `batch` commands at once."""
+    """Whether some order of the visits of these feeds, of whose texts the commands were read, explains the output. Each
+    feed may have `limit` routes and asks `batch` commands at once."""
     lines, answered = iter(output.split("\n")), []
     for feed, commands in enumerate(feeds, 1):
         asked = []

@@ -1,8 +1,9 @@
 #!/usr/bin/env python3
 """Has `yarib run` run very long texts to their end, and prints what a line or a byte of each takes.
 
-tests/large.py [PROGRAM [CASE..]], or --list for the names of the cases. Takes some minutes, and up to 8 GB of memory: texts of
-1 to 10 million lines, and lines of 100 MB to 1 GB. It is called as the benches are, with --store and --default-memory.
+tests/large.py [PROGRAM [CASE..]], or --list for the names of the cases. Takes some minutes, and up to 8 GB of memory:
+texts of 1 to 10 million lines, and lines of 100 MB to 1 GB. It is called as the benches are, with --store and
+--default-memory.
 """
 import os
 import subprocess
@@ -42,7 +43,8 @@ def fill(path, piece, times):
 
 def add_row(text, unit, units, seconds, peak):
     """Prints what a unit of a text took, a line or a byte."""
-    row = {"text": text, "unit": unit, "seconds": round(seconds, 2), "time": seconds / units * 1e9, "peak": peak / units}
+    row = {"text": text, "unit": unit, "seconds": round(seconds, 2), "time": seconds / units * 1e9,
+           "peak": peak / units}
     ROWS.append(row)
     print(f"{text:20} {seconds:6.2f} s, {row['time']:6.1f} ns and {row['peak']:6.2f} bytes a {unit}", flush=True)
 

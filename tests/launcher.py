@@ -1,9 +1,10 @@
 #!/usr/bin/env python3
-"""Starts ./yarib in copies of the repository where a stand-in for the toolchain builds it, and asks bash for completions.
+"""Starts ./yarib in copies of the repository where a stand-in for the toolchain builds it, and asks bash for
+completions.
 
-tests/launcher.py [CASE..], or --list for the names of the cases. Needs bash, gcc and python3, but no toolchain: the stand-in `rt`
-notes when it begins and ends with which crate, and what it builds is tests/started.c, which tells how it was started. So this
-takes seconds, and says nothing of proofs.
+tests/launcher.py [CASE..], or --list for the names of the cases. Needs bash, gcc and python3, but no toolchain: the
+stand-in `rt` notes when it begins and ends with which crate, and what it builds is tests/started.c, which tells how it
+was started. So this takes seconds, and says nothing of proofs.
 """
 import concurrent.futures
 import os
@@ -33,7 +34,8 @@ TUNABLES = "glibc.malloc.arena_max=1:glibc.malloc.hugetlb=1"
 
 
 class Copy:
-    """The launcher in a folder with the crates' list and a few files of each crate, all of them older than any build."""
+    """The launcher in a folder with the crates' list and a few files of each crate, all of them older than any
+    build."""
 
     def __init__(self, made, tools, name):
         self.top, self.notes, self.tools = made / name, made / f"{name}.notes", tools
@@ -51,7 +53,8 @@ class Copy:
 
     def start(self, *words, path="with", by=None, **more):
         """How a call ends: its status, what the program that it started tells, and standard error."""
-        names = {"PATH": self.tools / path, "NOTES": self.notes, "STARTED": self.tools / "started", "FAILS": "", "CHANGES": ""}
+        names = {"PATH": self.tools / path, "NOTES": self.notes, "STARTED": self.tools / "started", "FAILS": "",
+                 "CHANGES": ""}
         how = {"env": names | more.pop("names", {}), "stdin": subprocess.DEVNULL, "cwd": self.top} | more
         status, out, err = run([by or self.top / "yarib", *words], **how)
         return status, out, err
@@ -86,14 +89,15 @@ def with_own(tunables):
 # Each of these has a copy of its own, and they run at the same time.
 
 
-# Fails where words beyond the third are lost, where they are split or joined, or where the status is lost: `the words`, `the
-# status`.
+# Fails where words beyond the third are lost, where they are split or joined, or where the status is lost: `the words`,
+# `the status`.
 # Fails where the program is started in the repository's folder, or by another name: `from elsewhere`, `the words []`.
 # Fails where a user's own tunables are lost: `a user's own tunables`.
 def what_it_is_given(copy):
     copy.start()
     for words in (
-        [], ["run"], ["run", "--limit", "3", "--batch", "4", "one.feed", "two.feed"], [str(count) for count in range(300)],
+        [], ["run"], ["run", "--limit", "3", "--batch", "4", "one.feed", "two.feed"],
+        [str(count) for count in range(300)],
         ["a b", "", "*", "$HOME", "it's", '"', "\\", "two\nlines", "--", "-n", "-h"],
     ):
         expect(f"the words {words[:12]}", copy.start(*words), (0, told(words, copy.top), ""))
@@ -101,19 +105,21 @@ def what_it_is_given(copy):
     expect("a word that is no text", (status, out.split("\0")[:4]), (0, ["3", "yarib", "\\xff", "--"]))
     for status in (1, 2, 6, 126, 127, 255):
         expect(f"the status {status}", copy.start("x", names={"STARTED_STATUS": str(status)})[::2], (status, ""))
-    expect("standard input", copy.start("x", stdin=None, input=b"10.0.0.1\n"), (0, told(["x"], copy.top, given="10.0.0.1\n"), ""))
+    expect("standard input", copy.start("x", stdin=None, input=b"10.0.0.1\n"),
+           (0, told(["x"], copy.top, given="10.0.0.1\n"), ""))
     own = "glibc.malloc.arena_max=2"
     ended = copy.start("x", names={"GLIBC_TUNABLES": own})
     expect("a user's own tunables", ended, (0, told(["x"], copy.top, tunables=with_own(own)), ""))
     link = copy.top.parent / "called"
     link.symlink_to(copy.top / "yarib")
     expect("from elsewhere", copy.start("x", by=link, cwd=link.parent), (0, told(["x"], link.parent), ""))
-    expect("what is built for calls with nothing changed", len([note for note in copy.built() if note == "begin rt_app"]), 1)
+    expect("what is built for calls with nothing changed",
+           len([note for note in copy.built() if note == "begin rt_app"]), 1)
 
 
 # Fails where a changed file of `specs/` rebuilds nothing: `built where crates/rt_trie/specs/S.antt is newer`.
-# Fails where an edit that the prover has to refuse, or a crate on which the program doesn't stand, has it built anew: `not built
-# where crates/walkthrough/src/lib.rt is newer`.
+# Fails where an edit that the prover has to refuse, or a crate on which the program doesn't stand, has it built anew:
+# `not built where crates/walkthrough/src/lib.rt is newer`.
 def what_is_built_anew(copy):
     whole = len(copy.built_by_call())
     specs = ("crates/rt_trie/specs/S.antt", "crates/ya_core/specs/inside/new.antt")
@@ -146,11 +152,13 @@ def in_order(copy):
 def one_at_a_time(copy):
     with concurrent.futures.ThreadPoolExecutor(3) as pool:
         ended = list(pool.map(lambda word: copy.start(word), "xyz"))
-    expect("three calls at once start the program", [one[:2] for one in ended], [(0, told([word], copy.top)) for word in "xyz"])
+    expect("three calls at once start the program", [one[:2] for one in ended],
+           [(0, told([word], copy.top)) for word in "xyz"])
     expect("three calls at once build once", copy.built().count("begin rt_app"), 1)
 
 
-# Fails where the program of the last build is started though the build failed, or the failure is told by no status: `.. fails`.
+# Fails where the program of the last build is started though the build failed, or the failure is told by no status: `..
+# fails`.
 def failed_builds(copy):
     copy.start()
     for crate in ("ya_core", "rt_run", "rt_app"):
@@ -185,7 +193,8 @@ def nothing_to_build_with(copy):
     for name in ("crates.txt", "crates/rt_app/src/main.rt"):
         (copy.top / name).rename(copy.top / "kept")
         status, out, err = copy.start("x")
-        expect(f"a folder without sources: no {name}", (status, out, str(copy.top) in err, copy.built()), (126, "", True, []))
+        expect(f"a folder without sources: no {name}", (status, out, str(copy.top) in err, copy.built()),
+               (126, "", True, []))
         (copy.top / "kept").rename(copy.top / name)
 
 
@@ -198,12 +207,14 @@ def offered(*words):
         'source completions/yarib.bash; compopt() { echo "files"; }; COMP_WORDS=("$@"); COMP_CWORD=$(($# - 1)); _yarib; '
         'printf "%s\\n" "${COMPREPLY[@]}"'
     )
-    ended = subprocess.run(["bash", "-c", script, "bash", "yarib", *words], cwd=TOP, stdout=subprocess.PIPE, timeout=120)
+    ended = subprocess.run(["bash", "-c", script, "bash", "yarib", *words], cwd=TOP,
+                           stdout=subprocess.PIPE, timeout=120)
     lines = text_of(ended.stdout).split()
     return "files" if "files" in lines else sorted(lines)
 
 
-# Fails where a wrong word stands in the completions, or one of the help is missing: `--limit of run`, `the options of run`.
+# Fails where a wrong word stands in the completions, or one of the help is missing: `--limit of run`, `the options of
+# run`.
 def completions(copy):
     page = lambda name: (TOP / "tests/help" / f"{name}.txt").read_text()
     commands = re.findall(r"^  (\w+)  ", page("yarib").partition("Options:")[0], re.M)
@@ -224,12 +235,14 @@ def completions(copy):
         takes_files = re.search(r"^  <(FILE|OLD)>", text, re.M)
         expect(f"an operand of {name}", offered(name, "x") == "files", bool(takes_files))
         expect(f"a second operand of {name}", offered(name, "x", "x") == "files", bool(takes_files))
-    listed = subprocess.run(["bash", "-c", "source completions/yarib.bash; complete -p"], cwd=TOP, stdout=subprocess.PIPE)
+    listed = subprocess.run(["bash", "-c", "source completions/yarib.bash; complete -p"], cwd=TOP,
+                            stdout=subprocess.PIPE)
     expect("what is completed", re.findall(r"_yarib (\S+)$", text_of(listed.stdout), re.M), ["yarib", "./yarib"])
 
 
 def put_tools(folder):
-    """A folder with all commands on PATH but the toolchain's, one with the stand-in beside, and the program that it builds."""
+    """A folder with all commands on PATH but the toolchain's, one with the stand-in beside, and the program that it
+    builds."""
     for name in ("without", "with"):
         (folder / name).mkdir(parents=True)
     for path in filter(None, os.get_exec_path()):
@@ -243,8 +256,8 @@ def put_tools(folder):
 
 
 CASES = (
-    what_it_is_given, what_is_built_anew, in_order, one_at_a_time, failed_builds, changed_meanwhile, nothing_to_build_with,
-    completions,
+    what_it_is_given, what_is_built_anew, in_order, one_at_a_time, failed_builds, changed_meanwhile,
+    nothing_to_build_with, completions,
 )
 
 

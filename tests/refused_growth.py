@@ -1,15 +1,15 @@
 #!/usr/bin/env python3
 """Refuses each request for memory in turn, and compares what comes out with a plain model.
 
-tests/refused_growth.py [PROGRAM BENCHES [CASE..]], or --list for the names of the cases. BENCHES is a built crates/benches. Needs
-gcc and glibc, and rt where something is to be built; takes some minutes once all is built.
+tests/refused_growth.py [PROGRAM BENCHES [CASE..]], or --list for the names of the cases. BENCHES is a built
+crates/benches. Needs gcc and glibc, and rt where something is to be built; takes some minutes once all is built.
 
-Each case is run with its first request refused, then with its second, and so on until a run meets no refusal; and once more
-so that all requests after the refused one are refused as well. The cases are those of crates/benches/src/growth.rt (the lock, the
-shared table, feeds on gates) and runs and replays of the program. After each run the answers, the journal, the routes and
-what was printed are compared whole with a model that leaves out what was refused, and no run may end by a signal. All cases
-together must have met each kind of refusal. The requests are refused before the C library sees them, so what the launchers set
-changes nothing here, and all is run once.
+Each case is run with its first request refused, then with its second, and so on until a run meets no refusal; and once
+more so that all requests after the refused one are refused as well. The cases are those of crates/benches/src/growth.rt
+(the lock, the shared table, feeds on gates) and runs and replays of the program. After each run the answers, the
+journal, the routes and what was printed are compared whole with a model that leaves out what was refused, and no run
+may end by a signal. All cases together must have met each kind of refusal. The requests are refused before the C
+library sees them, so what the launchers set changes nothing here, and all is run once.
 """
 import collections
 import pathlib
@@ -196,7 +196,8 @@ def check_feeds(lines, ample, kinds):
 
 
 def check_crate(check):
-    """What the crate's program prints, by the check of its case; it may want memory for its words, and then prints nothing."""
+    """What the crate's program prints, by the check of its case; it may want memory for its words, and then prints
+    nothing."""
 
     def compare(ending, ample, kinds):
         if ending.refused and ending.status == 1 and ending.out == "":
@@ -255,7 +256,8 @@ class Called(collections.namedtuple("Called", "yarib benches refuse kinds")):
 
 
 class Case:
-    """A call whose requests are refused: what makes its words, and the files that they name, and what compares its endings."""
+    """A call whose requests are refused: what makes its words, and the files that they name, and what compares its
+    endings."""
 
     def __init__(self, name, words, compare):
         self.__name__, self.words, self.compare = name.replace(" ", "_"), words, compare
@@ -293,7 +295,8 @@ def cases_of(name, texts):
         words = lambda batch=batch: ["run", "--batch", batch, *own()]
         yield of_yarib(f"{name} in batches of {batch}", words, check_run(texts))
     yield of_yarib(f"a look-up in {name}", lambda: ["lookup", "--addresses", asked(), *own()], check_shown)
-    yield of_yarib(f"all that covers in {name}", lambda: ["lookup", "--all", "--addresses", asked(), *own()], check_shown)
+    yield of_yarib(f"all that covers in {name}",
+                   lambda: ["lookup", "--all", "--addresses", asked(), *own()], check_shown)
     yield of_yarib(f"the table of {name}", lambda: ["table", "--best", *own()], check_shown)
     compared = lambda: ["diff", *own(), "--", *written("other", [SIX_COMMANDS])]
     yield of_yarib(f"a comparison of {name} with one", compared, check_shown)
@@ -314,16 +317,17 @@ CASES = [
 ]
 
 KINDS = {
-    "TreeLock::new", "SharedRib::new", "SharedRib::apply_batch", "SharedRib::routes", "a command of a batch", "Book::reserve",
-    "Book::routes", "lookup or table", "a command of a look-up or list", "run_feed", "run_feeds", "a command of a feed",
-    "run_texts", "a line of a run", "fault F3", "fault P3",
+    "TreeLock::new", "SharedRib::new", "SharedRib::apply_batch", "SharedRib::routes", "a command of a batch",
+    "Book::reserve", "Book::routes", "lookup or table", "a command of a look-up or list", "run_feed", "run_feeds",
+    "a command of a feed", "run_texts", "a line of a run", "fault F3", "fault P3",
 } | {"SharedRib::apply " + name for name in ("Add", "Replace", "Withdraw", "Lookup", "Dump", "Purge")}
 
 
 def main():
     words = checks.chosen(__doc__, CASES, ("program", "benches"))
     with tempfile.TemporaryDirectory() as made:
-        called = Called(words.program, words.benches or checks.built_benches("growth"), refuser(pathlib.Path(made)), set())
+        called = Called(words.program, words.benches or checks.built_benches("growth"),
+                        refuser(pathlib.Path(made)), set())
         checks.run_each(words.cases, called)
     if len(words.cases) == len(CASES):
         checks.expect("the kinds of refusal that were met", sorted(called.kinds), sorted(KINDS))

@@ -4,10 +4,10 @@
 tests/requests.py [PROGRAM [CASE..]], or --list for the names of the cases. Needs gcc and glibc.
 
 A list that grows doubles its room. So twice as many commands of a kind that takes no memory may cost no more than some
-requests for the text, the reports and the journal, and one more for each is seen; a run writes with not one request between
-two writes; what a run holds at its end, when all routes are withdrawn or purged, is what a run of as many `dump`s holds; and a
-table that has routes is left to the system. What the launchers set changes no request, only where the C library finds what it
-grants, so all is run once.
+requests for the text, the reports and the journal, and one more for each is seen; a run writes with not one request
+between two writes; what a run holds at its end, when all routes are withdrawn or purged, is what a run of as many
+`dump`s holds; and a table that has routes is left to the system. What the launchers set changes no request, only where
+the C library finds what it grants, so all is run once.
 """
 import pathlib
 import struct
@@ -16,7 +16,8 @@ import tempfile
 from checks import chosen, compiled, end, expect, run, run_each
 from table_model import dotted
 
-# How many requests more a text of twice the length may make: for its bytes, the reports' lists, the batch and the journal.
+# How many requests more a text of twice the length may make: for its bytes, the reports' lists, the batch and the
+# journal.
 DOUBLING = 6
 WRITES = 1000
 BATCHES = ("1", "64", "1024")
@@ -26,7 +27,8 @@ def counted(words, count):
     """Requests, the blocks and bytes held at the end, and the requests at each write to standard output."""
     with tempfile.TemporaryFile() as kept:
         kept.truncate(32 + 8 * WRITES)
-        status, _, err = run(words, env={"LD_PRELOAD": str(count), "COUNT_IN": str(kept.fileno())}, pass_fds=[kept.fileno()])
+        status, _, err = run(words, env={"LD_PRELOAD": str(count), "COUNT_IN": str(kept.fileno())},
+                             pass_fds=[kept.fileno()])
         kept.seek(0)
         data = kept.read()
     requests, blocks, size, writes = struct.unpack_from("4Q", data)
@@ -61,7 +63,8 @@ def commands(yarib, count):
     """Twice as many lines that take no memory cost no request for each."""
     for name, line in KINDS.items():
         for batch in BATCHES:
-            few, many = (counted_text(yarib, count, OWN + line * lines, batch, "--limit", "1")[0] for lines in (20_000, 40_000))
+            few, many = (counted_text(yarib, count, OWN + line * lines, batch, "--limit", "1")[0]
+                         for lines in (20_000, 40_000))
             expect(f"{name}, in batches of {batch}: {many - few} requests more", many - few <= DOUBLING, True)
 
 
@@ -87,7 +90,8 @@ def shown(yarib, count):
     pathlib.Path("none.feed").write_text("")
     more = [counted([yarib, "table", file], count)[0] - counted([yarib, "run", "--batch", "256", file], count)[0]
             for file in ("none.feed", "text.feed")]
-    expect(f"a table: {more[1] - more[0]} requests more than a run, beside those for options", more[1] - more[0] <= DOUBLING, True)
+    expect(f"a table: {more[1] - more[0]} requests more than a run, beside those for options",
+           more[1] - more[0] <= DOUBLING, True)
 
 
 def counted_shown(yarib, count, words, lines):
@@ -106,7 +110,8 @@ def routes(yarib, count):
         for name, last in (("withdrawn", withdraws), ("purged", purge)):
             requests, held = counted_text(yarib, count, "version 2\n" + ADDS + last, batch)
             expect(f"{name}, in batches of {batch}: held", held, idle[1])
-            expect(f"{name}, in batches of {batch}: {requests - idle[0]} requests", requests - idle[0] <= 20_000 + DOUBLING, True)
+            expect(f"{name}, in batches of {batch}: {requests - idle[0]} requests",
+                   requests - idle[0] <= 20_000 + DOUBLING, True)
     comes_and_goes = "add 10.0.0.0/8 1 192.0.2.1\nwithdraw 10.0.0.0/8\n"
     few, many = (counted_text(yarib, count, comes_and_goes * times, "64")[0] for times in (10_000, 20_000))
     more = many - few - 10_000
@@ -118,9 +123,11 @@ def left(yarib, count):
     """The routes of a table are still held at the end: the system takes their pages back at once."""
     pathlib.Path("none.feed").write_text("")
     pathlib.Path("text.feed").write_text(ADDS)
-    for name, words, tables in (("run", [], 1), ("table", [], 1), ("lookup", ["--address", "10.0.0.1"], 1), ("diff", [], 2)):
+    for name, words, tables in (("run", [], 1), ("table", [], 1), ("lookup", ["--address", "10.0.0.1"], 1),
+                                ("diff", [], 2)):
         files = lambda file: [file] if tables == 1 else [file, "--", file]
-        none, routes = (counted([yarib, name, *words, *files(file)], count)[1][0] for file in ("none.feed", "text.feed"))
+        none, routes = (counted([yarib, name, *words, *files(file)], count)[1][0]
+                        for file in ("none.feed", "text.feed"))
         expect(f"{name}: 10,000 routes are left", routes - none >= tables * 10_000, True)
 
 

@@ -1,11 +1,13 @@
 #!/usr/bin/env python3
-"""Feed files, texts of addresses and schedules: all that the program writes for each is compared with what it has to be.
+"""Feed files, texts of addresses and schedules: all that the program writes for each is compared with what it has to
+be.
 
 tests/rows.py [PROGRAM [CASE..]], or --list for the names of the cases. Linux, python3.
 
 Worked runs and replays stand in tests/worked.py. Hostile lines are read by a plain reader, written from
-docs/FORMATS.md; around each that it takes for a command are others, whose answers show all that the program has read there. Runs
-of random feeds on threads are judged by tests/judge.py: some order of the feeds' visits has to explain each.
+docs/FORMATS.md; around each that it takes for a command are others, whose answers show all that the program has read
+there. Runs of random feeds on threads are judged by tests/judge.py: some order of the feeds' visits has to explain
+each.
 """
 import json
 import os
@@ -84,7 +86,8 @@ TEXTS = [
 # Fails where a last line without LF is dropped.
 def texts_are_cut_into_lines(yarib):
     for text, answers in TEXTS:
-        compare(f"the text {text!r}", run_texts(yarib, [text]), 2 if any(answers) else 0, report(1, answers) + table_text([]))
+        compare(f"the text {text!r}", run_texts(yarib, [text]), 2 if any(answers) else 0,
+                report(1, answers) + table_text([]))
 
 
 # Faulty lines
@@ -94,8 +97,8 @@ FAULTY = {
     "E1": ["frob", " dump", "ADD 10.0.0.0/8 1 192.0.2.1", "x" * 128, "version 2"],
     "E1 E2": ["purge 10.0.0.0/8", "purge "],
     "E2": [
-        "dump x", "dump ", "add", "add 10.0.0.0/8 1", "add 10.0.0.0/8 1 192.0.2.1 ", "add  10.0.0.0/8 1 192.0.2.1", "withdraw",
-        "withdraw 10.0.0.0/8 ",
+        "dump x", "dump ", "add", "add 10.0.0.0/8 1", "add 10.0.0.0/8 1 192.0.2.1 ",
+        "add  10.0.0.0/8 1 192.0.2.1", "withdraw", "withdraw 10.0.0.0/8 ",
     ],
     "E3": [
         "add 010.0.0.0/8 1 192.0.2.1", "add 10.0.0/8 1 192.0.2.1", "add 10.0.0.0/08 1 192.0.2.1", "lookup 1.2.3.4.5",
@@ -161,7 +164,8 @@ NO_ADDRESS = [
 
 # Fails where a carriage return after an address is swallowed.
 def addresses(yarib):
-    pathlib.Path("each.feed").write_text("".join(f"add {address}/32 1 192.0.2.1\n" for address in ["1.2.3.4", *ADDRESSES]))
+    pathlib.Path("each.feed").write_text("".join(f"add {address}/32 1 192.0.2.1\n"
+                                                 for address in ["1.2.3.4", *ADDRESSES]))
     found = lambda address: f"{address} route {address}/32 feed 1 pref 1 via 192.0.2.1\n"
 
     def asked(lines):
@@ -234,14 +238,16 @@ def answers_of_lookups(yarib):
 # Paths of feeds' files, and their feeds' names. Bytes of 0 and `/` are in no file's name; what isn't UTF-8 is refused.
 NAMED = {
     "east.feed": "east", "feeds/west.feed": "west", "./north": "north", "feeds/../twice.feed.feed": "twice.feed",
-    "quote\".feed": 'quote"', "back\\slash.feed": "back\\slash", "umläut.feed": "umläut", "\U0001f600.feed": "\U0001f600",
-    "feed": "feed", "7.feed": "7", "a,b:{}[].feed": "a,b:{}[]", "u0041.feed": "u0041",
+    "quote\".feed": 'quote"', "back\\slash.feed": "back\\slash", "umläut.feed": "umläut",
+    "\U0001f600.feed": "\U0001f600", "feed": "feed", "7.feed": "7", "a,b:{}[].feed": "a,b:{}[]", "u0041.feed": "u0041",
 }
 # Those of which no line can tell the feed, and JSON can.
 NAMELESS = (
-    ".feed", "feeds/.feed", "a b.feed", "line\nfeed.feed", "\t.feed", "".join(map(chr, range(1, 32))) + ".feed", "\x7f.feed",
+    ".feed", "feeds/.feed", "a b.feed", "line\nfeed.feed", "\t.feed",
+    "".join(map(chr, range(1, 32))) + ".feed", "\x7f.feed",
 )
-ONE_NAME = (("east.feed", "feeds/east.feed"), ("east.feed", "east"), ("./north", "north.feed"), ("east.feed", "east.feed"))
+ONE_NAME = (("east.feed", "feeds/east.feed"), ("east.feed", "east"), ("./north", "north.feed"),
+            ("east.feed", "east.feed"))
 OFFERED = "version 2\nadd 10.1.0.0/16 70 192.0.2.4\nadd 10.0.0.0/8 5 discard\nadd 0.0.0.0/0 0 192.0.2.3\n"
 
 
@@ -342,7 +348,8 @@ def answers_with_names(yarib):
         ended = yarib("table", "--names", *offered_by(["west.feed", first, "other.feed", second]))
         compare(f"{first} and {second}", ended, 3, "", f"yarib: one name for two feeds: {first}, {second}\n")
         expect(f"{first} and {second} by their numbers", yarib("table", *offered_by([first, second]))[0], 0)
-    expect("65 files, with names", yarib("table", "--names", *["east.feed"] * 65), (3, "", "yarib: more than 64 files\n"))
+    expect("65 files, with names", yarib("table", "--names", *["east.feed"] * 65),
+           (3, "", "yarib: more than 64 files\n"))
 
 
 # Hostile lines
@@ -406,8 +413,8 @@ FIELD_FAULTS = {
 
 
 def around(said):
-    """Of a command: lines before it that fill an empty table, its answer there, and lines behind it that tell what it has left
-    and empty the table again."""
+    """Of a command: lines before it that fill an empty table, its answer there, and lines behind it that tell what it
+    has left and empty the table again."""
     name, *fields = said
     other = lambda prefix: (f"add {prefix} 7 203.0.113.7", "added")
     gone = lambda prefix: (f"withdraw {prefix}", "withdrawn")
@@ -415,7 +422,8 @@ def around(said):
         prefix, pref, hop = fields
         shown = f"route {prefix} feed 1 pref {pref} via {hop}"
         before = [other(prefix)] if name == "replace" else []
-        return before, "added" if name == "add" else "replaced", [(f"lookup {prefix.split('/')[0]}", shown), gone(prefix)]
+        return before, "added" if name == "add" else "replaced", [(f"lookup {prefix.split('/')[0]}", shown),
+                                                                  gone(prefix)]
     if name == "withdraw":
         return [other(fields[0])], "withdrawn", [("dump", "dumped 0")]
     if name == "lookup":
@@ -427,7 +435,8 @@ def around(said):
 
 
 def compare_lines(yarib, what, hostile):
-    """Compares the program's answers to these lines with the plain reader's, in a text of each version that ends in the last."""
+    """Compares the program's answers to these lines with the plain reader's, in a text of each version that ends in the
+    last."""
     for version in (1, 2):
         said = [(line, reading(line, version)) for text in hostile for line in text.split(b"\n")]
         lines = [(b"version 2" if version == 2 else b"#", None)]
@@ -439,7 +448,8 @@ def compare_lines(yarib, what, hostile):
             lines += [*before, (line, answer), *behind]
         status = 2 if any(isinstance(what_said, int) for _, what_said in said) else 0
         ended = run_texts(yarib, [b"\n".join(line for line, _ in lines)])
-        compare(f"{what} in version {version}", ended, status, report(1, [answer for _, answer in lines]) + table_text([]))
+        compare(f"{what} in version {version}", ended, status,
+                report(1, [answer for _, answer in lines]) + table_text([]))
 
 
 # Lines that are commands in version 2.
@@ -456,7 +466,8 @@ COMMANDS = [
 # Fails where the length 33 is taken as 32.
 def every_byte_at_every_place(yarib):
     for command in COMMANDS:
-        changed = [command[:at] + bytes([byte]) + command[at + 1 :] for at in range(len(command)) for byte in range(256)]
+        changed = [command[:at] + bytes([byte]) + command[at + 1 :] for at in range(len(command))
+                   for byte in range(256)]
         compare_lines(yarib, f"every byte at every place of {command}", changed)
 
 
@@ -487,13 +498,13 @@ NAMES = [b"add", b"replace", b"withdraw", b"lookup", b"dump", b"purge", b"Add", 
 
 # Fields that are near to what they are to be, or far.
 FIELDS = [
-    b"10.0.0.0/8", b"10.0.0.1/8", b"10.0.0.0/32", b"10.0.0.0/33", b"10.0.0.1/33", b"10.0.0.0/31", b"10.0.0.0/08", b"10.0.0.0/00",
-    b"0.0.0.0/0", b"128.0.0.0/0", b"0.0.0.1/31", b"0.0.0.1/32", b"10.0.0.0/4294967304", b"10.0.0.0/18446744073709551624",
-    b"10.0.0.0/", b"/8", b"10.0.0.0//8", b"10.0.0/8", b"10.0.0.0.0/8", b"256.0.0.0/8", b"010.0.0.0/8", b"+10.0.0.0/8",
-    b"10.0.0.0/-1",
-    b"4294967306.0.0.0/8", b"192.0.2.1", b"192.0.2.256", b"192.0.2", b"192.0.2.1.", b".192.0.2.1", b"192..0.2", b"192.0.2.01",
-    b"0.0.0.0", b"255.255.255.255", b"0", b"00", b"1", b"01", b"-1", b"4294967295", b"4294967296", b"4294967297",
-    b"18446744073709551616", b"1e3", b"discard", b"Discard", b"2", b"", b"\0\xff",
+    b"10.0.0.0/8", b"10.0.0.1/8", b"10.0.0.0/32", b"10.0.0.0/33", b"10.0.0.1/33", b"10.0.0.0/31", b"10.0.0.0/08",
+    b"10.0.0.0/00", b"0.0.0.0/0", b"128.0.0.0/0", b"0.0.0.1/31", b"0.0.0.1/32", b"10.0.0.0/4294967304",
+    b"10.0.0.0/18446744073709551624", b"10.0.0.0/", b"/8", b"10.0.0.0//8", b"10.0.0/8", b"10.0.0.0.0/8", b"256.0.0.0/8",
+    b"010.0.0.0/8", b"+10.0.0.0/8", b"10.0.0.0/-1",
+    b"4294967306.0.0.0/8", b"192.0.2.1", b"192.0.2.256", b"192.0.2", b"192.0.2.1.", b".192.0.2.1", b"192..0.2",
+    b"192.0.2.01", b"0.0.0.0", b"255.255.255.255", b"0", b"00", b"1", b"01", b"-1", b"4294967295", b"4294967296",
+    b"4294967297", b"18446744073709551616", b"1e3", b"discard", b"Discard", b"2", b"", b"\0\xff",
 ]
 
 ENDS = [b"", b"", b"", b"", b" ", b"\r", b"\0", b"\x80"]
@@ -627,8 +638,8 @@ def draw(seed, feeds, lines, pauses=PAUSES):
 # On one processor the feeds may as well run one after another.
 # Fails where a look-up answers the last offer of the longest prefix, not the best.
 def some_order_explains_each_run(yarib):
-    """Judges up to 100 runs of each number of feeds, on a busy machine as many as begin in four seconds, and counts those that no
-    order of whole feeds explains."""
+    """Judges up to 100 runs of each number of feeds, on a busy machine as many as begin in four seconds, and counts
+    those that no order of whole feeds explains."""
     runs, interleaved = 0, 0
     for feeds, lines in ((2, 100), (3, 60), (4, 20), (5, 10), (6, 7)):
         start = time.monotonic()
@@ -650,7 +661,8 @@ def with_answers(output, answers):
 
 
 def losing_a_withdrawal(yarib, drawn):
-    """An output of the texts into which a lost withdrawal was put, if they have one: it is answered, and the route stays."""
+    """An output of the texts into which a lost withdrawal was put, if they have one: it is answered, and the route
+    stays."""
     lost = re.search(r"^((\d+):(\d+)) withdrawn$", drawn.run(yarib), re.M)
     if lost is None:
         return None
@@ -662,7 +674,8 @@ def losing_a_withdrawal(yarib, drawn):
 
 
 def swapping_replies(yarib, drawn):
-    """An output of the texts with two replies to one feed swapped that speak of its own routes alone, if two of these differ."""
+    """An output of the texts with two replies to one feed swapped that speak of its own routes alone, if two of these
+    differ."""
     output = drawn.run(yarib)
     own = re.findall(r"^((\d+):\d+) (added|exists|full|replaced|withdrawn|missing)$", output, re.M)
     for heading, feed, said in own:
@@ -691,7 +704,8 @@ EACH_OTHER = ["lookup 10.0.0.1\nadd 11.0.0.0/8 1 192.0.2.1\n", "lookup 11.0.0.1\
 TEN, ELEVEN = "10.0.0.0/8 feed 1 pref 1 via 192.0.2.1", "11.0.0.0/8 feed 1 pref 1 via 192.0.2.1"
 OTHER_TEN = "10.0.0.0/8 feed 2 pref 2 via 192.0.2.2"
 
-# Texts, how many commands are asked at once, an output in lines, and whether some order of the texts' visits explains it.
+# Texts, how many commands are asked at once, an output in lines, and whether some order of the texts' visits explains
+# it.
 JUDGED = [
     (COMES_AND_GOES, 1, ["1:1 added", "1:2 withdrawn", "2:1 dumped 0", "table 0"], True),
     (COMES_AND_GOES, 1, ["1:1 added", "1:2 withdrawn", "2:1 dumped 1", "table 0"], True),
@@ -709,11 +723,14 @@ JUDGED = [
     # An add that cuts a batch, and swapped look-ups.
     (ASKED_TWICE, 2, ["1:1 added", "2:1 no route", f"2:2 route {TEN}", "table 1", TEN], False),
     (ASKED_TWICE, 1, ["1:1 added", f"2:1 route {TEN}", "2:2 no route", "table 1", TEN], False),
-    (EACH_OTHER, 1, [f"1:1 route {OTHER_TEN}", "1:2 added", "2:1 no route", "2:2 added", "table 2", OTHER_TEN, ELEVEN], True),
+    (EACH_OTHER, 1, [f"1:1 route {OTHER_TEN}", "1:2 added", "2:1 no route", "2:2 added", "table 2", OTHER_TEN, ELEVEN],
+     True),
     # Each found what the other added only later, and a table out of order.
-    (EACH_OTHER, 1, [f"1:1 route {OTHER_TEN}", "1:2 added", f"2:1 route {ELEVEN}", "2:2 added", "table 2", OTHER_TEN, ELEVEN],
+    (EACH_OTHER, 1, [f"1:1 route {OTHER_TEN}", "1:2 added", f"2:1 route {ELEVEN}", "2:2 added", "table 2",
+                     OTHER_TEN, ELEVEN],
      False),
-    (EACH_OTHER, 1, [f"1:1 route {OTHER_TEN}", "1:2 added", "2:1 no route", "2:2 added", "table 2", ELEVEN, OTHER_TEN], False),
+    (EACH_OTHER, 1, [f"1:1 route {OTHER_TEN}", "1:2 added", "2:1 no route", "2:2 added", "table 2", ELEVEN, OTHER_TEN],
+     False),
 ]
 
 

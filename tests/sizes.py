@@ -3,13 +3,13 @@
 
 tests/sizes.py [PROGRAM [CASE..]], or --list for the names of the cases. Linux, python3, 2 GB of memory.
 
-That a call which wants memory gets it where there is some, no clause can say. So: a million routes of one feed and more than a
-million lines, entries and answers; each number of files from 1 to 64, with as many offers of one prefix; feeds with other
-texts of their own; batches about the sizes at which lists grow; the greatest numbers and the last address. `lookup` and
-`table` are called on each number of files, on 300,000 routes and with 100,000 addresses, and `lookup` on both sides of
-the numbers from which on a forwarding table answers. All is run with memory as the launchers set it. What has 64 threads, which
-by the C library's default share several arenas, and what fills large pages is about that memory, and is run once more by that
-default (`OF_MEMORY`). The others are about numbers in the code, and are run once.
+That a call which wants memory gets it where there is some, no clause can say. So: a million routes of one feed and more
+than a million lines, entries and answers; each number of files from 1 to 64, with as many offers of one prefix; feeds
+with other texts of their own; batches about the sizes at which lists grow; the greatest numbers and the last address.
+`lookup` and `table` are called on each number of files, on 300,000 routes and with 100,000 addresses, and `lookup` on
+both sides of the numbers from which on a forwarding table answers. All is run with memory as the launchers set it. What
+has 64 threads, which by the C library's default share several arenas, and what fills large pages is about that memory,
+and is run once more by that default (`OF_MEMORY`). The others are about numbers in the code, and are run once.
 """
 import os
 import pathlib
@@ -62,8 +62,10 @@ def of_one_feed(count):
     lines = ["version 2"]
     for at in range(count):
         base = dotted(0x0A00_0000 + (at * 40_503 % 65_536 << 8))
-        lines.append((f"add {base}/24 {at} 192.0.2.1", f"add {base}/32 {2**32 - 1 - at} discard", f"lookup {base}", f"dump",
-                      f"replace {base}/24 1 discard", f"withdraw {base}/28", f"# {at}", f"add {base}/24 1 192.0.2.2")[at % 8])
+        lines.append((f"add {base}/24 {at} 192.0.2.1", f"add {base}/32 {2**32 - 1 - at} discard",
+                      f"lookup {base}", f"dump",
+                      f"replace {base}/24 1 discard", f"withdraw {base}/28", f"# {at}",
+                      f"add {base}/24 1 192.0.2.2")[at % 8])
     return "".join(line + "\n" for line in lines)
 
 
@@ -80,7 +82,8 @@ def batches(yarib):
         pathlib.Path("count.feed").write_text("dump\n" * count)
         out = "".join(f"1:{line} dumped 0\n" for line in range(1, count + 1)) + "table 0\n"
         for batch in {max(count - 1, 1), count, min(count + 1, 1024)}:
-            compare(f"{count} commands in batches of {batch}", yarib("run", "--batch", str(batch), "count.feed"), 0, out)
+            compare(f"{count} commands in batches of {batch}",
+                    yarib("run", "--batch", str(batch), "count.feed"), 0, out)
 
 
 # Fails where a `purge` of more than 1,024 routes is refused where the journal has no room: `a purge of 65536`.
@@ -131,8 +134,8 @@ add {feed + 10}.128.0.0/9 0 discard
 
 
 def shown(yarib, texts, names):
-    """What `lookup`, `table` and `diff` print and tell of these files; each has a line that isn't taken, in turn of another
-    kind."""
+    """What `lookup`, `table` and `diff` print and tell of these files; each has a line that isn't taken, in turn of
+    another kind."""
     turns = ("frob", "add 10.0.0.0/8 1 192.0.2.1", "withdraw 9.0.0.0/8", "add 99.0.0.0/8 1 192.0.2.1")
     texts = [text + turns[feed % 4] + "\n" for feed, text in enumerate(texts)]
     names = [f"shown-{name}" for name in names]
@@ -177,7 +180,8 @@ def many_offers(yarib):
     also = lambda base: "".join(
         f"{base} also {base}/24 feed {feed} pref {9 - feed} via 192.0.2.{feed} preference\n" for feed in (2, 1))
     answers = "".join(f"{base} route {base}/24 feed 3 pref 6 via 192.0.2.3\n" + also(base) for base in bases)
-    compare("all that covers 100,000 addresses", yarib("lookup", "--all", "--addresses", "asked.txt", *words), 0, answers)
+    compare("all that covers 100,000 addresses",
+            yarib("lookup", "--all", "--addresses", "asked.txt", *words), 0, answers)
 
 
 # Fails where a feed may have another number of routes where no limit is asked, or `--limit 1000000` isn't taken.
@@ -197,15 +201,19 @@ def at_limit(yarib):
     over = "11.0.0.0/24 feed 1 pref 1 via 192.0.2.1\n"
     report = "".join(f"1:{line} added\n" for line in range(1, 65_537))
     batched = ["run", "--batch", "1024", "full.feed"]
-    compare("a run of a full feed and 1 more", yarib(*batched), 0, report + "1:65537 full\ntable 65536\n" + "".join(listed))
+    compare("a run of a full feed and 1 more", yarib(*batched), 0,
+            report + "1:65537 full\ntable 65536\n" + "".join(listed))
     whole = report + "1:65537 added\ntable 65537\n" + "".join(listed) + over
     compare("a run of 65,537 routes", yarib(*batched, "--limit", "1000000"), 0, whole)
 
 
-# Fails where F3 is answered where over 128 routes cover an address, or over 2,000: `addresses that 64 to 2112 routes cover`.
+# Fails where F3 is answered where over 128 routes cover an address, or over 2,000: `addresses that 64 to 2112 routes
+# cover`.
 def covered(yarib):
-    """All prefixes of one address from 64 feeds, the most that can cover it, and numbers of them about powers of two."""
-    # So many feeds have the prefix of each length: 64, 127, 128, 129, 193, 255, 256, 257 and then 64 more at each length.
+    """All prefixes of one address from 64 feeds, the most that can cover it, and numbers of them about powers of
+    two."""
+    # So many feeds have the prefix of each length: 64, 127, 128, 129, 193, 255, 256, 257 and then 64 more at each
+    # length.
     offers = [64, 63, 1, 1, 64, 62, 1, 1] + [64] * 25
     base = 0b1010_1010_1010_1010_1010_1010_1010_1010
     prefix = lambda length: f"{dotted(base >> 32 - length << 32 - length)}/{length}"
@@ -213,7 +221,8 @@ def covered(yarib):
     asked = [dotted(base ^ (1 << 31 - length if length < 32 else 0)) for length in range(33)]
     for name, counts in (("some", offers), ("all", [64] * 33)):
         add = lambda feed, length: f"add {prefix(length)} {feed} 192.0.2.{feed}\n"
-        texts = ["".join(add(feed, length) for length, count in enumerate(counts) if feed <= count) for feed in range(1, 65)]
+        texts = ["".join(add(feed, length) for length, count in enumerate(counts) if feed <= count)
+                 for feed in range(1, 65)]
         names = [f"{name}{feed}.feed" for feed in range(1, 65)]
         for file, text in zip(names, texts):
             pathlib.Path(file).write_text(text)
@@ -221,14 +230,15 @@ def covered(yarib):
         compare(f"addresses that {counts[0]} to {sum(counts)} routes cover", ended, 0, all_answers_text(texts, asked))
 
 
-# Fails where F3 is answered to a comparison of more than 8,192 or 262,144 nodes, or after 1,000 ranges: `8193 routes that
-# differ`, `300000 routes that differ`, `1001 routes that differ`.
+# Fails where F3 is answered to a comparison of more than 8,192 or 262,144 nodes, or after 1,000 ranges: `8193 routes
+# that differ`, `300000 routes that differ`, `1001 routes that differ`.
 def compared(yarib):
     """Single addresses, no two of them neighbours, all of which differ or none, or the last alone."""
     for count in (1, 999, 1_000, 1_001, 8_192, 8_193, 65_536, 300_000):
         places = [dotted(0x0A00_0000 + 2 * at) for at in range(count)]
         for side in (1, 2):
-            pathlib.Path(f"side{side}.feed").write_text("".join(f"add {place}/32 1 192.0.2.{side}\n" for place in places))
+            pathlib.Path(f"side{side}.feed").write_text("".join(f"add {place}/32 1 192.0.2.{side}\n"
+                                                                for place in places))
         pathlib.Path("last.feed").write_text("".join(f"add {place}/32 1 192.0.2.1\n" for place in places[:-1]))
         words = ["diff", "--limit", str(MOST)]
         out = "".join(f"{place}-{place} via 192.0.2.1 -> via 192.0.2.2\n" for place in places)
@@ -254,7 +264,8 @@ def forwarded(yarib):
     """Look-ups on both sides of the numbers from which on a forwarding table answers them, and far beyond."""
     addresses, routes, a_route = FORWARDED
     cases = [(addresses - 1, routes), (addresses, routes), (addresses + 1, routes), (addresses, routes - 1)]
-    cases += [(addresses, addresses // a_route + more) for more in (-1, 0, 1)] + [(2_500_000, routes), (addresses, 65_001)]
+    cases += [(addresses, addresses // a_route + more) for more in (-1, 0, 1)] + [(2_500_000, routes),
+                                                                                  (addresses, 65_001)]
     for count, size in cases:
         text, asked, answers = many_routes(size)
         times, rest = divmod(count, len(asked))
@@ -267,7 +278,8 @@ def forwarded(yarib):
 
 # Fails where F3 is answered to more than 1,000,000 routes in all: `the table of 1000001 routes in all`.
 def in_all(yarib):
-    """More routes in all than one feed may have: a few more in every command, and far more where little of them is printed."""
+    """More routes in all than one feed may have: a few more in every command, and far more where little of them is
+    printed."""
     places = [f"10.{at >> 8}.{at & 255}.0/24" for at in range(65_536)]
     adds = [f"add {place} 1 192.0.2.1\n" for place in places]
     left = MOST + 1 - 15 * 65_536  # what the sixteenth feed has
@@ -277,8 +289,10 @@ def in_all(yarib):
     row = lambda place, feed: f"{place} feed {feed} pref 1 via 192.0.2.1\n"
     listed = "".join(row(place, feed) for at, place in enumerate(places) for feed in range(1, 17 if at < left else 16))
     compare("the table of 1000001 routes in all", yarib("table", *names), 0, listed)
-    report = "".join(f"{feed}:{line} added\n" for feed in range(1, 17) for line in range(1, 65_537 if feed < 16 else left + 1))
-    compare("a run of 1000001 routes in all", yarib("run", "--batch", "256", *names), 0, report + "table 1000001\n" + listed)
+    report = "".join(f"{feed}:{line} added\n" for feed in range(1, 17)
+                     for line in range(1, 65_537 if feed < 16 else left + 1))
+    compare("a run of 1000001 routes in all", yarib("run", "--batch", "256", *names), 0,
+            report + "table 1000001\n" + listed)
     best = [row(place, 1) for place in places]
     last = ["--address", "10.255.255.1"]
     for count, more in ((16, names), (64, ["whole.feed"] * 64)):
@@ -289,7 +303,8 @@ def in_all(yarib):
 
 # Fails where a part is cut out of a copy of the whole table: `--within a /16: bytes more than a look-up`.
 def part_of_a_million(yarib):
-    """Of a million routes those in a /16, and how many there are: beyond the loading they take no memory but for the rows."""
+    """Of a million routes those in a /16, and how many there are: beyond the loading they take no memory but for the
+    rows."""
     row = lambda at: f"{dotted(0x0A00_0000 + 64 * at)}/32 feed 1 pref 1 via 192.0.2.1\n"
     pathlib.Path("million.feed").write_text("".join(f"add {row(at).split()[0]} 1 192.0.2.1\n" for at in range(MOST)))
     few = "".join(map(row, range(1024, 2048)))
@@ -312,7 +327,8 @@ def part_of_a_million(yarib):
         expect(f"{name}: {more} bytes more than a look-up", more < 4_000_000, True)
 
 
-CASES = (batches, purges, feeds, many_offers, at_limit, covered, compared, addresses, forwarded, in_all, million, part_of_a_million)
+CASES = (batches, purges, feeds, many_offers, at_limit, covered, compared, addresses, forwarded, in_all, million,
+         part_of_a_million)
 OF_MEMORY = (feeds, many_offers, in_all, million)
 
 

@@ -1,4 +1,5 @@
-"""The model of a table: addresses, the sequential table, and what a run, a look-up, a list and a comparison of it print."""
+"""The model of a table: addresses, the sequential table, and what a run, a look-up, a list and a comparison of it
+print."""
 import functools
 
 
@@ -21,7 +22,8 @@ def block(prefix):
 
 
 class Table:
-    """The sequential table, from its definition, over the words of a feed's line. A route is (prefix, feed, preference, hop)."""
+    """The sequential table, from its definition, over the words of a feed's line. A route is (prefix, feed, preference,
+    hop)."""
 
     def __init__(self, limit):
         self.limit = limit
@@ -64,7 +66,8 @@ class Table:
         return [route for prefix in sorted(self.offered, key=block) for route in self.of_prefix(prefix)]
 
     def covering(self, addr):
-        """The routes whose prefixes are the address's first bits, the best first: the longest, and of these in their order."""
+        """The routes whose prefixes are the address's first bits, the best first: the longest, and of these in their
+        order."""
         cut = lambda length: f"{dotted(number(addr) >> 32 - length << 32 - length)}/{length}"
         return [route for length in range(32, -1, -1) for route in self.of_prefix(cut(length))]
 
@@ -78,13 +81,15 @@ class Table:
         first, *others = self.covering(addr) or [None]
         if first is None:
             return [f"{addr} no route\n"]
-        step = lambda route: "shorter" if route[0] != first[0] else "preference" if int(route[2]) > int(first[2]) else "feed"
+        is_worse = lambda route: int(route[2]) > int(first[2])
+        step = lambda route: "shorter" if route[0] != first[0] else "preference" if is_worse(route) else "feed"
         return [f"{addr} route {shown(first)}\n"] + [f"{addr} also {shown(route)} {step(route)}\n" for route in others]
 
     def listed(self, best=False):
         """The rows of a list, or of the best route of each prefix."""
         if best:
-            return [shown(self.of_prefix(prefix)[0]) for prefix in sorted(self.offered, key=block) if self.offered[prefix]]
+            return [shown(self.of_prefix(prefix)[0]) for prefix in sorted(self.offered, key=block)
+                    if self.offered[prefix]]
         return list(map(shown, self.routes()))
 
 
@@ -94,8 +99,8 @@ def shown(route):
 
 
 def differences_text(old, new, by, names=({}, {})):
-    """What a comparison of two tables prints: from each border of their prefixes to the next both say one thing. In place of a
-    feed's number stands its name, where its side has names."""
+    """What a comparison of two tables prints: from each border of their prefixes to the next both say one thing. In
+    place of a feed's number stands its name, where its side has names."""
 
     def said(table, border, named):
         best = table.covering(dotted(border))[:1]
@@ -103,7 +108,8 @@ def differences_text(old, new, by, names=({}, {})):
             return shown((best[0][0], named.get(best[0][1], best[0][1]), *best[0][2:])) if best else "no route"
         return "discard" if best[0][3] == "discard" else f"via {best[0][3]}"
 
-    ends = {base + size for table in (old, new) for base, length in map(block, table.offered) for size in (0, 1 << 32 - length)}
+    ends = {base + size for table in (old, new) for base, length in map(block, table.offered)
+            for size in (0, 1 << 32 - length)}
     ranges = []
     for border in sorted({0, *ends} - {1 << 32}):
         answers = said(old, border, names[0]), said(new, border, names[1])
@@ -115,8 +121,8 @@ def differences_text(old, new, by, names=({}, {})):
 
 
 def ran(texts, refused, limit=65_536):
-    """The lines of the reports that a run of these texts prints if these lines, by feed and number, are refused, and its
-    table."""
+    """The lines of the reports that a run of these texts prints if these lines, by feed and number, are refused, and
+    its table."""
     table, printed = Table(limit), []
     for feed, text in enumerate(texts, 1):
         for at, line in enumerate(text.splitlines(), 1):

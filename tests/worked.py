@@ -50,7 +50,8 @@ WORKED = [
     Worked("no line", []),
     Worked(
         "one route",
-        [("add 10.0.0.0/8 100 192.0.2.1", "added"), ("lookup 10.1.2.3", "route 10.0.0.0/8 feed 1 pref 100 via 192.0.2.1")],
+        [("add 10.0.0.0/8 100 192.0.2.1", "added"),
+         ("lookup 10.1.2.3", "route 10.0.0.0/8 feed 1 pref 100 via 192.0.2.1")],
         ["10.0.0.0/8 feed 1 pref 100 via 192.0.2.1"],
     ),
     Worked(

@@ -2,8 +2,8 @@
 """Draws what the benches measured, out of bench/figures/.
 
 Usage: tools/draw_figures.py [--check]. Writes time_by_prefixes.svg, time_by_feeds.svg, time_beside_others.svg,
-lock_by_threads.svg and trie_by_size.svg into docs/pictures/, or with --check compares them with what it would write. Each axis
-begins at zero, but for the lower ones, which have one place for each number that was measured.
+lock_by_threads.svg and trie_by_size.svg into docs/pictures/, or with --check compares them with what it would write.
+Each axis begins at zero, but for the lower ones, which have one place for each number that was measured.
 """
 import statistics
 
@@ -17,7 +17,8 @@ HEIGHT, LEFT, TOP, GAP = 220, 70, 70, 70
 
 
 def top_of(most):
-    """The least of 1, 2, 2.5, 4, 5, 8 and 10 times a power of ten that isn't below it, and into how many parts it is cut."""
+    """The least of 1, 2, 2.5, 4, 5, 8 and 10 times a power of ten that isn't below it, and into how many parts it is
+    cut."""
     power = 1.0
     while power * 10 < most:
         power *= 10
@@ -57,8 +58,8 @@ class Panel:
 
 
 def charts(title, unit, below, kinds, panels, kept):
-    """A picture with a panel for each title, with lines of these kinds (name, colour, whether dashed), each panel to the same
-    scale. A panel is the values of each kind: pairs of a number below and a measure."""
+    """A picture with a panel for each title, with lines of these kinds (name, colour, whether dashed), each panel to
+    the same scale. A panel is the values of each kind: pairs of a number below and a measure."""
     width = WIDTHS[len(panels)]
     picture = Picture(LEFT + len(panels) * (width + GAP) - GAP + 30, TOP + HEIGHT + 100, title)
     picture.text(LEFT, 24, f"{title} ({unit})", "start", 15, weight="bold")
@@ -78,12 +79,13 @@ def charts(title, unit, below, kinds, panels, kept):
     return picture
 
 
-PROGRAM = [("plain Rust", ORANGE, True), ("yarib, batch 1", QUIET, False), ("batch 16", GREEN, False), ("batch 256", BLUE, False)]
+PROGRAM = [("plain Rust", ORANGE, True), ("yarib, batch 1", QUIET, False), ("batch 16", GREEN, False),
+           ("batch 256", BLUE, False)]
 
 
 def program_lines(rows, number, measure):
-    """The lines of the program's kinds: microseconds a line of text, by this number. The plain program takes one command at a
-    time; of its three times the least is shown."""
+    """The lines of the program's kinds: microseconds a line of text, by this number. The plain program takes one
+    command at a time; of its three times the least is shown."""
     numbers = sorted({row[number] for row in rows})
     of = {(row[number], row["batch"]): [time * 1000 / row["lines"] for time in row[measure]] for row in rows}
     plain = [(each, min(of[each, batch][1] for batch in (1, 16, 256))) for each in numbers]
@@ -104,13 +106,15 @@ def time_by_feeds():
          program_lines([row for row in kept["rows"] if row["on"] == some], "files", "clock"))
         for some in on
     ]
-    return charts("Feeds that announce the same 20,000 prefixes, on the clock", "µs a line", "feeds", PROGRAM, panels, kept)
+    return charts("Feeds that announce the same 20,000 prefixes, on the clock", "µs a line", "feeds", PROGRAM,
+                  panels, kept)
 
 
 def time_beside_others():
     kept = figures.kept("busy")
     kinds = [("plain Rust", ORANGE, True), ("yarib, batch 1", QUIET, False), ("batch 256", BLUE, False)]
-    panels = [(title, busy_lines([row for row in kept["rows"] if bool(row["others"]) == busy])) for title, busy in BESIDE]
+    panels = [(title, busy_lines([row for row in kept["rows"] if bool(row["others"]) == busy]))
+              for title, busy in BESIDE]
     return charts("The same lines in one file and in several, on the clock", "µs a line", "files", kinds, panels, kept)
 
 
@@ -118,8 +122,8 @@ BESIDE = (("nothing else on the machine", False), ("beside busy processes", True
 
 
 def busy_lines(rows):
-    """Microseconds a line of the plain program and of both batches, by the number of files: the middle of the rounds. What one
-    file takes is the middle over the cases of its batch."""
+    """Microseconds a line of the plain program and of both batches, by the number of files: the middle of the rounds.
+    What one file takes is the middle over the cases of its batch."""
     plain = statistics.median(row["clock"][2][0] * 1000 / row["lines"] for row in rows)
     lines = [[(files, plain) for files in (1, *sorted({row["files"] for row in rows}))]]
     for batch in (1, 256):
@@ -143,9 +147,11 @@ def lock_by_threads():
 def trie_by_size():
     kept = figures.kept("trie")
     kinds = [("yarib's trie", BLUE, False), ("plain Rust", ORANGE, True)]
-    calls = (("insert", "insertion"), ("longest", "longest match"), ("together", "64 longest matches"), ("remove", "removal"))
+    calls = (("insert", "insertion"), ("longest", "longest match"), ("together", "64 longest matches"),
+             ("remove", "removal"))
     panels = [
-        (title, [[(row["prefixes"], row["clock"][kind]) for row in kept["rows"] if row["call"] == call] for kind in (0, 1)])
+        (title, [[(row["prefixes"], row["clock"][kind]) for row in kept["rows"] if row["call"] == call]
+                 for kind in (0, 1)])
         for call, title in calls
     ]
     return charts("The trie", "ns a call, on the clock", "prefixes", kinds, panels, kept)
@@ -153,5 +159,6 @@ def trie_by_size():
 
 settle(
     "draw_figures.py",
-    [(draw.__name__, draw()) for draw in (time_by_prefixes, time_by_feeds, time_beside_others, lock_by_threads, trie_by_size)],
+    [(draw.__name__, draw())
+     for draw in (time_by_prefixes, time_by_feeds, time_beside_others, lock_by_threads, trie_by_size)],
 )

@@ -39,7 +39,8 @@ def text(x, y, words, size=13, anchor="middle", colour="#222", weight="normal"):
 def picture(name, width, height, title, parts):
     drawn = (
         f"<svg xmlns='http://www.w3.org/2000/svg' viewBox='0 0 {width} {height}' width='{width}' height='{height}' {STYLE}>\n"
-        f"<title>{title}</title>\n<rect width='{width}' height='{height}' fill='white'/>\n" + "\n".join(parts) + "\n</svg>\n")
+        f"<title>{title}</title>\n<rect width='{width}' height='{height}' fill='white'/>\n" + "\n".join(parts)
+        + "\n</svg>\n")
     if not CHECK:
         (FOLDER / name).write_text(drawn)
     elif (FOLDER / name).read_text() != drawn:
@@ -86,7 +87,8 @@ def tree():
         own = leaf == place
         parts.append(f"<circle cx='{x}' cy='{y}' r='17' fill='{COLOURS[0] if own else 'white'}' stroke='#888'/>")
         parts.append(text(x, y + 5, f"p{leaf}", colour="white" if own else "#222"))
-    parts.append(text(16, 24, "One passage of place 5 alone: yarib replay --levels 3 5 5 5 ...", 14, "start", weight="bold"))
+    parts.append(text(16, 24, "One passage of place 5 alone: yarib replay --levels 3 5 5 5 ...", 14, "start",
+                      weight="bold"))
     parts.append(text(16, 44, "the way in, from the leaf to the root", 12, "start", COLOURS[0]))
     parts.append(text(16, 62, "the way out, from the root to the leaf", 12, "start", COLOURS[1]))
     picture("tree.svg", width, bottom, "The arbitration tree with the words of one passage", parts)

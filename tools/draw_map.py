@@ -1,5 +1,6 @@
 #!/usr/bin/env python3
-"""Draws the map of the tutorial's comparison, from a real run of `yarib diff`, with the curve and the colours of examples/map.
+"""Draws the map of the tutorial's comparison, from a real run of `yarib diff`, with the curve and the colours of
+examples/map.
 
 Usage: tools/draw_map.py [--check] [PROGRAM]. Without a program it runs ./yarib at the top of the repository.
 Writes map.svg into docs/pictures/, or with --check compares it with what it would write.
@@ -25,7 +26,8 @@ def comparison():
 
 
 def colours(made, base, size):
-    """The colour of each of 256 blocks of so many addresses, by what becomes of the first of its addresses that change."""
+    """The colour of each of 256 blocks of so many addresses, by what becomes of the first of its addresses that
+    change."""
     found = ["ground"] * ACROSS**2
     ends = [*made.firsts[1:], reading.END]
     for first, end, one in zip(made.firsts, ends, chart.changes_of(made)):
@@ -36,7 +38,8 @@ def colours(made, base, size):
 
 
 def draw(picture, left, top, made, base, length, named):
-    """A map of the prefix, whose blocks are eight bits longer; those blocks have their names which are to be `named`."""
+    """A map of the prefix, whose blocks are eight bits longer; those blocks have their names which are to be
+    `named`."""
     width = ACROSS * BLOCK
     lines = "".join(f"M{at} 0V{width}M0 {at}H{width}" for at in range(0, width + 1, BLOCK))
     squares, names = {}, []
@@ -57,8 +60,10 @@ def draw(picture, left, top, made, base, length, named):
 def map_of_tutorial():
     width = ACROSS * BLOCK
     made = comparison()
-    picture = Picture(3 * 20 + 2 * width, width + 80, "All addresses, and those of 10.0.0.0/8, before and after south is added")
-    for left, title, base, length, named in ((20, "all addresses, by /8s", 0, 0, (0, 10, 63, 64, 127, 128, 191, 192, 255)),
+    picture = Picture(3 * 20 + 2 * width, width + 80,
+                      "All addresses, and those of 10.0.0.0/8, before and after south is added")
+    for left, title, base, length, named in ((20, "all addresses, by /8s", 0, 0,
+                                              (0, 10, 63, 64, 127, 128, 191, 192, 255)),
                                              (40 + width, "10.0.0.0/8, by /16s", 10 << 24, 8, range(256))):
         picture.text(left + width / 2, 26, title, weight="bold")
         draw(picture, left, 36, made, base, length, named)

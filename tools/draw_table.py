@@ -67,14 +67,15 @@ def trie():
             if parent:
                 picture.line(at[parent][0], at[parent][1] + 22, at[node][0], at[node][1] - 22)
         for node, (node_x, node_y) in at.items():
-            picture.box(node_x - 66, node_y - 22, 132, 44, "#ffffff" if node in stored else "#f6f8fa", INK, node not in stored)
+            picture.box(node_x - 66, node_y - 22, 132, 44, "#ffffff" if node in stored else "#f6f8fa", INK,
+                        node not in stored)
             picture.text(node_x, node_y - 2, f"{dotted(node[0])}/{node[1]}", size=12, weight="bold")
             picture.text(node_x, node_y + 14, "stored" if node in stored else "two branches part", size=11, fill=QUIET)
     return picture
 
 
-# Each stop of a look-up on its way, where commands are asked one by one, with the function that a reader can look up and
-# the crate that it stands in.
+# Each stop of a look-up on its way, where commands are asked one by one, with the function that a reader can look up
+# and the crate that it stands in.
 WAY = [
     ("a line of a feed file", "", ""),
     ("parsed", "parse_line", "rt_feed"),
@@ -90,7 +91,8 @@ WAY = [
 
 def way():
     """The way of one look-up through the crates."""
-    picture = Picture(640, 40 + 62 * len(WAY), "The way of a look-up through the crates, where each command is asked by itself")
+    picture = Picture(640, 40 + 62 * len(WAY),
+                      "The way of a look-up through the crates, where each command is asked by itself")
     for stop, (what, function, crate) in enumerate(WAY):
         y = 20 + 62 * stop
         if function and all(one.name != function for source in sources(crate) for one in source.functions):

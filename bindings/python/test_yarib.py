@@ -64,13 +64,15 @@ class Tables(unittest.TestCase):
         self.assertEqual((list(table), list(table.routes_from("255.255.255.255/32"))), ([], []))
         for _ in range(10_000):
             length = draw.choice((8, 16, 23, 24, 32))
-            table.apply(draw.randrange(1, 5), "add", (draw.randrange(1 << length) << 32 - length, length), draw.randrange(3), None)
+            table.apply(draw.randrange(1, 5), "add", (draw.randrange(1 << length) << 32 - length, length),
+                        draw.randrange(3), None)
         routes = table.routes()
         self.assertEqual(list(table), routes)
         key = lambda one: (one.base, one.length, one.pref, one.feed)
         for _ in range(20):
             base, length, pref, feed = place = key(draw.choice(routes))
-            self.assertEqual(list(table.routes_from((base, length), pref, feed)), [one for one in routes if key(one) >= place])
+            self.assertEqual(list(table.routes_from((base, length), pref, feed)),
+                             [one for one in routes if key(one) >= place])
             behind = (base | 0x80000000, length, 0, 0)
             self.assertEqual(list(table.routes_from(behind[:2])), [one for one in routes if key(one) >= behind])
         for prefix in ("10.0.0.1/8", (0, 33)):
@@ -143,15 +145,16 @@ class Tables(unittest.TestCase):
     def test_outcomes_and_the_journal(self):
         table = yarib.Table(limit=1, journal=True)
         table.reserve(10)
-        commands = [(1, "add", "10.0.0.0/8", 5, "192.0.2.1"), (0, "dump"), (2, "lookup", "10.1.1.1"), (1, "purge"), (1, "dump")]
+        commands = [(1, "add", "10.0.0.0/8", 5, "192.0.2.1"), (0, "dump"), (2, "lookup", "10.1.1.1"),
+                    (1, "purge"), (1, "dump")]
         outcomes = table.apply_each(commands)
         self.assertEqual([one.said for one in outcomes], ["added", "unanswered", "found", "purged", "dumped"])
         self.assertEqual((outcomes[1].status, outcomes[2].route.pref, outcomes[3].count), ("bad number", 5, 1))
         self.assertEqual(table.apply_each([]), [])
         entries = table.journal()
         self.assertEqual([entry.command for entry in entries], [
-            (1, "add", NETWORK("10.0.0.0/8"), 5, ADDRESS("192.0.2.1")), (2, "lookup", ADDRESS("10.1.1.1")), (1, "purge"),
-            (1, "dump")])
+            (1, "add", NETWORK("10.0.0.0/8"), 5, ADDRESS("192.0.2.1")), (2, "lookup", ADDRESS("10.1.1.1")),
+            (1, "purge"), (1, "dump")])
         self.assertEqual([entry.outcome for entry in entries], outcomes[:1] + outcomes[2:])
         self.assertRaises(yarib.Refused, yarib.Table().journal)
         self.assertRaises(MemoryError, table.reserve, (1 << 64) - 1)
@@ -163,7 +166,8 @@ class Tables(unittest.TestCase):
         first, last = 10 << 24, (11 << 24) - 1
         self.assertEqual(list(old.differences(new)), [
             (first, last, False, ADDRESS("192.0.2.1")), (0xFFFFFFFF, 0xFFFFFFFF, False, None)])
-        self.assertEqual(list(new.differences(old, by="route"))[0], (first, last, route("10.0.0.0/8", 1, 0, "192.0.2.1"), None))
+        self.assertEqual(list(new.differences(old, by="route"))[0],
+                         (first, last, route("10.0.0.0/8", 1, 0, "192.0.2.1"), None))
         self.assertEqual(list(new.differences(new)), [])
 
 
@@ -176,7 +180,8 @@ class Buffers(unittest.TestCase):
 
     def test_lists_arrays_and_bytes(self):
         block = array.array("I", self.asked)
-        for addresses in (self.asked, map(int, self.asked), block, memoryview(block), memoryview(bytes(block)).cast("I")):
+        for addresses in (self.asked, map(int, self.asked), block, memoryview(block),
+                          memoryview(bytes(block)).cast("I")):
             answers = self.table.look_up_each(addresses)
             self.assertEqual((list(answers), answers[1:], answers[-1]), (self.wanted, self.wanted[1:], self.wanted[2]))
             self.assertEqual(len(answers), 3)
@@ -184,7 +189,8 @@ class Buffers(unittest.TestCase):
             self.assertEqual(list(self.table.look_up_each(addresses)), [])
 
     def test_other_buffers_are_refused(self):
-        for block in (array.array("i", [1]), array.array("Q", [1]), b"1234", memoryview(array.array("I", range(4)))[::2]):
+        for block in (array.array("i", [1]), array.array("Q", [1]), b"1234",
+                      memoryview(array.array("I", range(4)))[::2]):
             self.assertRaises(ValueError, self.table.look_up_each, block)
 
     def test_answers_are_read_where_they_lie(self):
@@ -262,14 +268,16 @@ class Model(unittest.TestCase):
             table, model = yarib.Table(limit, journal=seed % 2 == 1), table_model.Table(limit)
             for _ in range(400):
                 feed, words = draw.randrange(1, 65) if seed % 4 else draw.randrange(1, 4), self.words(draw)
-                self.assertEqual(self.said(table.apply(feed, *self.typed(words))), model.apply(feed, words), (seed, words))
+                self.assertEqual(self.said(table.apply(feed, *self.typed(words))), model.apply(feed, words),
+                                 (seed, words))
 
     def words(self, draw):
         length = draw.choice((0, 1, 2, 3, 30, 31, 32))
         base = draw.choice((0, 1 << 31, 10 << 24, 0xFFFFFFF8)) + draw.randrange(8)
         prefix = f"{ADDRESS(base >> 32 - length << 32 - length)}/{length}"
         put = [prefix, str(draw.randrange(3)), str(ADDRESS(draw.randrange(4)))]
-        kinds = {"add": put, "replace": put, "withdraw": [prefix], "lookup": [str(ADDRESS(base))], "dump": [], "purge": []}
+        kinds = {"add": put, "replace": put, "withdraw": [prefix], "lookup": [str(ADDRESS(base))],
+                 "dump": [], "purge": []}
         name = draw.choices(list(kinds), (12, 4, 4, 4, 1, 1))[0]
         return [name, *kinds[name]]
 

@@ -4,7 +4,8 @@ import re
 from .crates import CRATES
 from .rust_sources import Source
 
-FORM = re.compile(r"([\w-]+)\n\n```\nfile: (src/\S+\.rt)\n((?:old: .+\nnew:.*\n)+)refused in: ([\w:]+?)(?:: ([\w-]+))?\n```\n+")
+FORM = re.compile(r"([\w-]+)\n\n```\nfile: (src/\S+\.rt)\n((?:old: .+\nnew:.*\n)+)"
+                  r"refused in: ([\w:]+?)(?:: ([\w-]+))?\n```\n+")
 
 
 class BadBody(Exception):
@@ -12,8 +13,8 @@ class BadBody(Exception):
 
 
 class Body:
-    """A body of a list: its crate, text and name, and, where it is written as one, its file, its pairs of old and new, the
-    function that the prover refuses, as the prover names it, and perhaps a goal of that function."""
+    """A body of a list: its crate, text and name, and, where it is written as one, its file, its pairs of old and new,
+    the function that the prover refuses, as the prover names it, and perhaps a goal of that function."""
 
     def __init__(self, crate, section):
         self.crate, self.section, self.name = crate, section, section.partition("\n")[0]
@@ -30,8 +31,8 @@ class Body:
         return text
 
     def places(self, text):
-        """The lines at which the functions begin whose text it changes, each with the function's name, or with None at text that
-        is in no function."""
+        """The lines at which the functions begin whose text it changes, each with the function's name, or with None at
+        text that is in no function."""
         found = set()
         for old, new in self.pairs:
             if text.count(old) == 1:
@@ -64,4 +65,5 @@ def listing_crates(crates=CRATES):
 def bodies_of(crate, crates=CRATES):
     """The bodies that a crate lists, in their order."""
     file = crates / crate / "must-fail/bodies.md"
-    return [Body(crate, section) for section in re.split(r"^## ", file.read_text(), flags=re.M)[1:]] if file.exists() else []
+    return [Body(crate, section)
+            for section in re.split(r"^## ", file.read_text(), flags=re.M)[1:]] if file.exists() else []

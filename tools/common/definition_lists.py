@@ -25,4 +25,5 @@ def listing_crates():
 def changes_of(crate):
     """The changes that a crate lists, in their order."""
     file = CRATES / crate / "must-fail/definitions.md"
-    return [Change(crate, section) for section in re.split(r"^## ", file.read_text(), flags=re.M)[1:]] if file.exists() else []
+    return [Change(crate, section)
+            for section in re.split(r"^## ", file.read_text(), flags=re.M)[1:]] if file.exists() else []

@@ -1,4 +1,5 @@
-"""Definitions of specs/ and types of src/: where each stands, its lines, and what it speaks of. tools/statement, tools/reach,
+"""Definitions of specs/ and types of src/: where each stands, its lines, and what it speaks of. tools/statement,
+tools/reach,
 tools/lemmas, tools/hollow and tools/definitions are written over it."""
 import functools
 import re
@@ -9,15 +10,19 @@ from .rust_sources import indent_of, source, sources
 
 # The libraries that have definitions, in the order of crates.txt: each behind those that it stands on.
 LIBRARY_CRATES = tuple(
-    crate for crate in needs() if (CRATES / crate / "specs").is_dir() and (CRATES / crate / "src/lib.rt").exists() and not crate.endswith("_tests"))
+    crate for crate in needs() if (CRATES / crate / "specs").is_dir() and (CRATES / crate / "src/lib.rt").exists()
+    and not crate.endswith("_tests"))
 
 WORD = re.compile(r"(\.?)([^\W\d][\w'?]*(?:-[^\W\d][\w']*)*|\d+)|(\"(?:[^\"\\]|\\.)*\")|([^\s\w(){}\[\],;.\"'\\]+)")
+IMPORT = re.compile(r"^\s*(?:ghost )?(?:pub )?use (Rattle[\w.«»?]*|mathlib[\w.«»?]*|lib[\w.«»?]*?)"
+                    r"(?:\.\{([^}]*)\})?(?: as (\w+))?;?\s*$", re.M)
 DECLARED = re.compile(r"(?:abbrev |unfoldable )?(?:pub )?(?:abbrev |unfoldable )?(?:(record|data|ruleset) )?([^\s:(){}]+)")
 RUST_TYPES = ("struct", "enum", "trait", "type", "const")
 
 
 class Definition:
-    """A definition of specs/ or a type of src/: where it stands, its comment, its lines, and the parameters around it."""
+    """A definition of specs/ or a type of src/: where it stands, its comment, its lines, and the parameters around
+    it."""
 
     def __init__(self, key, file, line, comment, lines, context=()):
         self.key, self.file, self.line, self.comment, self.lines = key, file, line, comment, lines
@@ -36,8 +41,7 @@ def uncommented(text):
 def imports(text):
     """What each word of a file stands for: a name of a module, or (with no name) the module itself."""
     found = {}
-    for module, items, alias in re.findall(r"(?m)^\s*(?:ghost )?(?:pub )?use (Rattle[\w.«»?]*|mathlib[\w.«»?]*|lib[\w.«»?]*?)"
-                                           r"(?:\.\{([^}]*)\})?(?: as (\w+))?;?\s*$", text):
+    for module, items, alias in IMPORT.findall(text):
         if items:
             for item in items.split(","):
                 name, _, other = item.strip().partition(" as ")
@@ -50,7 +54,8 @@ def imports(text):
 
 @functools.cache
 def spec_module(module):
-    """The definitions of a module of specs/ by name, and what its other words stand for. None where it is none of ours."""
+    """The definitions of a module of specs/ by name, and what its other words stand for. None where it is none of
+    ours."""
     match = re.fullmatch(r"Rattle\.(\w+)\.(?:specs|proofs)\.(.+)", module)
     if not match:
         return None
@@ -75,8 +80,8 @@ def parse_module(module, file, text=None):
 
 
 class ModuleReader:
-    """What reads a file line by line: the definitions that it has found, the comment above the next one, the one that goes on, and
-    the margins of the sections around, each with its parameters."""
+    """What reads a file line by line: the definitions that it has found, the comment above the next one, the one that
+    goes on, and the margins of the sections around, each with its parameters."""
 
     def __init__(self, module, file, lines):
         self.module, self.file, self.lines, self.number = module, file, lines, 0
@@ -160,7 +165,8 @@ def rust_type(crate, name):
 
 def type_of(crate, item):
     body = [line for line in item.written() if line.strip() and not line.strip().startswith("#[")]
-    model = next((other for other in item.source.items if other.kind == "impl" and other.of_impl() == ("Model", item.name)), None)
+    model = next((other for other in item.source.items if other.kind == "impl"
+                  and other.of_impl() == ("Model", item.name)), None)
     value = model and re.search(r"ghost Value = (\{.*?\});", "\n".join(model.written()))
     if value:
         body = [re.sub(r"\s*[{;].*", "", body[0]) + f" // contracts see it as {value[1]}"]
@@ -168,7 +174,8 @@ def type_of(crate, item):
 
 
 def rust_words(definition):
-    """The words of a Rust type that are types of ours, and those of its ghost parts, but for what proves or stores a field."""
+    """The words of a Rust type that are types of ours, and those of its ghost parts, but for what proves or stores a
+    field."""
     ghosts = imports(source(definition.file).text)
     code = "\n".join(re.sub(r"//(?! contracts see it as).*", "", line) for line in definition.lines)
     for word in re.findall(r"[A-Za-z_]\w*", re.sub(r"\} by \{[^}]*\}", "}", code)):
@@ -225,8 +232,8 @@ def resolved(module, name):
 
 
 def words_of(text, local, used):
-    """What the words of a term stand for: definitions of ours and (module, name) of the library's. A variable that has the
-    name of a definition is taken for it: better one too many on the page than one missing."""
+    """What the words of a term stand for: definitions of ours and (module, name) of the library's. A variable that has
+    the name of a definition is taken for it: better one too many on the page than one missing."""
     text = uncommented(text)
     tokens = [(match[1], match[2], match[4], match.start(), match.end()) for match in WORD.finditer(text)]
     seen = {token[1] for token in tokens if token[1]} | {token[2] for token in tokens if token[2]}
@@ -278,9 +285,10 @@ def unique(found, but=None):
 
 @functools.cache
 def example_files():
-    """The files of examples by module, each with the crate whose definitions it tests: a library's stand in a file with the
-    second part of its name in a crate of examples, those of the program in its own proofs/."""
-    found = {f"Rattle.{crate_of(file)}.proofs.Examples": (file, crate_of(file)) for file in CRATES.glob("*/proofs/Examples.antt")}
+    """The files of examples by module, each with the crate whose definitions it tests: a library's stand in a file with
+    the second part of its name in a crate of examples, those of the program in its own proofs/."""
+    found = {f"Rattle.{crate_of(file)}.proofs.Examples": (file, crate_of(file))
+             for file in CRATES.glob("*/proofs/Examples.antt")}
     for crate in LIBRARY_CRATES:
         name = crate.partition("_")[2].capitalize()
         files = CRATES.glob(f"*_examples/proofs/{name}.antt")

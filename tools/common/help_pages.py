@@ -1,5 +1,5 @@
-"""The pages of help in tests/help/, read in parts: tools/manual and tools/completions are made of them. The gate compares the
-pages with what the program prints."""
+"""The pages of help in tests/help/, read in parts: tools/manual and tools/completions are made of them. The gate
+compares the pages with what the program prints."""
 import re
 import typing
 

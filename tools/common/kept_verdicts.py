@@ -1,8 +1,9 @@
-"""Which wrong bodies earlier gates on this machine saw refused, so that a later one tries only those that something changed under.
+"""Which wrong bodies earlier gates on this machine saw refused, so that a later one tries only those that something
+changed under.
 
-An entry's name is a sum of all that its verdict rests on: the toolchain, the scripts, the text of the crate and of those below it,
-these as they are built, and the body. So none goes stale, and one that can't be read or written counts for nothing. Whoever can
-write to the folder is trusted, as with what `rt ci` keeps."""
+An entry's name is a sum of all that its verdict rests on: the toolchain, the scripts, the text of the crate and of
+those below it, these as they are built, and the body. So none goes stale, and one that can't be read or written counts
+for nothing. Whoever can write to the folder is trusted, as with what `rt ci` keeps."""
 import hashlib
 import os
 import pathlib
@@ -21,7 +22,8 @@ def folder():
 
 
 def files_read(crate):
-    """The files that a verdict on a body of the crate rests on. The format of what is built holds a sum of its files."""
+    """The files that a verdict on a body of the crate rests on. The format of what is built holds a sum of its
+    files."""
     found = [TOP / name for name in SCRIPTS]
     found += [library(one) / "format" for one in sorted(below([crate]) - {crate})]
     for one in sorted(below([crate])):
@@ -60,7 +62,8 @@ class Kept:
             return None
 
     def keep(self, body, said):
-        """Keeps that the body was refused. It is written apart and then renamed, so that no other run meets half of it."""
+        """Keeps that the body was refused. It is written apart and then renamed, so that no other run meets half of
+        it."""
         try:
             folder().mkdir(parents=True, exist_ok=True)
             with tempfile.NamedTemporaryFile("w", dir=folder(), delete=False) as new:

@@ -1,5 +1,5 @@
-"""Shapes on a white ground, and what becomes of a picture: it is written into docs/pictures/, or compared with what stands
-there."""
+"""Shapes on a white ground, and what becomes of a picture: it is written into docs/pictures/, or compared with what
+stands there."""
 import html
 import sys
 

@@ -1,6 +1,6 @@
-"""The prover's own command over a crate whose libraries are built, as `rt must-fail` calls it: what `rt check` would say of the
-crate, but with what is built below it taken as it is. So it goes over the libraries that `rt ci` leaves, which `rt check` would
-build anew."""
+"""The prover's own command over a crate whose libraries are built, as `rt must-fail` calls it: what `rt check` would
+say of the crate, but with what is built below it taken as it is. So it goes over the libraries that `rt ci` leaves,
+which `rt check` would build anew."""
 import functools
 import pathlib
 import subprocess
@@ -11,7 +11,8 @@ from .crates import CRATES, below, is_static, needs
 @functools.cache
 def kit():
     """The folder of the toolchain whose `rt` is on PATH, where the page lies that it names."""
-    return pathlib.Path(subprocess.run(["rt", "doc"], stdout=subprocess.PIPE, text=True, check=True).stdout.strip()).parent
+    return pathlib.Path(subprocess.run(["rt", "doc"], stdout=subprocess.PIPE, text=True,
+                                       check=True).stdout.strip()).parent
 
 
 def library(crate):
@@ -19,8 +20,8 @@ def library(crate):
 
 
 def words_for(name, named, folder, is_archive=None):
-    """What the prover is told of a crate in this folder: its name, what its line of crates.txt names, and whether it becomes an
-    archive for C, as a static library does."""
+    """What the prover is told of a crate in this folder: its name, what its line of crates.txt names, and whether it
+    becomes an archive for C, as a static library does."""
     own = [one for one in named if one in needs()]
     root = "src/main.rt" if (folder / "src/main.rt").exists() else "src/lib.rt"
     words = ["--crate-name", name, root]
@@ -32,13 +33,13 @@ def words_for(name, named, folder, is_archive=None):
     for one in sorted(below(own)):
         words += ["-L", f"dependency={library(one).parent}"]
     words += ["--crate-type", "staticlib"] * (is_static(name) if is_archive is None else is_archive)
-    return [*words, "--antt-project", f"{kit()}/rattle/logic/antt-project.json", "--logic-built", f"{kit()}/logic_built",
-            "--links", f"{name}="]
+    return [*words, "--antt-project", f"{kit()}/rattle/logic/antt-project.json", "--logic-built",
+            f"{kit()}/logic_built", "--links", f"{name}="]
 
 
 def said_of(name, named, folder, more=(), seconds=None):
-    """What the prover prints of the crate in this folder, past open goals, over what it keeps there of earlier runs. Where it
-    is given so many seconds of processor time, it is ended after these, with its last lines unsaid."""
+    """What the prover prints of the crate in this folder, past open goals, over what it keeps there of earlier runs.
+    Where it is given so many seconds of processor time, it is ended after these, with its last lines unsaid."""
     words = [kit() / "bin/rattle", "check", *words_for(name, named, folder), "--jobs", "1", "--allow-holes", *more]
     return said_by([*words, "--incremental", "out/incremental"], folder, seconds)
 
@@ -52,17 +53,20 @@ def said_by(words, folder, seconds=None):
 
 
 def archive_built(name):
-    """Proves a static library and builds its archive; the status of the prover's command, which keeps what it proves."""
+    """Proves a static library and builds its archive; the status of the prover's command, which keeps what it
+    proves."""
     return built(name, True, ["--toolchain", kit() / "toolchain", "--backend", "llvm", "-o", f"out/lib{name}.a"])
 
 
 def library_built(name):
-    """Proves a static library and builds it as one that a crate can stand on, which `rt ci` doesn't; the status as above."""
+    """Proves a static library and builds it as one that a crate can stand on, which `rt ci` doesn't; the status as
+    above."""
     library(name).parent.mkdir(parents=True, exist_ok=True)
     return built(name, False, ["-o", library(name)])
 
 
 def built(name, is_archive, more):
-    words = [kit() / "bin/rattle", "build", *words_for(name, needs()[name], CRATES / name, is_archive), "--jobs", "1", *more]
+    words = [kit() / "bin/rattle", "build", *words_for(name, needs()[name], CRATES / name, is_archive),
+             "--jobs", "1", *more]
     return subprocess.run([*words, "--incremental", "out/incremental"], cwd=CRATES / name, stdin=subprocess.DEVNULL,
                           stderr=subprocess.STDOUT).returncode

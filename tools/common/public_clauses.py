@@ -5,8 +5,8 @@ from .crates import CRATES, all_crates
 from .definition_reader import Definition, imports, rust_named, words_of
 from .rust_sources import items_of, root_of, source, taken_by
 
-# What a type gives as an instance of a trait and no caller reads: how its value is seen in its private fields and what it keeps
-# of them, and proofs.
+# What a type gives as an instance of a trait and no caller reads: how its value is seen in its private fields and what
+# it keeps of them, and proofs.
 UNSEEN = {"view", "invariant", "inverse", "also_owns", "coded", "since_same", "done_same", "since_done", "holds_some",
           "holds_one"}
 
@@ -54,9 +54,11 @@ def unproved(text):
 
 
 def public_clauses(crate):
-    """The pieces of a crate's sources that are its public clauses: each item, its name with its type's, and its text."""
+    """The pieces of a crate's sources that are its public clauses: each item, its name with its type's, and its
+    text."""
     names, items = exported(crate), items_of(crate)
-    types = {item.name for item in items if item.kind in ("struct", "enum", "trait", "type") and is_named(item, crate, names)}
+    types = {item.name for item in items if item.kind in ("struct", "enum", "trait", "type")
+             and is_named(item, crate, names)}
     traits = {item.name: item.name in types for item in items if item.kind == "trait"}
     modelled = {item.of_impl()[1] for item in items if item.kind == "impl" and item.of_impl()[0] == "Model"}
     for item in items:
@@ -64,7 +66,8 @@ def public_clauses(crate):
             yield item, item.name, head_of(item)
         elif item.kind in ("struct", "enum", "type", "const", "static", "trait") and is_named(item, crate, names):
             if item.name in modelled:
-                yield item, item.name, unproved("\n".join(line for line in item.lines if re.match(r"\s*pub (?!\()", line)))
+                yield item, item.name, unproved("\n".join(line
+                                                          for line in item.lines if re.match(r"\s*pub (?!\()", line)))
             else:
                 yield item, item.name, field_terms(item)
         elif item.kind == "impl":
@@ -88,7 +91,7 @@ def impl_clauses(item, trait, owner):
 
 
 def judged_crates():
-    """The crates whose definitions have classes: those with specs/, but for programs, of which nothing can be named, and for the
-    callers to be copied, which nothing stands on."""
+    """The crates whose definitions have classes: those with specs/, but for programs, of which nothing can be named,
+    and for the callers to be copied, which nothing stands on."""
     return [crate for crate in all_crates()
             if crate != "walkthrough" and (CRATES / crate / "specs").is_dir() and exported(crate)]

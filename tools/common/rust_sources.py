@@ -1,5 +1,5 @@
-"""Sources in Rust: their code without comments, what they use, and their items and functions, each with its comment, its
-attributes and its place. An item is read by how `rt fmt` lays it out."""
+"""Sources in Rust: their code without comments, what they use, and their items and functions, each with its comment,
+its attributes and its place. An item is read by how `rt fmt` lays it out."""
 import functools
 import re
 
@@ -8,12 +8,14 @@ from .crates import CRATES
 COMMENT_OR_LITERAL = re.compile(r' *//.*|"(?:[^"\\]|\\(?s:.))*"|\'(?:[^\'\\]|\\.)\'')
 HEAD = re.compile(r"(pub(?:\([^)]*\))? )?(?:unsafe |const |async |extern \"C\" )*"
                   r"(fn|struct|enum|trait|impl|type|const|static|mod|use|ghost(?! use))\b[ <]*(\w*)")
-# How a line begins that goes on with the item above it: it is indented further, or ends its brackets, or begins its body.
+# How a line begins that goes on with the item above it: it is indented further, or ends its brackets, or begins its
+# body.
 GOES_ON = re.compile(r"[\s{}()\]]|where\b|$")
 
 
 def code_of(text, emptied=False):
-    """The text without its comments. Each literal, which may contain anything, is emptied, or has all its lines indented."""
+    """The text without its comments. Each literal, which may contain anything, is emptied, or has all its lines
+    indented."""
     def kept(found):
         if found[0].lstrip().startswith("//"):
             return ""
@@ -136,7 +138,8 @@ class Source:
     def code_but_tests(self):
         """The lines of code that aren't for tests alone."""
         tests = [item for item in self.items if item.is_for_tests()]
-        return [line for number, line in enumerate(self.code) if not any(one.start <= number < one.end for one in tests)]
+        return [line for number, line in enumerate(self.code)
+                if not any(one.start <= number < one.end for one in tests)]
 
 
 def closing(text, start, pair):

@@ -33,56 +33,58 @@ class Page:
 
 
 RUN = Page("STATEMENT-RUN.md", "What a run prints", (
-    "What `yarib run`, `lookup`, `table` and `diff` write, from the bytes of the files to the bytes of the output, and what of "
-    "it is the same however the threads ran. No clause here names the lock."), [
+    "What `yarib run`, `lookup`, `table` and `diff` write, from the bytes of the files to the bytes of the output, and "
+    "what of it is the same however the threads ran. No clause here names the lock."), [
     Chapter("A run from bytes to bytes", (
         "A run writes the report of each feed in order and then the table, and some journal explains all of it: each "
         "of its replies is the sequential table's in the set that the entries before it leave, each feed's entries are "
         "the commands of its text in order with the replies that its report shows, and the table is what the whole "
         "journal leaves."), (
-        "1 to 64 texts, a limit of 1 to 1,000,000 and a batch of at least 1 (`requires`); a writer that tells its bytes, for "
-        "of one whose `contents` are `None` nothing is said (`W.contents w.old` is what was in the writer before the call, "
-        "`W.contents w.new` what is in it after); and that the call returns, since its threads wait for one another."),
+        "1 to 64 texts, a limit of 1 to 1,000,000 and a batch of at least 1 (`requires`); a writer that tells its "
+        "bytes, for of one whose `contents` are `None` nothing is said (`W.contents w.old` is what was in the writer "
+        "before the call, `W.contents w.new` what is in it after); and that the call returns, since its threads wait "
+        "for one another."),
         ["rt_run::runs::run_texts"]),
     Chapter("The same table for every interleaving", (
-        "A run ends in the table of the union of what each text's commands leave by themselves, which is one for the same "
-        "texts and limit, and a command that is about its feed's own routes is answered as if there were no other feed. So "
-        "two runs of the same texts and limit take as much of each text and end in one table, whatever their batches and "
-        "however their threads ran: `same_tallies` says so of their reports, and `ends_in_union` and `end_in_one_table` of the "
-        "bytes and the status of two runs."), (
+        "A run ends in the table of the union of what each text's commands leave by themselves, which is one for the "
+        "same texts and limit, and a command that is about its feed's own routes is answered as if there were no other "
+        "feed. So two runs of the same texts and limit take as much of each text and end in one table, whatever their "
+        "batches and however their threads ran: `same_tallies` says so of their reports, and `ends_in_union` and "
+        "`end_in_one_table` of the bytes and the status of two runs."), (
         "no command was refused for want of memory, in any of the runs: no status is 5."),
-        ["rt_run::laws::leaves_union", "rt_run::laws::answers_alone", "rt_run::laws::same_tallies", "rt_run::laws::one_union",
-         "rt_run::laws::ends_in_union", "rt_run::laws::end_in_one_table"]),
+        ["rt_run::laws::leaves_union", "rt_run::laws::answers_alone", "rt_run::laws::same_tallies",
+         "rt_run::laws::one_union", "rt_run::laws::ends_in_union", "rt_run::laws::end_in_one_table"]),
     Chapter("What the finished table says", (
-        "A look-up writes, for each address in order, those that are named and then those that the lines of a text say, the "
-        "best route of the longest prefix that covers it, in the table that such a run leaves; or every route that covers it, "
-        "the best first, with the step at which it was left behind that one. A list writes those routes of that table that are "
-        "asked for, in its order, or how many these are. All are told in a style, as lines with the feeds' numbers or labels or as JSON objects, whose "
-        "labels `labels_of` makes of the files' paths. By the laws above, where "
-        "no command was refused for want of memory, that table is the union, so that the bytes, the status and the tallies are "
-        "a function of the texts, the limit and what is asked: `shows_union` and `show_one_table` say so of two runs, "
-        "`look_up_once` of two look-ups."), (
+        "A look-up writes, for each address in order, those that are named and then those that the lines of a text "
+        "say, the best route of the longest prefix that covers it, in the table that such a run leaves; or every route "
+        "that covers it, the best first, with the step at which it was left behind that one. A list writes those "
+        "routes of that table that are asked for, in its order, or how many these are. All are told in a style, as "
+        "lines with the feeds' numbers or labels or as JSON objects, whose labels `labels_of` makes of the files' "
+        "paths. By the laws above, where no command was refused for want of memory, that table is the union, so that "
+        "the bytes, the status and the tallies are a function of the texts, the limit and what is asked: `shows_union` "
+        "and `show_one_table` say so of two runs, `look_up_once` of two look-ups."), (
         "those of the first chapter; for the last sentence that no status is 5."),
-        ["rt_run::shown::lookup_texts", "rt_run::shown::table_texts", "rt_run::shown::count_texts", "rt_feed::labels::labels_of",
-         "rt_run::laws::shows_union", "rt_run::laws::show_one_table", "rt_run::laws::look_up_once"]),
+        ["rt_run::shown::lookup_texts", "rt_run::shown::table_texts", "rt_run::shown::count_texts",
+         "rt_feed::labels::labels_of", "rt_run::laws::shows_union", "rt_run::laws::show_one_table",
+         "rt_run::laws::look_up_once"]),
     Chapter("Why a route won and what a change changes", (
-        "A look-up of all writes, for each address in order, every route of that table that covers it, each before those "
-        "that it beats, and with which step it was left behind the first. A comparison runs two sets of texts, each over a table "
-        "of its own, and writes all the ranges of addresses that the two tables answer otherwise: an address lies in one "
-        "exactly where its two answers differ, and has the answers of its line. The feeds of the new table are told by the numbers "
-        "that are asked for, as by those that `numbers_beside` gives: then feeds of one name are one. So where nothing is written, all 2^32 "
-        "addresses are answered alike. Two tables have one list of such ranges (`one_list`). Where no command was refused for "
-        "want of memory, it is the list of both unions, so that two comparisons of the same texts and limits write the same "
-        "bytes, with the same statuses and tallies: `diffs_unions` and `diff_once`."), (
+        "A look-up of all writes, for each address in order, every route of that table that covers it, each before "
+        "those that it beats, and with which step it was left behind the first. A comparison runs two sets of texts, "
+        "each over a table of its own, and writes all the ranges of addresses that the two tables answer otherwise: an "
+        "address lies in one exactly where its two answers differ, and has the answers of its line. The feeds of the "
+        "new table are told by the numbers that are asked for, as by those that `numbers_beside` gives: then feeds of "
+        "one name are one. So where nothing is written, all 2^32 addresses are answered alike. Two tables have one "
+        "list of such ranges (`one_list`). Where no command was refused for want of memory, it is the list of both "
+        "unions, so that two comparisons of the same texts and limits write the same bytes, with the same statuses and "
+        "tallies: `diffs_unions` and `diff_once`."), (
         "those of the first chapter, and for a comparison those of two runs."),
         ["rt_run::shown::lookup_all_texts", "rt_run::compared::diff_texts", "rt_feed::pairing::numbers_beside",
          "rt_diff::laws::one_list", "rt_run::laws::diffs_unions", "rt_run::laws::diff_once"]),
 ])
 
 LOCK = Page("STATEMENT-LOCK.md", "The lock", (
-    "That no two feeds are ever inside, what then holds of the journal and of the lent book, how many remote accesses a "
-    "passage "
-    "makes, and that everybody gets on."), [
+    "That no two feeds are ever inside, what then holds of the journal and of the lent book, how many remote accesses "
+    "a passage makes, and that everybody gets on."), [
     Chapter("The headline", (
         "In every interleaving of any number of atomic steps of the places of a tree, no two are inside; the content "
         "is a lawful journal, which leaves a table; each place's entries in it are those that it made, in order; and "
@@ -96,23 +98,25 @@ LOCK = Page("STATEMENT-LOCK.md", "The lock", (
         "The same of the running table, between any two atomic steps of its threads: no two are inside, and whenever "
         "none is, the lent book lies in its slot, its trie is lawful and holds exactly the routes that its journal "
         "leaves, the journal is lawful, and what each pass away has seen begins it, with no entry of that pass's feed "
-        "behind. That so no two guards exist: who has a guard or a pass has its seat, whose view nobody else can change, and "
-        "the view of a guard's seat says that its place is inside (`enter`), that of a pass's that it is idle (`leave`). The "
-        "lock's rule allows one such view at most (`rule`), and the views go on by the core's steps alone (`steps`)."), (
+        "behind. That so no two guards exist: who has a guard or a pass has its seat, whose view nobody else can "
+        "change, and the view of a guard's seat says that its place is inside (`enter`), that of a pass's that it is "
+        "idle (`leave`). The lock's rule allows one such view at most (`rule`), and the views go on by the core's "
+        "steps alone (`steps`)."), (
         "sequential consistency; `Rule`, which the type of the lock's table keeps at every moment; and that the "
-        "threads share nothing but this table, which no clause can say and `tools/accesses` looks after; that a seat's view "
-        "is what its holder knows between any two steps, which is what `atomic_table` states of its `Seat` and `Table`. That "
-        "a trie's `tree` is what its nodes in memory are, its [view](../crates/rt_trie/src/tries.rt) says."),
-        ["rt_shared::laws::running", "ya_lock::TreeLock::enter.guard", "ya_lock::TreeLock::leave.pass", "ya_lock::laws::rule",
-         "ya_lock::laws::steps"],
+        "threads share nothing but this table, which no clause can say and `tools/accesses` looks after; that a seat's "
+        "view is what its holder knows between any two steps, which is what `atomic_table` states of its `Seat` and "
+        "`Table`. That a trie's `tree` is what its nodes in memory are, its [view](../crates/rt_trie/src/tries.rt) "
+        "says."),
+        ["rt_shared::laws::running", "ya_lock::TreeLock::enter.guard", "ya_lock::TreeLock::leave.pass",
+         "ya_lock::laws::rule", "ya_lock::laws::steps"],
         [("ya_lock/src/rule.rt", "impl<V: Kept> TableRule<Option<V>, View<V>, u32> for LockRule", ["holds"],
           "What ties `running` to the lock: `Rule` is the rule of its table."),
          ("rt_shared/src/lent.rt", "impl Kept for Lent", ["since"],
           "And `GrowsByOthers` is what the lent book's `since` is there.")]),
     Chapter("Real-time order", (
-        "Runs of the core are linearizable: at each time the content begins the content at every later time, and has all "
-        "that was made by then. So what was made by a passage that has ended stands before everything that a passage "
-        "makes that begins later."), (
+        "Runs of the core are linearizable: at each time the content begins the content at every later time, and has "
+        "all that was made by then. So what was made by a passage that has ended stands before everything that a "
+        "passage makes that begins later."), (
         "sequential consistency; a run from the opening world. Of the running table it is said of what each pass has "
         "seen itself (`since`), not of two passes that never told each other anything."),
         ["ya_core::laws::real_time"]),
@@ -132,9 +136,9 @@ LOCK = Page("STATEMENT-LOCK.md", "The lock", (
     Chapter("Freedom from starvation", (
         "In the run of a fair schedule each place on its way in is inside then or later, and each that is inside or on "
         "its way out is idle then or later. A run may end: then none is picked any more."), (
-        "sequential consistency; a first state where the invariant `IsSoundState` holds; a fair schedule, in which each "
-        "place that isn't idle takes a step then or later, one that is inside too, so that who enters leaves. That a "
-        "machine schedules its threads so isn't promised."),
+        "sequential consistency; a first state where the invariant `IsSoundState` holds; a fair schedule, in which "
+        "each place that isn't idle takes a step then or later, one that is inside too, so that who enters leaves. "
+        "That a machine schedules its threads so isn't promised."),
         ["ya_core::laws::starvation_freedom"]),
     Chapter("Overtaking", (
         "From its announcement at a node until it wins that node, a place is overtaken there by the other side at most "
@@ -176,12 +180,12 @@ LEGEND = [
 BRIEF = {
     "Rattle.ya_lock.specs.Rule.Rule":
         "a premise that the type of the lock's table keeps: it holds of the table as it is made, and no step that "
-        "breaks it passes the prover. A stronger one would leave a clause that follows from it fewer moments to speak of; "
-        "but every moment of a table meets it, as it is. Whatever is lent, a moment at which both passes were made meets "
-        "it: `whatever_is_lent` of its examples.",
+        "breaks it passes the prover. A stronger one would leave a clause that follows from it fewer moments to speak "
+        "of; but every moment of a table meets it, as it is. Whatever is lent, a moment at which both passes were made "
+        "meets it: `whatever_is_lent` of its examples.",
     "Rattle.ya_core.specs.Soundness.IsSoundState":
-        "the invariant from which the core's laws are proved. `soundness` says that it holds at the start and that each "
-        "step keeps it, so a law that has it for a premise holds in every run from there, whatever it says.",
+        "the invariant from which the core's laws are proved. `soundness` says that it holds at the start and that "
+        "each step keeps it, so a law that has it for a premise holds in every run from there, whatever it says.",
     "ya_core::schedule.ReplayFault":
         "why a replay of the lock was refused, as no run is: `Leaves` says so.",
 }
@@ -191,15 +195,15 @@ KIT = {
     "All P xs, Any P xs": "P holds of each element; of some element",
     "AllPairs R xs": "R holds of each element and each later one",
     "Appends old new bytes":
-        "the contents were `old` and are `new`, which is `old` and then the bytes; where `old` is `None`, of a writer that "
-        "doesn't tell its bytes, it says nothing",
+        "the contents were `old` and are `new`, which is `old` and then the bytes; where `old` is `None`, of a writer "
+        "that doesn't tell its bytes, it says nothing",
     "Contains xs x": "x is an element of xs",
     "IfSome o P, IfOk r P": "P holds of the value, if there is one",
     "IsNumeral radix text": "one digit or more, and nothing else",
     "IsSome o, IsTrue b": "it is a `Some`; it is `true`",
     "State":
-        "a table of words and slots as plain data: `words`, what its words hold, in order; `homes`, for each slot `some` of "
-        "what lies in it, and `none` while a seat has taken it; `views`, what each seat knows",
+        "a table of words and slots as plain data: `words`, what its words hold, in order; `homes`, for each slot "
+        "`some` of what lies in it, and `none` while a seat has taken it; `views`, what each seat knows",
     "TableId": "which table it is: no two have the same",
     "bytes_eq xs ys": "whether the two texts are equal",
     "codes \"..\"": "the bytes of a text",
@@ -247,7 +251,8 @@ class Tie:
         lines = self.file.read_text().split("\n")
         start = lines.index(head + " {")
         end = lines.index("}", start)
-        kept = [line for line in lines[start:end] if line.strip().startswith(tuple(f"ghost {name} =" for name in members))]
+        kept = [line
+                for line in lines[start:end] if line.strip().startswith(tuple(f"ghost {name} =" for name in members))]
         self.line, self.lines = start + 1, [lines[start], *kept, "}"]
         self.comment = []
 
@@ -284,7 +289,8 @@ class Clause:
 
     def rests_on(self):
         ghosts = imports(source(self.file).text)
-        terms = "\n".join(re.sub(r"^\s*(requires|ensures)\*?( \w+)? \{", "{", "\n".join(clause)) for clause in self.clauses)
+        terms = "\n".join(re.sub(r"^\s*(requires|ensures)\*?( \w+)? \{", "{", "\n".join(clause))
+                          for clause in self.clauses)
         found = list(words_of(terms, {}, ghosts))
         head = "\n".join(self.head)
         rust = re.findall(r"[A-Z]\w*", head) + [self.owner] * bool(re.search(r"\bself\b", head))
@@ -303,8 +309,8 @@ def public_function(crate, owner, name):
 
 
 def in_order(speakers, known, brief=()):
-    """What clauses, ties and definitions rest on, each below all that speak of it, but for what is known; and the library's
-    words. What is brief is shown by its first line alone, so what it rests on doesn't count."""
+    """What clauses, ties and definitions rest on, each below all that speak of it, but for what is known; and the
+    library's words. What is brief is shown by its first line alone, so what it rests on doesn't count."""
     order, library, visited = [], {}, set()
 
     def visit(definition):
@@ -584,9 +590,8 @@ def libraries_page(written):
         sys.exit("tools/statement: on no page: " + ", ".join(missing))
     head = [f"# {LIBRARIES.title}", "", *wrapped(LIBRARIES.said), "", *wrapped(
         f"These are {written.definitions} definitions and types of {written.lines} lines, comments not counted, beside "
-        f"those of [{RUN.title}]({LIBRARIES.link(RUN)}) and [{LOCK.title}]({LIBRARIES.link(LOCK)}), where a legend says how "
-        "to read them. "
-        "`tools/statement --write` writes this page out of the sources."), "",
+        f"those of [{RUN.title}]({LIBRARIES.link(RUN)}) and [{LOCK.title}]({LIBRARIES.link(LOCK)}), where a legend says "
+        "how to read them. `tools/statement --write` writes this page out of the sources."), "",
         "| Library | New definitions | Their lines |", "|---|---|---|", *table, ""]
     used = folded("Names that the examples use", named_in_examples(set(written.home) - before)[:-1])
     return page_text(head + body + used)

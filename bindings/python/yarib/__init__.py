@@ -8,20 +8,22 @@
         table.look_up("10.1.2.3")                       # the route to 10.1.0.0/16
         table.look_up("192.0.2.1")                      # None
 
-A prefix is a text ("10.0.0.0/8"), an ipaddress.IPv4Network or a pair (base, length) of numbers; an address is a text, an
-ipaddress.IPv4Address or a number. Feeds are 1 to 64; the least preference number is preferred, and of equal ones the least
-feed. A number, a text or a prefix that isn't one is a ValueError, want of memory a MemoryError; after either all is as it was.
+A prefix is a text ("10.0.0.0/8"), an ipaddress.IPv4Network or a pair (base, length) of numbers; an address is a text,
+an ipaddress.IPv4Address or a number. Feeds are 1 to 64; the least preference number is preferred, and of equal ones the
+least feed. A number, a text or a prefix that isn't one is a ValueError, want of memory a MemoryError; after either all
+is as it was.
 
-A Table may be used by several threads: each call holds Python's lock, so it is one at a time. A Forwarding is asked by threads
-at the same time: each thread has a handle of its own on it, and a look-up of many lets other threads run.
+A Table may be used by several threads: each call holds Python's lock, so it is one at a time. A Forwarding is asked by
+threads at the same time: each thread has a handle of its own on it, and a look-up of many lets other threads run.
 """
 from ._library import STATUS, VERSION
 from ._tables import (
-    Answers, Difference, Entry, Exists, Forwarding, Full, Missing, Outcome, Refused, Route, Table, prefix_of, address_of,
+    Answers, Difference, Entry, Exists, Forwarding, Full, Missing, Outcome, Refused, Route, Table,
+    prefix_of, address_of,
 )
 
 __version__ = VERSION
 __all__ = [
-    "Answers", "Difference", "Entry", "Exists", "Forwarding", "Full", "Missing", "Outcome", "Refused", "Route", "STATUS", "Table",
-    "address_of", "prefix_of",
+    "Answers", "Difference", "Entry", "Exists", "Forwarding", "Full", "Missing", "Outcome", "Refused", "Route",
+    "STATUS", "Table", "address_of", "prefix_of",
 ]

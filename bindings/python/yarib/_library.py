@@ -8,20 +8,21 @@ VERSION = "0.1"
 NAME = "libyarib.so.0"
 
 # Of the header: what a call returns, by its number.
-STATUS = ("done", "nothing", "bad number", "bad command", "no memory", "bad size", "none left", "bad text", "bad length",
-          "bad bits", "wrong kind")
+STATUS = ("done", "nothing", "bad number", "bad command", "no memory", "bad size", "none left", "bad text",
+          "bad length", "bad bits", "wrong kind")
 (DONE, NOTHING, BAD_NUMBER, BAD_COMMAND, NO_MEMORY, BAD_SIZE, NONE_LEFT, BAD_TEXT, BAD_LENGTH, BAD_BITS,
  WRONG_KIND) = range(len(STATUS))
 ADD, REPLACE, WITHDRAW, LOOKUP, DUMP, PURGE = range(1, 7)
 ALL, WITHIN, COVERING, EXACT = range(4)
 NO_ROUTE, VIA, DISCARD = range(3)
 (UNANSWERED, ADDED, EXISTS, FULL, REPLACED, WITHDRAWN, MISSING, FOUND, NOT_FOUND, DUMPED, PURGED) = range(11)
-CODES = ("unanswered", "added", "exists", "full", "replaced", "withdrawn", "missing", "found", "no route", "dumped", "purged")
+CODES = ("unanswered", "added", "exists", "full", "replaced", "withdrawn", "missing", "found", "no route",
+         "dumped", "purged")
 
 
 class RawRoute(ctypes.Structure):
-    _fields_ = [("base", ctypes.c_uint32), ("pref", ctypes.c_uint32), ("via", ctypes.c_uint32), ("feed", ctypes.c_uint32),
-                ("len", ctypes.c_uint8), ("hop", ctypes.c_uint8)]
+    _fields_ = [("base", ctypes.c_uint32), ("pref", ctypes.c_uint32), ("via", ctypes.c_uint32),
+                ("feed", ctypes.c_uint32), ("len", ctypes.c_uint8), ("hop", ctypes.c_uint8)]
 
 
 class RawCommand(ctypes.Structure):
@@ -38,8 +39,8 @@ class RawEntry(ctypes.Structure):
 
 
 class RawSelection(ctypes.Structure):
-    _fields_ = [("part", ctypes.c_uint32), ("feed", ctypes.c_uint32), ("base", ctypes.c_uint32), ("len", ctypes.c_uint8),
-                ("only_best", ctypes.c_uint8)]
+    _fields_ = [("part", ctypes.c_uint32), ("feed", ctypes.c_uint32), ("base", ctypes.c_uint32),
+                ("len", ctypes.c_uint8), ("only_best", ctypes.c_uint8)]
 
 
 class RawPrefix(ctypes.Structure):
@@ -93,8 +94,8 @@ def load(kind):
     return library
 
 
-# `held` keeps Python's lock, so that no two threads are inside one handle; `freed` lets other threads run, and is for handles
-# that one thread alone has.
+# `held` keeps Python's lock, so that no two threads are inside one handle; `freed` lets other threads run, and is for
+# handles that one thread alone has.
 held, freed = load(ctypes.PyDLL), load(ctypes.CDLL)
 
 

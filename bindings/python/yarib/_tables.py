@@ -46,8 +46,8 @@ class Route(NamedTuple):
 
 
 class Difference(NamedTuple):
-    """Addresses that two tables answer otherwise, from first to last. By next hop an answer is an address, None where packets
-    are discarded, or False where there is no route; by route it is a Route or None."""
+    """Addresses that two tables answer otherwise, from first to last. By next hop an answer is an address, None where
+    packets are discarded, or False where there is no route; by route it is a Route or None."""
     first: int
     last: int
     before: object
@@ -55,8 +55,8 @@ class Difference(NamedTuple):
 
 
 class Outcome(NamedTuple):
-    """What became of a command: "added", "exists", "full", "replaced", "withdrawn", "missing", "found", "no route", "dumped",
-    "purged", or "unanswered" with the status that says why."""
+    """What became of a command: "added", "exists", "full", "replaced", "withdrawn", "missing", "found", "no route",
+    "dumped", "purged", or "unanswered" with the status that says why."""
     said: str
     count: int
     route: Optional[Route]
@@ -114,7 +114,8 @@ def outcome_of(raw):
     return Outcome(c.CODES[raw.code], raw.count, route_of(raw.route), None)
 
 
-OPERATIONS = {"add": c.ADD, "replace": c.REPLACE, "withdraw": c.WITHDRAW, "lookup": c.LOOKUP, "dump": c.DUMP, "purge": c.PURGE}
+OPERATIONS = {"add": c.ADD, "replace": c.REPLACE, "withdraw": c.WITHDRAW, "lookup": c.LOOKUP, "dump": c.DUMP,
+              "purge": c.PURGE}
 NAMES = {number: name for name, number in OPERATIONS.items()}
 
 
@@ -151,8 +152,8 @@ def words_of(raw):
 
 
 class Answers:
-    """The answers to many look-ups, one after another: a Route or None each. They lie in one block of memory, 20 bytes each,
-    which `memory` and `numpy.frombuffer(answers.memory(), answers.dtype)` read without a copy."""
+    """The answers to many look-ups, one after another: a Route or None each. They lie in one block of memory, 20 bytes
+    each, which `memory` and `numpy.frombuffer(answers.memory(), answers.dtype)` read without a copy."""
 
     dtype = {"names": ["base", "pref", "via", "feed", "len", "hop"], "formats": ["u4", "u4", "u4", "u4", "u1", "u1"],
              "offsets": [0, 4, 8, 12, 16, 17], "itemsize": ctypes.sizeof(c.RawRoute)}
@@ -234,16 +235,16 @@ class Handle:
 
 
 class Table(Handle):
-    """A routing table in which each feed may have `limit` routes, 1 to 1,000,000. With `journal` it keeps each command that it
-    answered, 56 bytes each, for good."""
+    """A routing table in which each feed may have `limit` routes, 1 to 1,000,000. With `journal` it keeps each command
+    that it answered, 56 bytes each, for good."""
 
     def __init__(self, limit=1_000_000, journal=False):
         super().__init__()
         check(held.yarib_new(self._at, number(limit, "a limit"), int(bool(journal))))
 
     def apply(self, feed, name, *words):
-        """What a command of the feed is answered: add or replace with prefix, preference and via, withdraw with prefix, lookup
-        with address, dump and purge."""
+        """What a command of the feed is answered: add or replace with prefix, preference and via, withdraw with prefix,
+        lookup with address, dump and purge."""
         raw, reply = command_of(feed, name, *words), c.RawReply()
         check(held.yarib_apply(self._at, ctypes.byref(raw), ctypes.byref(reply)))
         return outcome_of(reply)
@@ -310,8 +311,8 @@ class Table(Handle):
         return total.value
 
     def routes(self, feed=None, best=False):
-        """The routes by base, length, preference and feed: all, or a feed's, or with `best` the best of each prefix (of a feed
-        then those of them that are the feed's)."""
+        """The routes by base, length, preference and feed: all, or a feed's, or with `best` the best of each prefix (of
+        a feed then those of them that are the feed's)."""
         if feed is not None or best:
             return self._select(c.ALL, (0, 0), feed, best)
         found = self._pages(c.RawRoute, len(self) + 1, lambda *place: held.yarib_routes(self._at, *place))
@@ -338,9 +339,9 @@ class Table(Handle):
         return [route_of(raw) for raw in found]
 
     def routes_from(self, prefix, pref=0, feed=0):
-        """An iterator over the routes, as `routes` has them, from the place of this prefix, preference and feed on: no route to the
-        prefix stands before preference and feed 0. It takes memory for a page of them alone. The table may change meanwhile: a
-        route is told, or not, by what is there when its turn comes, and none twice."""
+        """An iterator over the routes, as `routes` has them, from the place of this prefix, preference and feed on: no
+        route to the prefix stands before preference and feed 0. It takes memory for a page of them alone. The table may
+        change meanwhile: a route is told, or not, by what is there when its turn comes, and none twice."""
         base, length = prefix_of(prefix)
         return self._pages_from(c.RawRoute(base, number(pref, "a preference"), 0, number(feed, "a feed"), length))
 
@@ -389,9 +390,9 @@ class Table(Handle):
         return Forwarding(self)
 
     def follow(self):
-        """Makes a forwarding table beside this one, 64 MiB and more, if there is none yet: it follows each command from then on,
-        and look-ups go by it. Where a command finds no memory for it, it goes until this is called again. A table with a journal
-        refuses."""
+        """Makes a forwarding table beside this one, 64 MiB and more, if there is none yet: it follows each command from
+        then on, and look-ups go by it. Where a command finds no memory for it, it goes until this is called again. A
+        table with a journal refuses."""
         check(held.yarib_follow(self._at))
 
     def memory(self):
@@ -404,8 +405,8 @@ def hop_of(raw):
 
 
 class Forwarding:
-    """What a table answered each address when this was made: 64 MiB and more, for look-ups that read memory two or three times.
-    Threads ask it at the same time."""
+    """What a table answered each address when this was made: 64 MiB and more, for look-ups that read memory two or
+    three times. Threads ask it at the same time."""
 
     def __init__(self, table):
         self._first = Handle()
