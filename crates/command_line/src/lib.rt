@@ -322,7 +322,11 @@ enum Parameter {
 impl Parameter {
     fn arg<'a>(&self, alloc: Global) -> Arg<'a> {
         match self {
-            Parameter::All => all(alloc),
+            Parameter::All => flag(
+                alloc,
+                "all",
+                "Print every route that covers an address, the best first",
+            ),
             Parameter::Address => address(alloc),
             Parameter::Addresses => addresses(alloc),
             Parameter::Within => part(
@@ -337,11 +341,19 @@ impl Parameter {
             ),
             Parameter::Exact => part(alloc, "exact", "Print only the routes to this prefix"),
             Parameter::Feed => feed(alloc),
-            Parameter::Best => best(alloc),
-            Parameter::Count => count(alloc),
+            Parameter::Best => flag(alloc, "best", "Print only the best route of each prefix"),
+            Parameter::Count => flag(
+                alloc,
+                "count",
+                "Print how many routes there are, of each feed and each length",
+            ),
             Parameter::By => by(alloc),
-            Parameter::Names => names(alloc),
-            Parameter::Json => json(alloc),
+            Parameter::Names => flag(
+                alloc,
+                "names",
+                "Tell feeds by name, a file's without folder and .feed, not by number",
+            ),
+            Parameter::Json => flag(alloc, "json", "Print JSON objects, one a line"),
             Parameter::Limit => limit(alloc),
             Parameter::Batch(unless_given) => batch(alloc, unless_given),
             Parameter::Files => files(alloc),
@@ -370,11 +382,6 @@ fn bare_program<'a>(alloc: Global) -> Command<'a> {
         .arg_required_else_help(true)
 }
 
-fn all<'a>(alloc: Global) -> Arg<'a> {
-    let help = "Print every route that covers an address, the best first";
-    option(alloc, "all", help).action(ArgAction::SetTrue)
-}
-
 fn address<'a>(alloc: Global) -> Arg<'a> {
     option(
         alloc,
@@ -390,6 +397,11 @@ fn addresses<'a>(alloc: Global) -> Arg<'a> {
     option(alloc, "addresses", help).value_name("FILE")
 }
 
+/// An option that takes nothing.
+fn flag<'a>(alloc: Global, name: &'a str, help: &'a str) -> Arg<'a> {
+    option(alloc, name, help).action(ArgAction::SetTrue)
+}
+
 /// An option that takes a prefix.
 fn part<'a>(alloc: Global, name: &'a str, help: &'a str) -> Arg<'a> {
     option(alloc, name, help).value_name("PREFIX")
@@ -398,26 +410,6 @@ fn part<'a>(alloc: Global, name: &'a str, help: &'a str) -> Arg<'a> {
 fn feed<'a>(alloc: Global) -> Arg<'a> {
     let help = "Print only the routes of feed F, the F-th file";
     number(alloc, "feed", "F", 1, MOST_FILES as u64, help)
-}
-
-fn best<'a>(alloc: Global) -> Arg<'a> {
-    let help = "Print only the best route of each prefix";
-    option(alloc, "best", help).action(ArgAction::SetTrue)
-}
-
-fn count<'a>(alloc: Global) -> Arg<'a> {
-    let help = "Print how many routes there are, of each feed and each length";
-    option(alloc, "count", help).action(ArgAction::SetTrue)
-}
-
-fn names<'a>(alloc: Global) -> Arg<'a> {
-    let help = "Tell feeds by name, a file's without folder and .feed, not by number";
-    option(alloc, "names", help).action(ArgAction::SetTrue)
-}
-
-fn json<'a>(alloc: Global) -> Arg<'a> {
-    let help = "Print JSON objects, one a line";
-    option(alloc, "json", help).action(ArgAction::SetTrue)
 }
 
 fn by<'a>(alloc: Global) -> Arg<'a> {
