@@ -575,15 +575,12 @@ def cut(number, length):
     return number >> 32 - length << 32 - length
 
 
-# Fails where `--addresses -` is taken for an empty text: `- is no standard input of addresses`.
-# Fails where `--addresses` is taken twice: `--addresses twice`.
-# Fails where the text of addresses is read before the feed files: `a feed file is named before the text of addresses`.
 # Fails where nothing is told of the feed files beside a faulty address: `faults of all files`.
 # Fails where a faulty address leaves status 0: `faulty addresses`.
 def not_taken(yarib):
     """What standard error tells of each file, and the status."""
-    pathlib.Path("three.feed").write_text(ROW
-                                          + "frob\nadd 11.0.0.0/8 1 192.0.2.1\nadd 12.0.0.0/8 1 192.0.2.1\nlookup 1\n")
+    more = "frob\nadd 11.0.0.0/8 1 192.0.2.1\nadd 12.0.0.0/8 1 192.0.2.1\nlookup 1\n"
+    pathlib.Path("three.feed").write_text(ROW + more)
     pathlib.Path("asked.txt").write_text("10.0.0.1\n" + "#" * 129 + "\nx\n10.0.0.2\n")
     answer = "10.0.0.1 route " + route(1)
     faulty = f"yarib: three.feed: faulty lines: 2, the first is line 2: {E1}\n"
@@ -598,6 +595,13 @@ def not_taken(yarib):
     both = answer + "10.0.0.2" + answer[8:]
     expect("faulty addresses", yarib("lookup", *by_file, "row.feed"), (2, both, asked))
     expect("faults of all files", yarib("lookup", *one, *by_file, "three.feed"), (2, both, asked + faulty + over))
+
+
+# Fails where `--addresses -` is taken for an empty text: `- is no standard input of addresses`.
+# Fails where `--addresses` is taken twice: `--addresses twice`.
+# Fails where the text of addresses is read before the feed files: `a feed file is named before the text of addresses`.
+def not_asked(yarib):
+    """Look-ups and lists whose words or files are none."""
     for word in ("10.0.0.256", "", "10.0.0.1/32", "10.0.0.01", " 10.0.0.1", "x"):
         ended = yarib("lookup", "--address", "10.0.0.1", f"--address={word}", "missing")
         expect(f"the address {word!r}", ended, (3, "", f"yarib: not an address: {word}\n"))
@@ -619,9 +623,10 @@ def not_taken(yarib):
     ended = yarib("lookup", "--addresses", "-", "row.feed", input=b"10.0.0.1\n")
     expect("- is no standard input of addresses", ended, (4, "", "yarib: cannot read -\n"))
     pathlib.Path("-").write_text("10.0.0.1\n")
-    expect("- is a file of addresses", yarib("lookup", "--addresses", "-", "row.feed"), (0, answer, ""))
+    ended = yarib("lookup", "--addresses", "-", "row.feed")
+    expect("- is a file of addresses", ended, (0, "10.0.0.1 route " + route(1), ""))
+    misused("--addresses twice", yarib("lookup", *["--addresses", "-"] * 2, "row.feed"), "--addresses")
     os.remove("-")
-    misused("--addresses twice", yarib("lookup", *by_file, *by_file, "row.feed"), "--addresses")
     misused("--all of a table", yarib("table", "--all", "row.feed"), "--all")
     misused("--all twice", yarib("lookup", "--all", "--all", "--address", "10.0.0.1", "row.feed"), "--all")
     misused("--best of a look-up", yarib("lookup", "--best", "--address", "10.0.0.1", "row.feed"), "--best")
@@ -1012,7 +1017,7 @@ def progress_of_long_runs(yarib):
 CASES = (
     runs, what_the_table_says, what_two_tables_answer_otherwise, file_order, many_files, unreadable, names,
     texts, limits, batches, twice, replays, finished_tables, parts_of_tables, counted_tables, compared_tables,
-    compared_as_json, compared_by_name, old_first, not_taken, files_told, addresses_told, pages,
+    compared_as_json, compared_by_name, old_first, not_taken, not_asked, files_told, addresses_told, pages,
     examples_of_the_help, help_is_true, closed_outputs, progress, line_each_second, progress_of_long_runs,
 )
 

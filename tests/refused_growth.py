@@ -69,57 +69,67 @@ def asked_in(lines):
     return [line for line in asked if not line.startswith(("journal", "table"))]
 
 
-def check_table(lines, ample, kinds):
-    """The commands of several feeds over one table, whose journal has those that were answered."""
-    table, journal, told = Table(2), [], []
-    agree(asked_in(lines), [] if lines == ["table refused"] * 2 else asked_in(ample), "what was asked")
+class Asked:
+    """What feeds asked of one table, by the lines that tell of it: the table, the journal that it has to have, and the
+    outcomes that were told with the last batch."""
 
-    def answered(feed, command, reply):
-        agree(reply_of(reply), table.apply(feed, words_of(command)), command)
-        journal.append((feed, command, reply))
+    def __init__(self, kinds):
+        self.table, self.journal, self.told, self.kinds = Table(2), [], [], kinds
 
-    lines = collections.deque(lines)
-    while lines and lines[0] == "table refused":
-        lines.popleft()
-        kinds.add("SharedRib::new")
-    while lines:
-        line = lines.popleft()
-        if one := re.fullmatch(r"feed (\d+) (.*) Ok\((.*)\)", line):
-            answered(int(one[1]), one[2], one[3])
-        elif one := re.fullmatch(r"feed \d+ (\w+).* Err\(Refused\)", line):
-            kinds.add("SharedRib::apply " + one[1])
-        elif one := re.fullmatch(r"batch of feed (\d+) Err\(Refused\) \[(.*)\]", line):
-            agree(outcomes_of(one[2]), told, "what was told before a batch was refused")
-            kinds.add("SharedRib::apply_batch")
-        elif one := re.fullmatch(r"batch of feed (\d+) Ok\(\(\)\) \[(.*)\]", line):
-            outcomes = outcomes_of(one[2])
-            agree(outcomes[: len(told)], told, "what was told before a batch")
-            new = outcomes[len(told) :]
-            agree(len(new), 3, "the outcomes of a batch")
-            for command, outcome in zip(BATCH, new):
-                if outcome == "Refused":
-                    kinds.add("a command of a batch")
-                else:
-                    answered(int(one[1]), command, outcome[4:-1])
-            told = outcomes
-        elif line.startswith("routes"):
-            if line == "routes refused":
-                kinds.add("SharedRib::routes")
+    def answered(self, feed, command, reply):
+        agree(reply_of(reply), self.table.apply(feed, words_of(command)), command)
+        self.journal.append((feed, command, reply))
+
+    def read_batch(self, feed, outcomes):
+        """The outcomes of a batch, behind those that were told before."""
+        agree(outcomes[: len(self.told)], self.told, "what was told before a batch")
+        new = outcomes[len(self.told) :]
+        agree(len(new), 3, "the outcomes of a batch")
+        for command, outcome in zip(BATCH, new):
+            if outcome == "Refused":
+                self.kinds.add("a command of a batch")
             else:
-                agree(routes_of(line), table.listed(), "the routes")
-        elif line == "room Err(Refused)":
-            kinds.add("Book::reserve")
+                self.answered(feed, command, outcome[4:-1])
+        self.told = outcomes
+
+    def read(self, line):
+        if one := re.fullmatch(r"feed (\d+) (.*) Ok\((.*)\)", line):
+            self.answered(int(one[1]), one[2], one[3])
+        elif one := re.fullmatch(r"feed \d+ (\w+).* Err\(Refused\)", line):
+            self.kinds.add("SharedRib::apply " + one[1])
+        elif one := re.fullmatch(r"batch of feed (\d+) Err\(Refused\) \[(.*)\]", line):
+            agree(outcomes_of(one[2]), self.told, "what was told before a batch was refused")
+            self.kinds.add("SharedRib::apply_batch")
+        elif one := re.fullmatch(r"batch of feed (\d+) Ok\(\(\)\) \[(.*)\]", line):
+            self.read_batch(int(one[1]), outcomes_of(one[2]))
+        elif line in REFUSED:
+            self.kinds.add(REFUSED[line])
         elif line.startswith("room"):
             agree(line, "room Ok(())", "the room")
         elif line.startswith("journal"):
-            feed, command, reply = journal.pop(0) if journal else (0, "nothing", "")
+            feed, command, reply = self.journal.pop(0) if self.journal else (0, "nothing", "")
             agree(line, f"journal feed {feed} {command} {reply}", "the journal")
-        elif line == "left refused":
-            kinds.add("Book::routes")
+        elif line.startswith("routes"):
+            agree(routes_of(line), self.table.listed(), "the routes")
         else:
             agree(line[:4], "left", "the last line")
-            agree(routes_of(line), table.listed(), "what is left")
-    agree(journal, [], "entries that the journal has not")
+            agree(routes_of(line), self.table.listed(), "what is left")
+
+
+# What is refused where a line says no more.
+REFUSED = {"routes refused": "SharedRib::routes", "room Err(Refused)": "Book::reserve", "left refused": "Book::routes"}
+
+
+def check_table(lines, ample, kinds):
+    """The commands of several feeds over one table, whose journal has those that were answered."""
+    agree(asked_in(lines), [] if lines == ["table refused"] * 2 else asked_in(ample), "what was asked")
+    asked, lines = Asked(kinds), collections.deque(lines)
+    while lines and lines[0] == "table refused":
+        lines.popleft()
+        kinds.add("SharedRib::new")
+    for line in lines:
+        asked.read(line)
+    agree(asked.journal, [], "entries that the journal has not")
 
 
 BATCH = [
