@@ -3,9 +3,11 @@ ghost use Rattle.std.specs.Prelude.{◌≡◌, ◌≢◌, ◌↔◌, ℕ, max, n
 ghost use Rattle.rt_rib.specs.declared.routes.Route.{Route};
 ghost use Rattle.rt_rib.specs.Book.{table_of};
 ghost use Rattle.rt_feed.specs.Styles.{StyleContents};
+ghost use Rattle.rt_cidr.specs.declared.address.Addr.{Addr};
 ghost use Rattle.rt_run.specs.AskedRun.{AskedRun};
 ghost use Rattle.rt_run.specs.RunText.{Leaves, status_where};
 ghost use Rattle.rt_run.specs.TableText.{answers_text, all_answers_text, routes_text, counts_text, IsShown, IsLookup};
+ghost use Rattle.rt_run.specs.inside.AskedAddresses.{IsAsked};
 ghost use Rattle.rt_run.specs.inside.RunResults.{RunOverBook};
 ghost use Rattle.rt_run.specs.inside.Outputs.{IsOutput, matches_text, output_text};
 
@@ -135,8 +137,7 @@ fn tell_answers<W: Write>(
     let all = read.addresses.as_slice();
     let fib = fib_for(alloc, &run.book, all.len());
     let answers = Output::Answers(style, &run.book, &fib, all);
-    let taken = tell_run(alloc, run, answers, w)?;
-    Ok(lookup_summary(taken, read.faulty))
+    tell_lookup(alloc, run, answers, read.faulty, w)
 }
 
 /// Writes for each address all routes of a run's table that cover it, and tells how much of the texts was taken.
@@ -154,8 +155,28 @@ fn tell_all_answers<W: Write>(
     let read = read_asked(alloc, addresses)?;
     let all = read.addresses.as_slice();
     let matches = matches_of(alloc, &run.book, all)?;
-    let taken = tell_run(alloc, run, Output::Matches(style, matches.as_slice()), w)?;
-    Ok(lookup_summary(taken, read.faulty))
+    let shown = Output::Matches(style, matches.as_slice());
+    tell_lookup(alloc, run, shown, read.faulty, w)
+}
+
+/// Writes what tells of a run's table for the addresses that were asked, of whose text these lines are faulty, and tells how
+/// much of the texts was taken.
+fn tell_lookup<W: Write>(
+    alloc: Global,
+    run: &FinishedRun,
+    output: Output<'_>,
+    faulty: FaultyLines,
+    w: &mut W,
+) -> Result<LookupSummary, AppFault>
+    requires { IsOutput output }
+    ensures text { (asked : AskedRun) (named addresses : List Addr) (said : List ℕ) (text_of : List Addr → List Route → List ℕ)
+        → RunOverBook asked run.now.reports.items run.now.book → IsAsked named said addresses faulty
+        → output_text output.entry ≡ text_of addresses (table_of run.now.book)
+        → Leaves (IsLookup asked named said text_of) (W.contents w.old) (W.contents w.new) result }
+    ensures ran { result ≢ Err (AppFault.Run RunFault.NoText) }
+{
+    let taken = tell_run(alloc, run, output, w)?;
+    Ok(lookup_summary(taken, faulty))
 }
 
 /// What look-ups come to, by the run and the faulty lines of the text of addresses.

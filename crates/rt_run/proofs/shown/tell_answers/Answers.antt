@@ -1,25 +1,10 @@
 use Rattle.std.proofs.Common.{ap}
-use Rattle.std.proofs.lemmas.Result.{err_from_is_err_and}
 use Rattle.rt_rib.specs.Book.{table_of}
 use Rattle.rt_run.specs.TableText.{answers_text}
-use Rattle.rt_run.proofs.Outputs.{leaves_lookup, leaves_lookup_fault}
 use Rattle.rt_run.proofs.shown.tell_answers.Goals as goal
 
 pub returns-clause-text : goal.returns-clause-text
 returns-clause-text g c asked ran =
     let asks = c.args.addresses.now in
-    let addresses = c.in_ok-read.read.addresses.items in
-    let told = c.in_ok-taken.ensures.text asked (answers_text c.args.style.now addresses) ran
-    (ap (λ these. answers_text c.args.style.now these (table_of c.args.run.now.book)) c.as_slice-all.ensures.value) in
-    rw c.lookup_summary.ensures
-    (leaves_lookup asked asks.named.now asks.text.now (answers_text c.args.style.now) addresses c.in_ok-read.read.faulty (c.in_ok-read.ensures {u = tt}) _ _ c.in_ok-taken.taken told)
-
-pub returns-in_err-taken-clause-text : goal.returns-in_err-taken-clause-text
-returns-in_err-taken-clause-text g c asked ran =
-    let asks = c.args.addresses.now in
-    let addresses = c.in_ok-read.read.addresses.items in
-    let told = c.in_err-taken.ensures.text asked (answers_text c.args.style.now addresses) ran
-    (ap (λ these. answers_text c.args.style.now these (table_of c.args.run.now.book)) c.as_slice-all.ensures.value) in
-    let fault = err_from_is_err_and c.from_residual-in_err-taken.result c.from_residual-in_err-taken.ensures.1 in
-    rw (fault.1, fault.2)
-    (leaves_lookup_fault asked asks.named.now asks.text.now (answers_text c.args.style.now) addresses c.in_ok-read.read.faulty (c.in_ok-read.ensures {u = tt}) _ _ _ told)
+    c.tell_lookup.ensures.text asked asks.named.now c.in_ok-read.read.addresses.items asks.text.now (answers_text c.args.style.now) ran (c.in_ok-read.ensures {u = tt})
+    (ap (λ these. answers_text c.args.style.now these (table_of c.args.run.now.book)) c.as_slice-all.ensures.value)
