@@ -1,9 +1,9 @@
 -- How long the parts of what is counted are at most, and what is told of each number.
-use Rattle.std.proofs.Common.{◌≡◌, ◌==◌, ℕ, zero, suc, ◌+◌, ◌<◌, ◌≤◌, inl, inr, false, List, [], ◌++◌, length, codes, decimal, refl, arith, rules, length-append, subst, add-one, Option}
+use Rattle.std.proofs.Common.{◌≡◌, ◌==◌, ℕ, zero, suc, ◌+◌, ◌<◌, ◌≤◌, inl, inr, false, List, [], ◌++◌, length, codes, decimal, refl, arith, rules, length-append, subst, add-one, Option, Result, Err}
 use Rattle.std.specs.Prelude.{◌≢◌}
 use Rattle.std.proofs.lemmas.Bool.{cases_lt}
 use Rattle.std.specs.Io.KnownBytes.{Appends}
-use Rattle.rt_cidr.specs.Output.{AppendsBeginning}
+use Rattle.rt_cidr.specs.Output.{AppendsBeginning, WritesText}
 use Rattle.rt_cidr.proofs.Promised.{length-decimal, appends_after, begins_after, begins_longer}
 use Rattle.rt_feed.specs.declared.styles.Form.{Form}
 use Rattle.rt_feed.specs.declared.styles.Form.TheVariants.{Numbers, Labels, Json}
@@ -66,8 +66,7 @@ pub each_next : (a b c : Option (List ℕ)) (tell : ℕ → List ℕ) (n : ℕ) 
     → Appends a c (each_below tell (n + 1))
 each_next a b c tell n first second = rw (add-one n) (appends_after a b c (each_below tell n) (tell n) first second)
 
--- a fault within what is told of a number is one within what is told of all below a greater one
-pub each_begins : (a b c : Option (List ℕ)) (tell : ℕ → List ℕ) (n bound : ℕ) → n < bound → Appends a b (each_below tell n)
+each_begins : (a b c : Option (List ℕ)) (tell : ℕ → List ℕ) (n bound : ℕ) → n < bound → Appends a b (each_below tell n)
     → AppendsBeginning b c (tell n) → AppendsBeginning a c (each_below tell bound)
 each_begins a b c tell n zero below first second = absurd (omega (arith, below))
 each_begins a b c tell n (suc bound) below first second = elim (cases_lt n bound) [
@@ -76,3 +75,9 @@ each_begins a b c tell n (suc bound) below first second = elim (cases_lt n bound
       let same : n ≡ bound = omega (arith, below, there) in
       subst (λ (m : ℕ). AppendsBeginning a c (each_below tell m ++ tell m)) same (begins_after a b c (each_below tell n) (tell n) first second)
 ]
+
+-- a fault within what is told of a number is one within what is told of all below a greater one
+pub each_stops : {T E : Type 0} (a b c : Option (List ℕ)) (tell : ℕ → List ℕ) (n bound : ℕ) (result : Result T E) (fault : E) → result ≡ Err fault → n < bound
+    → Appends a b (each_below tell n) → AppendsBeginning b c (tell n) → WritesText a c (each_below tell bound) result
+each_stops a b c tell n bound result fault failed below first second =
+    rw failed (record { ok = tt; err = each_begins a b c tell n bound below first second })

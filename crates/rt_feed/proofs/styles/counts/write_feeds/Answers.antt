@@ -4,17 +4,15 @@ use Rattle.std.specs.Io.KnownBytes.{Appends}
 use Rattle.rt_rib.specs.Table.{count_of}
 use Rattle.rt_feed.specs.Counts.{count_as, feed_as, each_below}
 use Rattle.rt_feed.specs.Styles.{label_of}
-use Rattle.rt_feed.proofs.CountParts.{each_next, each_begins}
+use Rattle.rt_feed.proofs.CountParts.{each_next, each_stops}
 use Rattle.rt_feed.proofs.styles.counts.write_feeds.Goals as goal
 
 pub returns-in_err-put_feed : goal.returns-in_err-put_feed
 returns-in_err-put_feed g c =
     let fault = err_from_is_err_and c.from_residual.result c.from_residual.ensures.1 in
     let begun = rw c.count_of.ensures at c.in_err-put_feed.ensures.err in
-    rw fault.1 (record {
-      ok = tt;
-      err = each_begins _ _ _ (λ feed. count_as c.args.style.now.form (codes "feed") (feed_as c.args.style.now.form (label_of c.args.style.now.labels) feed) (count_of feed c.args.routes.now)) c.loop-feed.feed 65 (omega (arith, c.loop-feed-test.true)) c.loop-feed.invariant.written begun;
-    })
+    each_stops _ _ _ (λ feed. count_as c.args.style.now.form (codes "feed") (feed_as c.args.style.now.form (label_of c.args.style.now.labels) feed) (count_of feed c.args.routes.now))
+    c.loop-feed.feed 65 _ _ fault.1 (omega (arith, c.loop-feed-test.true)) c.loop-feed.invariant.written begun
 
 pub loop-feed-preserved : goal.loop-feed-preserved
 loop-feed-preserved g c =

@@ -2,17 +2,15 @@ use Rattle.std.proofs.Common.{◌≡◌, ℕ, codes, decimal, subst, arith}
 use Rattle.std.proofs.lemmas.Result.{err_from_is_err_and}
 use Rattle.std.specs.Io.KnownBytes.{Appends}
 use Rattle.rt_feed.specs.Counts.{length_count, count_as, each_below}
-use Rattle.rt_feed.proofs.CountParts.{each_next, each_begins}
+use Rattle.rt_feed.proofs.CountParts.{each_next, each_stops}
 use Rattle.rt_feed.proofs.styles.counts.write_lengths.Goals as goal
 
 pub returns-in_err-put_length : goal.returns-in_err-put_length
 returns-in_err-put_length g c =
     let fault = err_from_is_err_and c.from_residual.result c.from_residual.ensures.1 in
     let begun = rw c.length_count.ensures at c.in_err-put_length.ensures.err in
-    rw fault.1 (record {
-      ok = tt;
-      err = each_begins _ _ _ (λ len. count_as c.args.form (codes "length") (decimal len) (length_count len c.args.routes.now)) c.loop-len.len 33 (omega (arith, c.loop-len-test.true)) c.loop-len.invariant.written begun;
-    })
+    each_stops _ _ _ (λ len. count_as c.args.form (codes "length") (decimal len) (length_count len c.args.routes.now))
+    c.loop-len.len 33 _ _ fault.1 (omega (arith, c.loop-len-test.true)) c.loop-len.invariant.written begun
 
 pub loop-len-preserved : goal.loop-len-preserved
 loop-len-preserved g c =
