@@ -41,8 +41,7 @@ def spread(times):
 
 
 def compare(cases, batch, rounds):
-    """Seconds on the clock and of the processors of each case in each round: several files, one file, the plain
-    program."""
+    """Seconds on the clock and of the processors of each case and round: several files, one file, the plain program."""
     yarib, peer, several, one = cases
     words = [yarib, "run", "--batch", str(batch)]
     runs = [[*words, *several], [*words, *one], [peer, *one]]

@@ -31,8 +31,7 @@ asked, began = argparse.Namespace(store=False, default_memory=False), None
 
 
 def reader(about, **numbers):
-    """What reads a bench's command line: these numbers in this order, each with what it is where it is left out, and
-    flags."""
+    """What reads a bench's command line: these numbers in order, each with what it is if left out, and flags."""
     found = argparse.ArgumentParser(description=about, formatter_class=argparse.RawDescriptionHelpFormatter)
     found.add_argument("--store", action="store_true",
                        help="keep the figures in bench/figures/; the machine has to be quiet")

@@ -27,8 +27,7 @@ def timed(program, prefixes):
 
 
 def compare(programs, prefixes, rounds):
-    """Runs both in turn over so many prefixes, prints a row for each call, from their least times, and gives the
-    rows."""
+    """Runs both in turn over so many prefixes, prints a row for each call, of its least times, and gives the rows."""
     runs = [[timed(program, prefixes) for program in programs] for _ in range(rounds)]
     proved, plain = runs[0]
     for agreed in ("prefixes", "found", "kept", "left"):

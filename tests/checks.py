@@ -14,8 +14,7 @@ import traceback
 sys.path.append(str(pathlib.Path(__file__).resolve().parents[1] / "tools"))
 from common.crates import TOP
 
-# What the launchers set before the program starts, as ./yarib's own line says it: one arena of large pages for all
-# threads.
+# What the launchers set before the program starts, as ./yarib's own line says it: one arena of large pages.
 LAUNCHED = {"GLIBC_TUNABLES": re.search(r'^export GLIBC_TUNABLES="(.*?)\$', (TOP / "yarib").read_text(), re.M)[1]}
 
 failures = []  # of each the case's name and what was wrong
@@ -52,8 +51,7 @@ def like(cases):
 
 
 def chosen(about, cases, takes=("program",), flags=()):
-    """A script's command line: the built programs that it takes, and those of its cases, by name, that are to be
-    run."""
+    """A script's command line: the built programs that it takes, and which of its cases, by name, are to be run."""
     reader = argparse.ArgumentParser(description=about, formatter_class=argparse.RawDescriptionHelpFormatter)
     for name in takes:
         reader.add_argument(name, nargs="?", type=program, help="a built program, which is else built first")

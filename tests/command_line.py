@@ -203,8 +203,7 @@ def limits(yarib):
 # Fails where 32 commands are asked for `--batch 64`, or 512 for `--batch 1024`: `32 in place of 64`, `512 in place of
 # 1024`.
 def batches(yarib):
-    """Each batch has an effect that no other has: the dumps of a second feed change at its multiples alone, and to
-    those."""
+    """Each batch has an effect of its own: the dumps of a second feed change at its multiples alone, and to those."""
     expect("--batch 1000", batch_seen(yarib, ["--batch", "1000"], 1000), 1000)
     for batch in (1, 2, 64, 1024):
         expect(f"--batch {batch}", batch_seen(yarib, ["--batch", str(batch)], batch), batch)
@@ -214,8 +213,7 @@ def batches(yarib):
 
 
 def batch_seen(yarib, words, batch):
-    """The greatest number that divides each change between two dumps of a feed, in up to 40 runs beside one that
-    adds."""
+    """The greatest number that divides each change between two dumps of a feed, in up to 40 runs beside one adding."""
     count = batch * max(48, 16_384 // batch)
     pathlib.Path("adds.feed").write_text("".join(f"add 10.{k >> 8}.{k & 255}.0/24 1 192.0.2.1\n" for k in range(count)))
     pathlib.Path("dumps.feed").write_text("dump\n" * count)
@@ -442,8 +440,7 @@ def help_is_true(yarib):
 
 
 def finished_tables(yarib):
-    """Look-ups and lists of random feeds, beside the model; the same with any batch, and with the files' faults
-    told."""
+    """Look-ups and lists of random feeds, beside the model; the same with any batch, and the files' faults told."""
     choice = random.Random(27)
     model, names = Table(1_000_000), []
     for feed in range(1, 7):
@@ -676,8 +673,7 @@ def answer_object(text, path_of):
 
 # Fails where old and new are exchanged, or a range's last address is another: `as JSON by`.
 def compared_as_json(yarib):
-    """Each range is one object, which says what the line of the same command says, and of a feed its file on that
-    side."""
+    """Each range is one object, which says what the same command's line says, and of a feed its file on that side."""
     choice = random.Random(63)
     for number in (1, 4, 9):
         (_, old), (_, new) = (random_table(choice, side, number) for side in ("old", "new"))

@@ -22,8 +22,7 @@ WORDS = 1000
 
 
 class Waits(NamedTuple):
-    """The waits of one word, a place's bell: short ones at the door, longer ones in the lock, and how often it was
-    rung."""
+    """The waits of one word, a place's bell: short ones at the door, longer ones in the lock, and how often it rang."""
 
     naps: int
     sleeps: int
@@ -158,8 +157,7 @@ def outputs(called):
     pathlib.Path("asked.txt").write_text("".join(f"{base}\n" for base in choice.sample(high, len(high))))
     asked = ["--addresses", "asked.txt", "side1.feed"]
     for what, status, words, bound in (
-        # The first output has some of the low routes that differ; of the others none does, and so nothing is printed
-        # for them.
+        # The first output has some of the low routes that differ; none of the others does, so nothing is printed.
         ("the answers of a comparison, to its runs", 1, ["diff", "side1.feed", "--", "side2.feed"], 0.4),
         ("the answers of look-ups, to the run", 0, ["lookup", *asked], 0.8),
         ("the rows of a table, to the run", 0, ["table", "side1.feed"], 0.12),

@@ -43,8 +43,7 @@ def limited(words, size, memory):
 
 
 def judge(what, ended, ample, texts, words):
-    """Compares a run under a limit with the one that had all it wanted, or with the model where commands were
-    refused."""
+    """Compares a run under a limit with the one that had all it wanted, or, of refused commands, with the model."""
     if ended == ample:
         return "as with ample memory"
     status, out, err = ended

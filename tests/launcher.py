@@ -34,8 +34,7 @@ TUNABLES = "glibc.malloc.arena_max=1:glibc.malloc.hugetlb=1"
 
 
 class Copy:
-    """The launcher in a folder with the crates' list and a few files of each crate, all of them older than any
-    build."""
+    """The launcher in a folder with the crates' list and a few files of each crate, all older than any build."""
 
     def __init__(self, made, tools, name):
         self.top, self.notes, self.tools = made / name, made / f"{name}.notes", tools

@@ -266,8 +266,7 @@ class Called(collections.namedtuple("Called", "yarib benches refuse kinds")):
 
 
 class Case:
-    """A call whose requests are refused: what makes its words, and the files that they name, and what compares its
-    endings."""
+    """A call whose requests are refused: what makes its words and the files in them, and what compares its endings."""
 
     def __init__(self, name, words, compare):
         self.__name__, self.words, self.compare = name.replace(" ", "_"), words, compare

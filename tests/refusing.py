@@ -35,8 +35,7 @@ def agree(found, wanted, what):
 
 
 def refuse_each(words, compare, refuse, rest, kinds):
-    """Refuses each request of a case in turn, with all later ones where `rest` says so, and gives how many there
-    are."""
+    """Refuses each request of a case in turn, with all later ones where `rest` says so; how many there are."""
     ample = run_refused(words, refuse, 0)
     at = 0
     while at == 0 or ending.refused:
@@ -56,8 +55,7 @@ def answered_addresses(out):
 
 
 def check_shown(ending, ample, kinds):
-    """A look-up or list of the table: all is as it was, or nothing is printed and nothing told, or commands were
-    refused."""
+    """A look-up or list of the table: all is as it was, or nothing is printed or told, or commands were refused."""
     if (ending.status, ending.out, ending.err) == (5, "", "yarib: fault F3\n"):
         kinds.add("lookup or table")
         return

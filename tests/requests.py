@@ -16,8 +16,7 @@ import tempfile
 from checks import chosen, compiled, end, expect, run, run_each
 from table_model import dotted
 
-# How many requests more a text of twice the length may make: for its bytes, the reports' lists, the batch and the
-# journal.
+# How many requests more a text of twice the length may make: for its bytes, the reports, the batch and the journal.
 DOUBLING = 6
 WRITES = 1000
 BATCHES = ("1", "64", "1024")
@@ -77,8 +76,7 @@ def counted_text(yarib, count, text, batch, *words):
 
 
 def shown(yarib, count):
-    """Twice as many answers and rows cost no request for each, but one each of all that covers, nor any while they are
-    written."""
+    """Twice as many answers and rows cost no request each, but one of all that covers, nor any in writing them."""
     pathlib.Path("text.feed").write_text(ADDS)
     asked = ["--addresses", "asked.txt"]
     few, many = (counted_shown(yarib, count, ["lookup", *asked], lines) for lines in (20_000, 40_000))

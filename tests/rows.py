@@ -661,8 +661,7 @@ def with_answers(output, answers):
 
 
 def losing_a_withdrawal(yarib, drawn):
-    """An output of the texts into which a lost withdrawal was put, if they have one: it is answered, and the route
-    stays."""
+    """An output of the texts in which a withdrawal, if they have one, is lost: it is answered, and the route stays."""
     lost = re.search(r"^((\d+):(\d+)) withdrawn$", drawn.run(yarib), re.M)
     if lost is None:
         return None
@@ -704,8 +703,7 @@ EACH_OTHER = ["lookup 10.0.0.1\nadd 11.0.0.0/8 1 192.0.2.1\n", "lookup 11.0.0.1\
 TEN, ELEVEN = "10.0.0.0/8 feed 1 pref 1 via 192.0.2.1", "11.0.0.0/8 feed 1 pref 1 via 192.0.2.1"
 OTHER_TEN = "10.0.0.0/8 feed 2 pref 2 via 192.0.2.2"
 
-# Texts, how many commands are asked at once, an output in lines, and whether some order of the texts' visits explains
-# it.
+# Texts, how many commands are asked at once, an output in lines, and whether some order of visits explains it.
 JUDGED = [
     (COMES_AND_GOES, 1, ["1:1 added", "1:2 withdrawn", "2:1 dumped 0", "table 0"], True),
     (COMES_AND_GOES, 1, ["1:1 added", "1:2 withdrawn", "2:1 dumped 1", "table 0"], True),

@@ -210,10 +210,8 @@ def at_limit(yarib):
 # Fails where F3 is answered where over 128 routes cover an address, or over 2,000: `addresses that 64 to 2112 routes
 # cover`.
 def covered(yarib):
-    """All prefixes of one address from 64 feeds, the most that can cover it, and numbers of them about powers of
-    two."""
-    # So many feeds have the prefix of each length: 64, 127, 128, 129, 193, 255, 256, 257 and then 64 more at each
-    # length.
+    """All prefixes of one address from 64 feeds, the most that can cover it, and numbers about powers of two."""
+    # So many feeds have the prefix of each length: 64, 127, 128, 129, 193, 255, 256, 257, then 64 more at each.
     offers = [64, 63, 1, 1, 64, 62, 1, 1] + [64] * 25
     base = 0b1010_1010_1010_1010_1010_1010_1010_1010
     prefix = lambda length: f"{dotted(base >> 32 - length << 32 - length)}/{length}"
@@ -278,8 +276,7 @@ def forwarded(yarib):
 
 # Fails where F3 is answered to more than 1,000,000 routes in all: `the table of 1000001 routes in all`.
 def in_all(yarib):
-    """More routes in all than one feed may have: a few more in every command, and far more where little of them is
-    printed."""
+    """More routes than one feed may have: a few more in every command, and far more where little is printed."""
     places = [f"10.{at >> 8}.{at & 255}.0/24" for at in range(65_536)]
     adds = [f"add {place} 1 192.0.2.1\n" for place in places]
     left = MOST + 1 - 15 * 65_536  # what the sixteenth feed has
@@ -303,8 +300,7 @@ def in_all(yarib):
 
 # Fails where a part is cut out of a copy of the whole table: `--within a /16: bytes more than a look-up`.
 def part_of_a_million(yarib):
-    """Of a million routes those in a /16, and how many there are: beyond the loading they take no memory but for the
-    rows."""
+    """Of a million routes those in a /16, and their number: beyond loading they take no memory but for the rows."""
     row = lambda at: f"{dotted(0x0A00_0000 + 64 * at)}/32 feed 1 pref 1 via 192.0.2.1\n"
     pathlib.Path("million.feed").write_text("".join(f"add {row(at).split()[0]} 1 192.0.2.1\n" for at in range(MOST)))
     few = "".join(map(row, range(1024, 2048)))

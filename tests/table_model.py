@@ -1,5 +1,4 @@
-"""The model of a table: addresses, the sequential table, and what a run, a look-up, a list and a comparison of it
-print."""
+"""The model of a table: addresses, the sequential table, and what runs, look-ups, lists and comparisons print."""
 import functools
 
 
@@ -66,8 +65,7 @@ class Table:
         return [route for prefix in sorted(self.offered, key=block) for route in self.of_prefix(prefix)]
 
     def covering(self, addr):
-        """The routes whose prefixes are the address's first bits, the best first: the longest, and of these in their
-        order."""
+        """The routes whose prefixes are the address's first bits, the best first: the longest, and these in order."""
         cut = lambda length: f"{dotted(number(addr) >> 32 - length << 32 - length)}/{length}"
         return [route for length in range(32, -1, -1) for route in self.of_prefix(cut(length))]
 

@@ -17,8 +17,7 @@ HEIGHT, LEFT, TOP, GAP = 220, 70, 70, 70
 
 
 def top_of(most):
-    """The least of 1, 2, 2.5, 4, 5, 8 and 10 times a power of ten that isn't below it, and into how many parts it is
-    cut."""
+    """The least of 1, 2, 2.5, 4, 5, 8 and 10 times a power of ten that isn't below it, and in how many parts."""
     power = 1.0
     while power * 10 < most:
         power *= 10

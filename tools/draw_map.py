@@ -26,8 +26,7 @@ def comparison():
 
 
 def colours(made, base, size):
-    """The colour of each of 256 blocks of so many addresses, by what becomes of the first of its addresses that
-    change."""
+    """The colour of each of 256 blocks of so many addresses, by what becomes of the first address that changes."""
     found = ["ground"] * ACROSS**2
     ends = [*made.firsts[1:], reading.END]
     for first, end, one in zip(made.firsts, ends, chart.changes_of(made)):
@@ -38,8 +37,7 @@ def colours(made, base, size):
 
 
 def draw(picture, left, top, made, base, length, named):
-    """A map of the prefix, whose blocks are eight bits longer; those blocks have their names which are to be
-    `named`."""
+    """A map of the prefix, whose blocks are eight bits longer; the blocks that are `named` have their names."""
     width = ACROSS * BLOCK
     lines = "".join(f"M{at} 0V{width}M0 {at}H{width}" for at in range(0, width + 1, BLOCK))
     squares, names = {}, []

@@ -21,8 +21,7 @@ RUST_TYPES = ("struct", "enum", "trait", "type", "const")
 
 
 class Definition:
-    """A definition of specs/ or a type of src/: where it stands, its comment, its lines, and the parameters around
-    it."""
+    """A definition of specs/ or a type of src/: where it stands, its comment, its lines, the parameters around it."""
 
     def __init__(self, key, file, line, comment, lines, context=()):
         self.key, self.file, self.line, self.comment, self.lines = key, file, line, comment, lines
@@ -54,8 +53,7 @@ def imports(text):
 
 @functools.cache
 def spec_module(module):
-    """The definitions of a module of specs/ by name, and what its other words stand for. None where it is none of
-    ours."""
+    """The definitions of a module of specs/ by name, and what its other words stand for; None if it is none of ours."""
     match = re.fullmatch(r"Rattle\.(\w+)\.(?:specs|proofs)\.(.+)", module)
     if not match:
         return None

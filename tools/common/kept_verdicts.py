@@ -22,8 +22,7 @@ def folder():
 
 
 def files_read(crate):
-    """The files that a verdict on a body of the crate rests on. The format of what is built holds a sum of its
-    files."""
+    """The files that a verdict on a body of the crate rests on. The format of what is built has a sum of its files."""
     found = [TOP / name for name in SCRIPTS]
     found += [library(one) / "format" for one in sorted(below([crate]) - {crate})]
     for one in sorted(below([crate])):

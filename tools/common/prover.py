@@ -53,8 +53,7 @@ def said_by(words, folder, seconds=None):
 
 
 def archive_built(name):
-    """Proves a static library and builds its archive; the status of the prover's command, which keeps what it
-    proves."""
+    """Proves a static library and builds its archive; the status of the command, which keeps what it proves."""
     return built(name, True, ["--toolchain", kit() / "toolchain", "--backend", "llvm", "-o", f"out/lib{name}.a"])
 
 

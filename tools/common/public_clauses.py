@@ -54,8 +54,7 @@ def unproved(text):
 
 
 def public_clauses(crate):
-    """The pieces of a crate's sources that are its public clauses: each item, its name with its type's, and its
-    text."""
+    """The pieces of a crate's sources that are its public clauses: each item, its name with its type's, its text."""
     names, items = exported(crate), items_of(crate)
     types = {item.name for item in items if item.kind in ("struct", "enum", "trait", "type")
              and is_named(item, crate, names)}

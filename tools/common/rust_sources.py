@@ -8,14 +8,12 @@ from .crates import CRATES
 COMMENT_OR_LITERAL = re.compile(r' *//.*|"(?:[^"\\]|\\(?s:.))*"|\'(?:[^\'\\]|\\.)\'')
 HEAD = re.compile(r"(pub(?:\([^)]*\))? )?(?:unsafe |const |async |extern \"C\" )*"
                   r"(fn|struct|enum|trait|impl|type|const|static|mod|use|ghost(?! use))\b[ <]*(\w*)")
-# How a line begins that goes on with the item above it: it is indented further, or ends its brackets, or begins its
-# body.
+# How a line begins that goes on with the item above it: it is indented further, ends brackets or begins a body.
 GOES_ON = re.compile(r"[\s{}()\]]|where\b|$")
 
 
 def code_of(text, emptied=False):
-    """The text without its comments. Each literal, which may contain anything, is emptied, or has all its lines
-    indented."""
+    """The text without its comments. Literals, which may contain anything, are emptied, or have all lines indented."""
     def kept(found):
         if found[0].lstrip().startswith("//"):
             return ""

@@ -248,12 +248,9 @@ class Tie:
 
     def __init__(self, file, head, members, said):
         self.file, self.said = CRATES / file, said
-        lines = self.file.read_text().split("\n")
-        start = lines.index(head + " {")
-        end = lines.index("}", start)
-        kept = [line
-                for line in lines[start:end] if line.strip().startswith(tuple(f"ghost {name} =" for name in members))]
-        self.line, self.lines = start + 1, [lines[start], *kept, "}"]
+        item = next(item for item in source(self.file).items if item.lines[0] == head + " {")
+        kept = [line for member in item.members() if member.name in members for line in member.lines]
+        self.line, self.lines = item.start + 1, [item.lines[0], *kept, "}"]
         self.comment = []
 
     def rests_on(self):
