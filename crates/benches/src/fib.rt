@@ -12,7 +12,7 @@ mod renewing;
 
 use crate::Numbers;
 use crate::draws::Draws;
-use crate::fib::asking::{ask_book, ask_each, ask_one_by_one};
+use crate::fib::asking::{ask_many, ask_one_by_one};
 use crate::fib::renewing::time_renewals;
 use crate::stopwatch::Stopwatch;
 use rt_cidr::{Addr, Prefix};
@@ -103,16 +103,20 @@ fn time_asking<R: Clock + CpuClock + Eprint>(
     asked: &[Addr],
 ) -> io::Result<()> {
     let watch = Stopwatch::start(rt)?;
-    let single = ask_book(book, asked, 1);
+    let single = ask_many(asked, 1, |some, answers| book.look_up(some, answers));
     tell(rt, kind, "book_look_up", &watch)?;
     let watch = Stopwatch::start(rt)?;
-    let together = ask_book(book, asked, AT_ONCE);
+    let together = ask_many(asked, AT_ONCE, |some, answers| book.look_up(some, answers));
     tell(rt, kind, "book_look_up_each", &watch)?;
     let watch = Stopwatch::start(rt)?;
     let one_by_one = ask_one_by_one(fib, asked);
     tell(rt, kind, "look_up", &watch)?;
     let watch = Stopwatch::start(rt)?;
-    let each = ask_each(fib, asked);
+    let each = ask_many(
+        asked,
+        AT_ONCE,
+        |some, answers| fib.look_up_each(some, answers),
+    );
     tell(rt, kind, "look_up_each", &watch)?;
     let same = single == together && together == one_by_one && one_by_one == each;
     eprintln!(rt; "{kind}found {each} {kind}same {}", u32::from(same))

@@ -3,7 +3,6 @@
 //! compares.
 
 mod feeds;
-mod gate;
 mod lock;
 mod table;
 

@@ -82,7 +82,6 @@ fn tree<R: Threads + Wait + Clock + Sync, const L: u32>(
         passes,
         &|pass: Pass<Count>| -> Pass<Count>
             requires { pass.lock ≡ shared.now }
-            ensures { result.lock ≡ shared.entry.now }
         { pass_often(rt, shared, pass, load.each) },
     );
     let time = start.elapsed(rt).ok()?;

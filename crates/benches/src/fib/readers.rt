@@ -6,14 +6,14 @@ ghost use Rattle.std.specs.Prelude.{◌≡◌, IfSome};
 ghost use Rattle.rt_rib.specs.Book.{table_of};
 
 use crate::Numbers;
-use crate::fib::asking::sum_of;
+use crate::fib::asking::ask_many;
 use crate::fib::renewing::time_renewals;
 use crate::fib::{AT_ONCE, Drawn, FEW, count_or, draw_all, put_in_all};
 use crate::stopwatch::nanos;
-use fib_readers::{FibReader, FibReading, FibWriter};
+use fib_readers::{FibReader, FibWriter};
 use rt_cidr::{Addr, Prefix};
 use rt_fib::Fib;
-use rt_rib::{Book, MOST_ROUTES, Route};
+use rt_rib::{Book, MOST_ROUTES};
 use std::alloc::Global;
 use std::io;
 use std::rt::Clock;
@@ -30,19 +30,6 @@ const ADDRESSES: u32 = 1 << 18;
 /// How many milliseconds a turn of the writer takes.
 const TURN: u64 = 100;
 
-/// Asks for the addresses, many at once: the sum of the preferences that it finds.
-fn ask(reading: &FibReading, addresses: &[Addr]) -> u64 {
-    let mut answers: [Option<Route>; AT_ONCE] = [None; AT_ONCE];
-    let mut sum = 0u64;
-    for some in addresses.chunks(AT_ONCE) {
-        if let Some(answers) = answers.get_mut(..some.len()) {
-            reading.look_up_each(some, answers);
-            sum = sum.wrapping_add(sum_of(answers));
-        }
-    }
-    sum
-}
-
 /// Asks for part after part of the addresses, each in the table that is shown then, until the writer has ended: for how many, and
 /// the sum of the preferences that it finds.
 fn ask_on(reader: FibReader, addresses: &[Addr]) -> (u64, u64) {
@@ -53,7 +40,12 @@ fn ask_on(reader: FibReader, addresses: &[Addr]) -> (u64, u64) {
             let Ok(reading) = reader.enter() else {
                 return (asked, found);
             };
-            found = found.wrapping_add(ask(&reading, part));
+            let sum = ask_many(
+                part,
+                AT_ONCE,
+                |some, answers| reading.look_up_each(some, answers),
+            );
+            found = found.wrapping_add(sum);
             asked = asked.wrapping_add(part.len() as u64);
             reader = reading.leave();
         }
@@ -61,30 +53,20 @@ fn ask_on(reader: FibReader, addresses: &[Addr]) -> (u64, u64) {
     (asked, found)
 }
 
-/// Follows so many commands, and publishes the table that they leave, where there are any.
-fn publish_next<R: Wait + Clock>(
+/// Follows so many commands, and copies the table that they leave.
+fn next_table<R: Clock>(
     rt: &R,
     alloc: Global,
-    writer: FibWriter,
     book: &mut Book<Global>,
     fib: &mut Fib<Global>,
     prefixes: &[Prefix],
     commands: u32,
-) -> (FibWriter, Option<()>)
+) -> Option<Fib<Global>>
     requires { fib.old ≡ table_of book.old }
-    ensures { IfSome result.1 (λ _. fib.new ≡ table_of book.new) }
+    ensures { IfSome result (λ _. fib.new ≡ table_of book.new) }
 {
-    if commands == 0 {
-        return (writer, Some(()));
-    }
-    if time_renewals(rt, book, fib, prefixes, 24, commands).is_none() {
-        return (writer, None);
-    }
-    let Ok(copy) = fib.copy(alloc, book) else {
-        return (writer, None);
-    };
-    let (writer, done) = writer.publish(rt, alloc, copy);
-    (writer, done.ok())
+    time_renewals(rt, book, fib, prefixes, 24, commands)?;
+    fib.copy(alloc, book).ok()
 }
 
 /// Sleeps for what is left of a turn that began then.
@@ -96,27 +78,33 @@ fn rest<R: Clock>(rt: &R, start: &Instant) {
     }
 }
 
-/// Follows so many commands in each of so many turns, and publishes a table at the end of each. It ends where memory is refused.
+/// Follows so many commands in each of so many turns, and publishes a table at the end of each, where there are commands. It
+/// ends where memory is refused.
 fn publish_all<R: Wait + Clock>(
     rt: &R,
     alloc: Global,
-    writer: FibWriter,
+    mut writer: FibWriter,
     book: &mut Book<Global>,
     fib: &mut Fib<Global>,
-    prefixes: &[Prefix],
+    drawn: &Drawn,
     load: Load,
 ) -> FibWriter
     requires { fib.old ≡ table_of book.old }
 {
-    let mut writer = writer;
     'turns: for _ in 0..load.turns {
         let Ok(start) = Instant::now(rt) else {
             return writer;
         };
-        let (next, done) = publish_next(rt, alloc, writer, book, fib, prefixes, load.commands);
-        writer = next;
-        if done.is_none() {
-            return writer;
+        if load.commands > 0 {
+            let Some(table) = next_table(rt, alloc, book, fib, &drawn.prefixes, load.commands)
+            else {
+                return writer;
+            };
+            let (next, done) = writer.publish(rt, alloc, table);
+            writer = next;
+            if done.is_err() {
+                return writer;
+            }
         }
         rest(rt, &start);
     }
@@ -170,15 +158,7 @@ fn ask_beside<R: Threads + Wait + Clock + Sync>(
                     }
                 }
             }
-            let writer = publish_all(
-                rt,
-                alloc,
-                writer,
-                &mut book,
-                &mut fib,
-                &drawn.prefixes,
-                load,
-            );
+            let writer = publish_all(rt, alloc, writer, &mut book, &mut fib, drawn, load);
             let passed = start.elapsed(rt);
             writer.end(rt);
             let (asked, found) = join_all(rt, threads);

@@ -1,7 +1,7 @@
 //! Texts through gates, alone and on threads.
 ghost use Rattle.std.specs.Prelude.{◌≤◌};
 
-use super::gate::Recorder;
+use recording_gate::{Asked, Judge, Recorder};
 use rt_feed::{Feed, Report, run_feed, run_feeds};
 use std::alloc::{AllocError, Global};
 use std::io;
@@ -15,8 +15,23 @@ const TEXTS: [&[u8]; 3] = [
     b"dump\ndump\ndump\n",
 ];
 
+/// Admits every call.
+#[derive(Drop)]
+struct Everything;
+
+impl Judge for Everything {
+    fn admits(&mut self, _asked: Asked) -> bool {
+        true
+    }
+}
+
 /// Prints what a feed was answered, and what its gate was asked.
-fn tell<R: Print>(rt: &R, feed: usize, report: Option<&Report>, gate: &Recorder) -> io::Result<()> {
+fn tell<R: Print>(
+    rt: &R,
+    feed: usize,
+    report: Option<&Report>,
+    gate: &Recorder<Everything>,
+) -> io::Result<()> {
     match report {
         None => println!(rt; "feed {feed} refused")?,
         Some(report) => {
@@ -35,19 +50,19 @@ fn tell<R: Print>(rt: &R, feed: usize, report: Option<&Report>, gate: &Recorder)
 pub fn run_one<R: Wait + Print>(rt: &R, alloc: Global, batch: usize) -> io::Result<()>
     requires { 1 ≤ batch }
 {
-    let mut gate = Recorder::new();
+    let mut gate = Recorder::new(Everything);
     println!(rt; "one feed in batches of {batch}")?;
     let report = run_feed(rt, alloc, TEXTS[0], batch, &mut gate).ok();
     tell(rt, 1, report.as_ref(), &gate)
 }
 
 /// The texts, each in memory of its own, and a feed for each.
-fn made(alloc: Global) -> Result<(Vec<Vec<u8>>, Vec<Feed<Recorder>>), AllocError> {
+fn made(alloc: Global) -> Result<(Vec<Vec<u8>>, Vec<Feed<Recorder<Everything>>>), AllocError> {
     let mut texts = Vec::new(alloc);
     let mut feeds = Vec::new(alloc);
     for text in TEXTS {
         texts.push(Vec::from_slice(alloc, text)?)?;
-        let gate = Recorder::new();
+        let gate = Recorder::new(Everything);
         feeds.push(Feed { gate, report: None })?;
     }
     Ok((texts, feeds))

@@ -48,41 +48,6 @@ fn command(line: &[u8]) -> Cmd {
     }
 }
 
-/// Asks a command of the feed at this place.
-fn ask<R: Wait>(
-    rt: &R,
-    table: &SharedRib<6>,
-    passes: &mut Vec<FeedPass>,
-    at: usize,
-    cmd: Cmd,
-) -> Result<Reply, Refused>
-    requires all { ArePassesOf table.now passes.old.items }
-    requires there { at < length passes.old.items }
-    ensures all { ArePassesOf table.now passes.new.items }
-    ensures count { length passes.new.items ≡ length passes.old.items }
-{
-    passes_kept();
-    table.apply(rt, &mut passes[at], cmd)
-}
-
-/// Asks the batch of the feed at this place.
-fn ask_batch<R: Wait>(
-    rt: &R,
-    table: &SharedRib<6>,
-    passes: &mut Vec<FeedPass>,
-    at: usize,
-    cmds: &[Cmd],
-    out: &mut Vec<Outcome>,
-) -> Result<(), Refused>
-    requires all { ArePassesOf table.now passes.old.items }
-    requires there { at < length passes.old.items }
-    ensures all { ArePassesOf table.now passes.new.items }
-    ensures count { length passes.new.items ≡ length passes.old.items }
-{
-    passes_kept();
-    table.apply_batch(rt, &mut passes[at], cmds, out)
-}
-
 /// Prints a command of the feed with its answer.
 fn tell_turn<R: Print>(
     rt: &R,
@@ -93,63 +58,68 @@ fn tell_turn<R: Print>(
     println!(rt; "feed {feed} {cmd:?} {answer:?}")
 }
 
-/// Asks the turns in order, and prints each with its answer.
-fn ask_turns<R: Wait + Print>(
-    rt: &R,
-    table: &SharedRib<6>,
-    passes: &mut Vec<FeedPass>,
-) -> io::Result<()>
-    requires all { ArePassesOf table.now passes.old.items }
-    requires count { length passes.old.items ≡ 64 }
-    ensures all { ArePassesOf table.now passes.new.items }
-    ensures count { length passes.new.items ≡ 64 }
-{
-    for (at, line) in TURNS {
-        let cmd = command(line);
-        let answer = ask(rt, table, passes, at, cmd);
-        tell_turn(rt, at + 1, cmd, answer)?;
-    }
-    Ok(())
+/// The table, and the pass of each of its feeds, by place.
+#[derive(Drop)]
+struct Feeds {
+    table: SharedRib<6>,
+    passes: Vec<FeedPass>,
+    ghost all: { ArePassesOf table passes.items },
+    ghost count: { length passes.items ≡ 64 },
 }
 
-/// Asks the batch of three feeds, one after the other, and prints what became of it, with all that it was told by then.
-fn ask_batches<R: Wait + Print>(
-    rt: &R,
-    alloc: Global,
-    table: &SharedRib<6>,
-    passes: &mut Vec<FeedPass>,
-) -> io::Result<()>
-    requires all { ArePassesOf table.now passes.old.items }
-    requires count { length passes.old.items ≡ 64 }
-    ensures all { ArePassesOf table.now passes.new.items }
-    ensures count { length passes.new.items ≡ 64 }
-{
-    let cmds = [command(BATCH[0]), command(BATCH[1]), command(BATCH[2])];
-    let mut out = Vec::new(alloc);
-    for at in [1usize, 0, 63] {
-        let answer = ask_batch(rt, table, passes, at, &cmds, &mut out);
-        println!(rt; "batch of feed {} {answer:?} {:?}", at + 1, out.as_slice())?;
+impl Feeds {
+    /// Asks a command of the feed at this place.
+    fn ask<R: Wait>(&mut self, rt: &R, at: usize, cmd: Cmd) -> Result<Reply, Refused>
+        requires { at < 64 }
+    {
+        passes_kept();
+        self.table.apply(rt, &mut self.passes[at], cmd)
     }
-    Ok(())
-}
 
-/// The table's routes, by the pass of the feed at this place.
-fn routes_by<R: Wait + Print>(
-    rt: &R,
-    alloc: Global,
-    table: &SharedRib<6>,
-    passes: &mut Vec<FeedPass>,
-    at: usize,
-) -> io::Result<()>
-    requires all { ArePassesOf table.now passes.old.items }
-    requires there { at < length passes.old.items }
-    ensures all { ArePassesOf table.now passes.new.items }
-    ensures count { length passes.new.items ≡ length passes.old.items }
-{
-    passes_kept();
-    match table.routes(rt, alloc, &mut passes[at]) {
-        Ok(routes) => println!(rt; "routes {:?}", routes.as_slice()),
-        Err(Refused) => println!(rt; "routes refused"),
+    /// Asks the batch of the feed at this place.
+    fn ask_batch<R: Wait>(
+        &mut self,
+        rt: &R,
+        at: usize,
+        cmds: &[Cmd],
+        out: &mut Vec<Outcome>,
+    ) -> Result<(), Refused>
+        requires { at < 64 }
+    {
+        passes_kept();
+        self.table.apply_batch(rt, &mut self.passes[at], cmds, out)
+    }
+
+    /// Asks the turns in order, and prints each with its answer.
+    fn ask_turns<R: Wait + Print>(&mut self, rt: &R) -> io::Result<()> {
+        for (at, line) in TURNS {
+            let cmd = command(line);
+            let answer = self.ask(rt, at, cmd);
+            tell_turn(rt, at + 1, cmd, answer)?;
+        }
+        Ok(())
+    }
+
+    /// Asks the batch of three feeds, one after the other, and prints what became of it, with all that it was told by then.
+    fn ask_batches<R: Wait + Print>(&mut self, rt: &R, alloc: Global) -> io::Result<()> {
+        let cmds = [command(BATCH[0]), command(BATCH[1]), command(BATCH[2])];
+        let mut out = Vec::new(alloc);
+        for at in [1usize, 0, 63] {
+            let answer = self.ask_batch(rt, at, &cmds, &mut out);
+            println!(rt; "batch of feed {} {answer:?} {:?}", at + 1, out.as_slice())?;
+        }
+        Ok(())
+    }
+
+    /// Prints the table's routes, by the pass of the feed at this place.
+    fn tell_routes<R: Wait + Print>(&mut self, rt: &R, alloc: Global, at: usize) -> io::Result<()>
+        requires { at < 64 }
+    {
+        passes_kept();
+        match self.table.routes(rt, alloc, &mut self.passes[at]) {
+            Ok(routes) => println!(rt; "routes {:?}", routes.as_slice()),
+            Err(Refused) => println!(rt; "routes refused"),
+        }
     }
 }
 
@@ -167,35 +137,13 @@ fn tell<R: Print>(rt: &R, alloc: Global, book: &Book<Global>) -> io::Result<()> 
     }
 }
 
-/// Asks the turns and the batches of a new table, and its routes by two feeds.
-fn ask_feeds<R: Wait + Print>(
-    rt: &R,
-    alloc: Global,
-    table: &SharedRib<6>,
-    passes: &mut Vec<FeedPass>,
-) -> io::Result<()>
-    requires all { ArePassesOf table.now passes.old.items }
-    requires count { length passes.old.items ≡ 64 }
-    ensures all { ArePassesOf table.now passes.new.items }
-    ensures count { length passes.new.items ≡ 64 }
-{
-    ask_turns(rt, table, passes)?;
-    ask_batches(rt, alloc, table, passes)?;
-    routes_by(rt, alloc, table, passes, 1)?;
-    routes_by(rt, alloc, table, passes, 0)
-}
-
-/// Asks all of it of a new table.
-fn ask_all<R: Wait + Print>(
-    rt: &R,
-    alloc: Global,
-    table: SharedRib<6>,
-    mut passes: Vec<FeedPass>,
-) -> io::Result<()>
-    requires all { ArePassesOf table passes.items }
-    requires count { length passes.items ≡ 64 }
-{
-    ask_feeds(rt, alloc, &table, &mut passes)?;
+/// Asks the turns, the batches and the routes by two feeds, and then prints the book that is left.
+fn ask_all<R: Wait + Print>(rt: &R, alloc: Global, mut feeds: Feeds) -> io::Result<()> {
+    feeds.ask_turns(rt)?;
+    feeds.ask_batches(rt, alloc)?;
+    feeds.tell_routes(rt, alloc, 1)?;
+    feeds.tell_routes(rt, alloc, 0)?;
+    let Feeds { table, passes } = feeds;
     let mut book = table.settle(rt, passes);
     println!(rt; "room {:?}", book.reserve(ENTRIES))?;
     tell(rt, alloc, &book)
@@ -205,7 +153,7 @@ fn ask_all<R: Wait + Print>(
 pub fn ask_in_turn<R: Wait + Print>(rt: &R, alloc: Global) -> io::Result<()> {
     for _ in 0..2u32 {
         match SharedRib::<6>::new(alloc, LIMIT) {
-            Ok((table, passes)) => return ask_all(rt, alloc, table, passes),
+            Ok((table, passes)) => return ask_all(rt, alloc, Feeds { table, passes }),
             Err(Refused) => println!(rt; "table refused")?,
         }
     }

@@ -1,9 +1,0 @@
-use Rattle.std.proofs.Common.{◌+◌, ◌≤◌, take, length, vec_len, vec_capacity}
-use Rattle.rt_feed.proofs.Remembered.{HasAnswered}
-use Rattle.benches.proofs.growth.gate.RecorderGate.apply_batch.Given as goal
-
-abbrev pub invariant-loop-cmd : goal.invariant-loop-cmd
-invariant-loop-cmd g l = record {
-  answered : HasAnswered (take l.cmd-index l.cmds) (take l.initial.self.count l.initial.self.answered) l.initial.out.items (take l.self.count l.self.answered) l.out.items;
-  room : vec_len l.out + length l.cmds ≤ vec_capacity l.out + l.cmd-index;
-}
