@@ -37,10 +37,10 @@ left_by_both first call away table limit xs ys one two one' two' journal same bo
   journal = journal;
   lawful = subst (λ (l : ℕ). IsLawfulJournal l journal) same settled.lawful;
   of_first = a.0;
-  first_uncut = batch_uncut first call away table.limit one.feed 1 one.seen xs a.0 one'.seen journal both.one both.unseen.0 a.1
+  first_uncut = batch_uncut first call away table.limit one.feed 1 one.seen xs a.0 one'.seen journal both.feeds.0 both.unseen.0 a.1
       (subst (λ (f : ℕ). Since f one'.seen journal) same_one (settled.since 0 one' (omega arith)));
   of_second = b.0;
-  second_uncut = batch_uncut first call away table.limit two.feed 2 two.seen ys b.0 two'.seen journal both.other both.unseen.1 b.1
+  second_uncut = batch_uncut first call away table.limit two.feed 2 two.seen ys b.0 two'.seen journal both.feeds.1 both.unseen.1 b.1
       (subst (λ (f : ℕ). Since f two'.seen journal) same_two (settled.since 1 two' (omega arith)));
   of_journal = of_journal;
 }

@@ -11,10 +11,8 @@ use Rattle.rt_shared.specs.Visits.{Uncut, answered}
 -- the passes of feed 1 and feed 2, of a table that has no other, before they have seen anything
 pub record AreBothUnseen (table : SharedId) (first second : HeldPass) : Type 0 where
   pub two : table.feeds ≡ 2
-  pub of_first : first.table ≡ table
-  pub of_second : second.table ≡ table
-  pub one : first.feed ≡ 1
-  pub other : second.feed ≡ 2
+  pub tables : (first.table ≡ table) × (second.table ≡ table)
+  pub feeds : (first.feed ≡ 1) × (second.feed ≡ 2)
   pub unseen : (first.seen ≡ []) × (second.seen ≡ [])
 
 -- a lawful journal leaves these routes, in which each feed's commands stand in one piece, and no other of the feed's

@@ -13,10 +13,8 @@ returns c =
       e.table.0,
       record {
         two = e.table.1;
-        of_first = are.tables 0 first (omega arith);
-        of_second = are.tables 1 second (omega arith);
-        one = are.feeds 0 first refl;
-        other = are.feeds 1 second refl;
+        tables = (are.tables 0 first (omega arith), are.tables 1 second (omega arith));
+        feeds = (are.feeds 0 first refl, are.feeds 1 second refl);
         unseen = (seen 0 first (omega arith), seen 1 second (omega arith));
       },
     )
