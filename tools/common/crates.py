@@ -6,7 +6,7 @@ CRATES = TOP / "crates"
 
 
 def heads():
-    """What stands before the colon of each line of crates.txt, a crate's name and perhaps its kind, and what is behind."""
+    """Of each line of crates.txt what stands before the colon, a crate's name and perhaps its kind, and what behind."""
     lines = [line.partition("#")[0].partition(":") for line in (TOP / "crates.txt").read_text().splitlines()]
     return [(head.split(), rest.split()) for head, _, rest in lines if head.strip()]
 
