@@ -42,7 +42,7 @@ use Rattle.yarib_c.specs.Forms.{hop_number, via_number, no_route, route_as, hop_
 use Rattle.yarib_c.specs.Forms.{unanswered, entry_as}
 use Rattle.yarib_c.specs.Calls.{held_in, IsOf, Holds, GoesOn, Goes, StaysSame, IsKept, Forwards, Answers, Refused, IsReason, IsUnanswered, HasOutcome}
 use Rattle.yarib_c.specs.Calls.{HaveOutcomes, addr, answers_in, PutsText}
-use Rattle.yarib_c.specs.Lists.{ShowsRoutes, ShowsEntries, ShowsJournal, IsPlace, PutsRoutes, ShowsFrom}
+use Rattle.yarib_c.specs.Lists.{Shows, ShowsRoutes, ShowsJournal, IsPlace, PutsRoutes, ShowsFrom}
 use Rattle.yarib_c.specs.declared.sizes.TheConstants.{NODE_BYTES, ENTRY_BYTES}
 use Rattle.yarib_c.specs.Sizes.{bytes_of, TakesBytes}
 use Rattle.yarib_c.specs.Selections.{IsOutOfRange, IsTo, IsPart, feed_asked, best_number, IsSelection, ShowsSelected}
@@ -387,24 +387,21 @@ an_answer_for_each_address routes addresses = refl
 where_a_text_stands : (bytes text : List ℕ) (used : ℕ) → PutsText bytes text used ↔ ((used ≤ length text) × (take used text ≡ bytes))
 where_a_text_stands bytes text used = (λ h. (h.within, h.put), λ (within, put). record { within = within; put = put })
 
--- ShowsRoutes
-what_is_shown_of_routes :
-    (all : List Route) (skip : ℕ) (shown : List YaribRoute) (total : ℕ) → ShowsRoutes all skip shown total
+-- Shows
+what_is_shown : {X Y : Type 0} (form : X → Y) (all : List X) (skip : ℕ) (shown : List Y) (total : ℕ) → Shows form all skip shown total
     ↔ ((total ≡ length all)
-    × ((j : ℕ) → j < length shown → skip + j < length all → slice_get shown j ≡ option_map route_as (slice_get all (skip + j))))
-what_is_shown_of_routes all skip shown total = (λ h. (h.counted, h.each), λ (counted, each). record { counted = counted; each = each })
+    × ((j : ℕ) → j < length shown → skip + j < length all → slice_get shown j ≡ option_map form (slice_get all (skip + j))))
+what_is_shown form all skip shown total = (λ h. (h.counted, h.each), λ (counted, each). record { counted = counted; each = each })
 
--- ShowsEntries
-what_is_shown_of_entries :
-    (all : List Entry) (skip : ℕ) (shown : List YaribEntry) (total : ℕ) → ShowsEntries all skip shown total
-    ↔ ((total ≡ length all)
-    × ((j : ℕ) → j < length shown → skip + j < length all → slice_get shown j ≡ option_map entry_as (slice_get all (skip + j))))
-what_is_shown_of_entries all skip shown total = (λ h. (h.counted, h.each), λ (counted, each). record { counted = counted; each = each })
+-- ShowsRoutes
+routes_are_shown :
+    (all : List Route) (skip : ℕ) (shown : List YaribRoute) (total : ℕ) → ShowsRoutes all skip shown total ≡ Shows route_as all skip shown total
+routes_are_shown all skip shown total = refl
 
 -- ShowsJournal
 a_journal_is_shown :
     (all : List Entry) (skip : ℕ) (shown : List YaribEntry) (total : ℕ)
-    → (ShowsJournal (Some all) skip shown total ≡ ShowsEntries all skip shown total) × (¬ ShowsJournal None skip shown total)
+    → (ShowsJournal (Some all) skip shown total ≡ Shows entry_as all skip shown total) × (¬ ShowsJournal None skip shown total)
 a_journal_is_shown all skip shown total = (refl, λ wrong. wrong)
 
 -- IsPlace

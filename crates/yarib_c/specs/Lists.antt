@@ -8,20 +8,19 @@ use Rattle.yarib_c.specs.declared.routes.YaribRoute.{YaribRoute}
 use Rattle.yarib_c.specs.declared.commands.YaribEntry.{YaribEntry}
 use Rattle.yarib_c.specs.Forms.{route_as, entry_as}
 
--- it is told how many there are, and each place that the list reaches from the index on has its own
-pub record ShowsRoutes (all : List Route) (skip : ℕ) (shown : List YaribRoute) (total : ℕ) : Type 0 where
+-- it is told how many there are, and each place that the list reaches from the index on has its own in this form
+pub record Shows {X Y : Type 0} (form : X → Y) (all : List X) (skip : ℕ) (shown : List Y) (total : ℕ) : Type 0 where
   pub counted : total ≡ length all
-  pub each : (j : ℕ) → j < length shown → skip + j < length all → slice_get shown j ≡ option_map route_as (slice_get all (skip + j))
+  pub each : (j : ℕ) → j < length shown → skip + j < length all → slice_get shown j ≡ option_map form (slice_get all (skip + j))
 
--- the same of entries
-pub record ShowsEntries (all : List Entry) (skip : ℕ) (shown : List YaribEntry) (total : ℕ) : Type 0 where
-  pub counted : total ≡ length all
-  pub each : (j : ℕ) → j < length shown → skip + j < length all → slice_get shown j ≡ option_map entry_as (slice_get all (skip + j))
+-- so of routes
+abbrev pub ShowsRoutes : List Route → ℕ → List YaribRoute → ℕ → Type 0
+ShowsRoutes all skip shown total = Shows route_as all skip shown total
 
 -- there is a journal, and its entries are shown so
 abbrev pub ShowsJournal : Option (List Entry) → ℕ → List YaribEntry → ℕ → Type 0
 ShowsJournal None skip shown total = ⊥
-ShowsJournal (Some journal) skip shown total = ShowsEntries journal skip shown total
+ShowsJournal (Some journal) skip shown total = Shows entry_as journal skip shown total
 
 -- the numbers stand for the place of the route in dump order
 pub record IsPlace (c : YaribRoute) (r : Route) : Type 0 where

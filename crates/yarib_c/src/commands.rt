@@ -1,4 +1,5 @@
 //! Commands, replies and entries of the journal as C has them.
+use crate::lists::FormOf;
 use crate::routes::{YaribRoute, numbers_of};
 use rt_cidr::{Addr, Prefix};
 use rt_rib::{Cmd, Entry, Hop, Reply};
@@ -174,13 +175,12 @@ pub struct YaribEntry {
     pub reply: YaribReply,
 }
 
-impl YaribEntry {
-    ghost use Rattle.std.specs.Prelude.{◌≡◌};
+impl FormOf<Entry> for YaribEntry {
     ghost use Rattle.yarib_c.specs.Forms.{entry_as};
 
-    pub(crate) fn of(entry: Entry) -> YaribEntry
-        ensures { result ≡ entry_as entry }
-    {
+    ghost form = { entry_as };
+
+    fn of(entry: Entry) -> YaribEntry {
         YaribEntry {
             command: YaribCommand::of(entry.feed, entry.cmd),
             reply: YaribReply::of(entry.reply),

@@ -6,6 +6,7 @@ ghost use Rattle.yarib_c.specs.Differences.{TellsDifference, IsAlikeFrom};
 
 use crate::handle::{Yarib, with_held};
 use crate::held::Held;
+use crate::lists::FormOf;
 use crate::routes::YaribRoute;
 use crate::status::{BAD_NUMBER, DONE, NONE_LEFT, WRONG_KIND};
 use rt_cidr::Addr;

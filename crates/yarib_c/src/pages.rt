@@ -7,6 +7,7 @@ ghost use Rattle.yarib_c.specs.Lists.{PutsRoutes, ShowsFrom};
 
 use crate::handle::{Yarib, with_held};
 use crate::held::Held;
+use crate::lists::FormOf;
 use crate::routes::YaribRoute;
 use crate::status::{BAD_BITS, BAD_LENGTH, DONE, WRONG_KIND};
 use rt_cidr::{Prefix, TextFault};

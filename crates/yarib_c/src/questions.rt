@@ -3,12 +3,12 @@ ghost use Rattle.std.specs.Prelude.{◌≡◌, ◌≢◌, ◌⊎◌, None, Some,
 ghost use Rattle.rt_rib.specs.LookUp.{look_up_all};
 ghost use Rattle.yarib_c.specs.Kinds.{routes_in, journal_in, IsForwarding};
 ghost use Rattle.yarib_c.specs.Calls.{held_in, Holds, addr, answers_in};
-ghost use Rattle.yarib_c.specs.Lists.{ShowsRoutes, ShowsEntries, ShowsJournal};
+ghost use Rattle.yarib_c.specs.Lists.{ShowsRoutes, ShowsJournal};
 
 use crate::commands::YaribEntry;
 use crate::handle::{Yarib, with_held};
 use crate::held::Held;
-use crate::lists::{put_entries, put_routes};
+use crate::lists::put;
 use crate::lookups::answer_each;
 use crate::routes::YaribRoute;
 use crate::status::{BAD_SIZE, DONE, NO_MEMORY, WRONG_KIND};
@@ -79,7 +79,7 @@ fn show_covering(
     let Ok(found) = table.look_up_all(alloc, Addr(address)) else {
         return NO_MEMORY;
     };
-    *total = put_routes(found.as_slice(), skip, routes);
+    *total = put(found.as_slice(), skip, routes);
     DONE
 }
 
@@ -120,7 +120,7 @@ fn show_routes(
     let Ok(all) = table.routes(alloc) else {
         return NO_MEMORY;
     };
-    *total = put_routes(all.as_slice(), skip, routes);
+    *total = put(all.as_slice(), skip, routes);
     DONE
 }
 
@@ -161,7 +161,7 @@ pub extern "C" fn yarib_journal(
 {
     with_held!(table, alloc, held => match &*held {
         Held::Journaled(book) => {
-            *total = put_entries(book.journal(), skip, entries);
+            *total = put(book.journal(), skip, entries);
             DONE
         }
         Held::Plain(_) | Held::Forwarding(_) => WRONG_KIND,

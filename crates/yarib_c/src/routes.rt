@@ -2,6 +2,7 @@
 ghost use Rattle.std.specs.Prelude.{◌≡◌};
 ghost use Rattle.yarib_c.specs.Forms.{hop_number, via_number};
 
+use crate::lists::FormOf;
 use rt_rib::{Hop, Route};
 
 /// A route, or the answer that there is none: `hop` is 0 for no route, 1 for a router, whose address is `via`, and 2 where the
@@ -28,22 +29,12 @@ pub(crate) fn numbers_of(hop: Hop) -> (u8, u32)
     }
 }
 
-impl YaribRoute {
-    ghost use Rattle.yarib_c.specs.Forms.{route_as, answer_as, hop_as};
+impl FormOf<Route> for YaribRoute {
+    ghost use Rattle.yarib_c.specs.Forms.{route_as};
 
-    /// The answer that there is no route.
-    pub(crate) const NONE: YaribRoute = YaribRoute {
-        base: 0,
-        pref: 0,
-        via: 0,
-        feed: 0,
-        len: 0,
-        hop: 0,
-    };
+    ghost form = { route_as };
 
-    pub(crate) fn of(route: Route) -> YaribRoute
-        ensures { result ≡ route_as route }
-    {
+    fn of(route: Route) -> YaribRoute {
         let (hop, via) = numbers_of(route.hop);
         YaribRoute {
             base: route.prefix.base(),
@@ -54,6 +45,20 @@ impl YaribRoute {
             hop,
         }
     }
+}
+
+impl YaribRoute {
+    ghost use Rattle.yarib_c.specs.Forms.{answer_as, hop_as};
+
+    /// The answer that there is no route.
+    pub(crate) const NONE: YaribRoute = YaribRoute {
+        base: 0,
+        pref: 0,
+        via: 0,
+        feed: 0,
+        len: 0,
+        hop: 0,
+    };
 
     /// The answer to a look-up.
     pub(crate) fn answer(found: Option<Route>) -> YaribRoute

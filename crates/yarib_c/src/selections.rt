@@ -8,7 +8,7 @@ ghost use Rattle.yarib_c.specs.inside.Parts.{AnswersPart};
 
 use crate::handle::{Yarib, with_held};
 use crate::held::Held;
-use crate::lists::put_routes;
+use crate::lists::put;
 use crate::routes::YaribRoute;
 use crate::status::{BAD_BITS, BAD_LENGTH, BAD_NUMBER, DONE, NO_MEMORY, WRONG_KIND};
 use rt_cidr::{Prefix, TextFault};
@@ -116,6 +116,6 @@ fn show_selected(
     let Ok(found) = table.select(alloc, &wanted) else {
         return NO_MEMORY;
     };
-    *total = put_routes(found.as_slice(), skip, routes);
+    *total = put(found.as_slice(), skip, routes);
     DONE
 }
