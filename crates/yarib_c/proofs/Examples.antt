@@ -1,6 +1,6 @@
 -- Examples by which the definitions of this crate are tested, each under a line with the definition's name.
 use Rattle.std.proofs.Common.{◌≡◌, ℕ, suc, ◌+◌, ◌^◌, true, false, Some, None, List, [], ◌∷◌, ◌++◌, refl, arith}
-use Rattle.std.specs.Prelude.{◌↔◌, ◌≢◌, ◌⊎◌, ◌≤◌, ◌<◌, Option, length, map, take, drop, slice_get}
+use Rattle.std.specs.Prelude.{◌↔◌, ◌≢◌, ◌⊎◌, ◌≤◌, ◌<◌, ◌*◌, min, Bool, Option, length, map, take, drop, slice_get}
 use Rattle.std.specs.Option.{option_map}
 use Rattle.std.specs.Ptr.{Ptr, null_ptr, block_ptr}
 use Rattle.rt_cidr.specs.declared.address.Addr.{Addr}
@@ -19,7 +19,7 @@ use Rattle.rt_rib.specs.declared.selection.Selection.{Selection}
 use Rattle.rt_rib.specs.Selection.{selected}
 use Rattle.rt_rib.specs.Places.{from_place}
 use Rattle.rt_rib.specs.LookUp.{look_up}
-use Rattle.rt_rib.specs.Book.{BookContents, table_of, IsFeed}
+use Rattle.rt_rib.specs.Book.{TableContents, BookContents, table_of, IsFeed}
 use Rattle.rt_diff.specs.declared.table_answers.By.TheVariants as by
 use Rattle.rt_diff.specs.declared.table_answers.By.{By}
 use Rattle.rt_diff.specs.declared.table_answers.TableAnswer.TheVariants as answer
@@ -61,6 +61,16 @@ one_route = record { prefix = ten_8; feed = 1; pref = 10; hop = router }
 -- a forwarding table that answers by these routes, in memory wherever it lies
 abbrev forwards_by : Ptr → List Route → Held
 forwards_by p routes = Forwarding (record { ptr = p; value = routes })
+
+-- a table without a journal that has these parts
+abbrev plain_of : TableContents → Bool → PlainContents
+plain_of table is_followed = record { table = table; is_followed = is_followed }
+
+-- PlainContents
+what_a_table_without_a_journal_has :
+    (table : TableContents) (is_followed : Bool)
+    → ((plain_of table is_followed).table ≡ table) × ((plain_of table is_followed).is_followed ≡ is_followed)
+what_a_table_without_a_journal_has table is_followed = (refl, refl)
 
 -- held_at
 null_leads_to_nothing : (held : Held) → held_at null_ptr held ≡ None
@@ -120,6 +130,9 @@ what_keeps_no_journal_and_changes plain book p routes = (tt, λ wrong. wrong, λ
 -- bytes_of
 bytes_of_a_few_and_of_too_many : (bytes_of 48 3 ≡ 144) × (bytes_of 1 (2 ^ 40 + 5) ≡ 2 ^ 40)
 bytes_of_a_few_and_of_too_many = (refl, refl)
+
+any_bytes_of : (each count : ℕ) → bytes_of each count ≡ each * min count (2 ^ 40)
+any_bytes_of each count = refl
 
 -- TakesBytes
 bytes_of_each_kind :
