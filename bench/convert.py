@@ -8,17 +8,15 @@ and system), and the peak memory.
 """
 import argparse
 import json
-import os
 import pathlib
 import random
 import subprocess
-import sys
 import tempfile
-import time
 
 import figures
-from inputs import real_prefixes
+from inputs import real_prefixes, write_apart
 from table_model import dotted
+from timed import passed
 
 EXAMPLES = figures.TOP / "examples"
 PEERS = 20
@@ -128,31 +126,10 @@ INPUTS = (
 OF_PEERS = (("bgpdump-to-feeds", f"{PEERS} peers", lambda count: dumped(count, PEERS)),)
 
 
-def write(path, lines):
-    """Writes an input, in a process of its own, so that this one stays small: a child's peak memory counts what its
-    parent had."""
-    child = os.fork()
-    if child == 0:
-        with open(path, "w") as file:
-            file.writelines(lines)
-        os._exit(0)
-    if os.waitpid(child, 0)[1] != 0:
-        sys.exit(f"{path} could not be written")
-
-
 def measure(words, path):
     """Seconds on the clock and of the processors, and peak bytes of a converter that reads that file."""
     with open(path, "rb") as file:
-        start = time.perf_counter()
-        child = subprocess.Popen(words, stdin=file, stdout=subprocess.DEVNULL, stderr=subprocess.PIPE)
-        _, status, usage = os.wait4(child.pid, 0)
-    seconds = time.perf_counter() - start
-    said = child.stderr.read().decode()
-    child.stderr.close()
-    child.returncode = os.waitstatus_to_exitcode(status)
-    if child.returncode != 0:
-        sys.exit(f"{words}: status {child.returncode}: {said}")
-    return seconds, usage.ru_utime + usage.ru_stime, usage.ru_maxrss * 1024
+        return passed(words, stdin=file, stdout=subprocess.DEVNULL)
 
 
 def main():
@@ -164,11 +141,11 @@ def main():
     for name, about, lines in OF_PEERS if words.peers else INPUTS:
         with tempfile.TemporaryDirectory() as made:
             path, folder = pathlib.Path(made) / "input", pathlib.Path(made) / "feeds"
-            write(path, lines(words.routes))
+            write_apart(path, lines(words.routes))
             script = EXAMPLES / ("map" if name.endswith("map") else "convert") / name
             call = [script, *([folder] if name.endswith("feeds") else [])]
-            seconds, processors, peak = (min(column)
-                                         for column in zip(*(measure(call, path) for _ in range(words.rounds))))
+            rounds = [measure(call, path) for _ in range(words.rounds)]
+            seconds, processors, peak = map(min, zip(*rounds))
         row = f"clock {seconds:6.1f} s | processors {processors:6.1f} s | memory {peak / 1e6:4.0f} MB"
         print(f"{name:16} {about:14} | {row}", flush=True)
 

@@ -77,16 +77,31 @@ def hash_of(text):
     return int.from_bytes(hashlib.blake2b(text.encode(), digest_size=8).digest(), "big")
 
 
-def write(folder, files):
-    """Makes the files' lines and writes them, in a process of its own, so that this one stays small: a child's peak
-    memory counts what its parent had when it was forked."""
+def apart(make):
+    """Has something made in a process of its own, so that this one stays small: a child's peak memory counts what its
+    parent had when it was forked."""
     child = os.fork()
     if child == 0:
-        for number, lines in enumerate(files()):
-            (folder / f"{number:02}.feed").write_text("\n".join(lines) + "\n")
+        make()
         os._exit(0)
     if os.waitpid(child, 0)[1] != 0:
-        sys.exit(f"{folder} could not be written")
+        sys.exit(f"{sys.argv[0]}: an input could not be written")
+
+
+def write_apart(path, pieces):
+    """Writes these pieces of a text, apart."""
+    def make():
+        with open(path, "w") as file:
+            file.writelines(pieces)
+    apart(make)
+
+
+def write(folder, files):
+    """Makes the files' lines and writes them, apart."""
+    def make():
+        for number, lines in enumerate(files()):
+            (folder / f"{number:02}.feed").write_text("\n".join(lines) + "\n")
+    apart(make)
     return sorted(folder.iterdir())
 
 

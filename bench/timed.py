@@ -14,19 +14,31 @@ def digest(output, whole):
     return hashlib.sha256(text[start:]).digest()
 
 
-def measure(words, whole):
-    """Seconds on the clock and of the processors, peak bytes and the digest of the output of one run."""
-    with tempfile.TemporaryFile() as output:
-        start = time.perf_counter()
-        child = subprocess.Popen(words, stdout=output, stderr=subprocess.PIPE)
-        _, status, usage = os.wait4(child.pid, 0)
-        seconds = time.perf_counter() - start
-        child.returncode = os.waitstatus_to_exitcode(status)
+def taken(words, **how):
+    """Seconds on the clock, what the kernel counted, and the ended process of one run."""
+    start = time.perf_counter()
+    child = subprocess.Popen(words, **how)
+    _, status, usage = os.wait4(child.pid, 0)
+    seconds = time.perf_counter() - start
+    child.returncode = os.waitstatus_to_exitcode(status)
+    return seconds, usage, child
+
+
+def passed(words, **how):
+    """Seconds on the clock and of the processors, and peak bytes of one run, which has to end with status 0."""
+    seconds, usage, child = taken(words, stderr=subprocess.PIPE, **how)
+    with child.stderr as said:
         if child.returncode != 0:
-            sys.exit(f"{words}: status {child.returncode}: {child.stderr.read().decode()}")
-        child.stderr.close()
+            sys.exit(f"{words}: status {child.returncode}: {said.read().decode()}")
+    return seconds, usage.ru_utime + usage.ru_stime, usage.ru_maxrss * 1024
+
+
+def measure(words, whole):
+    """The same of one run, and the digest of its output."""
+    with tempfile.TemporaryFile() as output:
+        measures = passed(words, stdout=output)
         output.seek(0)
-        return seconds, usage.ru_utime + usage.ru_stime, usage.ru_maxrss * 1024, digest(output, whole)
+        return *measures, digest(output, whole)
 
 
 def measured(runs):

@@ -5,14 +5,15 @@ tests/large.py [PROGRAM [CASE..]], or --list for the names of the cases. Takes s
 texts of 1 to 10 million lines, and lines of 100 MB to 1 GB. It is called as the benches are, with --store and
 --default-memory.
 """
+import itertools
 import os
-import subprocess
 import tempfile
-import time
 
 import checks
 import figures
+from inputs import write_apart
 from texts import AGAIN
+from timed import taken
 
 ROWS = []
 
@@ -20,25 +21,10 @@ ROWS = []
 def measured(words):
     """Seconds, peak bytes, status and the end of the output of one run."""
     with tempfile.TemporaryFile() as output:
-        start = time.perf_counter()
-        child = subprocess.Popen(words, stdout=output)
-        _, status, usage = os.wait4(child.pid, 0)
-        seconds = time.perf_counter() - start
-        child.returncode = os.waitstatus_to_exitcode(status)
+        seconds, usage, child = taken(words, stdout=output)
         size = output.seek(0, os.SEEK_END)
         output.seek(max(0, size - 60))
         return seconds, usage.ru_maxrss * 1024, child.returncode, output.read().decode()
-
-
-def fill(path, piece, times):
-    """Writes the piece so often, in a process of its own: a child's peak memory counts what its parent had."""
-    child = os.fork()
-    if child == 0:
-        with open(path, "w") as text:
-            for _ in range(times):
-                text.write(piece)
-        os._exit(0)
-    os.waitpid(child, 0)
 
 
 def add_row(text, unit, units, seconds, peak):
@@ -51,7 +37,7 @@ def add_row(text, unit, units, seconds, peak):
 
 def many_lines(program):
     for millions in (1, 2, 5, 10):
-        fill("long.feed", AGAIN * 25_000, 10 * millions)
+        write_apart("long.feed", itertools.repeat(AGAIN * 25_000, 10 * millions))
         seconds, peak, status, end = measured([program, "run", "--batch", "256", "long.feed"])
         checks.expect(f"{millions} million lines", (status, end[-8:]), (0, "table 0\n"))
         add_row(f"{millions} million lines", "line", millions * 1_000_000, seconds, peak)
@@ -59,7 +45,7 @@ def many_lines(program):
 
 def long_lines(program):
     for megabytes in (100, 200, 500, 1_000):
-        fill("long.feed", "x" * 1_000_000, megabytes)
+        write_apart("long.feed", itertools.repeat("x" * 1_000_000, megabytes))
         seconds, peak, status, end = measured([program, "run", "long.feed"])
         checks.expect(f"a line of {megabytes} MB", (status, end), (2, "1:1 fault E8\ntable 0\n"))
         add_row(f"a line of {megabytes} MB", "byte", megabytes * 1_000_000, seconds, peak)
