@@ -6,7 +6,6 @@ many rounds, each with so many passages. For each case the time of a passage is 
 to C: on the clock, and of the processors (user and system). It is the least of one thread, and of several the middle
 one.
 """
-import os
 import pathlib
 import statistics
 import subprocess
@@ -15,6 +14,7 @@ import tempfile
 
 import figures
 import checks
+from timed import taken
 
 ALONE = [(levels, 1) for levels in range(1, 7)]
 TOGETHER = [(1, 2), *((levels, threads) for levels in range(2, 7) for threads in (2, 4)), (6, 16), (6, 64)]
@@ -27,10 +27,10 @@ def build(folder):
 
 def timed(program, passages, levels, threads):
     """Nanoseconds a passage on the clock, and of the processors."""
-    run = subprocess.Popen([*program, str(passages), str(levels), str(threads)], stderr=subprocess.PIPE, text=True)
+    words = [*program, *map(str, (passages, levels, threads))]
+    _, used, run = taken(words, stderr=subprocess.PIPE, text=True)
     row = run.stderr.read().split()
-    _, status, used = os.wait4(run.pid, 0)
-    if status != 0 or len(row) != 4:
+    if run.returncode != 0 or len(row) != 4:
         sys.exit(f"bench/lock.py: {program} failed at {levels} levels and {threads} threads")
     made = int(row[2])
     return int(row[3]) / made, (used.ru_utime + used.ru_stime) * 1e9 / made

@@ -13,6 +13,7 @@ import sys
 
 import figures
 import checks
+from timed import taken
 
 CASES = [(threads, batch) for threads in (1, 4, 16, 64) for batch in (1, 16, 256)]
 ON_TWO = [(threads, batch) for threads in (2, 64) for batch in (1, 256)]
@@ -21,11 +22,9 @@ ON_TWO = [(threads, batch) for threads in (2, 64) for batch in (1, 256)]
 def timed(program, commands, is_table, threads, batch, processors):
     """Nanoseconds a command on the clock, and of the processors."""
     words = [program, "shared"] + [str(number) for number in (commands, is_table, threads, batch)]
-    run = subprocess.Popen(words, stderr=subprocess.PIPE, text=True,
-                           preexec_fn=lambda: os.sched_setaffinity(0, processors))
+    how = {"stderr": subprocess.PIPE, "text": True, "preexec_fn": lambda: os.sched_setaffinity(0, processors)}
+    _, used, run = taken(words, **how)
     row = run.stderr.read().split()
-    _, status, used = os.wait4(run.pid, 0)
-    run.returncode = os.waitstatus_to_exitcode(status)
     if run.returncode != 0 or len(row) != 5:
         sys.exit(f"bench/shared.py: {words} failed")
     made = int(row[3])
