@@ -35,9 +35,9 @@ use Rattle.rt_feed.specs.declared.report.Line.{Line}
 use Rattle.rt_feed.specs.declared.report.Answer.{Answer}
 use Rattle.rt_feed.specs.declared.report.Answer.TheVariants as answer
 use Rattle.rt_feed.specs.Lines.{TellsTwo, CutsLine, skipped, faulty, asked, LineOutcome, Becomes, asked_of, report_lines}
-use Rattle.rt_feed.specs.Reports.{is_refusal, is_fault, has_refusal, has_fault}
+use Rattle.rt_feed.specs.Reports.{is_refusal, has_refusal, has_fault}
 use Rattle.rt_feed.specs.Visits.{IsCut, concatenated}
-use Rattle.rt_feed.specs.Printed.{rows_text, reply_text, answer_text, line_text, route_text, row_text, count_text, table_text, found_text, all_found_text, also_text, reason_text}
+use Rattle.rt_feed.specs.Printed.{reply_text, answer_text, line_text, route_text, row_text, count_text, table_text, found_text, also_text, reason_text}
 use Rattle.rt_feed.specs.declared.faults.RunFault.{RunFault}
 use Rattle.rt_feed.specs.declared.faults.RunFault.TheVariants as run
 use Rattle.feed_examples.proofs.Feed.{at_192_0_2_1, asked_text, two_are_asked_and_a_line_is_faulty}
@@ -68,7 +68,6 @@ use Rattle.rt_feed.specs.Counts.{totals_as, count_as, counts_as}
 use Rattle.rt_run.specs.TableText.{answers_text, all_answers_text, routes_text, counts_text, was_full, was_existing, was_missing, fault_at, faults_of, tally_of}
 use Rattle.rt_run.specs.TableText.{has_refused, has_left_out, tallies_status, IsSummary, LeavesTable, IsShown, IsLookup}
 use Rattle.rt_run.specs.declared.shown.LookupSummary.{LookupSummary}
-use Rattle.rt_feed.specs.declared.faulty.FaultyLines.{FaultyLines}
 use Rattle.rt_feed.specs.Addresses.{faulty_lines, SaysAddresses}
 use Rattle.rt_run.specs.SameTable.{table_alone, LeavesAlone, IsUnion, IsAnsweredAlone, AskTheSame, SayTheSame}
 use Rattle.rt_run.specs.SameTable.{LeavesUnion, AnswersAlone, HaveSameTallies, HaveOneUnion, EndsInUnion, EndInOneTable, ShowsUnion, ShowOneTable, LookUpOnce}
@@ -589,11 +588,11 @@ nothing_of_no_text batch feed journal = tt
 no_lines_of_no_text :
     (batch feed : ℕ) (journal : List Entry) (lines : List LineOutcome) (outcomes : List (List LineOutcome))
     → ¬ ExplainsFrom batch feed journal [] (lines ∷ outcomes)
-no_lines_of_no_text batch feed journal lines outcomes h = h
+no_lines_of_no_text batch feed journal its_lines outcomes h = h
 
 no_text_left_out :
     (batch feed : ℕ) (journal : List Entry) (text : List ℕ) (texts : List (List ℕ)) → ¬ ExplainsFrom batch feed journal (text ∷ texts) []
-no_text_left_out batch feed journal text texts h = h
+no_text_left_out batch feed journal its_text texts h = h
 
 a_text_and_those_behind_it :
     (batch feed : ℕ) (journal : List Entry) (text : List ℕ) (texts : List (List ℕ)) (lines : List LineOutcome) (outcomes : List (List LineOutcome))

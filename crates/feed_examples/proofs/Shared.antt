@@ -1,6 +1,6 @@
 -- Examples by which the definitions of rt_shared are tested, each under a line with the definition's name. Both sides
 -- are computed.
-use Rattle.std.proofs.Common.{◌≡◌, ◌≢◌, ℕ, zero, suc, ◌+◌, ◌<◌, ◌≤◌, ◌⊎◌, inl, inr, ⊎_elim, None, Some, List, [], ◌∷◌, ◌++◌, refl, sym, ap, subst, arith}
+use Rattle.std.proofs.Common.{◌≡◌, ◌≢◌, ℕ, zero, suc, ◌+◌, ◌<◌, ◌≤◌, ◌⊎◌, inl, inr, ⊎_elim, Some, List, [], ◌∷◌, ◌++◌, refl, sym, ap, subst, arith}
 use Rattle.std.specs.Prelude as std
 use Rattle.std.specs.Prelude.{◌↔◌, All, length, map, zip, slice_get, slice_index_or}
 use Rattle.std.specs.List.{flat_map}
