@@ -89,12 +89,7 @@ impl<'a, R, O, E> Program<'a, R, O, E> {
     }
 }
 
-impl<R, O, E> Program<'_, R, O, E>
-where
-    R: Files + Threads + Wait + Sync + AllocGlobal,
-    O: Write,
-    E: Write,
-{
+impl<R: Files + Threads + Wait + Sync + AllocGlobal, O: Write, E: Write> Program<'_, R, O, E> {
     fn carry_out<'w>(&mut self, words: &'w [String]) -> Result<u8, Stop<'w>> {
         match command_line::read(self.alloc, words) {
             Ok(Request::Run(request)) => self.run_files(&request),

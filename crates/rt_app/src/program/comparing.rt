@@ -12,12 +12,7 @@ use std::rt::Files;
 use std::sync::Wait;
 use std::thread::Threads;
 
-impl<R, O, E> Program<'_, R, O, E>
-where
-    R: Files + Threads + Wait + Sync + AllocGlobal,
-    O: Write,
-    E: Write,
-{
+impl<R: Files + Threads + Wait + Sync + AllocGlobal, O: Write, E: Write> Program<'_, R, O, E> {
     /// Tells which addresses the tables of the old files and of the new ones answer otherwise.
     pub(super) fn compare<'w>(&mut self, request: &DiffRequest<'w>) -> Result<u8, Stop<'w>> {
         let (old_names, new_names) = (request.run.files.as_slice(), request.new_files.as_slice());

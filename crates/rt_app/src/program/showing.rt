@@ -8,8 +8,7 @@ use rt_cidr::{Addr, Prefix};
 use rt_feed::Style;
 use rt_rib::{Part, Selection};
 use rt_run::{
-    AppFault, AskedAddresses, FeedTexts, LookupSummary, RunSummary, count_texts, lookup_all_texts,
-    lookup_texts, table_texts,
+    AskedAddresses, FeedTexts, RunSummary, count_texts, lookup_all_texts, lookup_texts, table_texts,
 };
 use std::alloc::Global;
 use std::io::Write;
@@ -17,13 +16,9 @@ use std::rt::Files;
 use std::sync::Wait;
 use std::thread::Threads;
 
-impl<R, O, E> Program<'_, R, O, E>
-where
-    R: Files + Threads + Wait + Sync + AllocGlobal,
-    O: Write,
-    E: Write,
-{
-    /// Answers for each address that the command line names, and then for each of their file.
+impl<R: Files + Threads + Wait + Sync + AllocGlobal, O: Write, E: Write> Program<'_, R, O, E> {
+    /// Answers for each address that the command line names, and then for each of their file: all routes that cover it, or
+    /// only the best.
     pub(super) fn show_answers<'w>(&mut self, request: &LookupRequest<'w>) -> Result<u8, Stop<'w>> {
         let run = &request.run;
         let named = named_addresses(self.alloc, request)?;
@@ -39,7 +34,12 @@ where
             named: named.as_slice(),
             text: text.as_slice(),
         };
-        let told = self.answer(request, &asked, &style, &addresses)?;
+        let mut out = self.screen.beside(asked.count(), self.out);
+        let told = if request.all {
+            lookup_all_texts(self.rt, self.alloc, &asked, &style, &addresses, &mut out)?
+        } else {
+            lookup_texts(self.rt, self.alloc, &asked, &style, &addresses, &mut out)?
+        };
         if let Some(name) = request.more {
             tell_faulty(&mut self.screen, name, told.faulty);
         }
@@ -55,45 +55,14 @@ where
         let texts = self.read_feeds(run.files.as_slice())?;
         let asked = FeedTexts::new(texts.as_slice(), run.limit, run.batch as usize);
         let style = Style::new(form_of(request.telling), labels.as_slice());
-        let summary = self.list(request, &asked, &style, &selection)?;
+        let mut out = self.screen.beside(asked.count(), self.out);
+        let summary = if request.count {
+            count_texts(self.rt, self.alloc, &asked, &style, &selection, &mut out)?
+        } else {
+            table_texts(self.rt, self.alloc, &asked, &style, &selection, &mut out)?
+        };
         tell_summary(&mut self.screen, run.files.as_slice(), &summary);
         Ok(summary.status)
-    }
-}
-
-impl<R: Threads + Wait + Sync, O: Write, E: Write> Program<'_, R, O, E> {
-    /// Writes the answers of the table that the texts leave: for each address all routes that cover it, or only the best.
-    fn answer(
-        &mut self,
-        request: &LookupRequest<'_>,
-        asked: &FeedTexts<'_>,
-        style: &Style<'_>,
-        addresses: &AskedAddresses<'_>,
-    ) -> Result<LookupSummary, AppFault> {
-        let (rt, alloc) = (self.rt, self.alloc);
-        let mut out = self.screen.beside(asked.count(), self.out);
-        if request.all {
-            lookup_all_texts(rt, alloc, asked, style, addresses, &mut out)
-        } else {
-            lookup_texts(rt, alloc, asked, style, addresses, &mut out)
-        }
-    }
-
-    /// Writes those routes of the table that the texts leave that are asked for, or how many these are.
-    fn list(
-        &mut self,
-        request: &TableRequest<'_>,
-        asked: &FeedTexts<'_>,
-        style: &Style<'_>,
-        selection: &Selection,
-    ) -> Result<RunSummary, AppFault> {
-        let (rt, alloc) = (self.rt, self.alloc);
-        let mut out = self.screen.beside(asked.count(), self.out);
-        if request.count {
-            count_texts(rt, alloc, asked, style, selection, &mut out)
-        } else {
-            table_texts(rt, alloc, asked, style, selection, &mut out)
-        }
     }
 }
 
