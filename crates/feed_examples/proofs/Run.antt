@@ -224,10 +224,15 @@ any_of_them : (style : StyleContents) (selection : Selection) (table : List Rout
 any_of_them style selection table = refl
 
 -- counts_text
-all_in_numbers : counts_text plain (record { part = part.All; only_best = true; feed = None }) two_to_ten_8
-    ≡ codes "routes 1 prefixes 1\nfeed 2 routes 1\nlength 8 routes 1\n"
+all_in_numbers : counts_text plain (record { part = part.All; only_best = false; feed = None }) two_to_ten_8
+    ≡ codes "routes 2 prefixes 1\nfeed 1 routes 1\nfeed 2 routes 1\nlength 8 routes 2\n"
 unfolding counts_as totals_as count_as digits
 all_in_numbers = refl
+
+only_the_best_in_numbers : counts_text plain (record { part = part.All; only_best = true; feed = None }) two_to_ten_8
+    ≡ codes "routes 1 prefixes 1\nfeed 2 routes 1\nlength 8 routes 1\n"
+unfolding counts_as totals_as count_as digits
+only_the_best_in_numbers = refl
 
 any_of_them_in_numbers : (style : StyleContents) (selection : Selection) (table : List Route) → counts_text style selection table
     ≡ counts_as style.form (label_of style.labels) (selected selection table)
