@@ -4,13 +4,13 @@ ghost use Rattle.yarib_c.specs.Sizes.{bytes_of};
 ghost use Rattle.yarib_c.specs.declared.sizes.TheConstants.{NODE_BYTES, ENTRY_BYTES};
 
 /// What the C library takes for a node of a trie, which mostly has one offer or none.
-const NODE_BYTES: usize = 48;
+pub const NODE_BYTES: usize = 48;
 
 /// What an entry of a journal takes.
-const ENTRY_BYTES: usize = 56;
+pub const ENTRY_BYTES: usize = 56;
 
 /// So many are counted at most.
-const MOST_COUNTED: usize = 1 << 40;
+pub const MOST_COUNTED: usize = 1 << 40;
 
 /// What so many nodes take.
 pub(crate) fn node_bytes(count: usize) -> usize
