@@ -11,21 +11,17 @@ pub returns-in_err-put_feed : goal.returns-in_err-put_feed
 returns-in_err-put_feed g c =
     let fault = err_from_is_err_and c.from_residual.result c.from_residual.ensures.1 in
     let begun = rw c.count_of.ensures at c.in_err-put_feed.ensures.err in
-    each_stops _ _ _ (λ feed. count_as c.args.style.now.form (codes "feed") (feed_as c.args.style.now.form (label_of c.args.style.now.labels) feed) (count_of feed c.args.routes.now))
-    c.loop-feed.feed 65 _ _ fault.1 (omega (arith, c.loop-feed-test.true)) c.loop-feed.invariant.written begun
+    let told = λ (feed : ℕ). count_as c.args.style.now.form (codes "feed") (feed_as c.args.style.now.form (label_of c.args.style.now.labels) feed) (count_of feed c.args.routes.now) in
+    each_stops _ _ _ told c.loop-feed.feed 65 _ _ fault.1 (omega (arith, c.loop-feed-test.true)) c.loop-feed.invariant.written begun
 
 pub loop-feed-preserved : goal.loop-feed-preserved
 loop-feed-preserved g c =
     let put = rw c.count_of.ensures at c.in_ok-put_feed.ensures.ok in
-    record {
-      few = omega (arith, c.loop-feed-test.true);
-      written = each_next _ _ _ (λ feed. count_as c.args.style.now.form (codes "feed") (feed_as c.args.style.now.form (label_of c.args.style.now.labels) feed) (count_of feed c.args.routes.now)) c.loop-feed.feed c.loop-feed.invariant.written put;
-    }
+    let told = λ (feed : ℕ). count_as c.args.style.now.form (codes "feed") (feed_as c.args.style.now.form (label_of c.args.style.now.labels) feed) (count_of feed c.args.routes.now) in
+    record { few = omega (arith, c.loop-feed-test.true); written = each_next _ _ _ told c.loop-feed.feed c.loop-feed.invariant.written put }
 
 pub returns : goal.returns
 returns g c =
     let all : c.loop-feed.feed ≡ 65 = omega (arith, c.loop-feed-test.false, c.loop-feed.invariant.few) in
-    record {
-      ok = subst (λ (n : ℕ). Appends (g.W.Write.contents c.args.w.now) (g.W.Write.contents c.loop-feed.w) (each_below (λ feed. count_as c.args.style.now.form (codes "feed") (feed_as c.args.style.now.form (label_of c.args.style.now.labels) feed) (count_of feed c.args.routes.now)) n)) all c.loop-feed.invariant.written;
-      err = tt;
-    }
+    let told = λ (feed : ℕ). count_as c.args.style.now.form (codes "feed") (feed_as c.args.style.now.form (label_of c.args.style.now.labels) feed) (count_of feed c.args.routes.now) in
+    record { ok = subst (λ (n : ℕ). Appends (g.W.Write.contents c.args.w.now) (g.W.Write.contents c.loop-feed.w) (each_below told n)) all c.loop-feed.invariant.written; err = tt }
