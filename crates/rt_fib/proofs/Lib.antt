@@ -2,3 +2,5 @@ pub mod Reading
 pub mod Growing
 pub mod Renewing
 pub mod Outside
+pub mod Crossing
+pub mod Promised
