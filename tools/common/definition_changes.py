@@ -9,6 +9,7 @@ from .definition_reader import rust_type, spec_module
 SIGNS = [("≡", "≢"), ("≢", "≡"), ("≤", "<"), ("<", "≤"), ("&&", "||"), ("||", "&&"), ("↔", "→"), ("+", "-"), ("-", "+")]
 NAMES = [("true", "false"), ("false", "true"), ("nat_lt", "nat_le"), ("nat_le", "nat_lt"),
          ("list_any", "list_all"), ("list_all", "list_any"), ("⊥", "Unit {0}"), ("Unit {0}", "⊥"), ("not", ""), ("¬", "")]
+TEXT = re.compile(r'codes "(?:[^"\\]|\\.)*"')
 PARTS = [(" × ", "Unit {0}"), (" ⊎ ", "⊥"), (" ++ ", "[]"), (" && ", "true"), (" || ", "false")]
 
 
@@ -60,8 +61,8 @@ def by_token(text):
     for match in re.finditer(r"(?<![\w.'{-])\d+(?![\w'}])", text):
         for new in sorted({int(match[0]) + 1, max(int(match[0]) - 1, 0)} - {int(match[0])}):
             yield put(text, *match.span(), str(new))
-    for match in re.finditer(r'codes "([^"]*)"', text):
-        yield put(text, *match.span(), f'codes "{match[1]}x"')
+    for match in TEXT.finditer(text):
+        yield put(text, *match.span(), f'{match[0][:-1]}x"')
     for match in re.finditer(r"\bif ([^;]+?) then ", text):
         for new in ("true", "false"):
             yield put(text, *match.span(1), new)
@@ -222,17 +223,21 @@ def fields_of(enum, variant):
 
 
 def constants(kind, examples):
-    """What the examples have of this type: numbers, texts, variants and abbreviations, each with what it is imported by."""
+    """What the examples have of this type: numbers, texts, variants and abbreviations, and functions that give one of these
+    whatever they are given; each with what it is imported by."""
+    *given, result = parted(kind, "→")
+    if given:
+        return [(f"(λ {' '.join('_' * len(given))}. {one})", used) for one, used in constants(result, examples)]
     text, file = "\n".join(block.text() for block in examples), examples[0].file
     if kind == "ℕ":
         return [(number, None) for number in sorted(set(re.findall(r"(?<![\w.'{-])\d+(?![\w'}.])", text)) | {"0"}, key=int)]
     if kind == "Bool":
         return [("true", None), ("false", None)]
-    if kind.startswith(("List ", "Option ")):
-        found = [("[]" if kind.startswith("List") else "None", None)]
-        texts = sorted(set(re.findall(r'codes "[^"]*"', text))) if kind == "List ℕ" else []
-        return found + [(f"({one})", ("Rattle.std.specs.Prelude", "codes", None)) for one in texts]
     words, found = set(WORD.findall(text)), []
+    if kind.startswith(("List ", "Option ")):
+        found.append(("[]" if kind.startswith("List") else "None", None))
+    if kind == "List ℕ":
+        found += [(f"({one})", ("Rattle.std.specs.Prelude", "codes", None)) for one in sorted(set(TEXT.findall(text)))]
     for module, items, alias in file.uses:
         if module.endswith(f".{kind}.TheVariants"):
             named = {item.strip() for item in items.split(",")} & words if items else set(re.findall(rf"\b{alias}\.(\w+)", text))
