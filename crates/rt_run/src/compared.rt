@@ -5,8 +5,9 @@ ghost use Rattle.rt_run.specs.RunText.{Leaves};
 ghost use Rattle.rt_rib.specs.Book.{table_of};
 ghost use Rattle.rt_run.specs.DiffText.{IsDiffText};
 ghost use Rattle.rt_run.specs.inside.RunResults.{RunOverBook};
-ghost use Rattle.rt_run.specs.inside.Comparisons.{compared_of, compared_status, IsFirstOf};
+ghost use Rattle.rt_run.specs.inside.Comparisons.{compared_status, IsFirstOf};
 
+use crate::diff_terms::DiffTerms;
 use crate::faults::AppFault;
 use crate::feed_texts::FeedTexts;
 use crate::output::{Output, write_output};
@@ -14,64 +15,13 @@ use crate::runs::{FinishedRun, run_all};
 use crate::status::Status;
 use crate::tallies::RunSummary;
 use rt_cidr::Addr;
-use rt_diff::{By, Comparison, Difference};
-use rt_feed::{RunFault, SideStyles};
+use rt_diff::Difference;
+use rt_feed::RunFault;
 use rt_rib::Book;
 use std::alloc::Global;
 use std::io::Write;
-use std::marker::Model;
 use std::sync::Wait;
 use std::thread::Threads;
-
-/// How two tables are compared and told. Contracts see all of it.
-#[derive(Debug, Drop)]
-pub struct DiffTerms<'a> {
-    by: By,
-    numbers: &'a [u32],
-    styles: &'a SideStyles<'a>,
-}
-
-impl<'a> Model for DiffTerms<'a> {
-    ghost use Rattle.rt_run.specs.DiffText.{AskedDiff};
-
-    ghost Value = { AskedDiff };
-
-    ghost view = { λ t. record { by = t.by; numbers = t.numbers.now; styles = t.styles.now } };
-}
-
-impl<'a> DiffTerms<'a> {
-    /// By what answers are told apart; by which numbers the feeds of the new table are told, feed k by the k-th and one beyond
-    /// these by its own, as of `Comparison::tell_new_by`; and in which style, with labels by these numbers.
-    pub fn new(by: By, numbers: &'a [u32], styles: &'a SideStyles<'a>) -> DiffTerms<'a>
-        ensures { result ≡ record { by = by; numbers = numbers.now; styles = styles.now } }
-    {
-        DiffTerms {
-            by,
-            numbers,
-            styles,
-        }
-    }
-
-    /// The style.
-    pub(crate) fn styles(&self) -> &'a SideStyles<'a>
-        ensures { result.now ≡ self.now.styles }
-    {
-        self.styles
-    }
-
-    /// The tables of two books, compared so.
-    pub(crate) fn comparison(
-        &self,
-        old: &'a Book<Global>,
-        new: &'a Book<Global>,
-    ) -> Comparison<'a, Global>
-        ensures { result ≡ compared_of self.now (table_of old.now) (table_of new.now) }
-    {
-        let mut tables = Comparison::new(old, new, self.by);
-        tables.tell_new_by(self.numbers);
-        tables
-    }
-}
 
 /// What a comparison of two runs gives.
 #[derive(Debug, Drop)]

@@ -19,6 +19,7 @@
 
 mod asked_addresses;
 mod compared;
+mod diff_terms;
 mod faults;
 mod feed_texts;
 mod forwarding;
@@ -31,7 +32,8 @@ mod status;
 mod tallies;
 
 pub use asked_addresses::AskedAddresses;
-pub use compared::{DiffSummary, DiffTerms, diff_texts};
+pub use compared::{DiffSummary, diff_texts};
+pub use diff_terms::DiffTerms;
 pub use faults::AppFault;
 pub use feed_texts::FeedTexts;
 pub use replays::replay_text;

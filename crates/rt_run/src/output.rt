@@ -10,7 +10,7 @@ ghost use Rattle.rt_run.specs.TableText.{answers_text};
 ghost use Rattle.rt_run.specs.inside.Outputs.{IsOutput, matches_text, output_text, Writes};
 ghost use Rattle.rt_run.specs.inside.Comparisons.{IsFirstOf, lines_of};
 
-use crate::compared::DiffTerms;
+use crate::diff_terms::DiffTerms;
 use crate::faults::AppFault;
 use crate::forwarding::look_up_by;
 use rt_cidr::{Addr, OutputBuffer, OutputRoom};
