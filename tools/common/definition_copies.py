@@ -246,8 +246,8 @@ class Scratch:
         (self.folder / "src/lib.rt").write_text(ROOT)
 
     def tried(self, copies, check):
-        """Of each copy the blocks that the prover refuses, None for an error at another place; None in place of all where the check
-        doesn't end. check: what has the crate of copies proved, and gives what that printed, or None."""
+        """Of each copy the blocks that the prover refuses, None for an error at another place; None in place of all where
+        the check doesn't end. check: what has the crate of copies proved, and gives what that printed, or None."""
         written = {}
         for copy in copies:
             for name, text, blocks in copy.files():
