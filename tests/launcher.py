@@ -3,8 +3,8 @@
 completions.
 
 tests/launcher.py [CASE..], or --list for the names of the cases. Needs bash, gcc and python3, but no toolchain: the
-stand-in `rt` notes when it begins and ends with which crate, and what it builds is tests/started.c, which tells how it
-was started. So this takes seconds, and says nothing of proofs.
+stand-in for the prover notes when it begins and ends with which crate, and what it builds is tests/started.c, which tells
+how it was started. So this takes seconds, and says nothing of proofs.
 """
 import concurrent.futures
 import os
@@ -18,16 +18,25 @@ import time
 from checks import TOP, chosen, compiled, end, expect, run, run_case, text_of
 from common.crates import all_crates, below
 
-# Notes the beginning and the end of each call in $NOTES, in whose order they happened.
-STANDIN = """#!/bin/sh
+# The stand-in for `rt` tells where the toolchain lies, and which it is.
+RT = """#!/bin/sh
+case $1 in doc) echo "$KIT/page.md" ;; version) echo "$VERSION" ;; *) exit 2 ;; esac
+"""
+# That for the prover notes the beginning and the end of each call in $NOTES, in whose order they happened.
+PROVER = """#!/bin/sh
 crate=$(basename "$PWD")
 echo "begin $crate" >>"$NOTES"
 sleep 0.05
-if [ "$crate" = "$CHANGES" ]; then touch ../rt_cidr/src/lib.rt; fi
+if [ "$crate" = "$CHANGES" ]; then echo more >>../rt_cidr/src/lib.rt; fi
 if [ "$crate" = "$FAILS" ]; then echo "no proof of $crate"; exit 1; fi
-mkdir -p out
-if [ "$crate" = rt_app ]; then cp "$STARTED" out/rt_app; fi
+while [ $# -gt 0 ]; do if [ "$1" = -o ]; then made=$2; fi; shift; done
+: >"$made"
 echo "end $crate" >>"$NOTES"
+"""
+# That for the linker puts the program where the words want it.
+LINKER = """#!/bin/sh
+while [ "$1" != -o ]; do shift; done
+cp "$STARTED" "$2"
 """
 # What the launcher sets of glibc's memory.
 TUNABLES = "glibc.malloc.arena_max=1:glibc.malloc.hugetlb=1"
@@ -44,8 +53,9 @@ class Copy:
                 path = self.top / "crates" / crate / file
                 path.parent.mkdir(parents=True)
                 path.write_text("//\n")
-        for name in ("yarib", "crates.txt"):
-            shutil.copy(TOP / name, self.top)
+        for name in ("yarib", "crates.txt", "tools/build", "tools/common/crates.py", "tools/common/prover.py"):
+            (self.top / name).parent.mkdir(parents=True, exist_ok=True)
+            shutil.copy(TOP / name, self.top / name)
         for path in self.top.rglob("*"):
             os.utime(path, (time.time() - 1_000,) * 2)
         self.notes.write_text("")
@@ -53,7 +63,7 @@ class Copy:
     def start(self, *words, path="with", by=None, **more):
         """How a call ends: its status, what the program that it started tells, and standard error."""
         names = {"PATH": self.tools / path, "NOTES": self.notes, "STARTED": self.tools / "started", "FAILS": "",
-                 "CHANGES": ""}
+                 "CHANGES": "", "KIT": self.tools / "kit", "VERSION": "1"}
         how = {"env": names | more.pop("names", {}), "stdin": subprocess.DEVNULL, "cwd": self.top} | more
         status, out, err = run([by or self.top / "yarib", *words], **how)
         return status, out, err
@@ -69,10 +79,11 @@ class Copy:
         expect("the program is started", self.start("x")[:2], (0, told(["x"], self.top)))
         return self.built()
 
-    def touch(self, name):
+    def change(self, name):
         path = self.top / name
         path.parent.mkdir(parents=True, exist_ok=True)
-        path.touch()
+        with open(path, "a") as file:
+            file.write("#\n")
 
 
 def told(words, folder, tunables=TUNABLES, given=""):
@@ -116,22 +127,41 @@ def what_it_is_given(copy):
            len([note for note in copy.built() if note == "begin rt_app"]), 1)
 
 
-# Fails where a changed file of `specs/` rebuilds nothing: `built where crates/rt_trie/specs/S.antt is newer`.
-# Fails where an edit that the prover has to refuse, or a crate on which the program doesn't stand, has it built anew:
-# `not built where crates/walkthrough/src/lib.rt is newer`.
+# Fails where a changed file of `specs/` has nothing proved anew, or a crate that stands on it is left as it was: `built where
+# crates/rt_trie/specs/S.antt is another`.
+# Fails where an edit that the prover has to refuse, or a crate on which the program doesn't stand, has something built anew:
+# `not built where crates/walkthrough/src/lib.rt is another`.
+# Fails where what another toolchain built is taken: `built where the toolchain is another`.
+# Fails where a library that is gone is built again alone: `built where a library is gone`.
 def what_is_built_anew(copy):
-    whole = len(copy.built_by_call())
-    specs = ("crates/rt_trie/specs/S.antt", "crates/ya_core/specs/inside/new.antt")
-    for name in ("crates/rt_trie/src/lib.rt", *specs, "crates.txt"):
-        copy.touch(name)
-        expect(f"built where {name} is newer", len(copy.built_by_call()), whole)
-        expect(f"not built again where {name} was newer", copy.built_by_call(), [])
-    others = [f"crates/{crate}/src/lib.rt" for crate in sorted(set(all_crates()) - below(["rt_app"]))]
+    whole = below(["rt_app"])
+    expect("built at first", begun(copy.built_by_call()), whole)
+    for name in ("crates/rt_trie/src/lib.rt", "crates/rt_trie/specs/S.antt", "crates/ya_core/proofs/new/P.antt"):
+        copy.change(name)
+        crate = name.split("/")[1]
+        expect(f"built where {name} is another", begun(copy.built_by_call()),
+               {one for one in whole if crate in below([one])})
+        expect(f"not built again where {name} was another", copy.built_by_call(), [])
+    (copy.top / "out/build/rt_trie.rlib").unlink()
+    (copy.top / "crates/rt_cidr/src/lib.rt").touch()
+    expect("built where a library is gone", begun(copy.built_by_call()),
+           {one for one in whole if "rt_trie" in below([one])})
+    (copy.top / "crates/rt_cidr/src/lib.rt").touch()
+    expect("not proved where a file is newer and as it was", copy.built_by_call(), [])
+    others = [f"crates/{crate}/src/lib.rt" for crate in sorted(set(all_crates()) - whole)]
     for name in ("crates/rt_trie/must-fail/m.edit", *others, "crates/rt_trie/out/rlib", "README.md", "tests/rows.py"):
-        copy.touch(name)
-        expect(f"not built where {name} is newer", copy.built_by_call(), [])
+        copy.change(name)
+        expect(f"not built where {name} is another", copy.built_by_call(), [])
     (copy.top / "out/yarib").unlink()
-    expect("built where there is no program", len(copy.built_by_call()), whole)
+    expect("not proved again where the program's copy is gone", copy.built_by_call(), [])
+    copy.change("crates.txt")
+    copy.start("x", names={"VERSION": "2"})
+    expect("built where the toolchain is another", begun(copy.built()), whole)
+
+
+def begun(notes):
+    """The crates with which the prover began."""
+    return {note.split()[1] for note in notes if note.startswith("begin")}
 
 
 # Fails where a crate is proved before one that it needs: `rt_trie begins when rt_cidr has ended`.
@@ -147,34 +177,46 @@ def in_order(copy):
         expect(f"{crate} is told of", bool(re.search(rf"\b{crate}\b", err)), True)
 
 
-# Fails where nothing keeps two builds apart: `three calls at once build once`.
+# Fails where nothing keeps two builds apart: `three calls at once build once`, `two builds at once prove each crate once`.
 def one_at_a_time(copy):
     with concurrent.futures.ThreadPoolExecutor(3) as pool:
         ended = list(pool.map(lambda word: copy.start(word), "xyz"))
     expect("three calls at once start the program", [one[:2] for one in ended],
            [(0, told([word], copy.top)) for word in "xyz"])
     expect("three calls at once build once", copy.built().count("begin rt_app"), 1)
+    copy.change("crates/rt_cidr/src/lib.rt")
+    with concurrent.futures.ThreadPoolExecutor(2) as pool:
+        builds = list(pool.map(lambda name: copy.start(name, by=copy.top / "tools/build")[0], ("rt_app", "rt_app")))
+    expect("two builds at once prove each crate once", (builds, copy.built().count("begin rt_trie")), ([0, 0], 1))
 
 
 # Fails where the program of the last build is started though the build failed, or the failure is told by no status: `..
 # fails`.
+# Fails where a crate is taken as built that stands on one which a failed build has built anew: `terminal_line over another
+# rt_cidr`.
 def failed_builds(copy):
     copy.start()
     for crate in ("ya_core", "rt_run", "rt_app"):
-        copy.touch("crates/rt_cidr/src/lib.rt")
+        copy.change("crates/rt_cidr/src/lib.rt")
+        copy.change("crates/ya_core/src/lib.rt")
         copy.built()
         status, out, err = copy.start("x", names={"FAILS": crate})
-        log = (copy.top / "out/build.log").read_text()
-        is_told = "build" in err or crate in err, f"no proof of {crate}" in log
+        log = copy.top / f"out/build/{crate}.log"
+        is_told = f"{crate} is not proved; {log}" in err, log.read_text() == f"no proof of {crate}\n"
         expect(f"{crate} fails", (status, out, *is_told), (126, "", True, True))
         expect(f"rt_app is not built where {crate} fails", "end rt_app" in copy.built(), False)
     expect("built when nothing fails any more", copy.built_by_call().count("end rt_app"), 1)
+    for crate in ("rt_cidr", "ya_core"):
+        copy.change(f"crates/{crate}/src/lib.rt")
+    copy.start("x", names={"FAILS": "ya_core"})
+    expect("terminal_line waits for ya_core, which fails", "begin terminal_line" in copy.built(), False)
+    expect("terminal_line over another rt_cidr", "begin terminal_line" in copy.built_by_call(), True)
 
 
 # Fails where a source that was changed during the build counts as built: `a source was changed while ..`.
 def changed_meanwhile(copy):
     for crate in ("rt_diff", "rt_app"):
-        copy.touch("crates.txt")
+        copy.change("crates/rt_cidr/src/lib.rt")
         copy.start(names={"CHANGES": crate})
         copy.built()
         expect(f"a source was changed while {crate} was built", copy.built_by_call().count("end rt_app"), 1)
@@ -249,8 +291,10 @@ def put_tools(folder):
             for name in ("without", "with"):
                 if command.name != "rt" and not os.path.lexists(folder / name / command.name):
                     (folder / name / command.name).symlink_to(command)
-    (folder / "with/rt").write_text(STANDIN)
-    (folder / "with/rt").chmod(0o755)
+    for name, text in (("with/rt", RT), ("kit/bin/rattle", PROVER), ("kit/bin/rattle-link", LINKER)):
+        (folder / name).parent.mkdir(parents=True, exist_ok=True)
+        (folder / name).write_text(text)
+        (folder / name).chmod(0o755)
     compiled(folder, "tests/started.c")
 
 

@@ -19,9 +19,9 @@ def library(crate):
     return CRATES / crate / f"out/rlib/{crate}.rlib"
 
 
-def words_for(name, named, folder, is_archive=None):
-    """What the prover is told of a crate in this folder: its name, what its line of crates.txt names, and whether it
-    becomes an archive for C, as a static library does."""
+def words_for(name, named, folder, is_archive=None, libraries=library):
+    """What the prover is told of a crate in this folder: its name, what its line of crates.txt names, whether it becomes
+    an archive for C, as a static library does, and where the library that is built of a crate lies."""
     own = [one for one in named if one in needs()]
     root = "src/main.rt" if (folder / "src/main.rt").exists() else "src/lib.rt"
     words = ["--crate-name", name, root]
@@ -29,9 +29,9 @@ def words_for(name, named, folder, is_archive=None):
         words += ["--extern", f"{one}={kit()}/rlibs/{one}.rlib"]
     words += ["-L", f"dependency={kit()}/rlibs"]
     for one in own:
-        words += ["--extern", f"{one}={library(one)}"]
-    for one in sorted(below(own)):
-        words += ["-L", f"dependency={library(one).parent}"]
+        words += ["--extern", f"{one}={libraries(one)}"]
+    for place in sorted({libraries(one).parent for one in below(own)}):
+        words += ["-L", f"dependency={place}"]
     words += ["--crate-type", "staticlib"] * (is_static(name) if is_archive is None else is_archive)
     return [*words, "--antt-project", f"{kit()}/rattle/logic/antt-project.json", "--logic-built",
             f"{kit()}/logic_built", "--links", f"{name}="]
@@ -50,6 +50,13 @@ def said_by(words, folder, seconds=None):
         words = ["sh", "-c", f'ulimit -t {seconds} && exec "$@"', "sh", *words]
     return subprocess.run(words, cwd=folder, stdin=subprocess.DEVNULL, stdout=subprocess.PIPE, stderr=subprocess.STDOUT,
                           text=True, errors="replace").stdout
+
+
+def linking_words(program):
+    """The command that links what the prover has compiled of a program, PROGRAM.o."""
+    parts = [f"{program}.o", kit() / "c/libos_c.a", kit() / "c/liblibc_c.a"]
+    return [kit() / "bin/rattle-link", "--target", "x86_64-unknown-linux-gnu", "--toolchain", kit() / "toolchain", "-o",
+            program, *parts]
 
 
 def archive_built(name):
