@@ -334,42 +334,6 @@ def speaks_of(one):
 
 
 @functools.cache
-def example_module(module):
-    """The abbreviations of a file of examples by name, and what its other words stand for."""
-    file, _ = example_files()[module]
-    found = parse_module(module, file)
-    return {name: one for name, one in found.items() if one.lines[0].startswith("abbrev")}, imports(file.read_text())
-
-
-def example_name(module, word):
-    """Where a word of the examples is an abbreviation of them: in this file, or in one from which it is imported."""
-    names, used = example_module(module)
-    if word in names:
-        return module, word
-    other, name = used.get(word, (None, None))
-    return example_name(other, name) if other in example_files() and name else None
-
-
-def named_in_examples(tested):
-    """The abbreviations that the examples of these definitions are written with, by crate."""
-    texts = [(example.key.rpartition(".")[0], "\n".join(statement))
-             for key in tested for example, statement in examples().get(key, ())]
-    named, out = set(), []
-    while texts:
-        module, text = texts.pop()
-        for word in re.findall(r"[^\W\d][\w'-]*", uncommented(text)):
-            found = example_name(module, word)
-            if found and found not in named:
-                named.add(found)
-                texts.append((found[0], "\n".join(example_module(found[0])[0][found[1]].lines)))
-    for module, (file, crate) in example_files().items():
-        lines = [line for name, one in example_module(module)[0].items() if (module, name) in named
-                 for line in [*(f"-- {said}" for said in one.comment), *one.lines]]
-        out += [f"Of [{crate}](../{file.relative_to(TOP)}):", "", "```agda", *lines, "```", ""] if lines else []
-    return out
-
-
-@functools.cache
 def examples():
     """The examples of all crates, by the definition that they test: their statements."""
     found = {}
@@ -397,13 +361,8 @@ def examples():
     return found
 
 
-def folded(summary, lines):
-    """What is not to be read at once: one line, below which the rest can be opened."""
-    return [f"<details><summary>{summary}</summary>", "", *lines, "", "</details>", ""]
-
-
 def shown(definition, link, brief=()):
-    """A definition on the page: its comment and its lines, its place, and what it is tested by."""
+    """A definition on the page: its comment and its lines, and its place."""
     lines = definition.lines
     if definition.key in brief:
         lines = [re.sub(r" (where|\{)$", "", lines[0])]
@@ -414,12 +373,14 @@ def shown(definition, link, brief=()):
     if definition.key in brief:
         out += ["", *wrapped(f"Its first line alone: {BRIEF[definition.key]}")]
     language = "agda" if is_spec else "rust"
-    out += ["", f"```{language}", *comment, *context, *lines, "```", ""]
+    return out + ["", f"```{language}", *comment, *context, *lines, "```", ""]
+
+
+def shown_examples(definition):
+    """The examples of a definition, below a line that counts them."""
     tests = examples().get(definition.key, ())
-    if tests and definition.key not in brief:
-        said = "one example" if len(tests) == 1 else f"{len(tests)} examples"
-        out += folded(f"Tested by {said}", ["```agda", *(line for _, statement in tests for line in statement), "```"])
-    return out
+    said = "Tested by one example:" if len(tests) == 1 else f"Tested by {len(tests)} examples:"
+    return [said, "", "```agda", *(line for _, statement in tests for line in statement), "```", ""] if tests else []
 
 
 def shown_clause(clause, link):
@@ -468,8 +429,8 @@ def from_above(old, spoken_of, written):
         yield from [*wrapped(f"From {place}: {named(definitions)}, and what they rest on."), ""]
 
 
-def definitions_of(speakers, written, brief, link):
-    """What the speakers rest on, as far as it doesn't stand further up."""
+def definitions_of(speakers, written, brief, link, with_examples=False):
+    """What the speakers rest on, as far as it doesn't stand further up, each with its examples if these are wanted."""
     new, old, words = in_order(speakers, written.known(), brief)
     bare = [one.key for one in new if not one.comment]
     if bare:
@@ -477,7 +438,7 @@ def definitions_of(speakers, written, brief, link):
     spoken_of = {one.key for speaker in speakers + new for one in speaks_of(speaker) if isinstance(one, Definition)}
     out = list(from_above(old, spoken_of, written))
     for definition in new:
-        out += shown(definition, link, brief)
+        out += shown(definition, link, brief) + (shown_examples(definition) if with_examples else [])
         written.has(definition, brief)
     for module, names in words.items():
         written.library.setdefault(module, set()).update(names)
@@ -522,16 +483,15 @@ def anchor(title):
 
 
 def statement_page(page, written):
-    """A page of chapters, with the names that its examples use and the kit's words."""
+    """A page of chapters, with the kit's words."""
     written.turn_to(page)
-    before, body, table = set(written.home), [], []
+    body, table = [], []
     for one in page.chapters:
         definitions, lines = written.definitions, written.lines
         body += chapter(one, written, "../")
         counts = f"{written.definitions - definitions} | {written.lines - lines}"
         table.append(f"| [{one.title}](#{anchor(one.title)}) | {counts} |")
-    used = folded("Names that the examples use", named_in_examples(set(written.home) - before)[:-1])
-    return page_text(head_of(page, table, written) + body + kit_words(written) + used)
+    return page_text(head_of(page, table, written) + body + kit_words(written))
 
 
 def page_text(lines):
@@ -574,7 +534,7 @@ def library_chapter(crate, written):
 def libraries_page(written):
     """All other definitions of specs/ on which a public clause of a library rests."""
     written.turn_to(LIBRARIES)
-    before, body, table = {key for key, page in written.home.items() if page}, [], []
+    body, table = [], []
     for crate in LIBRARY_CRATES:
         lines = written.lines
         out, count = library_chapter(crate, written)
@@ -590,8 +550,7 @@ def libraries_page(written):
         f"those of [{RUN.title}]({LIBRARIES.link(RUN)}) and [{LOCK.title}]({LIBRARIES.link(LOCK)}), where a legend says "
         "how to read them. `tools/statement --write` writes this page out of the sources."), "",
         "| Library | New definitions | Their lines |", "|---|---|---|", *table, ""]
-    used = folded("Names that the examples use", named_in_examples(set(written.home) - before)[:-1])
-    return page_text(head + body + used)
+    return page_text(head + body)
 
 
 def pages():
@@ -608,7 +567,9 @@ def figure(page):
 
 
 def check():
-    """Ends with a fault where a page that is kept, or its number of lines on the front page, is another one."""
+    """Ends with a fault if a page that is kept or its number of lines on the front page differs, or if a heading of the
+    examples names no definition."""
+    examples()
     readme = (TOP / "README.md").read_text()
     for page, text, lines in pages():
         if page is LIBRARIES:
@@ -633,7 +594,7 @@ def print_clauses(said):
     """Any clauses and what they rest on, on standard output."""
     speakers, written = [Clause(one) for one in said], Written(LOCK)
     out = [line for speaker in speakers for line in shown_clause(speaker, "")]
-    out += definitions_of(speakers, written, BRIEF, "")[0]
+    out += definitions_of(speakers, written, BRIEF, "", with_examples=True)[0]
     library = [f"- `{module}`: " + ", ".join(f"`{name}`" for name in sorted(name for name in names if name))
                for module, names in sorted(written.library.items())]
     counts = f"{written.definitions} definitions, {written.lines} lines"
