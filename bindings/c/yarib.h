@@ -13,25 +13,26 @@
  *     yarib_look_up(&table, &address, 1, &answer, 1);  // answer is that route
  *     yarib_free(&table);
  *
- * Numbers. Addresses are 32 bits in the host's order, the first octet the most significant: 10.0.0.0 is 0x0a000000. Feeds
- * are 1 to 64. The least preference number is preferred, and of equal ones the least feed. Sizes count elements.
+ * Numbers. An address is a uint32_t in host byte order; 10.0.0.0 is 0x0a000000. Feeds are 1 to 64. The lowest preference
+ * number is preferred; between equal preferences, the lowest feed. Sizes count elements, not bytes.
  *
- * Statuses. Each call but yarib_free returns one; YARIB_DONE is 0. After any other the handles hold what they held, and
- * nothing was written.
+ * Statuses. Every call except yarib_free returns an enum yarib_status. YARIB_DONE is 0. If a call returns another status,
+ * the handles are unchanged and nothing was written.
  *
- * Ownership. A handle is yours: begin with YARIB_EMPTY, let yarib_new or yarib_forward fill it, and yarib_free it in the end;
- * freeing it twice is harmless. Never copy a handle (a pointer to it may be passed on): both copies would own what it holds.
- * No call keeps a pointer to your lists, texts or structs.
+ * Ownership. Initialize a handle with YARIB_EMPTY, fill it with yarib_new or yarib_forward, and release it with yarib_free;
+ * a second yarib_free is harmless. Never copy a handle: both copies would own its contents. Passing a pointer to it is
+ * fine. No call keeps a pointer to your arrays, strings or structs.
  *
- * Threads. One call at a time on a handle, look-ups too: guard a handle that threads share by a lock of your own. Any thread
- * may call. Calls on different handles need no lock, also where these hold one forwarding table (yarib_share), so threads
- * that each have a handle on it look up at the same time.
+ * Threads. Only one call at a time may use a handle, also for look-ups. Protect a handle that threads share with your own
+ * lock. Any thread may call. Calls on different handles need no lock, even if the handles share a forwarding table
+ * (yarib_share): threads that each have a handle on it can look up concurrently.
  *
- * Pointers must not be null, not even to a list of no elements, lists that one call reads and writes must not overlap, and where
- * a call takes two handles they are two. A build with YARIB_CHECK defined tests this by assert, as far as it can be tested.
+ * Pointers must not be null, even for arrays without elements. Arrays that a call reads must not overlap arrays that it
+ * writes. If a call takes two handles, they must be different. Define YARIB_CHECK to have these rules tested by assert, as
+ * far as they can be tested.
  *
- * What is promised stands in docs/LIBRARIES.md of the repository under yarib_c, and is proved of all that lies behind this
- * header. What you owe is what this comment says; nothing can check it.
+ * docs/LIBRARIES.md of the repository lists the promises under yarib_c; the code behind this header is proved to keep
+ * them. Your obligations are the rules in this comment. Nothing can check that you keep them.
  */
 #ifndef YARIB_H
 #define YARIB_H
@@ -47,39 +48,39 @@ extern "C" {
 #define YARIB_VERSION_MINOR 1
 #define YARIB_VERSION "0.1"
 
-/* A handle: on a table, a table with a journal, or a forwarding table. C reads and writes nothing in it. */
+/* A handle to a table, a table with a journal, or a forwarding table. C code must not read or write its contents. */
 typedef struct yarib {
     void *inside;
 } yarib;
 
 #define YARIB_EMPTY {NULL}
 
-/* What a call returns. */
+/* The result of a call. */
 enum yarib_status {
     YARIB_DONE = 0,
-    YARIB_NOTHING = 1,      /* the handle holds nothing */
-    YARIB_BAD_NUMBER = 2,   /* a limit, a feed or a choice is out of its range */
-    YARIB_BAD_COMMAND = 3,  /* the numbers of a command stand for none */
-    YARIB_NO_MEMORY = 4,    /* memory was refused */
-    YARIB_BAD_SIZE = 5,     /* two lists are not as long, or a text has no room */
-    YARIB_NONE_LEFT = 6,    /* there is no difference from here on */
-    YARIB_BAD_TEXT = 7,     /* the text is not of the form */
-    YARIB_BAD_LENGTH = 8,   /* the length of a prefix is over 32 */
+    YARIB_NOTHING = 1,      /* the handle is empty */
+    YARIB_BAD_NUMBER = 2,   /* a limit, a feed or a choice is out of range */
+    YARIB_BAD_COMMAND = 3,  /* the command is invalid: its operation, next hop or prefix */
+    YARIB_NO_MEMORY = 4,    /* out of memory */
+    YARIB_BAD_SIZE = 5,     /* two arrays differ in size, or the buffer is too small */
+    YARIB_NONE_LEFT = 6,    /* there is no difference from this address on */
+    YARIB_BAD_TEXT = 7,     /* the form of the text is invalid */
+    YARIB_BAD_LENGTH = 8,   /* a prefix length is over 32 */
     YARIB_BAD_BITS = 9,     /* a bit of the address past the length is set */
-    YARIB_WRONG_KIND = 10   /* what the handle holds can't be asked this */
+    YARIB_WRONG_KIND = 10   /* the handle holds something that doesn't support this call */
 };
 
-/* What yarib_new makes: a table that keeps no journal, whose memory is bounded by its routes, or one that keeps each answered
- * command for good, 56 bytes each. */
+/* The kind of table that yarib_new creates: without a journal (memory is bounded by the routes), or with a journal that keeps
+ * every answered command, 56 bytes each. */
 enum yarib_kind { YARIB_PLAIN = 0, YARIB_JOURNALED = 1 };
 
 enum yarib_operation {
-    YARIB_ADD = 1,  /* put in a route, unless the feed has one to this prefix or as many as its limit allows */
-    YARIB_REPLACE,  /* give the feed's route to this prefix another preference and next hop */
-    YARIB_WITHDRAW, /* take out the feed's route to this prefix */
-    YARIB_LOOKUP,   /* ask for the best route of the longest prefix that covers the address `base` */
-    YARIB_DUMP,     /* ask how many routes there are */
-    YARIB_PURGE     /* take out all of the feed's routes */
+    YARIB_ADD = 1,  /* insert a route, unless the feed has one to this prefix or is at its limit */
+    YARIB_REPLACE,  /* change preference and next hop of the feed's route to this prefix */
+    YARIB_WITHDRAW, /* remove the feed's route to this prefix */
+    YARIB_LOOKUP,   /* find the best route of the longest prefix that covers the address `base` */
+    YARIB_DUMP,     /* count the routes of all feeds */
+    YARIB_PURGE     /* remove all routes of the feed */
 };
 
 enum yarib_hop {
@@ -89,20 +90,20 @@ enum yarib_hop {
 };
 
 enum yarib_code {
-    YARIB_UNANSWERED = 0, /* of yarib_apply_each: no reply, for the status in `count` */
+    YARIB_UNANSWERED = 0, /* only from yarib_apply_each: no reply; `count` holds the status */
     YARIB_ADDED = 1,
     YARIB_EXISTS,     /* the feed has a route to this prefix; nothing changed */
-    YARIB_FULL,       /* the feed has as many routes as its limit allows; nothing changed */
+    YARIB_FULL,       /* the feed is at its limit; nothing changed */
     YARIB_REPLACED,
     YARIB_WITHDRAWN,
     YARIB_MISSING,    /* the feed has no route to this prefix; nothing changed */
-    YARIB_FOUND,      /* with `route` */
+    YARIB_FOUND,      /* `route` is the best route */
     YARIB_NOT_FOUND,  /* no prefix covers the address */
-    YARIB_DUMPED,     /* `count` routes are there */
-    YARIB_PURGED      /* `count` routes were taken out */
+    YARIB_DUMPED,     /* the table has `count` routes */
+    YARIB_PURGED      /* `count` routes were removed */
 };
 
-/* A route, or with hop YARIB_NO_ROUTE the answer that there is none, all else 0. */
+/* A route. If hop is YARIB_NO_ROUTE there is no route, and all other fields are 0. */
 typedef struct yarib_route {
     uint32_t base;
     uint32_t pref;
@@ -112,7 +113,7 @@ typedef struct yarib_route {
     uint8_t hop;
 } yarib_route;
 
-/* A command of a feed. What its operation doesn't speak of is not read. */
+/* A command of a feed. Fields that its operation doesn't use are not read. */
 typedef struct yarib_command {
     uint32_t operation;
     uint32_t feed;
@@ -129,22 +130,22 @@ typedef struct yarib_reply {
     yarib_route route;
 } yarib_reply;
 
-/* An entry of the journal. Numbers that a command doesn't speak of are 0. */
+/* An entry of the journal: a command and its reply. Fields that the command doesn't use are 0. */
 typedef struct yarib_entry {
     yarib_command command;
     yarib_reply reply;
 } yarib_entry;
 
-/* Of which prefixes routes are asked for. */
+/* The prefixes that a selection covers. */
 enum yarib_part {
-    YARIB_ALL = 0,      /* any; `base` and `len` are not read */
-    YARIB_WITHIN = 1,   /* the prefix of `base` and `len`, and the longer ones in it */
-    YARIB_COVERING = 2, /* it, and the shorter ones that it lies in */
-    YARIB_EXACT = 3     /* it alone */
+    YARIB_ALL = 0,      /* all prefixes; `base` and `len` are not read */
+    YARIB_WITHIN = 1,   /* the prefix of `base` and `len`, and longer prefixes inside it */
+    YARIB_COVERING = 2, /* this prefix, and shorter prefixes that contain it */
+    YARIB_EXACT = 3     /* only this prefix */
 };
 
-/* Which routes are asked for: to which prefixes, an enum yarib_part; of which feed, or with 0 of any; and with 1 for only_best
- * only the best route to each prefix (of a feed then those of the best ones that are the feed's). */
+/* A selection of routes. `part` is an enum yarib_part. `feed` is a feed, or 0 for all feeds. If `only_best` is 1, only the
+ * best route of each prefix is selected; with a feed, only those best routes that belong to the feed. */
 typedef struct yarib_selection {
     uint32_t part;
     uint32_t feed;
@@ -158,7 +159,7 @@ typedef struct yarib_prefix {
     uint8_t len;
 } yarib_prefix;
 
-/* The addresses from first to last, which the old table answers so and the new one so. */
+/* A range of addresses, from first to last. The old table answers `before` for each of them, the new table `after`. */
 typedef struct yarib_difference {
     uint32_t first;
     uint32_t last;
@@ -166,103 +167,120 @@ typedef struct yarib_difference {
     yarib_route after;
 } yarib_difference;
 
-/* An empty table in which each feed may have `limit` routes, 1 to 1,000,000; `kind` is an enum yarib_kind. What the handle
- * held is freed. YARIB_BAD_NUMBER, YARIB_NO_MEMORY. */
+/* Creates an empty table in which each feed may have up to `limit` routes, 1 to 1,000,000. `kind` is an enum yarib_kind. Frees
+ * the handle's previous contents.
+ * Errors: YARIB_BAD_NUMBER, YARIB_NO_MEMORY. */
 uint32_t yarib_new(yarib *table, uint32_t limit, uint32_t kind);
 
-/* Frees what the handle holds, if anything. */
+/* Frees the contents of the handle, which is empty then. */
 void yarib_free(yarib *table);
 
-/* Answers a command, and keeps both in the journal, if there is one. Of a plain table only an add that puts a route in wants
- * memory. YARIB_NOTHING, YARIB_BAD_NUMBER (the feed), YARIB_BAD_COMMAND, YARIB_NO_MEMORY, YARIB_WRONG_KIND. */
+/* Executes a command, writes its reply, and appends both to the journal if there is one. For a table without a journal, only an
+ * add that inserts a route allocates.
+ * Errors: YARIB_NOTHING, YARIB_BAD_NUMBER (the feed), YARIB_BAD_COMMAND, YARIB_NO_MEMORY, YARIB_WRONG_KIND. */
 uint32_t yarib_apply(yarib *table, const yarib_command *command, yarib_reply *reply);
 
-/* Answers the commands one after another, each in the place of its reply. One without a reply has the code YARIB_UNANSWERED,
- * and as count what yarib_apply would have returned; those behind it are answered all the same. YARIB_NOTHING, YARIB_BAD_SIZE
- * (the sizes differ). */
+/* Executes the commands in order and writes each reply at the command's index. If a command fails, its reply has the code
+ * YARIB_UNANSWERED and, as `count`, the status that yarib_apply would have returned; the remaining commands are executed.
+ * Errors: YARIB_NOTHING, YARIB_BAD_SIZE (the sizes differ). */
 uint32_t yarib_apply_each(yarib *table, const yarib_command *commands, size_t size, yarib_reply *replies, size_t room);
 
-/* Makes room for so many entries of the journal, if there is one, so that they want no memory later. YARIB_NOTHING,
- * YARIB_NO_MEMORY. */
+/* Reserves capacity for this many further journal entries, if there is a journal, so that they don't allocate later.
+ * Errors: YARIB_NOTHING, YARIB_NO_MEMORY. */
 uint32_t yarib_reserve(yarib *table, size_t entries);
 
-/* For each address the best route of the longest prefix that covers it. Of a table 32 or more at once take less time than one
- * by one. YARIB_NOTHING, YARIB_BAD_SIZE (the sizes differ). */
+/* Writes for each address the best route of the longest prefix that covers it. For a table, 32 or more addresses in one call
+ * take less time than one call each.
+ * Errors: YARIB_NOTHING, YARIB_BAD_SIZE (the sizes differ). */
 uint32_t yarib_look_up(yarib *table, const uint32_t *addresses, size_t size, yarib_route *answers, size_t room);
 
-/* The routes whose prefix covers the address, the best first, as many as there is room for from the index `skip` on; `total`
- * is how many there are in all. YARIB_NOTHING, YARIB_NO_MEMORY, YARIB_WRONG_KIND. */
+/* Writes the routes whose prefix covers the address, the best first: those from the index `skip` on, up to `room` of them.
+ * Writes their number, skipped ones included, to `total`.
+ * Errors: YARIB_NOTHING, YARIB_NO_MEMORY, YARIB_WRONG_KIND. */
 uint32_t yarib_look_up_all(yarib *table, uint32_t address, size_t skip, yarib_route *routes, size_t room,
     size_t *total);
 
-/* The routes by base, then length, then preference, then feed, from the index `skip` on. It takes memory for all of them.
- * YARIB_NOTHING, YARIB_NO_MEMORY, YARIB_WRONG_KIND. */
+/* Writes the routes sorted by base, length, preference and feed: those from the index `skip` on, up to `room` of them. Writes the
+ * number of all routes to `total`. Allocates memory for all routes.
+ * Errors: YARIB_NOTHING, YARIB_NO_MEMORY, YARIB_WRONG_KIND. */
 uint32_t yarib_routes(yarib *table, size_t skip, yarib_route *routes, size_t room, size_t *total);
 
-/* The routes in the same order from the place of `from` on, as many as there is room for: `used` is how many these are. Its `base`,
- * `len`, `pref` and `feed` name the place, whether or not there is such a route; with `pref` and `feed` 0 it is before all routes to
- * the prefix, and the next page is from the last route of this one with 1 more for `feed`, also where the table has changed. It
- * takes no memory, and goes to what it gives alone. YARIB_NOTHING, YARIB_BAD_LENGTH, YARIB_BAD_BITS, YARIB_WRONG_KIND. */
+/* Writes the routes in the same order from the position `from` on, up to `room` of them, and their number to `used`. `base`, `len`,
+ * `pref` and `feed` of `from` are the position; a route there need not exist. If `pref` and `feed` are 0, the position is before all
+ * routes to the prefix. To get the next page, pass the last route of this page with its `feed` increased by 1, even if the table has
+ * changed. Doesn't allocate, and visits only what it writes.
+ * Errors: YARIB_NOTHING, YARIB_BAD_LENGTH, YARIB_BAD_BITS, YARIB_WRONG_KIND. */
 uint32_t yarib_routes_from(yarib *table, const yarib_route *from, yarib_route *routes, size_t room, size_t *used);
 
-/* The routes that are asked for, in the same order, from the index `skip` on. It goes to their part of the table alone, and takes
- * memory for them. YARIB_NOTHING, YARIB_BAD_NUMBER (the part, the feed or only_best), YARIB_BAD_LENGTH, YARIB_BAD_BITS,
- * YARIB_NO_MEMORY, YARIB_WRONG_KIND. */
+/* Writes the selected routes in the same order: those from the index `skip` on, up to `room` of them. Writes the number of all
+ * selected routes to `total`. Visits only their part of the table, and allocates memory for them.
+ * Errors: YARIB_NOTHING, YARIB_BAD_NUMBER (part, feed or only_best), YARIB_BAD_LENGTH, YARIB_BAD_BITS, YARIB_NO_MEMORY,
+ * YARIB_WRONG_KIND. */
 uint32_t yarib_select(yarib *table, const yarib_selection *asked, size_t skip, yarib_route *routes, size_t room,
     size_t *total);
 
-/* How many routes there are. YARIB_NOTHING, YARIB_WRONG_KIND. */
+/* Writes the number of routes to `total`.
+ * Errors: YARIB_NOTHING, YARIB_WRONG_KIND. */
 uint32_t yarib_count(yarib *table, size_t *total);
 
-/* The entries of the journal from the index `skip` on. YARIB_NOTHING, YARIB_WRONG_KIND (it keeps none). */
+/* Writes the entries of the journal from the index `skip` on, up to `room` of them, and the number of all entries to `total`.
+ * Errors: YARIB_NOTHING, YARIB_WRONG_KIND (there is no journal). */
 uint32_t yarib_journal(yarib *table, size_t skip, yarib_entry *entries, size_t room, size_t *total);
 
-/* The first range from the address `from` on that two tables answer otherwise, by next hop (`by` 0) or by whole route (1). Go
- * on from the address behind its last one, if there is any. By next hop the answers have a hop alone. The handles are two.
- * YARIB_NOTHING, YARIB_BAD_NUMBER, YARIB_NONE_LEFT, YARIB_WRONG_KIND. */
+/* Finds the first range, from the address `from` on, for which two tables give different answers. Compares next hops if `by` is 0,
+ * whole routes if it is 1. When comparing next hops, only `hop` and `via` of the answers are set; all else is 0. To continue, pass
+ * the address after the range's last one, if there is one. The handles must be different.
+ * Errors: YARIB_NOTHING, YARIB_BAD_NUMBER (by), YARIB_NONE_LEFT (no further range), YARIB_WRONG_KIND. */
 uint32_t yarib_first_difference(yarib *old_table, yarib *new_table, uint32_t by, uint32_t from,
     yarib_difference *difference);
 
-/* A forwarding table of what the table answers now: 64 MiB and more, two or three reads a look-up. It doesn't follow the
- * table. What its handle held is freed. YARIB_NOTHING, YARIB_NO_MEMORY, YARIB_WRONG_KIND (the first is no table). */
+/* Builds a forwarding table from the table's current answers. It takes 64 MiB or more, and a look-up takes two or three reads. Later
+ * changes of the table don't change it. Frees the previous contents of `forwarding`.
+ * Errors: YARIB_NOTHING, YARIB_NO_MEMORY, YARIB_WRONG_KIND (the first handle doesn't hold a table). */
 uint32_t yarib_forward(yarib *table, yarib *forwarding);
 
-/* Another handle on the same forwarding table, for another thread. The memory goes with the last of its handles. What the other
- * held is freed. The handles are two. YARIB_NOTHING, YARIB_NO_MEMORY, YARIB_WRONG_KIND (the first holds no forwarding table). */
+/* Makes `other` a second handle to the same forwarding table, for another thread. The table is freed with its last handle. Frees the
+ * previous contents of `other`. The handles must be different.
+ * Errors: YARIB_NOTHING, YARIB_NO_MEMORY, YARIB_WRONG_KIND (the first handle doesn't hold a forwarding table). */
 uint32_t yarib_share(yarib *forwarding, yarib *other);
 
-/* Makes a forwarding table beside a plain table, if there is none yet. From then on it follows each command, and look-ups go by
- * it: a command takes a little more time (a purge, which makes it anew, and a change of a prefix of length 8 or less some
- * milliseconds more). Where a command finds no memory for that, the command is answered all the same, the forwarding table goes,
- * and look-ups are by the table until this is called again. YARIB_NOTHING, YARIB_NO_MEMORY, YARIB_WRONG_KIND (no plain table). */
+/* Attaches a forwarding table to a table without a journal, if none is attached yet. From then on every command updates it, and
+ * look-ups use it. A command takes a little more time; a purge, which rebuilds it, and a change of a prefix of length 8 or less take
+ * some milliseconds more. If a command finds no memory for the update, the command is still answered, the forwarding table is
+ * freed, and look-ups use the table until this is called again.
+ * Errors: YARIB_NOTHING, YARIB_NO_MEMORY, YARIB_WRONG_KIND (the handle doesn't hold a table without a journal). */
 uint32_t yarib_follow(yarib *table);
 
-/* How many bytes a forwarding table takes, for all its handles together. Of a table about how many: 48 for each node, of which a
- * prefix has two at most, 56 for each entry of its journal, and those of a forwarding table beside it. What glibc gives is no less,
- * and beside 1 KiB at most a quarter more, with up to 96 for each route that is not the first to its prefix; a journal that was not
- * reserved takes up to twice as much. YARIB_NOTHING. */
+/* Writes a size in bytes. For a forwarding table it is the table's memory, counted once for all its handles. For a table it is an
+ * estimate: 48 for each node (at most two a prefix), 56 for each journal entry, and the size of an attached forwarding table. glibc
+ * allocates at least this much, and, apart from 1 KiB, at most a quarter more, plus up to 96 for each route that isn't the first to
+ * its prefix. A journal without reserved capacity takes up to twice as much.
+ * Errors: YARIB_NOTHING. */
 uint32_t yarib_memory(yarib *table, size_t *bytes);
 
-/* Reads a prefix, as 10.0.0.0/8: no leading zeros, no bit set past the length. The text needs no end mark. YARIB_BAD_TEXT,
- * YARIB_BAD_LENGTH, YARIB_BAD_BITS, in this order. */
+/* Parses a prefix such as 10.0.0.0/8, without leading zeros and without a bit set past the length. The text needs no terminating null.
+ * Errors, in this order: YARIB_BAD_TEXT, YARIB_BAD_LENGTH, YARIB_BAD_BITS. */
 uint32_t yarib_prefix_parse(const char *text, size_t size, yarib_prefix *prefix);
 
-/* Writes a prefix without an end mark: at most 18 bytes, `used` of them. YARIB_BAD_SIZE, YARIB_BAD_LENGTH, YARIB_BAD_BITS. */
+/* Writes a prefix as text, without a terminating null, and its length, at most 18, to `used`.
+ * Errors: YARIB_BAD_SIZE, YARIB_BAD_LENGTH, YARIB_BAD_BITS. */
 uint32_t yarib_prefix_print(const yarib_prefix *prefix, char *text, size_t room, size_t *used);
 
-/* Reads an address, as 10.0.0.1. YARIB_BAD_TEXT. */
+/* Parses an address such as 10.0.0.1. The text needs no terminating null.
+ * Errors: YARIB_BAD_TEXT. */
 uint32_t yarib_address_parse(const char *text, size_t size, uint32_t *address);
 
-/* Writes an address without an end mark: at most 15 bytes, `used` of them. YARIB_BAD_SIZE. */
+/* Writes an address as text, without a terminating null, and its length, at most 15, to `used`.
+ * Errors: YARIB_BAD_SIZE. */
 uint32_t yarib_address_print(uint32_t address, char *text, size_t room, size_t *used);
 
 
-/* With YARIB_CHECK each call first tests what its caller owes: no null pointer, lists that don't overlap, and two handles that are
- * two. */
+/* If YARIB_CHECK is defined, each call first tests its caller's obligations: no null pointers, no overlapping arrays, and two
+ * different handles. */
 #ifdef YARIB_CHECK
 #include <assert.h>
 
-/* Whether two pieces of memory have no byte in common. */
+/* Returns true if two memory ranges don't overlap. */
 static inline int yarib_are_apart(const void *one, size_t size, const void *other, size_t other_size)
 {
     uintptr_t first = (uintptr_t)one, second = (uintptr_t)other;
