@@ -17,7 +17,7 @@ use Rattle.ya_core.specs.FlatRow.{is_word, words_of, row_state}
 use Rattle.ya_core.specs.Steps.{State, StepsTo, LeadTo, Accesses, opening, entry_access, exit_access, access_of, after_entry, after_exit, entry_next, exit_next}
 use Rattle.ya_core.specs.Steps.{next_of, value_of}
 use Rattle.ya_core.specs.WalkerModel.{walk, due_of, due, CanStand, cost_of_word, cost_of, walk_after, MayFind, MayBeTold, WalkLeadsTo, BeginsEntry}
-use Rattle.ya_core.specs.WalkerModel.{BeginsExit, Walk, FitsAccess, FitsDue, IsStore, op_of_access, op_at_rest, op_of_due, op_of, entry_behind}
+use Rattle.ya_core.specs.WalkerModel.{BeginsExit, Walk, FitsAccess, FitsDue, op_of_access, op_at_rest, op_of_due, op_of, entry_behind}
 use Rattle.ya_core.specs.WalkerModel.{exit_behind, most_of, most_remote, is_waiting, ComesBefore, ComesFurther, MovesOn}
 use Rattle.ya_core.specs.WalkerModel.{IsWalk, OpIsWithin, AccessIsWithin}
 use Rattle.ya_core.specs.Progress.{SomeoneGoesOn, CanLeadTo, SomeoneGoesOnIn, Announces, Wins, Neither, is_entering, is_to_announce, deed_of, announces}
@@ -1469,19 +1469,6 @@ a_2_lets_it_in = omega arith
 
 no_3_can : ¬ FitsDue (walk 1 0 (Entering 1 E10) false 0) 3
 no_3_can h = omega (arith, h)
-
--- IsStore
-a_store_is : IsStore (Some (Store (P 1 2) 1))
-a_store_is = tt
-
-a_load_is_not : ¬ IsStore (Some (Load (P 1 2)))
-a_load_is_not h = h
-
-nothing_due_is_not : ¬ IsStore None
-nothing_due_is_not h = h
-
-any_store_of_any_word : (word : Word) (value : ℕ) → IsStore (Some (Store word value)) × ¬ IsStore (Some (Load word))
-any_store_of_any_word word value = (tt, λ h. h)
 
 -- op_of_access
 a_load_by_its_number : op_of_access 2 (Load (T 2 0)) ≡ op.Load 8

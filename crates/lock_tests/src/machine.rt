@@ -73,7 +73,6 @@ fn begin(walker: &mut Walker) {
 }
 
 /// Lets the walker load and store until it asks for nothing more, and gives what it asks for then.
-#[tactic(auto, using(ya_core::proofs::DueAccess::store_asked))]
 fn walk(rt: &impl Abort, walker: &mut Walker, words: &mut [u64]) -> Op {
     for _ in 0..1000 {
         match walker.op() {

@@ -1,5 +1,5 @@
 -- What an operation of a walker says of the access that is due.
-use Rattle.std.proofs.Common.{◌≡◌, ◌≢◌, ℕ, Bool, true, false, refl, ap, sym, ◌∙◌, subst, Option, Some, None}
+use Rattle.std.proofs.Common.{◌≡◌, ◌≢◌, ℕ, Bool, true, false, refl, ap, ◌∙◌, Option, Some, None}
 use Rattle.ya_core.specs.declared.word.Word.{Word}
 use Rattle.ya_core.specs.declared.word.Access.{Access}
 use Rattle.ya_core.specs.declared.word.Access.TheVariants.{Load, Store}
@@ -8,7 +8,7 @@ use Rattle.ya_core.specs.declared.process.Process.TheVariants.{Idle, Entering, I
 use Rattle.ya_core.specs.declared.walker.Op.TheVariants as op
 use Rattle.ya_core.specs.ArbitrationTree.{number_of}
 use Rattle.ya_core.specs.Steps.{access_of}
-use Rattle.ya_core.specs.WalkerModel.{Walk, due, due_of, op_of, op_of_due, op_of_access, op_at_rest, IsStore}
+use Rattle.ya_core.specs.WalkerModel.{Walk, due, due_of, op_of, op_of_due, op_of_access, op_at_rest}
 
 -- what asks for no load and no store is at rest
 at_rest_asks_nothing : (x : Process) → ((n : ℕ) → op_at_rest x ≢ op.Load n) × ((n v : ℕ) → op_at_rest x ≢ op.Store n v)
@@ -74,7 +74,3 @@ store_due w n v asks = by_due (due w) refl asks
           named.2,
           is ∙ ap (λ b. Some b) named.1,
         )
-
--- a walker that asks for a store is to be told that it is done
-pub store_asked : (w : Walk) (n v : ℕ) → op_of w ≡ op.Store n v → IsStore (due w)
-store_asked w n v e = subst IsStore (sym (store_due w n v e).3) tt

@@ -60,12 +60,6 @@ FitsAccess (Some (Load word)) value = CanStand word value
 abbrev pub FitsDue : Walk → ℕ → Type 0
 FitsDue w value = FitsAccess (due w) value
 
--- the access that is due is a store
-abbrev pub IsStore : Option Access → Type 0
-IsStore None = ⊥
-IsStore (Some (Store word stored)) = Unit {0}
-IsStore (Some (Load word)) = ⊥
-
 -- a remote access is one of any word but the process's own words P
 abbrev pub cost_of_word : ℕ → Word → ℕ
 cost_of_word place (C level node side) = 1

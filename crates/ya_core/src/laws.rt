@@ -56,8 +56,8 @@ pub fn freedom<X>()
         → IsInside old.state place → (new : World X) × WorldAppends any_entry place entry old new }
 {}
 
-/// At most one place is inside, in every state to which any list of places leads that step one after another. So it is
-/// in every world, whatever the entries are: its state is one of these, as `content` (`state`) says.
+/// At most one place is inside, in every state to which any list of places leads that step one after another. The same
+/// of every world stands in [`content`].
 pub fn exclusion()
     ensures { (levels : ℕ) (places : List ℕ) (s : State)
         → 1 ≤ levels → LeadTo levels opening places s
@@ -155,13 +155,17 @@ pub trait Accept {
     ghost ok: { List (Marked Self.Entry) → Marked Self.Entry → Type 0 };
 }
 
-/// In every world that any list of events leads to, the entries of each place in the content are those that it made, in
-/// order. Where each entry was acceptable to the copy that it was appended to, each is so to the entries before it;
-/// such a run is a run like any other. Whatever is appended, the world's state is the one to which its steps lead.
+/// In every world that any list of events leads to, at most one place is inside, and the entries of each place in the
+/// content are those that it made, in order. Where each entry was acceptable to the copy that it was appended to, each is
+/// so to the entries before it; such a run is a run like any other. Whatever is appended, the world's state is the one to
+/// which its steps lead.
 pub fn content<K: Accept>()
     ensures state { (levels : ℕ) (events : List (Event K.Entry)) (world : World K.Entry)
         → IsReached levels any_entry events world
         → LeadTo levels opening (places_of events) world.state }
+    ensures exclusion { (levels : ℕ) (events : List (Event K.Entry)) (world : World K.Entry)
+        → 1 ≤ levels → IsReached levels any_entry events world
+        → (p q : ℕ) → IsInside world.state p → IsInside world.state q → p ≡ q }
     ensures kept { (levels : ℕ) (events : List (Event K.Entry)) (world : World K.Entry)
         → 1 ≤ levels → IsReached levels any_entry events world
         → (place : ℕ) → entries_of place world.content ≡ world.made place }

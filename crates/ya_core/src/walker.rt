@@ -4,7 +4,7 @@ ghost use Rattle.ya_core.specs.declared.process.Process.TheVariants.{Idle, Insid
 ghost use Rattle.ya_core.specs.ArbitrationTree.{node_of, side_of};
 ghost use Rattle.ya_core.specs.Steps.{access_of};
 ghost use Rattle.ya_core.specs.WalkerModel.{IsWalk, walk, walk_after, op_of, due, due_of, cost_of};
-ghost use Rattle.ya_core.specs.WalkerModel.{FitsDue, IsStore, CanStand, MovesOn, OpIsWithin, MayBeTold};
+ghost use Rattle.ya_core.specs.WalkerModel.{FitsDue, CanStand, MovesOn, OpIsWithin, MayBeTold};
 ghost use Rattle.ya_core.specs.inside.WalkerModel.{DueIsWithin, LevelIsSmall};
 
 use crate::process::{EntryPoint, Process};
@@ -31,7 +31,7 @@ pub enum Op {
 /// walker.begin_entry();
 /// loop {
 ///     match walker.op() {
-///         Op::Load(number) => walker.saw(words[number]),
+///         Op::Load(number) => { let value = words[number]; assert!(rt; walker.fits(value)); walker.saw(value); }
 ///         Op::Store(number, value) => { words[number] = value; walker.done(); }
 ///         Op::Inside | Op::Idle => break,
 ///     }
@@ -153,7 +153,7 @@ impl Walker {
         }
     }
 
-    /// Goes on by the value that the load found.
+    /// Goes on by the value that the load found. `op` is a load, and `fits` says that the value can stand in its word.
     #[inline(always)]
     pub fn saw(&mut self, value: u64)
         requires { FitsDue self.old value }
@@ -165,10 +165,10 @@ impl Walker {
         self.go_on(value)
     }
 
-    /// Goes on after the store. Where it leads is the same for every value.
+    /// Goes on after the store. `op` is a store. Where it leads is the same for every value.
     #[inline(always)]
     pub fn done(&mut self)
-        requires { IsStore (due self.old) }
+        requires { (number value : ℕ) × (op_of self.old ≡ Op.Store number value) }
         ensures after { (value : ℕ) → self.new ≡ walk_after self.old value }
 
         // As for `saw`.
