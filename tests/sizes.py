@@ -184,27 +184,41 @@ def many_offers(yarib):
             yarib("lookup", "--all", "--addresses", "asked.txt", *words), 0, answers)
 
 
-# Fails where a feed may have another number of routes where no limit is asked, or `--limit 1000000` isn't taken.
-# Fails where the limit is 65,535 where nothing is asked: `a run of a full feed and 1 more`.
-# Fails where a feed of `lookup` may have 65,535 routes where no limit is given: `look-ups in a full feed and 0 more`.
+# Fails where a feed of `run` may have another number of routes if no limit is given, or `--limit 1000000` isn't taken.
+# Fails where that limit is 65,535 if none is given: `a run of a full feed and 1 more`.
 def at_limit(yarib):
-    """As many routes as a feed may have where no limit is given, and one more."""
+    """As many routes as a feed of `run` may have if no limit is given, and one more, which the other commands take."""
     routes = [f"10.{at >> 8}.{at & 255}.0/24" for at in range(65_536)]
-    listed = [f"{prefix} feed 1 pref 1 via 192.0.2.1\n" for prefix in routes]
-    for more, status, err in ((0, 0, ""), (1, 2, "yarib: full.feed: adds over the limit: 1\n")):
-        adds = [f"add {prefix} 1 192.0.2.1\n" for prefix in routes + ["11.0.0.0/24"] * more]
-        pathlib.Path("full.feed").write_text("".join(adds))
-        compare(f"the table of a full feed and {more} more", yarib("table", "full.feed"), status, "".join(listed), err)
-        ended = yarib("lookup", "--address", "10.255.255.1", "--address", "11.0.0.1", "full.feed")
-        out = f"10.255.255.1 route {listed[-1]}11.0.0.1 no route\n"
-        compare(f"look-ups in a full feed and {more} more", ended, status, out, err)
-    over = "11.0.0.0/24 feed 1 pref 1 via 192.0.2.1\n"
+    listed = [f"{prefix} feed 1 pref 1 via 192.0.2.1\n" for prefix in [*routes, "11.0.0.0/24"]]
+    pathlib.Path("full.feed").write_text("".join(f"add {row.split()[0]} 1 192.0.2.1\n" for row in listed))
+    compare("the table of a full feed and 1 more", yarib("table", "full.feed"), 0, "".join(listed))
+    ended = yarib("lookup", "--address", "11.0.0.1", "full.feed")
+    compare("a look-up in a full feed and 1 more", ended, 0, f"11.0.0.1 route {listed[-1]}")
     report = "".join(f"1:{line} added\n" for line in range(1, 65_537))
     batched = ["run", "--batch", "1024", "full.feed"]
     compare("a run of a full feed and 1 more", yarib(*batched), 0,
-            report + "1:65537 full\ntable 65536\n" + "".join(listed))
-    whole = report + "1:65537 added\ntable 65537\n" + "".join(listed) + over
+            report + "1:65537 full\ntable 65536\n" + "".join(listed[:-1]))
+    whole = report + "1:65537 added\ntable 65537\n" + "".join(listed)
     compare("a run of 65,537 routes", yarib(*batched, "--limit", "1000000"), 0, whole)
+
+
+# Fails where a feed of `lookup`, `table` or `diff` may have 65,536 routes if no limit is given, or 999,999: `the table of
+# 1000000 routes`, `a look-up in 1000000 routes`, `1000000 routes compared with none`.
+def at_greatest_limit(yarib):
+    """A million routes of a feed, as many as `lookup`, `table` and `diff` take without --limit, and one more."""
+    places = [dotted(0x0A00_0000 + 64 * at) for at in range(MOST + 1)]
+    pathlib.Path("none.feed").write_text("")
+    pathlib.Path("full.feed").write_text("".join(f"add {place}/32 1 192.0.2.1\n" for place in places[:MOST]))
+    pathlib.Path("over.feed").write_text("".join(f"add {place}/32 1 192.0.2.1\n" for place in places))
+    over = "yarib: over.feed: adds over the limit: 1\n"
+    row = lambda place: f"{place}/32 feed 1 pref 1 via 192.0.2.1\n"
+    asked = ["--address", places[MOST - 1], "--address", places[MOST]]
+    answers = f"{places[MOST - 1]} route {row(places[MOST - 1])}{places[MOST]} no route\n"
+    ranges = "".join(f"{place}-{place} no route -> via 192.0.2.1\n" for place in places[:MOST])
+    for name, count, status, err in (("full.feed", MOST, 0, ""), ("over.feed", MOST + 1, 2, over)):
+        compare(f"the table of {count} routes", yarib("table", name), status, "".join(map(row, places[:MOST])), err)
+        compare(f"a look-up in {count} routes", yarib("lookup", *asked, name), status, answers, err)
+        compare(f"{count} routes compared with none", yarib("diff", "none.feed", "--", name), max(status, 1), ranges, err)
 
 
 # Fails where F3 is answered where over 128 routes cover an address, or over 2,000: `addresses that 64 to 2112 routes
@@ -323,7 +337,7 @@ def part_of_a_million(yarib):
         expect(f"{name}: {more} bytes more than a look-up", more < 4_000_000, True)
 
 
-CASES = (batches, purges, feeds, many_offers, at_limit, covered, compared, addresses, forwarded, in_all, million,
+CASES = (batches, purges, feeds, many_offers, at_limit, at_greatest_limit, covered, compared, addresses, forwarded, in_all, million,
          part_of_a_million)
 OF_MEMORY = (feeds, many_offers, in_all, million)
 

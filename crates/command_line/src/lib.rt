@@ -20,7 +20,7 @@ ghost use Rattle.command_line.specs.declared.limits.TheConstants.{MOST_ROUTES};
 use clap::builder::ValueParser;
 use clap::error::ErrorKind;
 use clap::{Arg, ArgAction, ArgMatches, Command, Error};
-use limits::{UNSEEN_BATCH, USUAL_BATCH, USUAL_ROUTES, limits};
+use limits::{UNSEEN_BATCH, UNSEEN_ROUTES, USUAL_BATCH, USUAL_ROUTES, limits};
 pub use limits::{MOST_AT_ONCE, MOST_FILES, MOST_ROUTES};
 use notes::{DIFF_NOTES, LOOKUP_NOTES, REPLAY_NOTES, RUN_NOTES, TABLE_NOTES};
 use std::alloc::{AllocError, AllocFailed, Global};
@@ -221,7 +221,7 @@ const SUBCOMMANDS: &[Subcommand] = &[
         about: "Run feed files, and print the reply to each command and the table",
         notes: RUN_NOTES,
         parameters: &[
-            Parameter::Limit,
+            Parameter::Limit(USUAL_ROUTES),
             Parameter::Batch(USUAL_BATCH),
             Parameter::Files,
         ],
@@ -234,7 +234,7 @@ const SUBCOMMANDS: &[Subcommand] = &[
             Parameter::All,
             Parameter::Names,
             Parameter::Json,
-            Parameter::Limit,
+            Parameter::Limit(UNSEEN_ROUTES),
             Parameter::Batch(UNSEEN_BATCH),
             Parameter::Address,
             Parameter::Addresses,
@@ -254,7 +254,7 @@ const SUBCOMMANDS: &[Subcommand] = &[
             Parameter::Count,
             Parameter::Names,
             Parameter::Json,
-            Parameter::Limit,
+            Parameter::Limit(UNSEEN_ROUTES),
             Parameter::Batch(UNSEEN_BATCH),
             Parameter::Files,
         ],
@@ -267,7 +267,7 @@ const SUBCOMMANDS: &[Subcommand] = &[
             Parameter::By,
             Parameter::Names,
             Parameter::Json,
-            Parameter::Limit,
+            Parameter::Limit(UNSEEN_ROUTES),
             Parameter::Batch(UNSEEN_BATCH),
             Parameter::OldFiles,
             Parameter::NewFiles,
@@ -309,7 +309,8 @@ enum Parameter {
     By,
     Names,
     Json,
-    Limit,
+    /// And how many routes a feed may have where the command line does not say.
+    Limit(&'static str),
     /// And how many are asked at once where the command line does not say.
     Batch(&'static str),
     Files,
@@ -354,7 +355,7 @@ impl Parameter {
                 "Tell feeds by name, a file's without folder and .feed, not by number",
             ),
             Parameter::Json => flag(alloc, "json", "Print JSON objects, one a line"),
-            Parameter::Limit => limit(alloc),
+            Parameter::Limit(unless_given) => limit(alloc, unless_given),
             Parameter::Batch(unless_given) => batch(alloc, unless_given),
             Parameter::Files => files(alloc),
             Parameter::OldFiles => old_files(alloc),
@@ -420,9 +421,9 @@ fn by<'a>(alloc: Global) -> Arg<'a> {
         .default_value(HOP)
 }
 
-fn limit<'a>(alloc: Global) -> Arg<'a> {
+fn limit<'a>(alloc: Global, unless_given: &'a str) -> Arg<'a> {
     let help = limits!(text "How many routes a feed may have, 1 to " most_routes);
-    number(alloc, "limit", "K", 1, u64::from(MOST_ROUTES), help).default_value(USUAL_ROUTES)
+    number(alloc, "limit", "K", 1, u64::from(MOST_ROUTES), help).default_value(unless_given)
 }
 
 fn batch<'a>(alloc: Global, unless_given: &'a str) -> Arg<'a> {

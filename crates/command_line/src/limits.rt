@@ -44,8 +44,11 @@ pub const MOST_AT_ONCE: u32 = limits!(number most_at_once);
 /// The most feed files of one run.
 pub const MOST_FILES: usize = limits!(number most_files);
 
-/// How many routes one feed may have, where the command line does not say.
+/// How many routes one feed of `run` may have, if the command line does not say.
 pub(crate) const USUAL_ROUTES: &str = limits!(text usual_routes);
+
+/// How many routes one feed of `lookup`, `table` and `diff` may have, if it does not say: a full Internet table fits.
+pub(crate) const UNSEEN_ROUTES: &str = limits!(text most_routes);
 
 /// How many commands of a feed `run` asks at once, where the command line does not say.
 pub(crate) const USUAL_BATCH: &str = "1";

@@ -2,23 +2,12 @@
 
 use crate::limits::limits;
 
-/// Notes on feed files: some texts, what is said of the limit, and further texts.
-macro_rules! feed_notes {
-    ($($before:literal),*; $($after:literal),*) => {
-        limits!(text
-            $($before)*
-            "A feed has at most " usual_routes " routes if --limit is left out, and at most " most_routes " in\nany case. "
-            $($after)*
-        )
-    };
-}
-
 /// Notes of `lookup`, `table` and `diff`: a text, what all say of what was not taken and of the exit status, with the line or
 /// lines of status 0 to 3, and an example.
 macro_rules! taken_notes {
     ($before:literal, $first_statuses:literal, $example:literal) => {
-        feed_notes!(
-            $before,
+        limits!(text
+            $before
             "\
 Standard error tells of each file what was not taken, one line a kind:
   yarib: FILE: faulty lines: N, the first is line LINE: FAULT
@@ -28,19 +17,21 @@ Standard error tells of each file what was not taken, one line a kind:
   yarib: FILE: commands refused for want of memory: N
 
 Exit status, the greatest that applies:
-",
-            $first_statuses,
+"
+            $first_statuses
             "  4 unreadable file   5 memory refused   6 output not written
 
-";
-            "`run --help` has the commands of feed files and the faults.\n\n",
+A feed has at most " most_routes " routes if --limit is left out. `run --help` has the
+commands of feed files and the faults.
+
+"
             $example
         )
     };
 }
 
 /// What `run --help` says of feed files, their faults and the exit status.
-pub(crate) const RUN_NOTES: &str = feed_notes!(
+pub(crate) const RUN_NOTES: &str = limits!(text
     "\
 Commands, one a line; an empty line and one that begins with # are skipped:
   add PREFIX PREF HOP      put in a route of this feed
@@ -61,8 +52,8 @@ Exit status, the greatest that applies:
   0 done   2 faulty line   3 command line   4 unreadable file
   5 memory refused   6 output not written
 
-";
-    "Each add beyond is answered full, with status 0: look for full in the
+A feed has at most " usual_routes " routes if --limit is left out, and at most " most_routes " in
+any case. Each add beyond is answered full, with status 0: look for full in the
 report. `lookup`, `table` and `diff` tell of such adds on standard error, with
 status 2.
 
