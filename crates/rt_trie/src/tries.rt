@@ -61,7 +61,7 @@ impl<V, A: Allocator> fmt::Debug for Trie<V, A> {
     }
 }
 
-impl<V: Drop, A: Allocator + Copy> Trie<V, A> {
+impl<V, A: Allocator + Copy> Trie<V, A> {
     ghost use Rattle.rt_trie.specs.TrieLends.{lends_value};
 
     /// The empty map. It takes no memory.
@@ -119,55 +119,6 @@ impl<V: Drop, A: Allocator + Copy> Trie<V, A> {
         ensures value { option_copied_mut result ≡ get self.old.pairs p }
     {
         WayDown::find(&mut self.root, p)
-    }
-
-    /// Puts the value at the prefix, and gives the value that stood there. Where memory is refused it gives its own
-    /// value back as an `Err`, and the map and its nodes are as they were; at a prefix that is stored it takes no
-    /// memory.
-    pub fn insert(&mut self, p: Prefix, v: V) -> Result<Option<V>, V>
-        ensures put { OnOk result (self.new.pairs ≡ put self.old.pairs p v) }
-        ensures had { IfOk result (λ had. had ≡ get self.old.pairs p) }
-        ensures refused { IfErr result (λ back. (back ≡ v) × (self.new ≡ self.old)) }
-        ensures stored_succeeds { IsSome (get self.old.pairs p) → IsOk result }
-    {
-        let mut given = NewValue {
-            value: Some(v),
-            alloc: self.alloc,
-            nodes: self.nodes,
-        };
-        if insertion::insert(&mut self.root, p, &mut given) {
-            self.nodes = given.nodes;
-            if given.value.is_none() {
-                self.len += 1;
-            }
-            return Ok(given.value);
-        }
-        let Some(back) = given.value else {
-            unreachable!()
-        };
-        Err(back)
-    }
-
-    /// Takes the prefix and its value out of the map, and gives the value. It takes no memory.
-    pub fn remove(&mut self, p: Prefix) -> Option<V>
-        ensures erased { self.new.pairs ≡ erase self.old.pairs p }
-        ensures had { result ≡ get self.old.pairs p }
-    {
-        let gone = removal::remove(&mut self.root, &mut self.nodes, p);
-        if gone.is_some() {
-            self.len -= 1;
-        }
-        gone
-    }
-
-    /// Shows the sieve the pairs, each once, by base and then by length, until it is done, and takes out those that it
-    /// gives up. The others stay, each with the value that the sieve made of it. It takes no memory, and goes to each
-    /// node once.
-    pub fn retain<S: Sieve<V>>(&mut self, sieve: &mut S)
-        ensures sifted { IsSifted S.done S.judges sieve.old sieve.new self.old.pairs self.new.pairs }
-        ensures ordered { IsOrdered self.new.pairs }
-    {
-        sifting::retain(&mut self.root, &mut self.nodes, &mut self.len, sieve);
     }
 
     /// The stored prefix of the greatest length among those that cover the address, with its value (RFC 1812, section
@@ -250,5 +201,57 @@ impl<V: Drop, A: Allocator + Copy> Trie<V, A> {
         ensures { result ≡ next_after self.now.pairs p }
     {
         search::after(&self.root, p)
+    }
+}
+
+/// Calls that let nodes or values go.
+impl<V: Drop, A: Allocator + Copy> Trie<V, A> {
+    /// Puts the value at the prefix, and gives the value that stood there. Where memory is refused it gives its own
+    /// value back as an `Err`, and the map and its nodes are as they were; at a prefix that is stored it takes no
+    /// memory.
+    pub fn insert(&mut self, p: Prefix, v: V) -> Result<Option<V>, V>
+        ensures put { OnOk result (self.new.pairs ≡ put self.old.pairs p v) }
+        ensures had { IfOk result (λ had. had ≡ get self.old.pairs p) }
+        ensures refused { IfErr result (λ back. (back ≡ v) × (self.new ≡ self.old)) }
+        ensures stored_succeeds { IsSome (get self.old.pairs p) → IsOk result }
+    {
+        let mut given = NewValue {
+            value: Some(v),
+            alloc: self.alloc,
+            nodes: self.nodes,
+        };
+        if insertion::insert(&mut self.root, p, &mut given) {
+            self.nodes = given.nodes;
+            if given.value.is_none() {
+                self.len += 1;
+            }
+            return Ok(given.value);
+        }
+        let Some(back) = given.value else {
+            unreachable!()
+        };
+        Err(back)
+    }
+
+    /// Takes the prefix and its value out of the map, and gives the value. It takes no memory.
+    pub fn remove(&mut self, p: Prefix) -> Option<V>
+        ensures erased { self.new.pairs ≡ erase self.old.pairs p }
+        ensures had { result ≡ get self.old.pairs p }
+    {
+        let gone = removal::remove(&mut self.root, &mut self.nodes, p);
+        if gone.is_some() {
+            self.len -= 1;
+        }
+        gone
+    }
+
+    /// Shows the sieve the pairs, each once, by base and then by length, until it is done, and takes out those that it
+    /// gives up. The others stay, each with the value that the sieve made of it. It takes no memory, and goes to each
+    /// node once.
+    pub fn retain<S: Sieve<V>>(&mut self, sieve: &mut S)
+        ensures sifted { IsSifted S.done S.judges sieve.old sieve.new self.old.pairs self.new.pairs }
+        ensures ordered { IsOrdered self.new.pairs }
+    {
+        sifting::retain(&mut self.root, &mut self.nodes, &mut self.len, sieve);
     }
 }
