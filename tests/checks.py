@@ -73,10 +73,15 @@ def chosen(about, cases, takes=("program",), flags=()):
     return words
 
 
+def built_file(crate):
+    """What tools/build makes of a crate, which is built first if it is stale."""
+    ended = subprocess.run([TOP / "tools/build", crate], check=True, stdout=subprocess.PIPE, text=True)
+    return pathlib.Path(ended.stdout.strip())
+
+
 def built():
-    """./yarib's program, which is built first where a source is newer."""
-    subprocess.run([TOP / "yarib", "--version"], check=True, stdout=subprocess.DEVNULL)
-    return Program(TOP / "out" / "yarib")
+    """./yarib's program."""
+    return Program(built_file("rt_app"))
 
 
 def compiled(folder, source, *options):

@@ -2,39 +2,58 @@
 """Starts ./yarib in copies of the repository where a stand-in for the toolchain builds it, and asks bash for
 completions.
 
-tests/launcher.py [CASE..], or --list for the names of the cases. Needs bash, gcc and python3, but no toolchain: the
+tests/launcher.py [CASE..], or --list for the names of the cases. Needs bash, gcc and python3, and proves nothing: the
 stand-in for the prover notes when it begins and ends with which crate, and what it builds is tests/started.c, which tells
-how it was started. So this takes seconds, and says nothing of proofs.
+how it was started. So this takes seconds, and says nothing of proofs. One case asks the toolchain on PATH which files of
+a tree `rt ci` would refuse.
 """
 import concurrent.futures
+import contextlib
 import os
 import pathlib
 import re
 import shutil
+import signal
 import subprocess
 import tempfile
 import time
 
 from checks import TOP, chosen, compiled, end, expect, run, run_case, text_of
+from common.built import LOGIC
 from common.crates import all_crates, below
 
 # The stand-in for `rt` tells where the toolchain lies, and which it is.
 RT = """#!/bin/sh
-case $1 in doc) echo "$KIT/page.md" ;; version) echo "$VERSION" ;; *) exit 2 ;; esac
+case $1 in doc) echo "$KIT/page.md" ;; version) echo "stand-in-$VERSION logic $LOGIC" ;; *) exit 2 ;; esac
 """
-# That for the prover notes the beginning and the end of each call in $NOTES, in whose order they happened.
+# That for the prover notes the beginning and the end of each call in $NOTES, in whose order they happened, and its words.
+# A library is a folder of sources, as the prover makes it, and is not there where a crate above it is proved without it.
 PROVER = """#!/bin/sh
 crate=$(basename "$PWD")
 echo "begin $crate" >>"$NOTES"
+echo "$*" >>"$NOTES.words"
 sleep 0.05
-if [ "$crate" = "$CHANGES" ]; then echo more >>../rt_cidr/src/lib.rt; fi
+if [ "$crate" = "$CHANGES" ]; then echo more >>"$TOP/crates/rt_cidr/src/lib.rt"; fi
+if [ "$crate" = "$HANGS" ]; then echo $$ >"$NOTES.pid"; sleep 600; fi
+if [ "$crate" = "$DIES" ]; then kill -9 $$; fi
 if [ "$crate" = "$FAILS" ]; then echo "no proof of $crate"; exit 1; fi
-while [ $# -gt 0 ]; do if [ "$1" = -o ]; then made=$2; fi; shift; done
-: >"$made"
+while [ $# -gt 0 ]; do
+  case $1 in
+    -o) made=$2 ;;
+    *=*.rlib) [ -e "${1#*=}/interface/lang/src/lib.rt" ] || case $1 in *"$KIT"*) ;; *) echo "no ${1#*=}"; exit 1 ;; esac ;;
+  esac
+  shift
+done
+case $made in
+  *.rlib) mkdir -p "$made/interface/lang/src" && cat src/lib.rt >"$made/interface/lang/src/lib.rt" ;;
+  *) cp "$ARCHIVE" "$made" ;;
+esac
+if [ "$crate" != "$SILENT" ]; then echo "logic=proved functions=1 sum=$LOGIC"; fi
 echo "end $crate" >>"$NOTES"
 """
 # That for the linker puts the program where the words want it.
 LINKER = """#!/bin/sh
+if [ "$LINKER_FAILS" ]; then exit 1; fi
 while [ "$1" != -o ]; do shift; done
 cp "$STARTED" "$2"
 """
@@ -47,24 +66,32 @@ class Copy:
 
     def __init__(self, made, tools, name):
         self.top, self.notes, self.tools = made / name, made / f"{name}.notes", tools
+        self.folder = made / f"{name}.folder"  # for what a build needs while it works
+        self.folder.mkdir()
         for crate in all_crates():
             root = "src/main.rt" if crate == "rt_app" else "src/lib.rt"
             for file in (root, "specs/S.antt", "proofs/P.antt", "must-fail/m.edit"):
                 path = self.top / "crates" / crate / file
                 path.parent.mkdir(parents=True)
                 path.write_text("//\n")
-        for name in ("yarib", "crates.txt", "tools/build", "tools/common/crates.py", "tools/common/prover.py"):
+        common = [f"tools/common/{name}.py" for name in ("built", "building", "crates", "prover")]
+        for name in ("yarib", "crates.txt", "tools/build", *common, "bindings/build", "bindings/c/yarib.map"):
             (self.top / name).parent.mkdir(parents=True, exist_ok=True)
             shutil.copy(TOP / name, self.top / name)
         for path in self.top.rglob("*"):
             os.utime(path, (time.time() - 1_000,) * 2)
         self.notes.write_text("")
 
+    def names(self, path="with"):
+        """The environment of a call."""
+        none = dict.fromkeys(("FAILS", "CHANGES", "HANGS", "DIES", "SILENT", "LINKER_FAILS"), "")
+        return none | {"PATH": str(self.tools / path), "NOTES": self.notes, "STARTED": self.tools / "started",
+                       "ARCHIVE": self.tools / "kit/c/liblibc_c.a", "TOP": self.top, "VERSION": "1",
+                       "KIT": self.tools / "kit", "LOGIC": LOGIC, "TMPDIR": self.folder}
+
     def start(self, *words, path="with", by=None, **more):
         """How a call ends: its status, what the program that it started tells, and standard error."""
-        names = {"PATH": self.tools / path, "NOTES": self.notes, "STARTED": self.tools / "started", "FAILS": "",
-                 "CHANGES": "", "KIT": self.tools / "kit", "VERSION": "1"}
-        how = {"env": names | more.pop("names", {}), "stdin": subprocess.DEVNULL, "cwd": self.top} | more
+        how = {"env": self.names(path) | more.pop("names", {}), "stdin": subprocess.DEVNULL, "cwd": self.top} | more
         status, out, err = run([by or self.top / "yarib", *words], **how)
         return status, out, err
 
@@ -78,6 +105,11 @@ class Copy:
         """What the stand-in notes of a call, which has to start the program."""
         expect("the program is started", self.start("x")[:2], (0, told(["x"], self.top)))
         return self.built()
+
+    def product(self, crate):
+        """What is built of a crate lies here: the only file of its name, which has a sum behind it."""
+        [made] = (self.top / "out/build").glob(f"{crate}-*")
+        return made
 
     def change(self, name):
         path = self.top / name
@@ -129,34 +161,212 @@ def what_it_is_given(copy):
 
 # Fails where a changed file of `specs/` has nothing proved anew, or a crate that stands on it is left as it was: `built where
 # crates/rt_trie/specs/S.antt is another`.
+# Fails where the sum leaves out the end of a long file, the names of files or a crate's line of crates.txt: `built where ..
+# ends differently`, `.. has another name`, `.. names another crate`.
 # Fails where an edit that the prover has to refuse, or a crate on which the program doesn't stand, has something built anew:
 # `not built where crates/walkthrough/src/lib.rt is another`.
-# Fails where what another toolchain built is taken: `built where the toolchain is another`.
+# Fails where a library that another toolchain built is taken: `built where the toolchain is another`.
 # Fails where a library that is gone is built again alone: `built where a library is gone`.
 def what_is_built_anew(copy):
     whole = below(["rt_app"])
+    above = lambda crate: {one for one in whole if crate in below([one])}
     expect("built at first", begun(copy.built_by_call()), whole)
     for name in ("crates/rt_trie/src/lib.rt", "crates/rt_trie/specs/S.antt", "crates/ya_core/proofs/new/P.antt"):
         copy.change(name)
-        crate = name.split("/")[1]
-        expect(f"built where {name} is another", begun(copy.built_by_call()),
-               {one for one in whole if crate in below([one])})
+        expect(f"built where {name} is another", begun(copy.built_by_call()), above(name.split("/")[1]))
         expect(f"not built again where {name} was another", copy.built_by_call(), [])
-    (copy.top / "out/build/rt_trie.rlib").unlink()
-    (copy.top / "crates/rt_cidr/src/lib.rt").touch()
-    expect("built where a library is gone", begun(copy.built_by_call()),
-           {one for one in whole if "rt_trie" in below([one])})
+    copy.product("rt_trie").unlink()
+    expect("not built where only a library is gone", copy.built_by_call(), [])
+    copy.change("crates/rt_app/src/main.rt")
+    expect("built where a library is gone", begun(copy.built_by_call()), above("rt_trie"))
+    long = copy.top / "crates/rt_diff/src/long.rt"
+    for end in "ab":
+        long.write_text("// " + "x" * 300_000 + end + "\n")
+        expect(f"built where a long file ends differently: {end}", begun(copy.built_by_call()), above("rt_diff"))
+    long.rename(long.parent / "other.rt")
+    expect("built where a file has another name", begun(copy.built_by_call()), above("rt_diff"))
+    lines = (copy.top / "crates.txt").read_text()
+    (copy.top / "crates.txt").write_text(lines.replace("rt_diff: ", "rt_diff: thiserror "))
+    expect("built where a crate's line names another crate", begun(copy.built_by_call()), above("rt_diff"))
     (copy.top / "crates/rt_cidr/src/lib.rt").touch()
     expect("not proved where a file is newer and as it was", copy.built_by_call(), [])
     others = [f"crates/{crate}/src/lib.rt" for crate in sorted(set(all_crates()) - whole)]
     for name in ("crates/rt_trie/must-fail/m.edit", *others, "crates/rt_trie/out/rlib", "README.md", "tests/rows.py"):
         copy.change(name)
         expect(f"not built where {name} is another", copy.built_by_call(), [])
-    (copy.top / "out/yarib").unlink()
-    expect("not proved again where the program's copy is gone", copy.built_by_call(), [])
-    copy.change("crates.txt")
+    copy.start("x", names={"VERSION": "2"})
+    expect("not built where only the toolchain is another", copy.built(), [])
+    copy.change("crates/rt_app/src/main.rt")
     copy.start("x", names={"VERSION": "2"})
     expect("built where the toolchain is another", begun(copy.built()), whole)
+
+
+# Fails where the program of an edit that was taken back is started, or anything below crates/ counts as built: `the edit
+# taken back`.
+def taken_back(copy):
+    copy.start()
+    copy.built()
+    source = copy.top / "crates/rt_app/src/main.rt"
+    text = source.read_text()
+    source.write_text(text + "// another\n")
+    (source.parents[1] / "out").mkdir(exist_ok=True)
+    (source.parents[1] / "out/rt_app").write_text("#!/bin/sh\necho the program of rt run\n")
+    (source.parents[1] / "out/rt_app").chmod(0o755)
+    source.write_text(text)
+    expect("the edit taken back", copy.built_by_call(), [])
+
+
+# Fails where a build leaves a file that `rt ci` refuses as one that no check reads, now or after it was killed: `what the
+# toolchain says of the tree ..`.
+# Fails where a build depends on what the gate leaves, or removes or changes it: `the gate's own files`.
+def beside_the_gate(copy):
+    unread = copy.top / "out/old.rlib/interface/lang/src/lib.rt"
+    unread.parent.mkdir(parents=True)
+    unread.write_text("")
+    expect("a tree with an unread file", refused_files(copy.top), "out/old.rlib/interface/lang/src/lib.rt")
+    shutil.rmtree(copy.top / "out/old.rlib")
+    kept = copy.top / "crates/rt_cidr/out/rlib/rt_cidr.rlib/interface/lang/src/lib.rt"
+    kept.parent.mkdir(parents=True)
+    kept.write_text("kept\n")
+    for round in ("first", "second"):
+        copy.start("x")
+        expect(f"what the toolchain says of the tree after the {round} ./yarib", refused_files(copy.top), None)
+        judged = {crate: copy.top / f"crates/{crate}/out/{crate}" for crate in ("rt_app", "yarib_c")}
+        for path in judged.values():
+            path.parent.mkdir(exist_ok=True)
+            path.write_text(f"of the gate's {round} run")
+        copy.change("crates/rt_app/src/main.rt")
+        copy.start("x")
+        copy.start("yarib_c", by=copy.top / "tools/build")
+        expect(f"the gate's own files after the {round} run",
+               (kept.read_text(), [path.read_text() for path in judged.values()]),
+               ("kept\n", [f"of the gate's {round} run"] * 2))
+    copy.change("crates/rt_cidr/src/lib.rt")
+    with begun_build(copy, "rt_trie"):
+        expect("what the toolchain says of the tree during a build", refused_files(copy.top), None)
+
+
+def refused_files(top):
+    """What the toolchain's own check, which `rt ci` begins with, says that no crate's check reads; none where it has no
+    fault. It is the check of this machine's toolchain, over that tree."""
+    rt = pathlib.Path(shutil.which("rt")).resolve()
+    asked = f"""
+import os, sys
+sys.path.insert(0, {str(rt.parent)!r})
+import rtlib
+os.chdir({str(top)!r})
+crates = rtlib.crates_below(os.getcwd())
+for name in sorted(os.listdir()):
+    if os.path.isdir(name) and name != ".git":
+        rtlib.stop_on_unread(f"{{os.getcwd()}}/{{name}}", crates)
+"""
+    status, out, err = run(["python3", "-c", asked])
+    named = re.search(rf"no check reads {re.escape(str(top))}/(\S+):", out + err)
+    return named[1] if named else None if status == 0 else f"status {status}: {out}{err}"
+
+
+@contextlib.contextmanager
+def begun_build(copy, crate):
+    """A call of ./yarib whose prover is at work on a crate, without an end."""
+    pid = pathlib.Path(f"{copy.notes}.pid")
+    pid.unlink(missing_ok=True)
+    how = {"env": copy.names() | {"HANGS": crate}, "stdin": subprocess.DEVNULL, "cwd": copy.top,
+           "stdout": subprocess.PIPE, "stderr": subprocess.PIPE, "start_new_session": True}
+    with subprocess.Popen([copy.top / "yarib", "x"], **how) as call:
+        wait_until(lambda: pid.exists() and pid.read_text().endswith("\n"))
+        yield call, int(pid.read_text())
+        if call.poll() is None:
+            call.terminate()
+
+
+def wait_until(is_so):
+    """Waits for something that is sure to come, up to two minutes."""
+    for _ in range(12_000):
+        if is_so():
+            return
+        time.sleep(0.01)
+    raise TimeoutError
+
+
+def is_alive(pid):
+    """Whether a process is at work; one that has ended may not have been waited for."""
+    try:
+        return pathlib.Path(f"/proc/{pid}/stat").read_text().rpartition(")")[2].split()[0] != "Z"
+    except FileNotFoundError:
+        return False
+
+
+# Fails where a signal leaves a prover at work, something of a build in the folder for temporary files, or a lock: `what is
+# left ..`, `built after ..`; where an ended build has another status: `a build that .. ends`.
+def interrupted(copy):
+    for number in (signal.SIGTERM, signal.SIGINT, signal.SIGHUP, signal.SIGKILL):
+        copy.change("crates/rt_trie/src/lib.rt")
+        with begun_build(copy, "rt_rib") as (call, prover):
+            if number == signal.SIGKILL:
+                builder = next(pid for pid in children(call.pid) if b"tools/build" in command(pid))
+                os.kill(builder, number)
+            else:
+                os.kill(call.pid, number)
+            status = call.wait()
+        wanted = 126 if number == signal.SIGKILL else 128 + signal.SIGTERM if number != signal.SIGINT else 130
+        expect(f"a build that {number.name} ends", status in (wanted, 128 + number), True)
+        if number == signal.SIGKILL:
+            os.killpg(prover, signal.SIGKILL)
+        wait_until(lambda: not is_alive(prover))
+        expect(f"what is built after {number.name}", [path.name for path in (copy.top / "out/build").glob("*.new")], [])
+        copy.built()
+        noted = begun(copy.built_by_call())
+        expect(f"built after {number.name}: rt_trie is not proved again", ("rt_trie" in noted, "rt_app" in noted),
+               (False, True))
+        expect(f"what is left after {number.name}", [*copy.folder.iterdir()], [])
+
+
+def children(pid):
+    """The processes that a process has started, and theirs."""
+    own = [int(one) for one in pathlib.Path(f"/proc/{pid}/task/{pid}/children").read_text().split()]
+    return own + [one for child in own for one in children(child)]
+
+
+def command(pid):
+    return pathlib.Path(f"/proc/{pid}/cmdline").read_bytes()
+
+
+# Fails where a folder that can't be written, a full disk, a toolchain of another logic or a missing python3 is not told of
+# in a line, or something counts as built then: `.. : its line`, `built after ..`.
+def what_is_missing(copy):
+    status, out, err = copy.start("x", names={"LOGIC": "another"})
+    expect("a toolchain of another logic: its line", (status, out, len(err.splitlines()), LOGIC in err), (127, "", 1, True))
+    (copy.tools / "bare").mkdir()
+    for name in ("bash", "dirname", "readlink", "rt"):
+        (copy.tools / "bare" / name).symlink_to(copy.tools / "with" / name)
+    status, out, err = copy.start("x", path="bare")
+    expect("python3 missing: its line", (status, out, len(err.splitlines()), "python3" in err), (127, "", 1, True))
+    (copy.top / "out").write_text("no folder\n")
+    status, out, err = copy.start("x")
+    expect("a folder that can't be made: its line", (status, out, len(err.splitlines())), (126, "", 1))
+    (copy.top / "out").unlink()
+    # A file may have 100 kB, so that one can't be written whole: as on a full disk.
+    (copy.top / "crates/rt_rib/src/lib.rt").write_text("// " + "x" * 150_000 + "\n")
+    limited = ["bash", "-c", 'trap "" XFSZ; ulimit -f 100; exec "$0" "$@"', copy.top / "yarib", "x"]
+    status, out, err = run(limited, env=copy.names(), stdin=subprocess.DEVNULL, cwd=copy.top)
+    expect("a file that can't be written: its line", (status, out, "can't be built" in err.splitlines()[-1]),
+           (126, "", True))
+    expect("what counts as built then", [*(copy.top / "out/build").glob("rt_[ar][pi][pb]-*")], [])
+    copy.built()
+    expect("built after it", "rt_app" in begun(copy.built_by_call()), True)
+
+
+# Fails where the prover has other words than these, such as ones that leave out its checks: `the words for the prover`.
+def words_for_the_prover(copy):
+    copy.start("x")
+    known = {"--jobs", "--crate-name", "--extern", "-L", "--antt-project", "--logic-built", "--links", "--statements", "-o",
+             "--toolchain", "--backend"}
+    for line in pathlib.Path(f"{copy.notes}.words").read_text().splitlines():
+        words = line.split()
+        expect("the words for the prover", (words[0], {word for word in words if word.startswith("-")} - known),
+               ("build", set()))
+        expect("the logic that is named", words[words.index("--antt-project") + 1],
+               f"{copy.tools}/kit/rattle/logic/antt-project.json")
 
 
 def begun(notes):
@@ -192,8 +402,8 @@ def one_at_a_time(copy):
 
 # Fails where the program of the last build is started though the build failed, or the failure is told by no status: `..
 # fails`.
-# Fails where a crate is taken as built that stands on one which a failed build has built anew: `terminal_line over another
-# rt_cidr`.
+# Fails where what a killed prover, a failing linker or a prover without checks left counts as built: `a prover is killed`,
+# `the linker fails`, `a prover says of nothing that it is proved`.
 def failed_builds(copy):
     copy.start()
     for crate in ("ya_core", "rt_run", "rt_app"):
@@ -206,11 +416,46 @@ def failed_builds(copy):
         expect(f"{crate} fails", (status, out, *is_told), (126, "", True, True))
         expect(f"rt_app is not built where {crate} fails", "end rt_app" in copy.built(), False)
     expect("built when nothing fails any more", copy.built_by_call().count("end rt_app"), 1)
-    for crate in ("rt_cidr", "ya_core"):
-        copy.change(f"crates/{crate}/src/lib.rt")
-    copy.start("x", names={"FAILS": "ya_core"})
-    expect("terminal_line waits for ya_core, which fails", "begin terminal_line" in copy.built(), False)
-    expect("terminal_line over another rt_cidr", "begin terminal_line" in copy.built_by_call(), True)
+    for how, names in (("a prover is killed", {"DIES": "rt_app"}), ("the linker fails", {"LINKER_FAILS": "1"}),
+                       ("a prover says of nothing that it is proved", {"SILENT": "rt_app"})):
+        copy.change("crates/rt_app/src/main.rt")
+        expect(f"{how}: no program", copy.start("x", names=names)[:2], (126, ""))
+        copy.built()
+        expect(f"{how}: built after it", begun(copy.built_by_call()), {"rt_app"})
+
+
+# Fails where an archive is taken by its age, or one that doesn't belong to the sources of all crates below: `a library where
+# .. is another`; where a failed build ends well, or another library is in its place afterwards: `a library where .. fails`.
+def libraries(copy):
+    build = lambda **names: copy.start(by=copy.top / "bindings/build", names=names)
+    made = [copy.top / "bindings/out" / name for name in ("libyarib.a", "libyarib.so.0", "libyarib.so")]
+    state = lambda: [(path.read_bytes(), path.stat().st_ino) for path in made]
+    expect("a library at first", (build()[0], begun(copy.built()), [path.exists() for path in made]),
+           (0, below(["yarib_c"]), [True] * 3))
+    expect("a library again", (build()[0], copy.built()), (0, []))
+    for crate in sorted(below(["yarib_c"])):
+        source = copy.top / "crates" / crate / "src/lib.rt"
+        source.write_text(source.read_text() + "// another\n")
+        os.utime(source, (time.time() - 1_000_000,) * 2)
+        before = state()
+        for again in range(2):
+            expect(f"a library where {crate} fails", (build(FAILS=crate)[0] != 0, state() == before), (True, True))
+        copy.built()
+        expect(f"a library where {crate} is another", (build()[0], begun(copy.built())),
+               (0, {one for one in below(["yarib_c"]) if crate in below([one])}))
+
+
+# Fails where the lock of a build is kept while the program runs: `built while the program runs`.
+def beside_a_run(copy):
+    copy.start()
+    how = {"env": copy.names(), "stdin": subprocess.PIPE, "stdout": subprocess.PIPE, "cwd": copy.top}
+    for round in ("found built", "just built"):
+        with subprocess.Popen([copy.top / "yarib", "x"], **how) as running:
+            wait_until(lambda: b"yarib\0x" in command(running.pid))
+            copy.change("crates/rt_cidr/src/lib.rt")
+            expect(f"built while the program runs that was {round}", copy.start("x", timeout=60)[0], 0)
+            copy.change("crates/rt_app/src/main.rt")
+            expect("it still runs", running.communicate()[0].decode(), told(["x"], copy.top))
 
 
 # Fails where a source that was changed during the build counts as built: `a source was changed while ..`.
@@ -296,11 +541,15 @@ def put_tools(folder):
         (folder / name).write_text(text)
         (folder / name).chmod(0o755)
     compiled(folder, "tests/started.c")
+    # In place of the kit's heap and of the archive that the prover makes.
+    (folder / "kit/c").mkdir()
+    subprocess.run(["gcc", "-fPIC", "-c", "-o", folder / "heap.pic.o", TOP / "tests/started.c"], check=True)
+    subprocess.run(["ar", "cr", folder / "kit/c/liblibc_c.a", folder / "heap.pic.o"], check=True)
 
 
 CASES = (
-    what_it_is_given, what_is_built_anew, in_order, one_at_a_time, failed_builds, changed_meanwhile,
-    nothing_to_build_with, completions,
+    what_it_is_given, what_is_built_anew, taken_back, beside_the_gate, interrupted, what_is_missing, words_for_the_prover,
+    in_order, one_at_a_time, failed_builds, libraries, beside_a_run, changed_meanwhile, nothing_to_build_with, completions,
 )
 
 

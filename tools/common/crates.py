@@ -1,10 +1,12 @@
 """The crates of the repository, and on what each stands, as crates.txt says."""
+import functools
 import pathlib
 
 TOP = pathlib.Path(__file__).resolve().parents[2]
 CRATES = TOP / "crates"
 
 
+@functools.cache
 def heads():
     """Of each line of crates.txt what stands before the colon, a crate's name and perhaps its kind, and what behind."""
     lines = [line.partition("#")[0].partition(":") for line in (TOP / "crates.txt").read_text().splitlines()]
@@ -22,6 +24,10 @@ def all_crates():
 
 def is_static(crate):
     return any(name == crate and "staticlib" in kind for (name, *kind), _ in heads())
+
+
+def is_program(crate):
+    return (CRATES / crate / "src/main.rt").exists()
 
 
 def below(crates):

@@ -1,0 +1,99 @@
+#!/usr/bin/env python3
+"""Calls tools/build with the real prover, on a repository with one crate of one file: what it says is built was proved.
+
+tests/built.py [CASE..], or --list for the names of the cases. Needs the toolchain, gcc and python3, and about half a minute
+of processor time. tests/launcher.py tries everything else of tools/build with a stand-in for the prover.
+"""
+import os
+import pathlib
+import shutil
+import signal
+import subprocess
+import time
+
+from checks import TOP, chosen, end, expect, run, run_each
+
+RIGHT = """\
+#![tactic(auto)]
+ghost use Rattle.std.specs.Prelude.{◌≡◌};
+
+/// Returns its argument.
+#[unsafe(no_mangle)]
+pub extern "C" fn one_same(number: u32) -> u32
+    ensures { result ≡ number }
+{
+    number
+}
+"""
+WRONG = RIGHT.replace("    number\n", "    0\n")
+CALLER = "unsigned one_same(unsigned); int main(void) { return one_same(7); }\n"
+
+
+class Repository:
+    """A repository with the scripts of this one and a crate of its own, a static library."""
+
+    def __init__(self):
+        self.top = pathlib.Path.cwd() / "repository"
+        shutil.copytree(TOP / "tools", self.top / "tools", ignore=shutil.ignore_patterns("__pycache__"))
+        (self.top / "crates.txt").write_text("one staticlib:\n")
+        self.source, self.log = self.top / "crates/one/src/lib.rt", self.top / "out/build/one.log"
+        self.source.parent.mkdir(parents=True)
+        self.source.write_text(RIGHT)
+        self.words = [self.top / "tools/build", "one"]
+
+    def begin(self):
+        """A build whose prover is at work, and the prover's number."""
+        self.log.unlink(missing_ok=True)
+        build = subprocess.Popen(self.words, stdout=subprocess.PIPE, stderr=subprocess.PIPE, text=True)
+        while build.poll() is None:
+            for child in pathlib.Path(f"/proc/{build.pid}/task/{build.pid}/children").read_text().split():
+                if b"rattle\0build" in pathlib.Path(f"/proc/{child}/cmdline").read_bytes():
+                    return build, int(child)
+            time.sleep(0.01)
+        raise ValueError(build.communicate())
+
+    def ready(self):
+        status, out, _ = run([self.words[0], "--ready", "one"])
+        return status, out.strip()
+
+
+# Fails where a source that is saved while its crate is proved counts as proved: `the text saved meanwhile`.
+# Fails where what was built of another text is taken, or is gone when the text is back: `the text taken back`.
+def saved_meanwhile(new):
+    one = new()
+    build, _ = one.begin()
+    one.source.write_text(WRONG)
+    made, said = build.communicate()
+    expect("the text when the build began", (build.returncode, "one is proved" in said), (0, True))
+    pathlib.Path("caller.c").write_text(CALLER)
+    subprocess.run(["gcc", "caller.c", made.strip(), "-o", "caller"], check=True)
+    expect("what was built of it", run(["./caller"])[0], 7)
+    expect("the text saved meanwhile: not ready", one.ready(), (3, ""))
+    status, out, said = run(one.words)
+    expect("the text saved meanwhile", (status, out, "one is not proved" in said), (1, "", True))
+    expect("what the prover says of it", "ensures" in one.log.read_text(), True)
+    expect("the text saved meanwhile, after its proof", one.ready(), (3, ""))
+    one.source.write_text(RIGHT)
+    expect("the text taken back", one.ready(), (0, made.strip()))
+
+
+# Fails where what a killed prover leaves counts as built: `a killed prover`.
+def killed(new):
+    one = new()
+    build, prover = one.begin()
+    os.kill(prover, signal.SIGKILL)
+    made, said = build.communicate()
+    expect("a killed prover", (build.returncode, made, "one is not proved" in said), (1, "", True))
+    expect("what counts as built after it", one.ready(), (3, ""))
+
+
+CASES = (saved_meanwhile, killed)
+
+
+def main():
+    run_each(chosen(__doc__, CASES, takes=()).cases, Repository)
+    end()
+
+
+if __name__ == "__main__":
+    main()

@@ -1,0 +1,349 @@
+"""Proves and builds what tools/build is named: the order of the crates, the prover's jobs, and what the user is told."""
+import collections
+import contextlib
+import fcntl
+import functools
+import os
+import pathlib
+import re
+import shutil
+import signal
+import subprocess
+import sys
+import tarfile
+import tempfile
+import time
+
+from .built import LOGIC, PARTS, STATE, own, product, sources_sum
+from .crates import CRATES, below, is_program, is_static, needs
+from .prover import kit, linking_words, words_for
+
+FIRST_BUILD = "ten to fifteen minutes on four processors"
+# What an estimate takes a crate to cost beside its sources, in bytes of these: each crate, and a program, which is linked.
+EACH, PROGRAM = 60_000, 300_000
+MOST_JOBS = 4  # of one proof
+
+
+def say(text):
+    print(f"yarib: {text}", file=sys.stderr, flush=True)
+
+
+def stop(text, status=1):
+    say(text)
+    sys.exit(status)
+
+
+@functools.cache
+def toolchain():
+    """What `rt version` says; stops if the toolchain isn't there or has another logic."""
+    if not shutil.which("rt"):
+        stop("to build it, the Rattle toolchain (the command rt) has to be on PATH", 127)
+    said = subprocess.run(["rt", "version"], stdout=subprocess.PIPE, text=True).stdout.strip()
+    if not said.endswith(f"logic {LOGIC}"):
+        stop(f"`rt version` says {said!r}; put a toolchain of logic {LOGIC} on PATH, which README.md names", 127)
+    return said
+
+
+# -- the copy that is built
+
+
+class Copy:
+    """The sources as they are when a build begins, in a folder in which the libraries also lie while it is at work."""
+
+    def __init__(self, folder, crates):
+        self.crates, self.libraries = folder / "crates", folder / "built"
+        self.libraries.mkdir()
+        for crate in crates:
+            (self.crates / crate).mkdir(parents=True)
+            for part in PARTS:
+                if (CRATES / crate / part).is_dir():
+                    shutil.copytree(CRATES / crate / part, self.crates / crate / part)
+
+    def size(self, crate):
+        return sum(path.stat().st_size for path in (self.crates / crate).rglob("*") if path.is_file())
+
+    def made(self, crate):
+        """What the prover makes of a crate: a library, an archive or a program."""
+        return self.libraries / (f"{crate}.rlib" if not (is_program(crate) or is_static(crate)) else crate)
+
+    def product(self, crate):
+        return product(crate, toolchain(), self.crates)
+
+    def is_built(self, crate):
+        return self.product(crate).is_file()
+
+    def unpack(self, crate):
+        """Puts a library that an earlier build left where the prover reads it."""
+        with tarfile.open(self.product(crate)) as packed:
+            packed.extractall(self.libraries, **({"filter": "data"} if hasattr(tarfile, "data_filter") else {}))
+
+    def keep(self, crate):
+        """Keeps what was built of a crate under its name, which it gets when it is whole, and removes older ones."""
+        made, kept, new = self.made(crate), self.product(crate), STATE / f"{crate}.new"
+        try:
+            with open(new, "wb") as file:
+                if kept.suffix == ".tar":
+                    with tarfile.open(fileobj=file, mode="w") as packed:
+                        packed.add(made, arcname=made.name)
+                else:
+                    with open(made, "rb") as whole:
+                        shutil.copyfileobj(whole, file)
+                file.flush()
+                os.fsync(file.fileno())
+            os.chmod(new, 0o755 if is_program(crate) else 0o644)
+            os.replace(new, kept)
+        finally:
+            new.unlink(missing_ok=True)
+        older = sorted(STATE.glob(f"{crate}-*"), key=lambda path: path.stat().st_mtime, reverse=True)
+        # A program that is replaced may just be starting, so the last but one stays.
+        for path in older[2 if is_program(crate) else 1:]:
+            path.unlink()
+
+
+# -- the prover's calls
+
+
+def lanes():
+    """How many provers work at once: one a processor, with 4 GB of memory for each."""
+    memory = os.sysconf("SC_PAGE_SIZE") * os.sysconf("SC_PHYS_PAGES")
+    return max(1, min(len(os.sched_getaffinity(0)), memory // 4_000_000_000))
+
+
+def commands(copy, crate, jobs, niceness):
+    """The commands that prove a crate, and build what is built of it."""
+    words = ["nice", "-n", niceness, kit() / "bin/rattle", "build", "--jobs", jobs]
+    words += words_for(crate, needs()[crate], copy.crates / crate, libraries=copy.made)
+    compiled = ["--toolchain", kit() / "toolchain", "--backend", "llvm", "-o"]
+    made = copy.made(crate)
+    if is_static(crate):
+        return [[*words, *compiled, made]]
+    if is_program(crate):
+        return [[*words, *compiled, f"{made}.o"], linking_words(made)]
+    return [[*words, "--statements", "-o", made]]
+
+
+class Job:
+    """A crate at work: the commands that are left, and the one that runs."""
+
+    def __init__(self, copy, crate, jobs, niceness):
+        self.crate, self.begun = crate, time.monotonic()
+        self.log, self.folder = open(STATE / f"{crate}.log", "wb"), copy.crates / crate
+        self.left = collections.deque(commands(copy, crate, jobs, niceness))
+        self.start()
+
+    def start(self):
+        words = [str(word) for word in self.left.popleft()]
+        # In a session of its own, so that the builder alone gets a terminal's Ctrl-C, and ends it.
+        self.process = subprocess.Popen(words, cwd=self.folder, stdin=subprocess.DEVNULL, stdout=self.log,
+                                        stderr=subprocess.STDOUT, start_new_session=True)
+
+    def goes_on(self):
+        """Whether it is still at work; starts its next command if one ended well."""
+        if self.process.poll() is None:
+            return True
+        if self.process.returncode == 0 and self.left:
+            self.start()
+            return True
+        self.log.close()
+        return False
+
+    def kill(self):
+        try:
+            os.killpg(self.process.pid, signal.SIGKILL)
+        except ProcessLookupError:
+            pass
+        self.process.wait()
+
+
+# -- the order of the crates
+
+
+class Plan:
+    """Which crates are still to be built, what they are taken to cost, and which is to be started next."""
+
+    def __init__(self, copy, crates):
+        self.left = set(crates)
+        self.cost = {crate: copy.size(crate) + EACH + PROGRAM * is_program(crate) for crate in crates}
+        self.chain = {}  # of a crate its cost and the largest of those that wait for it, one behind the other
+        for crate in sorted(crates, key=lambda one: -len(below([one]))):
+            above = [self.chain[one] for one in self.chain if crate in own(one)]
+            self.chain[crate] = self.cost[crate] + max(above, default=0)
+        self.begun, self.done = time.monotonic(), {}
+
+    def ready(self, at_work):
+        """The crates that wait for no other, first those with the most behind them."""
+        waiting = self.left - set(at_work)
+        free = [crate for crate in waiting if not self.left.intersection(below([crate]) - {crate})]
+        return sorted(free, key=lambda crate: (-self.chain[crate], crate))
+
+    def share(self, crate):
+        """A crate's jobs and niceness: the processors are for the longest chain, and the rest gives way to it."""
+        longest = max(self.chain[one] for one in self.left)
+        is_first = self.chain[crate] == longest
+        return str(min(MOST_JOBS, lanes()) if is_first else 1), str(int(10 * (1 - self.chain[crate] / longest)))
+
+    def seconds_left(self, at_work):
+        """An estimate, by what the crates took that are done: the longest chain left, or all that is left on all lanes."""
+        pace = sum(self.done.values()) / sum(self.cost[crate] for crate in self.done)
+        spent = {job.crate: min((time.monotonic() - job.begun) / pace, 0.9 * self.cost[job.crate]) for job in at_work}
+        left = {crate: self.cost[crate] - spent.get(crate, 0) for crate in self.left}
+        chain = max(self.chain[crate] - spent.get(crate, 0) for crate in self.left)
+        return pace * max(chain, sum(left.values()) / lanes())
+
+
+def clock(seconds):
+    return f"{int(seconds) // 60}:{int(seconds) % 60:02}"
+
+
+def build_all(copy, crates, whole):
+    """Builds crates, each once those below it are proved; whether all of them are proved. Says how far it is, in all
+    the crates that `whole` counts."""
+    plan, at_work, is_well = Plan(copy, crates), {}, True
+    try:
+        while plan.left:
+            for crate in plan.ready(at_work) if is_well else []:
+                if len(at_work) < lanes():
+                    with signals.put_off():
+                        at_work[crate] = Job(copy, crate, *plan.share(crate))
+            if not at_work:
+                return False
+            time.sleep(0.02)
+            for crate, job in [*at_work.items()]:
+                with signals.put_off():
+                    is_at_work = job.goes_on()
+                if not is_at_work:
+                    del at_work[crate]
+                    is_well &= finish(copy, plan, job, at_work, whole)
+        return True
+    finally:
+        for job in at_work.values():
+            job.kill()
+
+
+def finish(copy, plan, job, at_work, whole):
+    """Keeps what a job has built, and says that its crate is proved, or why not."""
+    seconds = time.monotonic() - job.begun
+    if job.process.returncode != 0 or not copy.made(job.crate).exists() or not says_proved(job):
+        say(f"{job.crate} is not proved; {STATE}/{job.crate}.log says why{of_disk(copy)}")
+        return False
+    copy.keep(job.crate)
+    plan.left.remove(job.crate)
+    plan.done[job.crate] = seconds
+    number = whole - len(plan.left)
+    rest = f", about {clock(plan.seconds_left(at_work.values()))} left" if plan.left else ""
+    elapsed = clock(time.monotonic() - plan.begun)
+    say(f"[{number} of {whole}] {job.crate} is proved, in {int(seconds)} s; {elapsed} elapsed{rest}")
+    return True
+
+
+def says_proved(job):
+    """Whether the prover's own summary says that all is proved, and by this logic."""
+    summary = re.compile(rf"^logic=proved functions=.* sum={LOGIC}\b", re.M)
+    return summary.search(pathlib.Path(job.log.name).read_text(errors="replace")) is not None
+
+
+def of_disk(copy):
+    """Which disk is full, as a reason why a prover failed."""
+    full = [str(folder) for folder in (copy.libraries, STATE) if shutil.disk_usage(folder).free < 50_000_000]
+    return f"; the disk of {full[0]} is full: free space there, or set TMPDIR" if full else ""
+
+
+# -- a build
+
+
+class Signals:
+    """Ends the build by the status of a signal, but not while a prover is being started, which would be left alone."""
+
+    def __init__(self):
+        self.is_put_off, self.came = False, None
+
+    def end(self, number, frame=None):
+        self.came = number
+        if not self.is_put_off:
+            sys.exit(128 + number)
+
+    @contextlib.contextmanager
+    def put_off(self):
+        self.is_put_off = True
+        try:
+            yield
+        finally:
+            self.is_put_off = False
+        if self.came:
+            self.end(self.came)
+
+
+signals = Signals()
+
+
+def locked():
+    """Waits until no other build works in this checkout, and keeps others out until this process ends."""
+    lock = open(STATE / "lock", "w")
+    try:
+        fcntl.flock(lock, fcntl.LOCK_EX | fcntl.LOCK_NB)
+    except BlockingIOError:
+        say("another build is at work, and this one waits for it; meanwhile ./try WORDS.. runs yarib unproved")
+        fcntl.flock(lock, fcntl.LOCK_EX)
+    return lock
+
+
+def clear():
+    """Removes what killed builds and earlier forms of this script left."""
+    noted = STATE / "work"
+    if noted.exists():
+        folder = pathlib.Path(noted.read_text())
+        if folder.name.startswith("yarib-build-"):
+            shutil.rmtree(folder, ignore_errors=True)
+        noted.unlink()
+    for path in [*STATE.glob("*.new"), *STATE.glob("*.stamp")]:
+        path.unlink()
+    for path in STATE.glob("*.rlib"):
+        shutil.rmtree(path)
+
+
+def place():
+    """A folder for all that a build needs while it works: in $TMPDIR, or where large temporary files lie."""
+    large = os.environ.get("TMPDIR") or ("/var/tmp" if os.access("/var/tmp", os.W_OK) else None)
+    return pathlib.Path(tempfile.mkdtemp(prefix="yarib-build-", dir=large)).resolve()
+
+
+def build_in(folder, crate):
+    needed = below([crate])
+    copy = Copy(folder, needed)
+    sources_sum.cache_clear()
+    if copy.is_built(crate):
+        return copy.product(crate)
+    wanted = {crate}
+    for one in sorted(needed, key=lambda one: len(below([one]))):
+        if not copy.is_built(one) or wanted.intersection(below([one])):
+            wanted.add(one)
+    for one in needed - wanted:
+        copy.unpack(one)
+    first = f"; a first build takes {FIRST_BUILD}" if wanted == needed else ""
+    say(f"proving and building {len(wanted)} of {len(needed)} crates{first}")
+    if first and is_program(crate):
+        say("meanwhile ./try WORDS.. runs it unproved, in about a minute")
+    if not build_all(copy, wanted, len(needed)):
+        sys.exit(1)
+    say(f"{crate} is built")
+    return copy.product(crate)
+
+
+def build(crate):
+    """Builds a program or a static library, unless another build has just done so; where it lies."""
+    for number in (signal.SIGINT, signal.SIGTERM, signal.SIGHUP):
+        signal.signal(number, signals.end)
+    try:
+        toolchain()
+        STATE.mkdir(parents=True, exist_ok=True)
+        with locked():
+            clear()
+            folder = place()
+            (STATE / "work").write_text(str(folder))
+            try:
+                return build_in(folder, crate)
+            finally:
+                shutil.rmtree(folder, ignore_errors=True)
+                (STATE / "work").unlink(missing_ok=True)
+    except (OSError, subprocess.SubprocessError, tarfile.TarError, EOFError) as error:
+        stop(f"it can't be built: {error}; make room or mend this, and call it again")
