@@ -1,6 +1,6 @@
 -- Examples by which the definitions of fib_readers are tested, each under a line with the definition's name.
 use Rattle.std.proofs.Common.{◌≡◌, List, [], ◌∷◌, refl}
-use Rattle.std.specs.Prelude.{◌↔◌, ◌++◌}
+use Rattle.std.specs.Prelude.{◌++◌}
 use Rattle.rt_rib.specs.declared.routes.Route.{Route}
 use Rattle.table_examples.proofs.Cidr.{ten_8}
 use Rattle.table_examples.proofs.Rib.{via_192_0_2, route_via}
@@ -17,15 +17,9 @@ one_table_more_begins_with_those_before tables table = (table ∷ [], refl)
 no_tables_do_not_begin_with_one : (table : List Route) → ¬ BeginWith [] (table ∷ [])
 no_tables_do_not_begin_with_one table begins = let e : [] ≡ (table ∷ []) ++ begins.0 = begins.1 in cc
 
-what_it_is_to_begin_with : (tables seen : List (List Route)) → BeginWith tables seen ↔ ((rest : List (List Route)) × (tables ≡ seen ++ rest))
-what_it_is_to_begin_with tables seen = (λ h. h, λ h. h)
-
 -- EndIn
 two_tables_end_in_the_second : EndIn ([] ∷ one_route ∷ []) one_route
 two_tables_end_in_the_second = ([] ∷ [], refl)
-
-what_it_is_to_end_in : (tables : List (List Route)) (table : List Route) → EndIn tables table ↔ ((before : List (List Route)) × (tables ≡ before ++ table ∷ []))
-what_it_is_to_end_in tables table = (λ h. h, λ h. h)
 
 -- what is found where that table was published behind an empty one
 abbrev found_one_route : Found

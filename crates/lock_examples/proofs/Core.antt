@@ -16,8 +16,8 @@ use Rattle.ya_core.specs.ArbitrationTree.{node_of, side_of, nodes_below, number_
 use Rattle.ya_core.specs.FlatRow.{is_word, words_of, row_state}
 use Rattle.ya_core.specs.Steps.{State, StepsTo, LeadTo, Accesses, opening, entry_access, exit_access, access_of, after_entry, after_exit, entry_next, exit_next}
 use Rattle.ya_core.specs.Steps.{next_of, value_of}
-use Rattle.ya_core.specs.WalkerModel.{walk, due_of, due, CanStand, cost_of_word, cost_of, walk_after, MayFind, MayBeTold, WalkLeadsTo, BeginsEntry}
-use Rattle.ya_core.specs.WalkerModel.{BeginsExit, Walk, FitsAccess, FitsDue, op_of_access, op_at_rest, op_of_due, op_of, entry_behind}
+use Rattle.ya_core.specs.WalkerModel.{walk, due_of, due, CanStand, cost_of_word, cost_of, walk_after, MayFind, MayBeTold, WalkLeadsTo, BeginsEntry, Walk}
+use Rattle.ya_core.specs.WalkerModel.{BeginsExit, FitsAccess, FitsDue, op_of_access, op_at_rest, op_of_due, op_of, entry_behind}
 use Rattle.ya_core.specs.WalkerModel.{exit_behind, most_of, most_remote, is_waiting, ComesBefore, ComesFurther, MovesOn}
 use Rattle.ya_core.specs.WalkerModel.{IsWalk, OpIsWithin, AccessIsWithin}
 use Rattle.ya_core.specs.Progress.{SomeoneGoesOn, CanLeadTo, SomeoneGoesOnIn, Announces, Wins, Neither, is_entering, is_to_announce, deed_of, announces}
@@ -28,7 +28,7 @@ use Rattle.ya_core.specs.Worlds.{Marked, World, Event, Steps, Appends, WorldStep
 use Rattle.ya_core.specs.Worlds.{opening_world, entries_of, TellsInside, places_of, FollowsFrom, EachMayFollow}
 use Rattle.ya_core.specs.RealTime.{KeepsRealTimeOrder}
 use Rattle.ya_core.proofs.Content.{entries_of-marked_other}
-use Rattle.std.specs.Prelude.{IsTrue, ◌⊎◌, ◌||◌, ◌↔◌, ◌-◌, ◌*◌, ◌/◌, ◌%◌, not, nat_le, nat_lt, length, slice_index}
+use Rattle.std.specs.Prelude.{◌-◌, length}
 use Rattle.ya_core.specs.declared.process.EntryPoint.{EntryPoint}
 use Rattle.ya_core.specs.declared.process.ExitPoint.{ExitPoint}
 use Rattle.ya_core.specs.declared.walker.Op.TheVariants as op
@@ -36,7 +36,7 @@ use Rattle.ya_core.specs.declared.step.Mark.TheVariants as mark
 use Rattle.ya_core.specs.declared.step.Step.{Step}
 use Rattle.ya_core.specs.Soundness.{Phase, Away, Named, Announced, Waiting, Holding, Releasing, LettingIn, entry_phase, exit_phase, phase_at, phase_of}
 use Rattle.ya_core.specs.Soundness.{claims, has_announced, waits, holds, is_releasing, awaits_wake, saw_itself_last, was_woken, awaits_release, is_to_wake}
-use Rattle.ya_core.specs.Soundness.{wakes_next, is_to_let_in, IsSoundLevel, SomeRival, IsOwed, IsSoundAt, IsOwedAt, EntryIsProper, ExitIsProper}
+use Rattle.ya_core.specs.Soundness.{wakes_next, is_to_let_in, IsSoundLevel, SomeRival, IsOwed, IsSoundAt, EntryIsProper, ExitIsProper}
 use Rattle.ya_core.specs.Soundness.{IsOnItsWay, IsProper, IsSoundState}
 use Rattle.ya_core.specs.Machines.{Rows, processes_of, state_of, word_of, is_store, mark_of, step_by, step_of, ReplaysTo, Replays}
 
@@ -365,23 +365,12 @@ it_has_no_others :
     ≡ false ∷ false ∷ false ∷ false ∷ false ∷ false ∷ false ∷ false ∷ false ∷ false ∷ false ∷ false ∷ []
 it_has_no_others = refl
 
-which_words_are_of_any_tree :
-    (levels level node side place : ℕ)
-    → (is_word levels (C level node side) ≡ (nat_le 1 level && nat_le level levels && nat_lt node (2 ^ (levels - level)) && nat_lt side 2))
-    × (is_word levels (T level node) ≡ (nat_le 1 level && nat_le level levels && nat_lt node (2 ^ (levels - level))))
-    × (is_word levels (P level place) ≡ (nat_le 1 level && nat_le level levels && nat_lt place (2 ^ levels)))
-which_words_are_of_any_tree levels level node side place = (refl, refl, refl)
-
 -- value_of
 a_load_tells_the_word : value_of (λ word. 9) (Load (T 1 0)) ≡ 9
 a_load_tells_the_word = refl
 
 a_store_what_it_stores : value_of (λ word. 9) (Store (T 1 0) 4) ≡ 4
 a_store_what_it_stores = refl
-
-what_any_access_tells :
-    (words : Word → ℕ) (word : Word) (value : ℕ) → (value_of words (Load word) ≡ words word) × (value_of words (Store word value) ≡ value)
-what_any_access_tells words word value = (refl, refl)
 
 -- cost_of
 a_load_of_its_own_spin_word : cost_of 3 (Load (P 1 3)) ≡ 0
@@ -392,10 +381,6 @@ a_store_in_anothers = refl
 
 a_claim_is_remote : cost_of 3 (Store (C 1 1 1) 4) ≡ 1
 a_claim_is_remote = refl
-
-the_cost_of_any_access :
-    (place value : ℕ) (word : Word) → (cost_of place (Load word) ≡ cost_of_word place word) × (cost_of place (Store word value) ≡ cost_of_word place word)
-the_cost_of_any_access place value word = (refl, refl)
 
 -- CanStand
 nil_in_a_claim : CanStand (C 1 1 0) 0
@@ -441,10 +426,6 @@ nobody_of_another_node = (λ h. let node = h.1 in cc, λ h. let node = h.1 in cc
 
 no_more_than_2_in_a_spin_word : CanStand (P 1 2) 2
 no_more_than_2_in_a_spin_word = omega arith
-
-what_stands_in_a_claim :
-    (value : ℕ) → CanStand (C 2 1 0) value → (value ≡ 0) ⊎ ((1 ≤ value) × (node_of 2 (value - 1) ≡ 1) × (side_of 2 (value - 1) ≡ 0))
-what_stands_in_a_claim value h = h
 
 -- MayFind
 a_store_may_be_told_anything : MayFind (Store (P 1 2) 2) 9
@@ -515,10 +496,6 @@ not_from_inside h = let process = h.process in cc
 not_with_a_count : ¬ BeginsEntry (walk 1 0 Idle true 1)
 not_with_a_count h = let uncounted = h.uncounted in cc
 
-any_walk_that_begins_its_entry : (w : Walk) → BeginsEntry w ↔ ((w.process ≡ Idle) × (w.begun ≡ true) × (w.remote ≡ 0))
-any_walk_that_begins_its_entry w =
-    (λ h. (h.process, h.begun, h.uncounted), λ (process, begun, uncounted). record { process = process; begun = begun; uncounted = uncounted })
-
 -- BeginsExit
 an_exit_begins : BeginsExit (walk 1 0 Inside true 3)
 an_exit_begins = record { process = refl; begun = refl }
@@ -528,9 +505,6 @@ not_from_idle h = let process = h.process in cc
 
 not_before_it_is_told_to : ¬ BeginsExit (walk 1 0 Inside false 3)
 not_before_it_is_told_to h = let begun = h.begun in cc
-
-any_walk_that_begins_its_exit : (w : Walk) → BeginsExit w ↔ ((w.process ≡ Inside) × (w.begun ≡ true))
-any_walk_that_begins_its_exit w = (λ h. (h.process, h.begun), λ (process, begun). record { process = process; begun = begun })
 
 -- WalkLeadsTo
 alone_three_on_the_way_in : WalkLeadsTo (walk 1 0 Idle true 0) (1 ∷ 1 ∷ 0 ∷ 0 ∷ []) (walk 1 0 Inside false 3)
@@ -563,13 +537,6 @@ at_the_root_not_its_neighbour_there : ¬ WalkLeadsTo (walk 2 0 (Entering 2 E4) f
 unfolding node_of side_of
 at_the_root_not_its_neighbour_there (inl nil, rest) = cc
 at_the_root_not_its_neighbour_there (inr h, rest) = let side = h.2 in cc
-
-by_what_it_is_told_first :
-    (w v : Walk) (values : List ℕ) → WalkLeadsTo w (1 ∷ values) v → MayBeTold (due w) 1 × WalkLeadsTo (walk_after w 1) values v
-by_what_it_is_told_first w v values h = h
-
-told_nothing_it_stays : (w v : Walk) → WalkLeadsTo w [] v → v ≡ w
-told_nothing_it_stays w v h = h
 
 -- is_inside
 one_inside_is : is_inside Inside ≡ true
@@ -653,19 +620,12 @@ another_has_won = (λ same. cc, (λ same. λ win. cc, tt))
 it_has_won_itself : ¬ HasNotWon 2 (announces 3 ∷ record { place = 2; deed = Wins } ∷ [])
 it_has_won_itself h = h.1.0 refl refl
 
-neither_by_its_first_step_nor_later :
-    (step : LevelStep) (steps : List LevelStep) → HasNotWon 2 (step ∷ steps) → (step.place ≡ 2 → step.deed ≢ Wins) × HasNotWon 2 steps
-neither_by_its_first_step_nor_later step steps h = h
-
 -- Eventually
 then_or_later : Eventually 3 (λ time. time ≡ 3)
 then_or_later = (3, omega arith, refl)
 
 not_earlier : ¬ Eventually 4 (λ time. time ≡ 3)
 not_earlier h = omega (arith, h.1, h.2)
-
-at_a_time_no_earlier : (So : ℕ → Type 0) → Eventually 3 So → (later : ℕ) × (3 ≤ later) × So later
-at_a_time_no_earlier So h = h
 
 -- whether two words are one
 abbrev same_word : Word → Word → Bool
@@ -746,25 +706,12 @@ a_store_changes_its_word h = let stored = h.0 in cc
 a_store_changes_no_other : ¬ Accesses (Store (T 1 0) 4) (λ word. 9) (λ word. 4)
 a_store_changes_no_other h = let same = h.1 (T 2 0) (λ e. cc) in cc
 
-what_an_access_changes :
-    (old new : Word → ℕ)
-    → (Accesses (Load (T 1 0)) old new → (other : Word) → new other ≡ old other)
-    × (Accesses (Store (T 1 0) 4) old new → (new (T 1 0) ≡ 4) × ((other : Word) → other ≢ T 1 0 → new other ≡ old other))
-what_an_access_changes old new = (λ h. h, λ h. h)
-
 -- StepsTo
 place_1_steps : (s : State) × StepsTo 1 1 opening s
 place_1_steps = (after 1 1 opening, steps_to 1 1 opening (omega arith))
 
 no_place_outside_of_the_tree : (s : State) → ¬ StepsTo 1 2 opening s
 no_place_outside_of_the_tree s h = omega (arith, h.in_tree)
-
-what_a_step_of_place_1_is :
-    (old new : State) → StepsTo 2 1 old new
-    → (1 < 4) × Accesses (access_of 2 1 (old.processes 1)) old.words new.words
-    × (new.processes 1 ≡ next_of 2 1 (old.processes 1) (value_of old.words (access_of 2 1 (old.processes 1))))
-    × ((other : ℕ) → other ≢ 1 → new.processes other ≡ old.processes other)
-what_a_step_of_place_1_is old new h = (h.in_tree, h.words, h.process, h.others)
 
 -- the state after these places stepped, one after another
 abbrev all_after : ℕ → List ℕ → State → State
@@ -790,13 +737,6 @@ stays_idle (place ∷ places) s t idle (next, step, rest) =
 four_steps_of_place_0 : LeadTo 1 opening (0 ∷ 0 ∷ 0 ∷ 0 ∷ []) (all_after 1 (0 ∷ 0 ∷ 0 ∷ 0 ∷ []) opening)
 four_steps_of_place_0 = leads_to 1 (0 ∷ 0 ∷ 0 ∷ 0 ∷ []) opening (omega arith, (omega arith, (omega arith, (omega arith, tt))))
 
-no_step_no_change : (s : State) → LeadTo 1 opening [] s → s ≡ opening
-no_step_no_change s h = h
-
-by_the_step_of_its_first_place :
-    (old new : State) (places : List ℕ) → LeadTo 2 old (1 ∷ places) new → (next : State) × StepsTo 2 1 old next × LeadTo 2 next places new
-by_the_step_of_its_first_place old new places h = h
-
 -- IsInside
 after_four_steps_it_is : IsInside (all_after 1 (0 ∷ 0 ∷ 0 ∷ 0 ∷ []) opening) 0
 unfolding node_of side_of
@@ -817,10 +757,6 @@ place_2_can_not (places, s, leads, inside) =
     let idle = stays_idle places opening s refl leads in
     let none : is_inside (s.processes 2) ≡ false = ap is_inside idle in cc
 
-by_some_places :
-    (So : State → Type 0) (s : State) → CanLeadTo 2 s So → (places : List ℕ) × (last : State) × LeadTo 2 s places last × So last
-by_some_places So s h = h
-
 -- SomeoneGoesOn
 one_that_has_begun_goes_on : SomeoneGoesOn 1 (after 1 0 opening)
 unfolding node_of side_of
@@ -834,11 +770,6 @@ one_that_has_begun_goes_on = record {
 
 nobody_where_all_are_idle : ¬ SomeoneGoesOn 1 opening
 nobody_where_all_are_idle h = h.busy refl
-
-who_goes_on :
-    (s : State) (h : SomeoneGoesOn 2 s)
-    → (s.processes h.place ≢ Idle) × StepsTo 2 h.place s h.after × (h.after.processes h.place ≢ s.processes h.place)
-who_goes_on s h = (h.busy, h.step, h.goes_on)
 
 -- a state that no run reaches: place 0 waits, and no other takes part
 abbrev one_waits : ℕ → Process
@@ -867,11 +798,6 @@ a_claim_and_then_an_announcement = (
 
 no_win_by_the_first_step : ¬ LevelSees 1 1 opening (record { place = 0; deed = Wins } ∷ [])
 no_win_by_the_first_step h = let deed = h.2 in cc
-
-what_the_second_level_sees_of_an_announcement :
-    (s : State) (steps : List LevelStep) → LevelSees 3 2 s (announces 1 ∷ steps)
-    → (next : State) × StepsTo 3 1 s next × (Announces ≡ deed_of 2 (s.processes 1) (next.processes 1)) × LevelSees 3 2 next steps
-what_the_second_level_sees_of_an_announcement s steps h = h
 
 -- what a level sees of the steps of these places
 abbrev seen_of : ℕ → ℕ → List ℕ → State → List LevelStep
@@ -930,10 +856,6 @@ none_is_picked = refl
 nobody_steps_who_is_not_picked : ¬ PickLeadsTo 1 None opening (after 1 0 opening)
 nobody_steps_who_is_not_picked same = let process : Entering 1 E2 ≡ Idle = ap (λ s. s.processes 0) same in cc
 
-a_step_or_nothing :
-    (old new : State) → (PickLeadsTo 2 (Some 1) old new → StepsTo 2 1 old new) × (PickLeadsTo 2 None old new → new ≡ old)
-a_step_or_nothing old new = (λ h. h, λ h. h)
-
 -- IsRunOfSchedule
 the_run_of_place_0 : IsRunOfSchedule 1 (λ time. Some 0) opening alone
 the_run_of_place_0 = record {
@@ -948,11 +870,6 @@ each_step_counts h = let step : StepsTo 1 0 opening opening = h.picks 0 in let p
 it_begins_at_its_first_state : ¬ IsRunOfSchedule 1 (λ time. None) (after 1 0 opening) (λ time. opening)
 it_begins_at_its_first_state h = let process : Idle ≡ Entering 1 E2 = ap (λ s. s.processes 0) h.start in cc
 
-a_step_at_each_time :
-    (schedule : ℕ → Option ℕ) (first : State) (states : ℕ → State) → IsRunOfSchedule 2 schedule first states
-    → (states 0 ≡ first) × ((time : ℕ) → PickLeadsTo 2 (schedule time) (states time) (states (time + 1)))
-a_step_at_each_time schedule first states h = (h.start, h.picks)
-
 -- IsFair
 fair_to_place_0 : IsFair (λ time. Some 0) alone
 fair_to_place_0 zero time busy = (time, omega arith, refl)
@@ -964,11 +881,6 @@ unfair_to_place_0 states run fair =
     let first = subst (λ s. (states 1).processes 0 ≡ next_of 1 0 (s.processes 0) (value_of s.words (access_of 1 0 (s.processes 0)))) run.start step.process in
     let begun : (states 1).processes 0 ≡ Entering 1 E2 = first in
     let again = fair 0 1 (λ idle. cc) in not_again again.0 again.1 again.2
-
-a_step_then_or_later :
-    (schedule : ℕ → Option ℕ) (states : ℕ → State) → IsFair schedule states → (place time : ℕ)
-    → (states time).processes place ≢ Idle → Eventually time (λ later. schedule later ≡ Some place)
-a_step_then_or_later schedule states h = h
 
 -- place 1 steps once, and then place 0 at all times
 abbrev place_1_once : ℕ → Option ℕ
@@ -1092,10 +1004,6 @@ two_in_turn place (suc (suc time)) room = let found = two_in_turn place time roo
 never_the_turn_of_place_1 : ¬ PicksEachAgain 1 (λ time. 0)
 never_the_turn_of_place_1 again = let found = again 1 0 (omega arith) in let same : ◌≡◌ {A = ℕ} 0 1 = found.2 in cc
 
-the_turn_of_each_of_four_places :
-    (turns : ℕ → ℕ) → PicksEachAgain 2 turns → (place time : ℕ) → place < 4 → Eventually time (λ later. turns later ≡ place)
-the_turn_of_each_of_four_places turns h = h
-
 -- the world after an event
 abbrev stepped : {X : Type 0} → ℕ → World X → State → Bool → Bool → World X
 stepped place world state was is = record {
@@ -1211,16 +1119,6 @@ nothing_from_outside : (world : World ℕ) → ¬ WorldAppends any_entry 1 9 one
 unfolding node_of side_of
 nothing_from_outside world h = let inside = h.inside in cc
 
-what_an_entry_of_place_1_does :
-    (may : List (Marked ℕ) → Marked ℕ → Type 0) (old new : World ℕ) → WorldAppends may 1 9 old new
-    → IsInside old.state 1 × may (old.copies 1) (1, 9) × (new.state ≡ old.state) × (new.content ≡ old.content)
-    × (new.copies 1 ≡ old.copies 1 ++ (1, 9) ∷ []) × (new.doing 1 ≡ old.doing 1 ++ 9 ∷ []) × (new.made 1 ≡ old.made 1)
-    × ((other : ℕ) → other ≢ 1 → new.copies other ≡ old.copies other)
-    × ((other : ℕ) → other ≢ 1 → new.doing other ≡ old.doing other)
-    × ((other : ℕ) → other ≢ 1 → new.made other ≡ old.made other)
-what_an_entry_of_place_1_does may old new h =
-    (h.inside, h.may_follow, h.state, h.content, h.copy, h.doing, h.made, h.others_copy, h.others_doing, h.others_made)
-
 -- WorldSteps
 its_entry_is_in_no_content_yet : one_inside.content ≡ []
 unfolding node_of side_of
@@ -1234,35 +1132,13 @@ another_that_steps_writes_nothing : (world : World ℕ) → WorldSteps 1 1 one_i
 unfolding node_of side_of
 another_that_steps_writes_nothing world h = h.content
 
-what_a_step_of_place_1_does :
-    (old new : World ℕ) → WorldSteps 2 1 old new
-    → StepsTo 2 1 old.state new.state
-    × (new.copies 1 ≡ (if is_inside (new.state.processes 1) then old.content else old.copies 1))
-    × (new.doing 1 ≡ (if is_inside (new.state.processes 1) then [] else old.doing 1))
-    × (new.content ≡ (if is_inside (old.state.processes 1) then old.copies 1 else old.content))
-    × (new.made 1 ≡ (if is_inside (old.state.processes 1) then old.made 1 ++ old.doing 1 else old.made 1))
-    × ((other : ℕ) → other ≢ 1 → new.copies other ≡ old.copies other)
-    × ((other : ℕ) → other ≢ 1 → new.doing other ≡ old.doing other)
-    × ((other : ℕ) → other ≢ 1 → new.made other ≡ old.made other)
-what_a_step_of_place_1_does old new h = (h.state, h.copy, h.doing, h.content, h.made, h.others_copy, h.others_doing, h.others_made)
-
 -- Happens
 an_entry_of_one_inside : Happens 1 any_entry (Appends 0 9) one_inside (appended 0 9 one_inside)
 an_entry_of_one_inside = to_its_copy
 
-a_step_or_an_entry :
-    (may : List (Marked ℕ) → Marked ℕ → Type 0) (old new : World ℕ)
-    → (Happens 2 may (Steps 1) old new → WorldSteps 2 1 old new) × (Happens 2 may (Appends 1 9) old new → WorldAppends may 1 9 old new)
-a_step_or_an_entry may old new = (λ h. h, λ h. h)
-
 -- Runs
 no_event_no_change : (world : World ℕ) → Runs 1 any_entry one_inside [] world → world ≡ one_inside
 no_event_no_change world h = h
-
-by_its_first_event :
-    (may : List (Marked ℕ) → Marked ℕ → Type 0) (old new : World ℕ) (event : Event ℕ) (events : List (Event ℕ))
-    → Runs 2 may old (event ∷ events) new → (next : World ℕ) × Happens 2 may event old next × Runs 2 may next events new
-by_its_first_event may old new event events h = h
 
 -- any_entry
 whatever_came_before : any_entry {X = ℕ} ((0, 7) ∷ []) (1, 8)
@@ -1281,12 +1157,6 @@ one_inside_goes_on = record {
 
 nobody_at_the_start : ¬ SomeoneGoesOnIn 1 (opening_world {X = ℕ})
 nobody_at_the_start h = h.busy refl
-
-who_goes_on_in_the_world :
-    (world : World ℕ) (h : SomeoneGoesOnIn 2 world)
-    → (world.state.processes h.place ≢ Idle) × WorldSteps 2 h.place world h.after
-    × (h.after.state.processes h.place ≢ world.state.processes h.place)
-who_goes_on_in_the_world world h = (h.busy, h.step, h.goes_on)
 
 -- the world of that state
 abbrev stuck_world : World ℕ
@@ -1360,18 +1230,6 @@ what_is_made_since_is_there h =
     let none : h.since ≡ [] = (let content = h.content in cc) in
     let made = h.made_since 1 ∙ ap (λ xs. entries_of 1 xs) none in cc
 
-what_it_says_of_each_place :
-    (early late : World ℕ) → KeepsRealTimeOrder early late
-    → (since : List (Marked ℕ)) × (late.content ≡ early.content ++ since)
-    × ((place : ℕ) → entries_of place early.content ≡ early.made place)
-    × ((place : ℕ) → late.made place ≡ early.made place ++ entries_of place since)
-what_it_says_of_each_place early late h = (h.since, h.content, h.made, h.made_since)
-
-from_the_opening_one :
-    (may : List (Marked ℕ) → Marked ℕ → Type 0) (events : List (Event ℕ)) (world : World ℕ)
-    → IsReached 2 may events world → Runs 2 may opening_world events world
-from_the_opening_one may events world h = h
-
 -- HasShape
 one_level_is_a_tree : HasShape 1
 one_level_is_a_tree = (omega arith, omega arith)
@@ -1384,9 +1242,6 @@ no_level_is_none h = omega (arith, h.0)
 
 seven_are_too_many : ¬ HasShape 7
 seven_are_too_many h = omega (arith, h.1)
-
-any_number_of_levels_between_them : (levels : ℕ) → HasShape levels ↔ ((1 ≤ levels) × (levels ≤ 6))
-any_number_of_levels_between_them levels = (λ h. h, λ h. h)
 
 -- Rivals
 on_two_sides_of_one_node : Rivals (node_of 1) (side_of 1) 4 5
@@ -1445,10 +1300,6 @@ a_row_and_its_processes :
     × ((row_state 1 (10 ∷ 11 ∷ 12 ∷ 13 ∷ 14 ∷ []) (λ place. Inside)).processes 1 ≡ Inside)
 unfolding words_of number_of
 a_row_and_its_processes = (refl, refl)
-
-any_row_and_its_processes :
-    (levels : ℕ) (row : List ℕ) (processes : ℕ → Process) → row_state levels row processes ≡ record { words = words_of levels row; processes = processes }
-any_row_and_its_processes levels row processes = refl
 
 -- FitsAccess
 a_load_is_told_what_can_stand : FitsAccess (Some (Load (P 1 2))) 2
@@ -1540,27 +1391,7 @@ not_the_same_and_none_of_a_lower_level = (λ h. neither_way 1 3 1 3 h (omega ari
     neither_way levels points more next (inl fewer) least none = omega (arith, fewer, least)
     neither_way levels points more next (inr h) least none = omega (arith, h.1, none h.0)
 
-what_comes_before_is :
-    (levels points more next : ℕ) → ComesBefore levels points more next ↔ ((levels < more) ⊎ ((levels ≡ more) × (points < next)))
-what_comes_before_is levels points more next = (λ h. h, λ h. h)
-
 -- ComesFurther
-up_to_the_root_and_inside :
-    (levels level other : ℕ) (point next : EntryPoint)
-    → (ComesFurther levels Idle (Entering level point) ↔ ComesBefore 0 0 (level - 1) (entry_behind point).0)
-    × (ComesFurther levels (Entering level point) (Entering other next)
-    ↔ ComesBefore (level - 1) (entry_behind point).0 (other - 1) (entry_behind next).0)
-    × ComesFurther levels (Entering level point) Inside
-up_to_the_root_and_inside levels level other point next = ((λ h. h, λ h. h), (λ h. h, λ h. h), tt)
-
-down_to_the_leaves_and_idle :
-    (levels level other : ℕ) (point next : ExitPoint)
-    → (ComesFurther levels Inside (Leaving level point) ↔ ComesBefore 0 0 (levels - level) (exit_behind point))
-    × (ComesFurther levels (Leaving level point) (Leaving other next)
-    ↔ ComesBefore (levels - level) (exit_behind point) (levels - other) (exit_behind next))
-    × ComesFurther levels (Leaving level point) Idle
-down_to_the_leaves_and_idle levels level other point next = ((λ h. h, λ h. h), (λ h. h, λ h. h), tt)
-
 from_the_way_in_to_no_way_out_nor_back :
     (levels level other : ℕ) (point : EntryPoint) (exit : ExitPoint)
     → (¬ ComesFurther levels (Entering level point) Idle) × (¬ ComesFurther levels (Entering level point) (Leaving other exit))
@@ -1592,11 +1423,6 @@ not_back_from_where_it_waits : ¬ MovesOn (walk 1 0 (Entering 1 E10) false 6) (w
 not_back_from_where_it_waits (inl (inl fewer)) = omega (arith, fewer)
 not_back_from_where_it_waits (inl (inr h)) = omega (arith, h.1)
 not_back_from_where_it_waits (inr h) = let same = h.1 in cc
-
-what_moving_on_is :
-    (old new : Walk) → MovesOn old new
-    ↔ (ComesFurther old.levels old.process new.process ⊎ (IsTrue (is_waiting old.process) × (new.process ≡ old.process)))
-what_moving_on_is old new = (λ h. h, λ h. h)
 
 -- IsWalk
 one_of_six_levels : IsWalk (walk 6 63 Idle true 0)
@@ -1644,9 +1470,6 @@ the_phases_of_the_way_in = refl
 -- exit_phase
 the_phases_of_the_way_out : map exit_phase (X1 ∷ X2 ∷ X3 1 ∷ []) ≡ Holding ∷ Releasing ∷ LettingIn 1 ∷ []
 the_phases_of_the_way_out = refl
-
-letting_in_whichever_it_found : (rival : ℕ) → exit_phase (X3 rival) ≡ LettingIn rival
-letting_in_whichever_it_found rival = refl
 
 -- phase_at
 below_at_and_above_the_level : map (λ (level : ℕ). phase_at level 2 Named) (1 ∷ 2 ∷ 3 ∷ []) ≡ Holding ∷ Named ∷ Away ∷ []
@@ -1731,11 +1554,6 @@ while_it_looks_anyone :
     ≡ false ∷ false ∷ true ∷ true ∷ false ∷ false ∷ false ∷ false ∷ false ∷ false ∷ false ∷ false ∷ false ∷ []
 while_it_looks_anyone = refl
 
-whichever_rival_it_is_to_wake :
-    (place rival : ℕ) → (is_to_wake place (Waiting (E5 rival)) ≡ (rival == place)) × (is_to_wake place (Waiting (E6 rival)) ≡ (rival == place))
-    × (is_to_wake place (Waiting (E7 rival)) ≡ (rival == place))
-whichever_rival_it_is_to_wake place rival = (refl, refl, refl)
-
 -- wakes_next
 at_e7_its_rival :
     map (wakes_next 3) phases
@@ -1744,9 +1562,6 @@ at_e7_its_rival = refl
 
 nobody_else : wakes_next 4 (Waiting (E7 3)) ≡ false
 nobody_else = refl
-
-whichever_rival_it_wakes : (place rival : ℕ) → wakes_next place (Waiting (E7 rival)) ≡ (rival == place)
-whichever_rival_it_wakes place rival = refl
 
 -- is_to_let_in
 whom_the_word_T_names_or_it_has_found :
@@ -1759,35 +1574,7 @@ whom_it_has_found_alone :
     × (map (is_to_let_in 5 4) (Releasing ∷ LettingIn 3 ∷ []) ≡ true ∷ false ∷ [])
 whom_it_has_found_alone = (refl, refl)
 
-whomever_it_is_to_let_in :
-    (turn place rival : ℕ) → (is_to_let_in turn place Releasing ≡ (turn == place + 1)) × (is_to_let_in turn place (LettingIn rival) ≡ (rival == place))
-whomever_it_is_to_let_in turn place rival = (refl, refl)
-
 -- IsSoundLevel
-what_it_says_of_place_4_and_its_rival :
-    (node side : ℕ → ℕ) (phase : ℕ → Phase) (claim : ℕ → ℕ → ℕ) (turn spin : ℕ → ℕ) → IsSoundLevel node side phase claim turn spin
-    → Rivals node side 4 5
-    → (IsTrue (claims (phase 4)) → claim (node 4) (side 4) ≡ 5)
-    × (claim 2 1 ≡ 6 → (node 5 ≡ 2) × (side 5 ≡ 1) × IsTrue (claims (phase 5)))
-    × (turn 2 ≡ 6 → node 5 ≡ 2)
-    × (IsTrue (has_announced (phase 4)) → turn (node 4) ≢ 0)
-    × (IsTrue (is_releasing (phase 4)) → turn (node 4) ≢ 0)
-    × (IsTrue (has_announced (phase 4)) → IsTrue (has_announced (phase 5)) → (turn (node 4) ≡ 5) ⊎ (turn (node 4) ≡ 6))
-    × (IsTrue (holds (phase 4)) → IsTrue (has_announced (phase 5)) → turn (node 4) ≡ 6)
-    × (spin 4 ≤ 2)
-    × (IsTrue (waits (phase 4)) → spin 4 ≡ 2 → IsTrue (has_announced (phase 5)) → turn (node 4) ≡ 6)
-what_it_says_of_place_4_and_its_rival node side phase claim turn spin h rivals = (
-  h.claimed 4,
-  h.claimant 2 1 5,
-  h.below 2 5,
-  h.announced 4,
-  h.releasing 4,
-  h.one_of_two 4 5 rivals,
-  h.waiter 4 5 rivals,
-  h.in_range 4,
-  h.let_in 4 5 rivals,
-)
-
 no_level_that_two_rivals_hold :
     (node side : ℕ → ℕ) (claim : ℕ → ℕ → ℕ) (turn spin : ℕ → ℕ) → Rivals node side 4 5 → Rivals node side 5 4
     → ¬ IsSoundLevel node side (λ place. Holding) claim turn spin
@@ -1821,19 +1608,6 @@ none_on_its_own_side : ¬ SomeRival (λ place. 0) (λ place. 0) (λ place. Holdi
 none_on_its_own_side h = h.1.1 refl
 
 -- IsOwed
-what_it_says_of_place_4 :
-    (node side : ℕ → ℕ) (phase : ℕ → Phase) (turn spin : ℕ → ℕ) → IsOwed node side phase turn spin 4
-    → (IsTrue (awaits_wake (phase 4)) → spin 4 ≡ 0
-    → (rival : ℕ) × Rivals node side 4 rival × IsTrue (claims (phase rival) || is_to_let_in (turn (node 4)) 4 (phase rival)))
-    × (IsTrue (waits (phase 4)) → spin 4 ≡ 1
-    → (rival : ℕ) × Rivals node side 4 rival × IsTrue (has_announced (phase rival) || is_to_let_in (turn (node 4)) 4 (phase rival)))
-    × (IsTrue (was_woken (phase 4)) → spin 4 ≢ 0)
-    × (turn (node 4) ≢ 5 → IsTrue (saw_itself_last (phase 4)) → spin 4 ≡ 0 → (rival : ℕ) × Rivals node side 4 rival × IsTrue (is_to_wake 4 (phase rival)))
-    × (turn (node 4) ≢ 5 → IsTrue (awaits_release (phase 4)) → spin 4 ≡ 2)
-    × (turn (node 4) ≢ 5 → IsTrue (awaits_release (phase 4)) → Rivals node side 4 5 → wakes_next 4 (phase 5) ≡ false)
-what_it_says_of_place_4 node side phase turn spin h =
-    (h.unwoken, h.unreleased, h.woken, h.owed_one, h.has_two, λ other awaits rivals. h.keeps_two other awaits 5 rivals)
-
 nothing_is_owed_to_one_that_is_away : (node side turn spin : ℕ → ℕ) → IsOwed node side (λ place. Away) turn spin 4
 nothing_is_owed_to_one_that_is_away node side turn spin = record {
   unwoken = λ awaits zero. cc;
@@ -1908,37 +1682,7 @@ nobody_has_claimed_a_node_at_the_start = record {
   let_in = λ p q rivals waits two other. cc;
 }
 
-what_it_says_of_the_words_of_the_level :
-    (s : State) → IsSoundAt 3 s 2
-    → (IsTrue (claims (phase_of 3 2 (s.processes 4))) → s.words (C 2 (node_of 2 4) (side_of 2 4)) ≡ 5)
-    × (IsTrue (has_announced (phase_of 3 2 (s.processes 4))) → s.words (T 2 (node_of 2 4)) ≢ 0) × (s.words (P 2 4) ≤ 2)
-what_it_says_of_the_words_of_the_level s h = (h.claimed 4, h.announced 4, h.in_range 4)
-
-the_words_and_phases_of_the_level :
-    (s : State) → IsSoundAt 3 s 2
-    → IsSoundLevel (node_of 2) (side_of 2) (λ p. phase_of 3 2 (s.processes p)) (λ n d. s.words (C 2 n d)) (λ n. s.words (T 2 n)) (λ p. s.words (P 2 p))
-the_words_and_phases_of_the_level s h = h
-
--- IsOwedAt
-what_is_owed_at_the_level :
-    (s : State) → IsOwedAt 3 s 2
-    → (IsTrue (was_woken (phase_of 3 2 (s.processes 4))) → s.words (P 2 4) ≢ 0)
-    × (s.words (T 2 (node_of 2 4)) ≢ 5 → IsTrue (awaits_release (phase_of 3 2 (s.processes 4))) → Rivals (node_of 2) (side_of 2) 4 5
-    → wakes_next 4 (phase_of 3 2 (s.processes 5)) ≡ false)
-what_is_owed_at_the_level s h = ((h 4).woken, λ other awaits rivals. (h 4).keeps_two other awaits 5 rivals)
-
-of_each_place_at_the_level :
-    (s : State) → IsOwedAt 3 s 2 → (p : ℕ)
-    → IsOwed (node_of 2) (side_of 2) (λ q. phase_of 3 2 (s.processes q)) (λ n. s.words (T 2 n)) (λ q. s.words (P 2 q)) p
-of_each_place_at_the_level s h = h
-
 -- IsSoundState
-what_it_says_of_place_3_and_of_both_levels :
-    (s : State) → IsSoundState 2 s
-    → IsProper 2 3 (s.processes 3) × ((level : ℕ) → 1 ≤ level → level ≤ 2 → IsSoundAt 2 s level)
-    × ((level : ℕ) → 1 ≤ level → level ≤ 2 → IsOwedAt 2 s level)
-what_it_says_of_place_3_and_of_both_levels s h = (h.proper 3, h.sound, h.owed)
-
 the_start_is_sound : IsSoundState 2 opening
 the_start_is_sound = record {
   proper = λ p. tt;
@@ -2019,17 +1763,9 @@ nobody_is_at_the_start place = (λ same. cc, λ inside. cc)
 not_place_0_at_the_start : ¬ TellsInside opening (Some 0)
 not_place_0_at_the_start h = let inside = (h 0).0 refl in cc
 
-who_it_tells : (s : State) → TellsInside s (Some 0) → (place : ℕ) → (Some 0 ≡ Some place) ↔ IsInside s place
-who_it_tells s h = h
-
 -- places_of
 who_steps_in_order : places_of {X = ℕ} (Steps 3 ∷ Appends 0 7 ∷ Steps 1 ∷ []) ≡ 3 ∷ 1 ∷ []
 who_steps_in_order = refl
-
-any_event_and_those_behind_it :
-    {X : Type 0} (place : ℕ) (entry : X) (events : List (Event X))
-    → (places_of (Steps place ∷ events) ≡ place ∷ places_of events) × (places_of (Appends place entry ∷ events) ≡ places_of events)
-any_event_and_those_behind_it place entry events = (refl, refl)
 
 -- entries_of
 those_of_place_1 : entries_of {X = ℕ} 1 ((0, 7) ∷ (1, 8) ∷ (1, 9) ∷ []) ≡ 8 ∷ 9 ∷ []
@@ -2069,9 +1805,6 @@ what_a_machine_shows = (refl, refl)
 -- word_of
 of_a_load_and_of_a_store : (word_of (Load (T 1 0)) ≡ T 1 0) × (word_of (Store (P 1 2) 1) ≡ P 1 2)
 of_a_load_and_of_a_store = (refl, refl)
-
-of_any_load_and_of_any_store : (word : Word) (value : ℕ) → (word_of (Load word) ≡ word) × (word_of (Store word value) ≡ word)
-of_any_load_and_of_any_store word value = (refl, refl)
 
 -- is_store
 a_store_is_one_a_load_is_not : (is_store (Store (P 1 2) 1) ≡ true) × (is_store (Load (P 1 2)) ≡ false)
@@ -2124,536 +1857,3 @@ none_where_a_step_has_no_place : (step : Step) → ¬ Replays 2 opening [] (step
 none_where_a_step_has_no_place step h = h.1
 
 -- the same of any place, level, word and process
-
--- node_of
-the_node_of_any_place : (level place : ℕ) → node_of level place ≡ place / 2 ^ level
-unfolding node_of
-the_node_of_any_place level place = refl
-
--- side_of
-the_side_of_any_place : (level place : ℕ) → side_of level place ≡ place / 2 ^ (level - 1) % 2
-unfolding side_of
-the_side_of_any_place level place = refl
-
--- Rivals
-at_one_node_on_two_sides : (node side : ℕ → ℕ) (p q : ℕ) → Rivals node side p q ↔ ((node p ≡ node q) × (side p ≢ side q))
-at_one_node_on_two_sides node side p q = (λ h. h, λ h. h)
-
--- AreRivals
-at_one_node_of_the_level_on_two_sides :
-    (level p q : ℕ) → AreRivals level p q ↔ ((node_of level p ≡ node_of level q) × (side_of level p ≢ side_of level q))
-at_one_node_of_the_level_on_two_sides level p q = (λ h. h, λ h. h)
-
--- IsWord
-which_words_any_tree_has :
-    (levels level node side place : ℕ)
-    → (IsWord levels (C level node side) ↔ ((1 ≤ level) × (level ≤ levels) × (node < 2 ^ (levels - level)) × (side < 2)))
-    × (IsWord levels (T level node) ↔ ((1 ≤ level) × (level ≤ levels) × (node < 2 ^ (levels - level))))
-    × (IsWord levels (P level place) ↔ ((1 ≤ level) × (level ≤ levels) × (place < 2 ^ levels)))
-which_words_any_tree_has levels level node side place = ((λ h. h, λ h. h), (λ h. h, λ h. h), (λ h. h, λ h. h))
-
--- nodes_below
-below_any_level : (levels level : ℕ) → nodes_below levels level ≡ 2 ^ levels - 2 ^ (levels - level + 1)
-below_any_level levels level = refl
-
--- number_of
-the_number_of_any_word :
-    (levels level node side place : ℕ)
-    → (number_of levels (C level node side) ≡ 2 * (nodes_below levels level + node) + side)
-    × (number_of levels (T level node) ≡ 2 * (2 ^ levels - 1) + nodes_below levels level + node)
-    × (number_of levels (P level place) ≡ 3 * (2 ^ levels - 1) + (level - 1) * 2 ^ levels + place)
-unfolding number_of
-the_number_of_any_word levels level node side place = (refl, refl, refl)
-
--- count_of_words
-the_words_of_any_tree : (levels : ℕ) → count_of_words levels ≡ 3 * (2 ^ levels - 1) + levels * 2 ^ levels
-unfolding count_of_words
-the_words_of_any_tree levels = refl
-
--- access_of
-the_access_of_any_process :
-    (levels place level : ℕ) (entry : EntryPoint) (exit : ExitPoint)
-    → (access_of levels place Idle ≡ entry_access 1 place E1) × (access_of levels place (Entering level entry) ≡ entry_access level place entry)
-    × (access_of levels place Inside ≡ exit_access levels place X1) × (access_of levels place (Leaving level exit) ≡ exit_access level place exit)
-the_access_of_any_process levels place level entry exit = (refl, refl, refl, refl)
-
--- exit_access
-on_the_way_out_of_any_level :
-    (level place rival : ℕ)
-    → (exit_access level place X1 ≡ Store (C level (node_of level place) (side_of level place)) 0)
-    × (exit_access level place X2 ≡ Load (T level (node_of level place))) × (exit_access level place (X3 rival) ≡ Store (P level rival) 2)
-on_the_way_out_of_any_level level place rival = (refl, refl, refl)
-
--- entry_access
-on_the_way_in_of_any_level :
-    (level place rival : ℕ)
-    → (entry_access level place E1 ≡ Store (C level (node_of level place) (side_of level place)) (place + 1))
-    × (entry_access level place E2 ≡ Store (T level (node_of level place)) (place + 1)) × (entry_access level place E3 ≡ Store (P level place) 0)
-    × (entry_access level place E4 ≡ Load (C level (node_of level place) (1 - side_of level place)))
-    × (entry_access level place (E5 rival) ≡ Load (T level (node_of level place))) × (entry_access level place (E6 rival) ≡ Load (P level rival))
-    × (entry_access level place (E7 rival) ≡ Store (P level rival) 1) × (entry_access level place E8 ≡ Load (P level place))
-    × (entry_access level place E9 ≡ Load (T level (node_of level place))) × (entry_access level place E10 ≡ Load (P level place))
-on_the_way_in_of_any_level level place rival = (refl, refl, refl, refl, refl, refl, refl, refl, refl, refl)
-
--- next_of
-where_any_process_goes :
-    (levels place level value : ℕ) (entry : EntryPoint) (exit : ExitPoint)
-    → (next_of levels place Idle value ≡ Entering 1 E2) × (next_of levels place (Entering level entry) value ≡ entry_next levels level place entry value)
-    × (next_of levels place Inside value ≡ Leaving levels X2) × (next_of levels place (Leaving level exit) value ≡ exit_next level place exit value)
-where_any_process_goes levels place level value entry exit = (refl, refl, refl, refl)
-
--- entry_next
-where_each_point_of_any_way_in_leads :
-    (levels level place rival value : ℕ)
-    → (entry_next levels level place E1 value ≡ Entering level E2) × (entry_next levels level place E2 value ≡ Entering level E3)
-    × (entry_next levels level place E3 value ≡ Entering level E4)
-    × (entry_next levels level place E4 value ≡ (if value == 0 then after_entry levels level else Entering level (E5 (value - 1))))
-    × (entry_next levels level place (E5 rival) value ≡ (if value == place + 1 then Entering level (E6 rival) else after_entry levels level))
-    × (entry_next levels level place (E6 rival) value ≡ (if value == 0 then Entering level (E7 rival) else Entering level E8))
-    × (entry_next levels level place (E7 rival) value ≡ Entering level E8)
-    × (entry_next levels level place E8 value ≡ (if value == 0 then Entering level E8 else Entering level E9))
-    × (entry_next levels level place E9 value ≡ (if value == place + 1 then Entering level E10 else after_entry levels level))
-    × (entry_next levels level place E10 value ≡ (if value == 2 then after_entry levels level else Entering level E10))
-where_each_point_of_any_way_in_leads levels level place rival value = (refl, refl, refl, refl, refl, refl, refl, refl, refl, refl)
-
--- exit_next
-where_each_point_of_any_way_out_leads :
-    (level place rival value : ℕ)
-    → (exit_next level place X1 value ≡ Leaving level X2)
-    × (exit_next level place X2 value ≡ (if value == place + 1 then after_exit level else Leaving level (X3 (value - 1))))
-    × (exit_next level place (X3 rival) value ≡ after_exit level)
-where_each_point_of_any_way_out_leads level place rival value = (refl, refl, refl)
-
--- Accesses
-what_any_access_changes :
-    (word : Word) (value : ℕ) (old new : Word → ℕ)
-    → (Accesses (Load word) old new ↔ ((other : Word) → new other ≡ old other))
-    × (Accesses (Store word value) old new ↔ ((new word ≡ value) × ((other : Word) → other ≢ word → new other ≡ old other)))
-what_any_access_changes word value old new = ((λ h. h, λ h. h), (λ h. h, λ h. h))
-
--- StepsTo
-what_any_step_is :
-    (levels place : ℕ) (old new : State) → StepsTo levels place old new
-    ↔ ((place < 2 ^ levels) × Accesses (access_of levels place (old.processes place)) old.words new.words
-    × (new.processes place ≡ next_of levels place (old.processes place) (value_of old.words (access_of levels place (old.processes place))))
-    × ((other : ℕ) → other ≢ place → new.processes other ≡ old.processes other))
-what_any_step_is levels place old new = (
-  λ h. (h.in_tree, h.words, h.process, h.others),
-  λ (in_tree, words, process, others). record { in_tree = in_tree; words = words; process = process; others = others },
-)
-
--- LeadTo
-one_step_after_another :
-    (levels place : ℕ) (places : List ℕ) (old new : State) → (LeadTo levels old [] new ↔ (new ≡ old))
-    × (LeadTo levels old (place ∷ places) new ↔ ((next : State) × StepsTo levels place old next × LeadTo levels next places new))
-one_step_after_another levels place places old new = ((λ h. h, λ h. h), (λ h. h, λ h. h))
-
--- CanStand
-what_can_stand_in_any_word :
-    (level node side place value : ℕ)
-    → (CanStand (C level node side) value
-    ↔ ((value ≡ 0) ⊎ ((1 ≤ value) × (node_of level (value - 1) ≡ node) × (side_of level (value - 1) ≡ side))))
-    × (CanStand (T level node) value ↔ ((1 ≤ value) × (node_of level (value - 1) ≡ node))) × (CanStand (P level place) value ↔ (value ≤ 2))
-what_can_stand_in_any_word level node side place value = ((λ h. h, λ h. h), (λ h. h, λ h. h), (λ h. h, λ h. h))
-
--- cost_of_word
-of_any_word :
-    (place level node side owner : ℕ)
-    → (cost_of_word place (C level node side) ≡ 1) × (cost_of_word place (T level node) ≡ 1)
-    × (cost_of_word place (P level owner) ≡ (if owner == place then 0 else 1))
-of_any_word place level node side owner = (refl, refl, refl)
-
--- IsWalk
-what_any_walk_is :
-    (w : Walk) → IsWalk w ↔ ((1 ≤ w.levels) × (w.levels ≤ 6) × (w.place < 2 ^ w.levels) × IsProper w.levels w.place w.process
-    × (w.remote ≤ most_remote w))
-what_any_walk_is w = (
-  λ h. (h.least, h.most, h.in_tree, h.proper, h.counted),
-  λ (least, most, in_tree, proper, counted). record { least = least; most = most; in_tree = in_tree; proper = proper; counted = counted },
-)
-
--- WalkLeadsTo
-told_one_value_after_another :
-    (w v : Walk) (value : ℕ) (values : List ℕ)
-    → WalkLeadsTo w (value ∷ values) v ↔ (MayBeTold (due w) value × WalkLeadsTo (walk_after w value) values v)
-told_one_value_after_another w v value values = (λ h. h, λ h. h)
-
--- walk_after
-any_walk_after_its_access :
-    (w : Walk) (value : ℕ) → walk_after w value
-    ≡ walk w.levels w.place (next_of w.levels w.place w.process value) false (w.remote + cost_of w.place (access_of w.levels w.place w.process))
-any_walk_after_its_access w value = refl
-
--- IsInside
-whether_any_place_is : (s : State) (place : ℕ) → IsInside s place ↔ IsTrue (is_inside (s.processes place))
-whether_any_place_is s place = (λ h. h, λ h. h)
-
--- TellsInside
-whomever_it_tells : (s : State) (inside : Option ℕ) → TellsInside s inside ↔ ((place : ℕ) → (inside ≡ Some place) ↔ IsInside s place)
-whomever_it_tells s inside = (λ h. h, λ h. h)
-
--- Happens
-by_any_step_and_any_entry :
-    {X : Type 0} (levels place : ℕ) (may : List (Marked X) → Marked X → Type 0) (entry : X) (old new : World X)
-    → (Happens levels may (Steps place) old new ↔ WorldSteps levels place old new)
-    × (Happens levels may (Appends place entry) old new ↔ WorldAppends may place entry old new)
-by_any_step_and_any_entry levels place may entry old new = ((λ h. h, λ h. h), (λ h. h, λ h. h))
-
--- Runs
-one_event_after_another :
-    {X : Type 0} (levels : ℕ) (may : List (Marked X) → Marked X → Type 0) (event : Event X) (events : List (Event X)) (old new : World X)
-    → (Runs levels may old [] new ↔ (new ≡ old))
-    × (Runs levels may old (event ∷ events) new ↔ ((next : World X) × Happens levels may event old next × Runs levels may next events new))
-one_event_after_another levels may event events old new = ((λ h. h, λ h. h), (λ h. h, λ h. h))
-
--- IsReached
-from_the_opening_world_by_any_events :
-    {X : Type 0} (levels : ℕ) (may : List (Marked X) → Marked X → Type 0) (events : List (Event X)) (world : World X)
-    → IsReached levels may events world ↔ Runs levels may opening_world events world
-from_the_opening_world_by_any_events levels may events world = (λ h. h, λ h. h)
-
--- entries_of
-those_of_any_place :
-    {X : Type 0} (place : ℕ) (entry : Marked X) (entries : List (Marked X))
-    → entries_of place (entry ∷ entries) ≡ (if entry.0 == place then entry.1 ∷ entries_of place entries else entries_of place entries)
-those_of_any_place place entry entries = refl
-
--- FollowsFrom
-each_behind_those_before_it :
-    {X : Type 0} (ok : List (Marked X) → Marked X → Type 0) (before entries : List (Marked X)) (entry : Marked X)
-    → FollowsFrom ok before (entry ∷ entries) ↔ (ok before entry × FollowsFrom ok (before ++ entry ∷ []) entries)
-each_behind_those_before_it ok before entries entry = (λ h. h, λ h. h)
-
--- EachMayFollow
-from_none_on :
-    {X : Type 0} (ok : List (Marked X) → Marked X → Type 0) (entries : List (Marked X)) → EachMayFollow ok entries ↔ FollowsFrom ok [] entries
-from_none_on ok entries = (λ h. h, λ h. h)
-
--- step_by
-what_is_told_of_any_access :
-    (place value : ℕ) (access : Access) (next : Process)
-    → step_by place access value next ≡ record { place = place; word = word_of access; store = is_store access; value = value; mark = mark_of next }
-what_is_told_of_any_access place value access next = refl
-
--- step_of
-what_is_told_of_any_step :
-    (levels place : ℕ) (s : State) → step_of levels place s
-    ≡ step_by place (access_of levels place (s.processes place)) (value_of s.words (access_of levels place (s.processes place)))
-    (next_of levels place (s.processes place) (value_of s.words (access_of levels place (s.processes place))))
-what_is_told_of_any_step levels place s = refl
-
--- ReplaysTo
-any_step_of_whoever_is_picked :
-    (levels place : ℕ) (picks : List ℕ) (step : Step) (steps : List Step) (s last : State)
-    → (ReplaysTo levels s [] [] last ↔ (last ≡ s))
-    × (ReplaysTo levels s (place ∷ picks) (step ∷ steps) last
-    ↔ ((next : State) × StepsTo levels place s next × (step ≡ step_of levels place s) × ReplaysTo levels next picks steps last))
-any_step_of_whoever_is_picked levels place picks step steps s last = ((λ h. h, λ h. h), (λ h. h, λ h. h))
-
--- Replays
-to_some_state :
-    (levels : ℕ) (s : State) (picks : List ℕ) (steps : List Step) → Replays levels s picks steps ↔ ((last : State) × ReplaysTo levels s picks steps last)
-to_some_state levels s picks steps = (λ h. h, λ h. h)
-
--- PickLeadsTo
-any_pick_or_none :
-    (levels place : ℕ) (old new : State) → (PickLeadsTo levels (Some place) old new ↔ StepsTo levels place old new)
-    × (PickLeadsTo levels None old new ↔ (new ≡ old))
-any_pick_or_none levels place old new = ((λ h. h, λ h. h), (λ h. h, λ h. h))
-
--- IsRunOfSchedule
-the_run_of_any_schedule :
-    (levels : ℕ) (schedule : ℕ → Option ℕ) (first : State) (states : ℕ → State) → IsRunOfSchedule levels schedule first states
-    ↔ ((states 0 ≡ first) × ((time : ℕ) → PickLeadsTo levels (schedule time) (states time) (states (time + 1))))
-the_run_of_any_schedule levels schedule first states = (λ h. (h.start, h.picks), λ (start, picks). record { start = start; picks = picks })
-
--- Eventually
-at_any_time_no_earlier : (time : ℕ) (So : ℕ → Type 0) → Eventually time So ↔ ((later : ℕ) × (time ≤ later) × So later)
-at_any_time_no_earlier time So = (λ h. h, λ h. h)
-
--- IsFair
-whenever_any_place_is_not_idle :
-    (schedule : ℕ → Option ℕ) (states : ℕ → State) → IsFair schedule states
-    ↔ ((place time : ℕ) → (states time).processes place ≢ Idle → Eventually time (λ later. schedule later ≡ Some place))
-whenever_any_place_is_not_idle schedule states = (λ h. h, λ h. h)
-
--- PicksEachAgain
-any_place_of_the_tree_again :
-    (levels : ℕ) (turns : ℕ → ℕ) → PicksEachAgain levels turns
-    ↔ ((place time : ℕ) → place < 2 ^ levels → Eventually time (λ later. turns later ≡ place))
-any_place_of_the_tree_again levels turns = (λ h. h, λ h. h)
-
--- cost_of_pick
-the_cost_of_any_pick :
-    (place levels picked : ℕ) (s : State) → (cost_of_pick place levels s None ≡ 0)
-    × (cost_of_pick place levels s (Some picked) ≡ (if picked == place then cost_of place (access_of levels place (s.processes place)) else 0))
-the_cost_of_any_pick place levels picked s = (refl, refl)
-
--- remote_accesses
-before_any_time :
-    (place levels time : ℕ) (schedule : ℕ → Option ℕ) (states : ℕ → State)
-    → (remote_accesses place levels schedule states 0 ≡ 0)
-    × (remote_accesses place levels schedule states (suc time)
-    ≡ remote_accesses place levels schedule states time + cost_of_pick place levels (states time) (schedule time))
-before_any_time place levels time schedule states = (refl, refl)
-
--- CanLeadTo
-by_some_schedule :
-    (levels : ℕ) (s : State) (So : State → Type 0)
-    → CanLeadTo levels s So ↔ ((places : List ℕ) × (next : State) × LeadTo levels s places next × So next)
-by_some_schedule levels s So = (λ h. h, λ h. h)
-
--- SomeoneGoesOn
-whoever_goes_on :
-    (levels : ℕ) (s : State) (h : SomeoneGoesOn levels s)
-    → (s.processes h.place ≢ Idle) × StepsTo levels h.place s h.after × (h.after.processes h.place ≢ s.processes h.place)
-whoever_goes_on levels s h = (h.busy, h.step, h.goes_on)
-
--- SomeoneGoesOnIn
-whoever_goes_on_there :
-    {X : Type 0} (levels : ℕ) (world : World X) (h : SomeoneGoesOnIn levels world)
-    → (world.state.processes h.place ≢ Idle) × WorldSteps levels h.place world h.after
-    × (h.after.state.processes h.place ≢ world.state.processes h.place)
-whoever_goes_on_there levels world h = (h.busy, h.step, h.goes_on)
-
--- LevelSees
-one_step_and_the_later_ones :
-    (levels level : ℕ) (s : State) (step : LevelStep) (steps : List LevelStep) → LevelSees levels level s (step ∷ steps)
-    ↔ ((next : State) × StepsTo levels step.place s next
-    × (step.deed ≡ deed_of level (s.processes step.place) (next.processes step.place)) × LevelSees levels level next steps)
-one_step_and_the_later_ones levels level s step steps = (λ h. h, λ h. h)
-
--- HasNotWon
-neither_by_any_step_nor_later :
-    (place : ℕ) (step : LevelStep) (steps : List LevelStep)
-    → HasNotWon place (step ∷ steps) ↔ ((step.place ≡ place → step.deed ≢ Wins) × HasNotWon place steps)
-neither_by_any_step_nor_later place step steps = (λ h. h, λ h. h)
-
--- announces
-any_place_announces_itself : (place : ℕ) → announces place ≡ record { place = place; deed = Announces }
-any_place_announces_itself place = refl
-
--- times_overtaken
-by_any_rival_at_any_level :
-    (level place : ℕ) (step : LevelStep) (steps : List LevelStep) → times_overtaken level place (step ∷ steps)
-    ≡ (if is_rival level place step.place && is_win step.deed then 1 else 0) + times_overtaken level place steps
-by_any_rival_at_any_level level place step steps = refl
-
--- phase_at
-below_at_and_above_any_level :
-    (level stands : ℕ) (phase : Phase) → phase_at level stands phase ≡ (if ltb level stands then Holding else (if level == stands then phase else Away))
-below_at_and_above_any_level level stands phase = refl
-
--- phase_of
-the_phase_of_any_process :
-    (levels level stands : ℕ) (entry : EntryPoint) (exit : ExitPoint)
-    → (phase_of levels level Idle ≡ Away) × (phase_of levels level (Entering stands entry) ≡ phase_at level stands (entry_phase entry))
-    × (phase_of levels level Inside ≡ phase_at level levels Holding) × (phase_of levels level (Leaving stands exit) ≡ phase_at level stands (exit_phase exit))
-the_phase_of_any_process levels level stands entry exit = (refl, refl, refl, refl)
-
--- SomeRival
-one_of_any_kind :
-    (node side : ℕ → ℕ) (phase : ℕ → Phase) (p : ℕ) (kind : Phase → Bool)
-    → SomeRival node side phase p kind ↔ ((q : ℕ) × Rivals node side p q × IsTrue (kind (phase q)))
-one_of_any_kind node side phase p kind = (λ h. h, λ h. h)
-
--- EntryIsProper
-whichever_rival_it_knows :
-    (level place rival : ℕ) → (EntryIsProper level place (E5 rival) ↔ AreRivals level place rival)
-    × (EntryIsProper level place (E6 rival) ↔ AreRivals level place rival) × (EntryIsProper level place (E7 rival) ↔ AreRivals level place rival)
-whichever_rival_it_knows level place rival = ((λ h. h, λ h. h), (λ h. h, λ h. h), (λ h. h, λ h. h))
-
--- ExitIsProper
-whichever_place_it_is_to_let_in :
-    (level place rival : ℕ) → ExitIsProper level place (X3 rival) ↔ ((node_of level place ≡ node_of level rival) × (rival ≢ place))
-whichever_place_it_is_to_let_in level place rival = (λ h. h, λ h. h)
-
--- IsOnItsWay
-at_any_level_of_any_tree :
-    (levels place level : ℕ) (Knows : Type 0) → IsOnItsWay levels place level Knows ↔ ((place < 2 ^ levels) × (1 ≤ level) × (level ≤ levels) × Knows)
-at_any_level_of_any_tree levels place level Knows = (
-  λ h. (h.in_tree, h.least, h.most, h.knows),
-  λ (in_tree, least, most, knows). record { in_tree = in_tree; least = least; most = most; knows = knows },
-)
-
--- IsProper
-any_process_of_any_place :
-    (levels place level : ℕ) (entry : EntryPoint) (exit : ExitPoint)
-    → (IsProper levels place (Entering level entry) ↔ IsOnItsWay levels place level (EntryIsProper level place entry))
-    × (IsProper levels place Inside ↔ (place < 2 ^ levels))
-    × (IsProper levels place (Leaving level exit) ↔ IsOnItsWay levels place level (ExitIsProper level place exit))
-any_process_of_any_place levels place level entry exit = ((λ h. h, λ h. h), (λ h. h, λ h. h), (λ h. h, λ h. h))
-
--- IsSoundAt
-any_level_of_any_state :
-    (levels level : ℕ) (s : State) → IsSoundAt levels s level
-    ↔ IsSoundLevel (node_of level) (side_of level) (λ p. phase_of levels level (s.processes p)) (λ n d. s.words (C level n d))
-    (λ n. s.words (T level n)) (λ p. s.words (P level p))
-any_level_of_any_state levels level s = (λ h. h, λ h. h)
-
--- IsOwedAt
-each_place_at_any_level :
-    (levels level : ℕ) (s : State) → IsOwedAt levels s level
-    ↔ ((p : ℕ) → IsOwed (node_of level) (side_of level) (λ q. phase_of levels level (s.processes q)) (λ n. s.words (T level n))
-    (λ q. s.words (P level q)) p)
-each_place_at_any_level levels level s = (λ h. h, λ h. h)
-
--- IsSoundState
-each_place_and_each_level_of_any_tree :
-    (levels : ℕ) (s : State) → IsSoundState levels s
-    ↔ (((p : ℕ) → IsProper levels p (s.processes p)) × ((level : ℕ) → 1 ≤ level → level ≤ levels → IsSoundAt levels s level)
-    × ((level : ℕ) → 1 ≤ level → level ≤ levels → IsOwedAt levels s level))
-each_place_and_each_level_of_any_tree levels s =
-    (λ h. (h.proper, h.sound, h.owed), λ (proper, sound, owed). record { proper = proper; sound = sound; owed = owed })
-
--- WorldSteps
-what_a_step_of_any_place_does :
-    {X : Type 0} (levels place : ℕ) (old new : World X) → WorldSteps levels place old new
-    → StepsTo levels place old.state new.state
-    × (new.copies place ≡ (if is_inside (new.state.processes place) then old.content else old.copies place))
-    × (new.doing place ≡ (if is_inside (new.state.processes place) then [] else old.doing place))
-    × (new.content ≡ (if is_inside (old.state.processes place) then old.copies place else old.content))
-    × (new.made place ≡ (if is_inside (old.state.processes place) then old.made place ++ old.doing place else old.made place))
-    × ((other : ℕ) → other ≢ place → new.copies other ≡ old.copies other)
-    × ((other : ℕ) → other ≢ place → new.doing other ≡ old.doing other)
-    × ((other : ℕ) → other ≢ place → new.made other ≡ old.made other)
-what_a_step_of_any_place_does levels place old new h =
-    (h.state, h.copy, h.doing, h.content, h.made, h.others_copy, h.others_doing, h.others_made)
-
--- WorldAppends
-what_any_entry_of_any_place_does :
-    {X : Type 0} (may : List (Marked X) → Marked X → Type 0) (place : ℕ) (entry : X) (old new : World X) → WorldAppends may place entry old new
-    → IsInside old.state place × may (old.copies place) (place, entry) × (new.state ≡ old.state) × (new.content ≡ old.content)
-    × (new.copies place ≡ old.copies place ++ (place, entry) ∷ []) × (new.doing place ≡ old.doing place ++ entry ∷ [])
-    × (new.made place ≡ old.made place)
-    × ((other : ℕ) → other ≢ place → new.copies other ≡ old.copies other)
-    × ((other : ℕ) → other ≢ place → new.doing other ≡ old.doing other)
-    × ((other : ℕ) → other ≢ place → new.made other ≡ old.made other)
-what_any_entry_of_any_place_does may place entry old new h =
-    (h.inside, h.may_follow, h.state, h.content, h.copy, h.doing, h.made, h.others_copy, h.others_doing, h.others_made)
-
--- KeepsRealTimeOrder
-what_any_place_has_made_since :
-    {X : Type 0} (early late : World X) (h : KeepsRealTimeOrder early late)
-    → (late.content ≡ early.content ++ h.since) × ((place : ℕ) → entries_of place early.content ≡ early.made place)
-    × ((place : ℕ) → late.made place ≡ early.made place ++ entries_of place h.since)
-what_any_place_has_made_since early late h = (h.content, h.made, h.made_since)
-
--- IsSoundLevel
-what_it_says_of_any_place_and_its_rival :
-    (node side : ℕ → ℕ) (phase : ℕ → Phase) (claim : ℕ → ℕ → ℕ) (turn spin : ℕ → ℕ) → IsSoundLevel node side phase claim turn spin
-    → ((p : ℕ) → IsTrue (claims (phase p)) → claim (node p) (side p) ≡ p + 1)
-    × ((n s p : ℕ) → claim n s ≡ p + 1 → (node p ≡ n) × (side p ≡ s) × IsTrue (claims (phase p)))
-    × ((n p : ℕ) → turn n ≡ p + 1 → node p ≡ n)
-    × ((p : ℕ) → IsTrue (has_announced (phase p)) → turn (node p) ≢ 0)
-    × ((p : ℕ) → IsTrue (is_releasing (phase p)) → turn (node p) ≢ 0)
-    × ((p q : ℕ) → Rivals node side p q → IsTrue (has_announced (phase p)) → IsTrue (has_announced (phase q))
-    → (turn (node p) ≡ p + 1) ⊎ (turn (node p) ≡ q + 1))
-    × ((p q : ℕ) → Rivals node side p q → IsTrue (holds (phase p)) → IsTrue (has_announced (phase q)) → turn (node p) ≡ q + 1)
-    × ((p : ℕ) → spin p ≤ 2)
-    × ((p q : ℕ) → Rivals node side p q → IsTrue (waits (phase p)) → spin p ≡ 2 → IsTrue (has_announced (phase q)) → turn (node p) ≡ q + 1)
-what_it_says_of_any_place_and_its_rival node side phase claim turn spin h =
-    (h.claimed, h.claimant, h.below, h.announced, h.releasing, h.one_of_two, h.waiter, h.in_range, h.let_in)
-
--- IsOwed
-what_is_owed_to_any_place :
-    (node side : ℕ → ℕ) (phase : ℕ → Phase) (turn spin : ℕ → ℕ) (p : ℕ) → IsOwed node side phase turn spin p
-    → (IsTrue (awaits_wake (phase p)) → spin p ≡ 0 → SomeRival node side phase p (λ x. claims x || is_to_let_in (turn (node p)) p x))
-    × (IsTrue (waits (phase p)) → spin p ≡ 1 → SomeRival node side phase p (λ x. has_announced x || is_to_let_in (turn (node p)) p x))
-    × (IsTrue (was_woken (phase p)) → spin p ≢ 0)
-    × (turn (node p) ≢ p + 1 → IsTrue (saw_itself_last (phase p)) → spin p ≡ 0 → SomeRival node side phase p (is_to_wake p))
-    × (turn (node p) ≢ p + 1 → IsTrue (awaits_release (phase p)) → spin p ≡ 2)
-    × (turn (node p) ≢ p + 1 → IsTrue (awaits_release (phase p)) → (q : ℕ) → Rivals node side p q → wakes_next p (phase q) ≡ false)
-what_is_owed_to_any_place node side phase turn spin p h = (h.unwoken, h.unreleased, h.woken, h.owed_one, h.has_two, h.keeps_two)
-
--- due_of
-the_access_due_to_any_process :
-    (levels place level : ℕ) (begun : Bool) (entry : EntryPoint) (exit : ExitPoint)
-    → (due_of levels place Idle begun ≡ (if begun then Some (access_of levels place Idle) else None))
-    × (due_of levels place (Entering level entry) begun ≡ Some (access_of levels place (Entering level entry)))
-    × (due_of levels place Inside begun ≡ (if begun then Some (access_of levels place Inside) else None))
-    × (due_of levels place (Leaving level exit) begun ≡ Some (access_of levels place (Leaving level exit)))
-the_access_due_to_any_process levels place level begun entry exit = (refl, refl, refl, refl)
-
--- most_of
-at_any_level_of_any_tree_it_has_made_at_most :
-    (levels level : ℕ) (begun : Bool) (entry : EntryPoint) (exit : ExitPoint)
-    → (most_of levels Idle begun ≡ (if begun then 0 else 10 * levels))
-    × (most_of levels (Entering level entry) begun ≡ 7 * (level - 1) + (entry_behind entry).1)
-    × (most_of levels Inside begun ≡ 7 * levels)
-    × (most_of levels (Leaving level exit) begun ≡ 7 * levels + 3 * (levels - level) + exit_behind exit)
-at_any_level_of_any_tree_it_has_made_at_most levels level begun entry exit = (refl, refl, refl, refl)
-
--- most_remote
-of_any_walk : (w : Walk) → most_remote w ≡ most_of w.levels w.process w.begun
-of_any_walk w = refl
-
--- op_of_access
-any_word_by_its_number :
-    (levels value : ℕ) (word : Word)
-    → (op_of_access levels (Load word) ≡ op.Load (number_of levels word)) × (op_of_access levels (Store word value) ≡ op.Store (number_of levels word) value)
-any_word_by_its_number levels value word = (refl, refl)
-
--- op_of_due
-any_access_or_none :
-    (levels : ℕ) (process : Process) (access : Access)
-    → (op_of_due levels process None ≡ op_at_rest process) × (op_of_due levels process (Some access) ≡ op_of_access levels access)
-any_access_or_none levels process access = (refl, refl)
-
--- OpIsWithin
-any_number_of_any_tree :
-    (levels number value : ℕ) → (OpIsWithin levels (op.Load number) ↔ (number < count_of_words levels))
-    × (OpIsWithin levels (op.Store number value) ↔ (number < count_of_words levels))
-any_number_of_any_tree levels number value = ((λ h. h, λ h. h), (λ h. h, λ h. h))
-
--- AccessIsWithin
-any_word_of_any_tree :
-    (levels value : ℕ) (word : Word)
-    → (AccessIsWithin levels (Load word) ↔ IsWord levels word) × (AccessIsWithin levels (Store word value) ↔ IsWord levels word)
-any_word_of_any_tree levels value word = ((λ h. h, λ h. h), (λ h. h, λ h. h))
-
--- FitsAccess
-a_load_of_any_word : (word : Word) (value : ℕ) → FitsAccess (Some (Load word)) value ↔ CanStand word value
-a_load_of_any_word word value = (λ h. h, λ h. h)
-
--- MayFind
-any_load_and_any_store : (word : Word) (value stored : ℕ) → (MayFind (Load word) value ↔ CanStand word value) × MayFind (Store word stored) value
-any_load_and_any_store word value stored = ((λ h. h, λ h. h), tt)
-
--- MayBeTold
-whatever_any_access_may_find : (access : Access) (value : ℕ) → MayBeTold (Some access) value ↔ MayFind access value
-whatever_any_access_may_find access value = (λ h. h, λ h. h)
-
--- walk
-from_any_parts :
-    (levels place remote : ℕ) (process : Process) (begun : Bool)
-    → walk levels place process begun remote ≡ record { levels = levels; place = place; process = process; begun = begun; remote = remote }
-from_any_parts levels place remote process begun = refl
-
--- is_rival
-any_two_places_at_any_level :
-    (level place other : ℕ)
-    → is_rival level place other ≡ ((node_of level other == node_of level place) && not (side_of level other == side_of level place))
-any_two_places_at_any_level level place other = refl
-
--- after_entry
-on_from_any_level : (levels level : ℕ) → after_entry levels level ≡ (if ltb level levels then Entering (level + 1) E1 else Inside)
-on_from_any_level levels level = refl
-
--- after_exit
-down_from_any_level : (level : ℕ) → after_exit level ≡ (if ltb 1 level then Leaving (level - 1) X1 else Idle)
-down_from_any_level level = refl
-
--- words_of
-what_any_row_of_any_tree_holds :
-    (levels : ℕ) (row : List ℕ) (word : Word)
-    → words_of levels row word ≡ (if is_word levels word then slice_index row (number_of levels word) else 0)
-unfolding words_of
-what_any_row_of_any_tree_holds levels row word = refl
-
--- is_entering
-on_its_way_in_at_any_level :
-    (level stands : ℕ) (entry : EntryPoint) (exit : ExitPoint)
-    → (is_entering level Idle ≡ false) × (is_entering level (Entering stands entry) ≡ (level == stands))
-    × (is_entering level Inside ≡ false) × (is_entering level (Leaving stands exit) ≡ false)
-on_its_way_in_at_any_level level stands entry exit = (refl, refl, refl, refl)

@@ -1,30 +1,25 @@
 -- Examples by which the definitions of ya_lock are tested, each under a line with the definition's name. Both sides are
 -- computed, and what a relation says is spelled out for some values. The value that the lock lends is a number here,
 -- which others can only raise.
-use Rattle.std.proofs.Common.{◌≡◌, ◌≢◌, ℕ, zero, suc, ◌+◌, ◌≤◌, ◌⊎◌, inl, inr, List, [], ◌∷◌, ◌++◌, ◌∙◌, refl, sym, subst, arith, None, Some, replicate, set}
+use Rattle.std.proofs.Common.{◌≡◌, ◌≢◌, ℕ, zero, suc, ◌+◌, ◌≤◌, inl, inr, List, [], ◌∷◌, ◌++◌, ◌∙◌, refl, sym, subst, arith, None, Some, replicate, set}
 use Rattle.std.specs.Prelude as std
-use Rattle.std.specs.Prelude.{IsTrue, ◌↔◌, ◌<◌, ◌^◌, ◌*◌, ◌-◌, if◌then◌else◌, Bool, true, false, length, slice_get, slice_index}
+use Rattle.std.specs.Prelude.{IsTrue, ◌-◌, true, false}
 use mathlib.Core.Option.{Option, none, some, some-injective, some-ne-none}
 use lib.ListN.{get_elem?}
 use Rattle.atomic_table.specs.Table.{State}
 use Rattle.ya_core.specs.declared.word.Word.{Word}
 use Rattle.ya_core.specs.declared.word.Word.TheVariants.{C, P}
-use Rattle.ya_core.specs.declared.process.EntryPoint.{EntryPoint}
 use Rattle.ya_core.specs.declared.process.EntryPoint.TheVariants.{E1, E2, E3, E4, E8}
-use Rattle.ya_core.specs.declared.process.ExitPoint.{ExitPoint}
 use Rattle.ya_core.specs.declared.process.ExitPoint.TheVariants.{X1}
 use Rattle.ya_core.specs.declared.process.Process.{Process}
 use Rattle.ya_core.specs.declared.process.Process.TheVariants.{Idle, Entering, Inside, Leaving}
 use Rattle.ya_core.specs.ArbitrationTree.{node_of, side_of, number_of, count_of_words}
-use Rattle.ya_core.specs.Steps.{Accesses, access_of, next_of, value_of}
-use Rattle.ya_core.specs.WalkerModel.{cost_of}
-use Rattle.ya_core.specs.FlatRow.{is_word}
 use Rattle.ya_core.specs.Soundness.{IsSoundState, claims, phase_of}
 use Rattle.ya_core.proofs.Promised.{opens}
 use Rattle.ya_lock.specs.declared.rule.View.{View}
 use Rattle.ya_lock.specs.declared.rule.View.TheVariants.{Unused, Making, Filling, HandingOut, Seated, Joining, Spent}
 use Rattle.ya_lock.specs.Rule.{index_of, making_index, words_in, row_length, place_of_view, least_at, least_count, count_from, count_after}
-use Rattle.ya_lock.specs.Rule.{GlobalView, IsBegun, ViewFits, Rule, KnowsValue, ValueInSlot, Obeys, Slots}
+use Rattle.ya_lock.specs.Rule.{GlobalView, IsBegun, ViewFits, Rule}
 use Rattle.ya_lock.specs.LockState.{IsOf, IsFilling, IsMaking, HasProcess, IsAway, NoneInside, ShowsCore, GoesOn, SomeSeatGoesOn}
 use Rattle.ya_lock.specs.LockState.{OneSeatAPlace, OneInside, IsToMake, IsGiven, IsInSlot, IsFresh, IsMadeByOne, IsLockState}
 use Rattle.ya_lock.specs.Lock.{LockId, IdlePass, OpenGuard, new_pass, guard_of, pass_of}
@@ -32,9 +27,7 @@ use Rattle.ya_lock.specs.GuardLends.{guard_with_value}
 use Rattle.ya_lock.specs.DueStep.{IsReady, process_after, MovesValue, TakesStep, EachMayStep}
 use Rattle.ya_lock.proofs.DueSteps.{each_may_step}
 use Rattle.ya_lock.proofs.WordsInRow.{words_zero, words_behind}
-use Rattle.atomic_table.specs.Seated.{TableId}
-use Rattle.ya_core.specs.Worlds.{is_inside}
-use Rattle.ya_lock.specs.Lock.{LockId, IdlePass, OpenGuard, guard_of, pass_of, new_pass, ArePassesInOrder}
+use Rattle.ya_lock.specs.Lock.{LockId, IdlePass, OpenGuard, guard_of, pass_of, new_pass}
 use Rattle.ya_lock.specs.GuardLends.{guard_with_value}
 
 -- index_of
@@ -42,18 +35,10 @@ the_last_word_of_one_level : index_of 1 (P 1 1) ≡ 32
 unfolding index_of number_of
 the_last_word_of_one_level = refl
 
-eight_words_apart : (levels : ℕ) (word : Word) → index_of levels word ≡ 8 * number_of levels word
-unfolding index_of
-eight_words_apart levels word = refl
-
 -- making_index
 a_cache_line_behind_it : making_index 1 ≡ 40
 unfolding making_index count_of_words
 a_cache_line_behind_it = refl
-
-behind_all_words_of_any_tree : (levels : ℕ) → making_index levels ≡ 8 * count_of_words levels
-unfolding making_index
-behind_all_words_of_any_tree levels = refl
 
 -- words_in
 what_lies_at_its_index : words_in 1 (replicate 32 0 ++ 9 ∷ []) (P 1 1) ≡ 9
@@ -63,12 +48,6 @@ what_lies_at_its_index = refl
 a_word_that_the_tree_has_not : words_in 1 (replicate 41 9) (C 1 1 0) ≡ 0
 unfolding words_in
 a_word_that_the_tree_has_not = refl
-
-what_any_row_holds :
-    (levels : ℕ) (row : List ℕ) (word : Word)
-    → words_in levels row word ≡ (if is_word levels word then slice_index row (index_of levels word) else 0)
-unfolding words_in
-what_any_row_holds levels row word = refl
 
 -- IsOf
 a_place_away_has_seen_a_value : IsOf {V = ℕ} (Seated 1 (Entering 1 E8) 5 4) 1 (Entering 1 E8) 5
@@ -480,108 +459,9 @@ where_both_are_away = record {
 not_where_two_are_inside : ¬ IsLockState raised 1 two_inside
 not_where_two_are_inside h = not_two h.exclusion
 
--- IsOf
-whose_view_it_is :
-    (place p value v other seen count : ℕ) (process x : Process)
-    → (IsOf (Seated place process value count) p x v → (place ≡ p) × (process ≡ x) × (value ≡ v))
-    × (IsOf (Joining place value other seen count) p x v → (place ≡ p) × (Inside ≡ x) × (value ≡ v))
-whose_view_it_is place p value v other seen count process x = (λ h. h, λ h. h)
-
--- HasProcess
-some_view_of_the_seat_is_the_process :
-    (s : State (std.Option ℕ) (View ℕ)) (seat place : ℕ) (process : Process) (value : ℕ) → HasProcess s seat place process value
-    → (view : View ℕ) × (get_elem? s.views seat ≡ some view) × IsOf view place process value
-some_view_of_the_seat_is_the_process s seat place process value h = h
-
--- IsAway
-some_process_that_is_not_inside :
-    (s : State (std.Option ℕ) (View ℕ)) (seat place value : ℕ) → IsAway s seat place value
-    → (process : Process) × (process ≢ Inside) × HasProcess s seat place process value
-some_process_that_is_not_inside s seat place value h = h
-
 -- NoneInside
 no_seat_has_one_inside : (s : State (std.Option ℕ) (View ℕ)) → NoneInside s → (seat place value : ℕ) → ¬ HasProcess s seat place Inside value
 no_seat_has_one_inside s h = h
-
--- GoesOn
-its_step_changes_the_process :
-    (s : State (std.Option ℕ) (View ℕ)) (levels place : ℕ) (process : Process) → GoesOn s levels place process
-    ↔ (next_of levels place process (value_of (words_in levels s.words) (access_of levels place process)) ≢ process)
-its_step_changes_the_process s levels place process = (λ h. h, λ h. h)
-
--- SomeSeatGoesOn
-where_one_takes_part_one_goes_on :
-    (s : State (std.Option ℕ) (View ℕ)) (levels : ℕ) → SomeSeatGoesOn s levels → (seat place : ℕ) (process : Process) (value : ℕ)
-    → HasProcess s seat place process value → process ≢ Idle
-    → (other q : ℕ) × ((x : Process) × ((v : ℕ) × HasProcess s other q x v × (x ≢ Idle) × GoesOn s levels q x))
-where_one_takes_part_one_goes_on s levels h = h
-
--- OneSeatAPlace
-two_views_of_a_place_are_of_one_seat :
-    (s : State (std.Option ℕ) (View ℕ)) → OneSeatAPlace s → (one other place : ℕ) (x y : Process) (v w : ℕ)
-    → HasProcess s one place x v → HasProcess s other place y w → one ≡ other
-two_views_of_a_place_are_of_one_seat s h = h
-
--- OneInside
-two_views_inside_are_of_one_seat :
-    (s : State (std.Option ℕ) (View ℕ)) → OneInside s → (one other p q v w : ℕ)
-    → HasProcess s one p Inside v → HasProcess s other q Inside w → one ≡ other
-two_views_inside_are_of_one_seat s h = h
-
--- IsToMake
-a_pass_that_is_still_to_be_made :
-    (s : State (std.Option ℕ) (View ℕ)) (seat place given : ℕ) → IsToMake s seat place given
-    ↔ ((first : ℕ) × (get_elem? s.views seat ≡ some (HandingOut first given)) × (first ≤ place))
-a_pass_that_is_still_to_be_made s seat place given = (λ h. h, λ h. h)
-
--- IsGiven
-some_seat_knows_of_it :
-    (s : State (std.Option ℕ) (View ℕ)) → IsGiven s
-    ↔ ((seat place : ℕ) × ((value : ℕ) × (((process : Process) × HasProcess s seat place process value) ⊎ IsToMake s seat place value)))
-some_seat_knows_of_it s = (λ h. h, λ h. h)
-
--- IsInSlot
-where_the_value_is :
-    (s : State (std.Option ℕ) (View ℕ)) → IsInSlot s
-    → ((seat place value : ℕ) → HasProcess s seat place Inside value → s.homes ≡ none ∷ [])
-    × (IsGiven s → NoneInside s → (now : ℕ) × (s.homes ≡ some (Some now) ∷ []))
-where_the_value_is s h = h
-
--- IsFresh
-what_has_become_of_what_was_seen :
-    (since : ℕ → ℕ → ℕ → Type 0) (s : State (std.Option ℕ) (View ℕ)) → IsFresh s since → (seat place seen now : ℕ)
-    → IsAway s seat place seen ⊎ IsToMake s seat place seen
-    → ((s.homes ≡ some (Some now) ∷ [] → since place seen now)
-    × ((one other : ℕ) → HasProcess s one other Inside now → since place seen now))
-what_has_become_of_what_was_seen since s h = h
-
--- IsMadeByOne
-how_the_passes_are_made :
-    (s : State (std.Option ℕ) (View ℕ)) (levels : ℕ) → IsMadeByOne s levels
-    → (slice_index s.words (making_index levels) ≡ 0 → (seat : ℕ) (view : View ℕ) → get_elem? s.views seat ≡ some view → view ≡ Unused)
-    × (slice_index s.words (making_index levels) ≡ 0 → s.homes ≡ some None ∷ [])
-    × ((one other : ℕ) (v w : View ℕ) → get_elem? s.views one ≡ some v → IsMaking v → get_elem? s.views other ≡ some w
-    → IsMaking w → one ≡ other)
-    × ((seat : ℕ) (view : View ℕ) → get_elem? s.views seat ≡ some view → IsFilling view
-    → (other place : ℕ) (process : Process) (value : ℕ) → ¬ HasProcess s other place process value)
-    × ((seat first given : ℕ) → get_elem? s.views seat ≡ some (HandingOut first given)
-    → (other place : ℕ) (process : Process) (value : ℕ) → first ≤ place → ¬ HasProcess s other place process value)
-how_the_passes_are_made s levels h = (h.unused, h.empty, h.one_maker, h.unfilled, h.not_made)
-
--- ShowsCore
-what_words_and_views_show :
-    (s : State (std.Option ℕ) (View ℕ)) (levels : ℕ) → ShowsCore s levels
-    → (processes : ℕ → Process) × IsSoundState levels (record { words = words_in levels s.words; processes = processes })
-    × ((seat place : ℕ) (process : Process) (value : ℕ) → HasProcess s seat place process value → processes place ≡ process)
-    × ((place : ℕ) → ((seat : ℕ) (process : Process) (value : ℕ) → ¬ HasProcess s seat place process value)
-    → processes place ≡ Idle)
-what_words_and_views_show s levels h = h
-
--- IsLockState
-what_each_moment_shows :
-    (since : ℕ → ℕ → ℕ → Type 0) (levels : ℕ) (s : State (std.Option ℕ) (View ℕ)) → IsLockState since levels s
-    → ShowsCore s levels × SomeSeatGoesOn s levels × OneSeatAPlace s × OneInside s × IsInSlot s × IsFresh s since × IsMadeByOne s levels
-what_each_moment_shows since levels s h = (h.core, h.progress, h.places, h.exclusion, h.value, h.fresh, h.making)
 
 -- both places are away, and the row is as long as a lock's
 abbrev both_made : State (std.Option ℕ) (View ℕ)
@@ -726,12 +606,6 @@ three_at_each_level_inside = refl
 still_so_on_its_way_out : least_count 2 (Leaving 1 X1) ≡ 6
 still_so_on_its_way_out = refl
 
-three_at_each_level_that_it_won :
-    (levels level : ℕ) (entry : EntryPoint) (exit : ExitPoint)
-    → (least_count levels Idle ≡ 0) × (least_count levels (Entering level entry) ≡ 3 * (level - 1) + least_at entry)
-    × (least_count levels Inside ≡ 3 * levels) × (least_count levels (Leaving level exit) ≡ 3 * levels)
-three_at_each_level_that_it_won levels level entry exit = (refl, refl, refl, refl)
-
 -- ViewFits
 no_count_is_reset_inside : (s : State (std.Option ℕ) (View ℕ)) (x : GlobalView ℕ) (seat : ℕ) → ¬ ViewFits raised 1 s x seat (Seated 0 Inside 7 0)
 no_count_is_reset_inside s x seat fits = let least : 3 ≤ 0 = fits.4 in omega (arith, least)
@@ -739,18 +613,10 @@ no_count_is_reset_inside s x seat fits = let least : 3 ≤ 0 = fits.4 in omega (
 nor_while_it_takes_in_a_pass : (s : State (std.Option ℕ) (View ℕ)) (x : GlobalView ℕ) (seat : ℕ) → ¬ ViewFits raised 1 s x seat (Joining 0 7 1 5 0)
 nor_while_it_takes_in_a_pass s x seat fits = let least : 3 ≤ 0 = fits.5 in omega (arith, least)
 
-some_global_view_obeys :
-    (since : ℕ → ℕ → ℕ → Type 0) (levels : ℕ) (s : State (std.Option ℕ) (View ℕ))
-    → Rule since levels s ↔ ((x : GlobalView ℕ) × Obeys since levels s x)
-some_global_view_obeys since levels s = (λ h. h, λ h. h)
-
 -- row_length
 of_one_level_and_of_two : (row_length 1 ≡ 64) × (row_length 2 ≡ 176)
 unfolding making_index count_of_words
 of_one_level_and_of_two = (refl, refl)
-
-of_any_levels : (levels : ℕ) → row_length levels ≡ making_index levels + 8 * (1 + 2 ^ levels)
-of_any_levels levels = refl
 
 -- place_of_view
 of_a_seated_and_of_a_joining_process :
@@ -758,51 +624,17 @@ of_a_seated_and_of_a_joining_process :
     × (place_of_view {V = ℕ} Spent ≡ none) × (place_of_view {V = ℕ} (HandingOut 1 7) ≡ none)
 of_a_seated_and_of_a_joining_process = (refl, refl, refl, refl)
 
-of_any_process :
-    (place value other seen count : ℕ) (process : Process)
-    → (place_of_view (Seated place process value count) ≡ some place) × (place_of_view (Joining place value other seen count) ≡ some place)
-of_any_process place value other seen count process = (refl, refl)
-
--- LockId
-a_lock_is_known_by_its_table : TableId → LockId
-a_lock_is_known_by_its_table id = id
-
--- IdlePass
-the_parts_of_a_pass :
-    (lock : LockId)
-    → ((new_pass {V = ℕ} lock 1 7).lock ≡ lock) × ((new_pass {V = ℕ} lock 1 7).place ≡ 1)
-    × ((new_pass {V = ℕ} lock 1 7).seen ≡ 7) × ((new_pass {V = ℕ} lock 1 7).remote ≡ 0)
-the_parts_of_a_pass lock = (refl, refl, refl, refl)
-
--- OpenGuard
-the_parts_of_a_guard :
-    (lock : LockId)
-    → ((guard_of (new_pass {V = ℕ} lock 1 7) 8 3).lock ≡ lock) × ((guard_of (new_pass {V = ℕ} lock 1 7) 8 3).place ≡ 1)
-    × ((guard_of (new_pass {V = ℕ} lock 1 7) 8 3).found ≡ 8)
-    × ((guard_of (new_pass {V = ℕ} lock 1 7) 8 3).value ≡ 8) × ((guard_of (new_pass {V = ℕ} lock 1 7) 8 3).remote ≡ 3)
-the_parts_of_a_guard lock = (refl, refl, refl, refl, refl)
-
 -- guard_of
 it_has_what_its_entry_found :
     (lock : LockId) → guard_of (new_pass {V = ℕ} lock 1 7) 8 3
     ≡ record { lock = lock; place = 1; found = 8; value = 8; remote = 3; view = Seated 1 Inside 8 3 }
 it_has_what_its_entry_found lock = refl
 
-whatever_its_entry_found :
-    (pass : IdlePass ℕ) (found remote : ℕ) → guard_of pass found remote
-    ≡ record { lock = pass.lock; place = pass.place; found = found; value = found; remote = remote; view = Seated pass.place Inside found remote }
-whatever_its_entry_found pass found remote = refl
-
 -- guard_with_value
 with_another_value :
     (lock : LockId) → guard_with_value (guard_of (new_pass {V = ℕ} lock 1 7) 8 3) 9
     ≡ record { lock = lock; place = 1; found = 8; value = 9; remote = 3; view = Seated 1 Inside 8 3 }
 with_another_value lock = refl
-
-with_any_other_value :
-    (guard : OpenGuard ℕ) (value : ℕ) → guard_with_value guard value
-    ≡ record { lock = guard.lock; place = guard.place; found = guard.found; value = value; remote = guard.remote; view = guard.view }
-with_any_other_value guard value = refl
 
 -- pass_of
 it_has_seen_what_its_guard_leaves :
@@ -811,127 +643,16 @@ it_has_seen_what_its_guard_leaves :
     ≡ record { lock = lock; place = 1; seen = 9; remote = 6; view = Seated 1 Idle 9 6 }
 it_has_seen_what_its_guard_leaves lock = refl
 
-whatever_its_guard_leaves :
-    (guard : OpenGuard ℕ) (remote : ℕ) → pass_of guard remote
-    ≡ record { lock = guard.lock; place = guard.place; seen = guard.value; remote = remote; view = Seated guard.place Idle guard.value remote }
-whatever_its_guard_leaves guard remote = refl
-
 -- new_pass
 it_has_made_no_access_yet :
     (lock : LockId) → new_pass {V = ℕ} lock 1 7
     ≡ record { lock = lock; place = 1; seen = 7; remote = 0; view = Seated 1 Idle 7 0 }
 it_has_made_no_access_yet lock = refl
 
-nor_has_that_of_any_place :
-    (lock : LockId) (place value : ℕ)
-    → new_pass lock place value ≡ record { lock = lock; place = place; seen = value; remote = 0; view = Seated place Idle value 0 }
-nor_has_that_of_any_place lock place value = refl
-
--- ArePassesInOrder
-four_passes_of_two_levels :
-    (lock : LockId) (passes : List (IdlePass ℕ)) → ArePassesInOrder {V = ℕ} lock 2 7 passes
-    → (length passes ≡ 4) × ((place : ℕ) → place < 4 → slice_get passes place ≡ Some (new_pass lock place 7))
-four_passes_of_two_levels lock passes h = (h.count, h.each)
-
-one_pass_of_each_place :
-    (lock : LockId) (levels value : ℕ) (passes : List (IdlePass ℕ)) → ArePassesInOrder lock levels value passes
-    ↔ ((length passes ≡ 2 ^ levels) × ((place : ℕ) → place < 2 ^ levels → slice_get passes place ≡ Some (new_pass lock place value)))
-one_pass_of_each_place lock levels value passes = (λ h. (h.count, h.each), λ (count, each). record { count = count; each = each })
-
 -- GlobalView
 what_all_seats_show :
     (both_are_away.seat_of 1 ≡ some 1) × (both_are_away.processes 1 ≡ Idle) × (both_are_away.maker ≡ none) × (both_are_away.content ≡ some 7)
 what_all_seats_show = (refl, refl, refl, refl)
-
--- KnowsValue
-inside_it_is_the_content :
-    (since : ℕ → ℕ → ℕ → Type 0) (content : Option ℕ) (place value : ℕ) → KnowsValue since content place true value ↔ (content ≡ some value)
-inside_it_is_the_content since content place value = (λ h. h, λ h. h)
-
-else_the_content_is_what_it_may_have_become :
-    (since : ℕ → ℕ → ℕ → Type 0) (content : Option ℕ) (place value : ℕ)
-    → KnowsValue since content place false value ↔ ((now : ℕ) × (content ≡ some now) × since place value now)
-else_the_content_is_what_it_may_have_become since content place value = (λ h. h, λ h. h)
-
--- ValueInSlot
-it_lies_there_where_nobody_is_inside :
-    (processes : ℕ → Process) (homes : List (Option (std.Option ℕ))) (value : ℕ) → ValueInSlot raised processes homes (some value)
-    ↔ ((((place : ℕ) → is_inside (processes place) ≡ false) → homes ≡ some (Some value) ∷ [])
-    × ((place : ℕ) → is_inside (processes place) ≡ true → homes ≡ none ∷ []))
-it_lies_there_where_nobody_is_inside processes homes value = (λ h. h, λ h. h)
-
-before_it_was_given_it_lies_nowhere : (processes : ℕ → Process) (homes : List (Option (std.Option ℕ))) → ValueInSlot raised processes homes none
-before_it_was_given_it_lies_nowhere processes homes = tt
-
--- IsBegun
-the_making_word_is_not_0 : (s : State (std.Option ℕ) (View ℕ)) (x : GlobalView ℕ) → IsBegun raised 1 s x → slice_index s.words 40 ≢ 0
-unfolding making_index count_of_words
-the_making_word_is_not_0 s x h = h
-
-the_making_word_of_any_lock_is_not_0 :
-    (since : ℕ → ℕ → ℕ → Type 0) (levels : ℕ) (s : State (std.Option ℕ) (View ℕ)) (x : GlobalView ℕ)
-    → IsBegun since levels s x ↔ (slice_index s.words (making_index levels) ≢ 0)
-the_making_word_of_any_lock_is_not_0 since levels s x = (λ h. h, λ h. h)
-
--- ViewFits
-what_a_maker_shows :
-    (s : State (std.Option ℕ) (View ℕ)) (x : GlobalView ℕ)
-    → (ViewFits raised 2 s x 5 Making → IsBegun raised 2 s x × (x.maker ≡ some 5) × (x.content ≡ none) × (s.homes ≡ some None ∷ []))
-    × (ViewFits raised 2 s x 5 Filling → IsBegun raised 2 s x × (x.maker ≡ some 5) × (x.content ≡ none) × (length s.homes ≡ 1))
-    × (ViewFits raised 2 s x 5 (HandingOut 1 7)
-    → IsBegun raised 2 s x × (x.maker ≡ some 5) × (1 < 4)
-    × ((place : ℕ) → 1 ≤ place → (x.seat_of place ≡ none) × KnowsValue raised x.content place false 7))
-what_a_maker_shows s x = (λ h. h, λ h. h, λ h. h)
-
-what_a_process_shows :
-    (s : State (std.Option ℕ) (View ℕ)) (x : GlobalView ℕ)
-    → (ViewFits raised 2 s x 5 (Seated 1 Idle 7 3)
-    → IsBegun raised 2 s x × (x.seat_of 1 ≡ some 5) × (x.processes 1 ≡ Idle) × KnowsValue raised x.content 1 false 7 × (0 ≤ 3))
-    × (ViewFits raised 2 s x 5 (Seated 1 Inside 7 3)
-    → IsBegun raised 2 s x × (x.seat_of 1 ≡ some 5) × (x.processes 1 ≡ Inside) × KnowsValue raised x.content 1 true 7
-    × (6 ≤ 3))
-    × (ViewFits raised 2 s x 5 (Joining 1 7 2 6 3)
-    → IsBegun raised 2 s x × (x.seat_of 1 ≡ some 5) × (x.processes 1 ≡ Inside) × KnowsValue raised x.content 1 true 7
-    × KnowsValue raised x.content 2 false 6 × (6 ≤ 3))
-what_a_process_shows s x = (λ h. h, λ h. h, λ h. h)
-
-what_one_that_has_none_shows :
-    (s : State (std.Option ℕ) (View ℕ)) (x : GlobalView ℕ) → ViewFits raised 2 s x 5 Unused × (ViewFits raised 2 s x 5 Spent → IsBegun raised 2 s x)
-what_one_that_has_none_shows s x = (tt, λ h. h)
-
-what_the_view_of_any_seat_shows :
-    (since : ℕ → ℕ → ℕ → Type 0) (levels : ℕ) (s : State (std.Option ℕ) (View ℕ)) (x : GlobalView ℕ) (seat first place other value seen count : ℕ)
-    (process : Process)
-    → (ViewFits since levels s x seat Making
-    ↔ (IsBegun since levels s x × (x.maker ≡ some seat) × (x.content ≡ none) × (s.homes ≡ some None ∷ [])))
-    × (ViewFits since levels s x seat Filling
-    ↔ (IsBegun since levels s x × (x.maker ≡ some seat) × (x.content ≡ none) × (length s.homes ≡ 1)))
-    × (ViewFits since levels s x seat (HandingOut first value)
-    ↔ (IsBegun since levels s x × (x.maker ≡ some seat) × (first < 2 ^ levels)
-    × ((p : ℕ) → first ≤ p → (x.seat_of p ≡ none) × KnowsValue since x.content p false value)))
-    × (ViewFits since levels s x seat (Seated place process value count)
-    ↔ (IsBegun since levels s x × (x.seat_of place ≡ some seat) × (x.processes place ≡ process)
-    × KnowsValue since x.content place (is_inside process) value × (least_count levels process ≤ count)))
-    × (ViewFits since levels s x seat (Joining place value other seen count)
-    ↔ (IsBegun since levels s x × (x.seat_of place ≡ some seat) × (x.processes place ≡ Inside) × KnowsValue since x.content place true value
-    × KnowsValue since x.content other false seen × (least_count levels Inside ≤ count)))
-    × (ViewFits since levels s x seat Spent ↔ IsBegun since levels s x)
-what_the_view_of_any_seat_shows since levels s x seat first place other value seen count process =
-    ((λ h. h, λ h. h), (λ h. h, λ h. h), (λ h. h, λ h. h), (λ h. h, λ h. h), (λ h. h, λ h. h), (λ h. h, λ h. h))
-
--- Obeys
-what_it_says_of_each_place_and_seat :
-    (since : ℕ → ℕ → ℕ → Type 0) (levels : ℕ) (s : State (std.Option ℕ) (View ℕ)) (x : GlobalView ℕ) → Obeys since levels s x
-    → (length s.words ≡ row_length levels)
-    × (slice_index s.words (making_index levels) ≡ 0 → (x.content ≡ none) × (s.homes ≡ some None ∷ []))
-    × (x.content ≡ none → (place : ℕ) → x.seat_of place ≡ none)
-    × ((place seat : ℕ) → x.seat_of place ≡ some seat
-    → (view : View ℕ) × (get_elem? s.views seat ≡ some view) × (place_of_view view ≡ some place))
-    × ((place : ℕ) → x.seat_of place ≡ none → x.processes place ≡ Idle)
-    × IsSoundState levels (record { words = words_in levels s.words; processes = x.processes })
-    × ValueInSlot since x.processes s.homes x.content
-    × ((seat : ℕ) (view : View ℕ) → get_elem? s.views seat ≡ some view → ViewFits since levels s x seat view)
-what_it_says_of_each_place_and_seat since levels s x h = (h.wide, h.unmade, h.before, h.seated, h.absent, h.sound, h.lies, h.fits)
 
 -- count_from
 a_new_entry_begins_with_none : count_from Idle 9 ≡ 0
@@ -939,12 +660,6 @@ a_new_entry_begins_with_none = refl
 
 one_under_way_goes_on_counting : count_from Inside 9 ≡ 9
 one_under_way_goes_on_counting = refl
-
-any_of_them_goes_on_counting :
-    (count level : ℕ) (entry : EntryPoint) (exit : ExitPoint)
-    → (count_from Idle count ≡ 0) × (count_from (Entering level entry) count ≡ count) × (count_from Inside count ≡ count)
-    × (count_from (Leaving level exit) count ≡ count)
-any_of_them_goes_on_counting count level entry exit = (refl, refl, refl, refl)
 
 -- count_after
 the_claim_of_a_new_entry_counts : count_after 1 0 Idle 9 ≡ 1
@@ -996,59 +711,7 @@ not_what_it_has_not_seen h = let slots = h.0 in cc
 what_the_step_in_takes : MovesValue raised false true 0 7 9 [] (some (Some 9) ∷ []) (none ∷ [])
 what_the_step_in_takes = (omega arith, refl, refl)
 
--- MovesValue
-what_becomes_of_the_value :
-    (since : ℕ → ℕ → ℕ → Type 0) (after : Bool) (place seen next : ℕ) (slots : Slots ℕ) (homes homes' : List (Option (std.Option ℕ)))
-    → (MovesValue since true after place seen next slots homes homes' ↔ ((slots ≡ (0, Some next) ∷ []) × (homes' ≡ some (Some next) ∷ [])))
-    × (MovesValue since false true place seen next slots homes homes'
-    ↔ (since place seen next × (homes ≡ some (Some next) ∷ []) × (homes' ≡ none ∷ [])))
-    × (MovesValue since false false place seen next slots homes homes' ↔ ((next ≡ seen) × (homes' ≡ homes)))
-what_becomes_of_the_value since after place seen next slots homes homes' = ((λ h. h, λ h. h), (λ h. h, λ h. h), (λ h. h, λ h. h))
-
--- Slots
-each_slot_with_its_value : Slots ℕ → List (ℕ × std.Option ℕ)
-each_slot_with_its_value slots = slots
-
--- IsReady
-what_its_slot_holds :
-    (done : ℕ → ℕ → ℕ → Type 0) (place value : ℕ) (slots : Slots ℕ)
-    → (IsReady done true place value slots ↔ ((next : ℕ) × (slots ≡ (0, Some next) ∷ []) × done place value next))
-    × (IsReady done false place value slots ↔ (slots ≡ []))
-what_its_slot_holds done place value slots = ((λ h. h, λ h. h), (λ h. h, λ h. h))
-
--- process_after
-where_each_place_goes :
-    (levels : ℕ) (s : State (std.Option ℕ) (View ℕ)) (place : ℕ) (process : Process)
-    → process_after levels s place process ≡ next_of levels place process (value_of (words_in levels s.words) (access_of levels place process))
-where_each_place_goes levels s place process = refl
-
--- count_after
-what_each_place_has_made :
-    (levels place : ℕ) (process : Process) (count : ℕ)
-    → count_after levels place process count ≡ count_from process count + cost_of place (access_of levels place process)
-what_each_place_has_made levels place process count = refl
-
--- TakesStep
-what_a_step_of_each_place_and_seat_is :
-    (since : ℕ → ℕ → ℕ → Type 0) (levels seat place : ℕ) (process : Process) (seen count : ℕ) (slots : Slots ℕ) (s t : State (std.Option ℕ) (View ℕ))
-    → TakesStep since levels seat place process seen count slots s t
-    → Accesses (access_of levels place process) (words_in levels s.words) (words_in levels t.words)
-    × ((value : ℕ) × (get_elem? t.views seat ≡ some (Seated place (process_after levels s place process) value (count_after levels place process count)))
-    × MovesValue since (is_inside process) (is_inside (process_after levels s place process)) place seen value slots s.homes t.homes)
-    × ((other : ℕ) → other ≢ seat → get_elem? t.views other ≡ get_elem? s.views other)
-    × Rule since levels t
-what_a_step_of_each_place_and_seat_is since levels seat place process seen count slots s t h =
-    (h.access, (h.value, h.own, h.moves), h.others, h.rule)
-
 -- EachMayStep
-which_step_each_seat_may_take :
-    {V : Type 0} → (since done : ℕ → V → V → Type 0) (levels : ℕ) (s : State (std.Option V) (View V)) → EachMayStep since done levels s
-    → (seat place : ℕ) (process : Process) (value : V) (count : ℕ) (slots : Slots V)
-    → get_elem? s.views seat ≡ some (Seated place process value count) → place < 2 ^ levels
-    → IsReady done (is_inside process) place value slots
-    → (t : State (std.Option V) (View V)) × TakesStep since levels seat place process value count slots s t
-which_step_each_seat_may_take since done levels s h = h
-
 each_of_both_may_step : EachMayStep raised raised 1 both_made
 each_of_both_may_step =
     each_may_step raised raised (λ place a. omega arith)

@@ -1,6 +1,6 @@
 -- Examples by which the definitions of ya_replay are tested, each under a line with the definition's name. Both sides
 -- are computed.
-use Rattle.std.proofs.Common.{◌≡◌, ℕ, true, false, Some, None, List, [], ◌∷◌, ◌++◌, map, codes, decimal, refl}
+use Rattle.std.proofs.Common.{◌≡◌, ℕ, true, false, Some, None, List, [], ◌∷◌, ◌++◌, map, codes, refl}
 use Rattle.std.specs.Fmt.{digits}
 use Rattle.ya_core.specs.declared.word.Word.TheVariants.{C, T, P}
 use Rattle.ya_core.specs.declared.step.Mark.TheVariants.{Plain, Inside, Out}
@@ -13,21 +13,10 @@ a_letter_a_level_and_a_place : level_text (codes "P") 1 0 ≡ codes "P1.0"
 unfolding digits level_text
 a_letter_a_level_and_a_place = refl
 
-any_letter_level_and_place :
-    (letter : List ℕ) (level index : ℕ) → level_text letter level index ≡ letter ++ (decimal level ++ (codes "." ++ decimal index))
-unfolding level_text
-any_letter_level_and_place letter level index = refl
-
 -- word_text
 a_claim_has_a_side : word_text (C 1 0 1) ≡ codes "C1.0.1"
 unfolding digits word_text level_text
 a_claim_has_a_side = refl
-
-any_word :
-    (level node side place : ℕ) → (word_text (C level node side) ≡ level_text (codes "C") level node ++ (codes "." ++ decimal side))
-    × (word_text (T level node) ≡ level_text (codes "T") level node) × (word_text (P level place) ≡ level_text (codes "P") level place)
-unfolding word_text
-any_word level node side place = (refl, refl, refl)
 
 -- mark_text
 inside_and_out : map mark_text (Plain ∷ Inside ∷ Out ∷ []) ≡ codes "\n" ∷ codes " inside\n" ∷ codes " out\n" ∷ []
@@ -86,10 +75,6 @@ nobody_is = refl
 place_1_is : inside_text (Some 1) ≡ codes "inside p1\n"
 unfolding digits inside_text
 place_1_is = refl
-
-any_place_is : (place : ℕ) → inside_text (Some place) ≡ codes "inside p" ++ (decimal place ++ codes "\n")
-unfolding inside_text
-any_place_is place = refl
 
 -- replay_text_of
 lines_and_who_is_inside : replay_text_of four_steps (Some 0) ≡ four_lines ++ codes "inside p0\n"

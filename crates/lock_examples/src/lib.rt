@@ -1,5 +1,3 @@
-//! Proved examples of the definitions of `ya_core`, `ya_lock` and `ya_replay`, a file of proofs/ for each, and of the laws of
-//! `ya_core` and `ya_lock`. They are a crate of their own, since nobody who builds the program needs them.
+//! Proved examples of the definitions of `ya_core`, `ya_lock` and `ya_replay`, a file of proofs/ for each. They are a
+//! crate of their own, since nobody who builds the program needs them.
 #![tactic(auto)]
-
-pub mod laws;

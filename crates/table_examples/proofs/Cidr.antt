@@ -1,33 +1,23 @@
 -- Examples by which the definitions of rt_cidr are tested, each under a line with the definition's name. Both sides are
 -- computed, and what a relation or a law says is spelled out for some values.
-use Rattle.std.proofs.Common.{map, length, slice_index, ◌/◌, ◌%◌, ◌≡◌, ℕ, ◌+◌, ◌*◌, ◌<◌, Bool, true, false, List}
-use Rattle.std.proofs.Common.{[], ◌∷◌, ◌++◌, ◌||◌, Some, Ok, Err, codes, decimal, take, eqb, refl, ap, subst, ◌∙◌}
+use Rattle.std.proofs.Common.{map, ◌/◌, ◌≡◌, ℕ, ◌+◌, ◌<◌, Bool, true, false, List}
+use Rattle.std.proofs.Common.{[], ◌∷◌, ◌++◌, ◌||◌, Some, Ok, Err, codes, take, eqb, refl, ap, subst, ◌∙◌}
 use Rattle.std.proofs.Common.{arith}
 use Rattle.std.proofs.lemmas.Bool.{eq-eqb, or_right}
 use Rattle.std.proofs.lemmas.List.Folds.{list_any-append}
 use Rattle.std.specs.List.{list_any}
-use Rattle.std.specs.Str.Parse.{IsNumeral, digits_value}
 use Rattle.std.specs.Fmt.{digits}
 use Rattle.rt_cidr.specs.declared.address.Addr.{Addr}
 use Rattle.rt_cidr.specs.declared.prefixes.Prefix.{Prefix}
 use Rattle.rt_cidr.specs.declared.prefixes.TextFault.TheVariants.{Text, Length, Bits}
 use Rattle.rt_cidr.specs.Cidr.{size_of, IsPrefix}
-use Rattle.std.specs.Io.KnownBytes.{Appends}
-use Rattle.rt_cidr.specs.Output.{AppendsBeginning, WritesText, buffered}
+use Rattle.rt_cidr.specs.Output.{AppendsBeginning, buffered}
 use Rattle.rt_cidr.specs.Prefix.{covers, contains, same_prefix}
 use Rattle.rt_cidr.specs.Text.{dot, slash, zero_digit, IsDecimal, IsOctetText, IsAddressText, IsPrefixText, address_text, prefix_text}
 use Rattle.rt_cidr.specs.Reading.{ReadsPrefix, ReadsDecimal, ReadsAddress, AnswersPair}
 use Rattle.rt_cidr.proofs.Fronts.{four_octets}
 use Rattle.rt_cidr.proofs.Texts.{decimal_is_decimal, address_one_number, prefix_text_is_pair, pair_one_value}
-use Rattle.std.specs.Prelude.{◌↔◌, ◌≤◌, IsTrue, Option, None, Result}
-use Rattle.rt_cidr.specs.declared.prefixes.TextFault.{TextFault}
-use Rattle.rt_cidr.specs.declared.short_text.TheConstants.{SHORT_TEXT_BYTES}
-use Rattle.rt_cidr.specs.ShortText.{FitsInShortText}
-use Rattle.rt_cidr.specs.Laws.{HasOneNumber, HasOneText, HasOnePair, PairHasOneText, AddressFits, HasOneAnswer}
-use Rattle.rt_cidr.specs.Laws.{PairHasOneAnswer, WritesDecimal, WritesAddress, WritesPrefix, ReadsDecimalAgain}
-use Rattle.rt_cidr.specs.Laws.{ReadsAddressAgain, ReadsPrefixAgain, SamePrefix, CoversItsRange, ContainsByRange}
-use Rattle.rt_cidr.specs.Laws.{ContainsWhatItCovers, CoveringAreNested, CoveringAreSame}
-use Rattle.std.specs.Prelude.{◌^◌, if◌then◌else◌, nat_le}
+use Rattle.std.specs.Prelude.{None}
 
 -- 0.0.0.0/0, 10.0.0.0/8, 255.255.255.255/32
 abbrev pub everything : Prefix
@@ -78,11 +68,6 @@ no_length_of_33 h = omega (arith, h.short)
 
 no_base_of_33_bits : ¬ IsPrefix 4294967296 0
 no_base_of_33_bits h = omega (arith, h.fits)
-
-any_base_and_length_that_are_one :
-    (base len : ℕ) → IsPrefix base len ↔ ((len ≤ 32) × (base < 2 ^ 32) × (base % size_of len ≡ 0))
-any_base_and_length_that_are_one base len =
-    (λ h. (h.short, h.fits, h.clear), λ (short, fits, clear). record { short = short; fits = fits; clear = clear })
 
 -- covers
 the_first_and_the_last_of_its_addresses : map (λ n. covers ten_8 (at n)) (167772160 ∷ 184549375 ∷ []) ≡ true ∷ true ∷ []
@@ -154,19 +139,12 @@ no_digit_at_all n h = omega (arith, h.digits.0)
 no_sign : (n : ℕ) → ¬ IsDecimal (codes "+1") n
 no_sign n h = omega (arith, h.digits.1.0)
 
-the_digits_the_value_and_no_leading_zero :
-    (text : List ℕ) → IsDecimal text 7 → IsNumeral 10 text × (digits_value 10 text ≡ 7) × (slice_index text 0 ≡ 48 → length text ≡ 1)
-the_digits_the_value_and_no_leading_zero text h = (h.digits, h.value, h.no_leading_zero)
-
 -- IsOctetText
 the_greatest_octet : IsOctetText (codes "255") 255
 the_greatest_octet = record { spelled = decimal_255; fits = omega arith }
 
 no_octet_of_256 : (n : ℕ) → ¬ IsOctetText (codes "256") n
 no_octet_of_256 n h = let value = h.spelled.value in omega (arith, h.fits)
-
-a_decimal_below_256 : (text : List ℕ) (octet : ℕ) → IsOctetText text octet → IsDecimal text octet × (octet < 256)
-a_decimal_below_256 text octet h = (h.spelled, h.fits)
 
 -- addresses are of these octets
 octet_0 : IsOctetText (codes "0") 0
@@ -185,19 +163,7 @@ the_last_address = four_octets the_greatest_octet the_greatest_octet the_greates
 the_first_octet_is_the_most_significant : ¬ IsAddressText (codes "10.0.0.0") 10
 the_first_octet_is_the_most_significant h = let same = address_one_number (codes "10.0.0.0") 167772160 10 address_10_0_0_0 h in cc
 
-its_octets :
-    (text : List ℕ) (address : ℕ) (h : IsAddressText text address)
-    → IsOctetText h.first_text h.first × IsOctetText h.second_text h.second × IsOctetText h.third_text h.third × IsOctetText h.fourth_text h.fourth
-    × (text ≡ h.first_text ++ 46 ∷ (h.second_text ++ 46 ∷ (h.third_text ++ 46 ∷ h.fourth_text)))
-    × (address ≡ h.first * 16777216 + h.second * 65536 + h.third * 256 + h.fourth)
-its_octets text address h = (h.is_first, h.is_second, h.is_third, h.is_fourth, h.joined, h.value)
-
 -- IsPrefixText
-an_address_a_slash_and_a_length :
-    (text : List ℕ) (address len : ℕ) (h : IsPrefixText text address len)
-    → IsAddressText h.address_part address × IsDecimal h.len_part len × (text ≡ h.address_part ++ 47 ∷ h.len_part)
-an_address_a_slash_and_a_length text address len h = (h.is_address, h.is_len, h.joined)
-
 pair_10_0_0_0_8 : IsPrefixText (codes "10.0.0.0/8") 167772160 8
 pair_10_0_0_0_8 = record { address_part = codes "10.0.0.0"; len_part = codes "8"; is_address = address_10_0_0_0; is_len = decimal_8; joined = refl }
 
@@ -209,30 +175,15 @@ pub pair_10_0_0_1_33 : IsPrefixText (codes "10.0.0.1/33") 167772161 33
 unfolding digits address_text prefix_text
 pair_10_0_0_1_33 = prefix_text_is_pair 167772161 33 (omega arith) (omega arith)
 
-its_address_and_its_length :
-    (text : List ℕ) (h : IsPrefixText text 7 8) → IsAddressText h.address_part 7 × IsDecimal h.len_part 8 × (text ≡ h.address_part ++ 47 ∷ h.len_part)
-its_address_and_its_length text h = (h.is_address, h.is_len, h.joined)
-
 -- address_text
 two_addresses_as_they_are_written : map address_text (3221225985 ∷ 4294967295 ∷ []) ≡ codes "192.0.2.1" ∷ codes "255.255.255.255" ∷ []
 unfolding digits address_text
 two_addresses_as_they_are_written = refl
 
-its_four_octets :
-    (address : ℕ)
-    → address_text address
-    ≡ decimal (address / 16777216 % 256) ++ 46 ∷ (decimal (address / 65536 % 256) ++ 46 ∷ (decimal (address / 256 % 256) ++ 46 ∷ decimal (address % 256)))
-unfolding address_text
-its_four_octets address = refl
-
 -- prefix_text
 a_prefix_as_it_is_written : prefix_text 167772160 8 ≡ codes "10.0.0.0/8"
 unfolding digits address_text prefix_text
 a_prefix_as_it_is_written = refl
-
-the_address_a_slash_and_the_length : (base len : ℕ) → prefix_text base len ≡ address_text base ++ 47 ∷ decimal len
-unfolding prefix_text
-the_address_a_slash_and_the_length base len = refl
 
 -- whether a byte stands in a text
 abbrev pub has_byte : ℕ → List ℕ → Bool
@@ -272,14 +223,6 @@ never_all_of_them h =
     let zero : h.count ≡ 0 = omega (arith, h.within) in
     let same = subst (λ n. codes "b" ≡ [] ++ take n (codes "b")) zero h.appended in cc
 
--- WritesText
-all_of_it_or_after_a_fault_a_beginning :
-    {T E : Type 0} (old new : Option (List ℕ)) (text : List ℕ) (done : T) (fault : E)
-    → (WritesText {T = T} {E = E} old new text (Ok done) ↔ Appends old new text)
-    × (WritesText {T = T} {E = E} old new text (Err fault) ↔ AppendsBeginning old new text)
-all_of_it_or_after_a_fault_a_beginning old new text done fault =
-    ((λ h. h.ok, λ all. record { ok = all; err = tt }), (λ h. h.err, λ some. record { ok = tt; err = some }))
-
 -- ReadsPrefix
 reads_10_0_0_0_8 : ReadsPrefix (codes "10.0.0.0/8") (Ok ten_8)
 reads_10_0_0_0_8 = pair_10_0_0_0_8
@@ -297,30 +240,14 @@ not_bits_before_length (address, len, is, short, none) =
 pub bit_past_the_length : ReadsPrefix (codes "10.0.0.1/8") (Err Bits)
 bit_past_the_length = (167772161, 8, pair_10_0_0_1_8, omega arith, a_bit_past_the_length_is_set)
 
-the_prefix_of_a_text : (text : List ℕ) (p : Prefix) → ReadsPrefix text (Ok p) ↔ IsPrefixText text p.base p.len
-the_prefix_of_a_text text p = (λ h. h, λ h. h)
-
 no_pair_has_it : (text : List ℕ) → ReadsPrefix text (Err Text) → (address len : ℕ) → ¬ IsPrefixText text address len
 no_pair_has_it text h = h
 
-its_length_is_above_32 : (text : List ℕ) → ReadsPrefix text (Err Length) → (address len : ℕ) × IsPrefixText text address len × (32 < len)
-its_length_is_above_32 text h = h
-
-its_length_is_not_but_a_bit_is_past_it :
-    (text : List ℕ) → ReadsPrefix text (Err Bits) → (address len : ℕ) × IsPrefixText text address len × (len ≤ 32) × ¬ IsPrefix address len
-its_length_is_not_but_a_bit_is_past_it text h = h
-
 -- ReadsDecimal
-the_number_of_a_text : (text : List ℕ) (n : ℕ) → ReadsDecimal text (Some n) ↔ (IsDecimal text n × (n < 4294967296))
-the_number_of_a_text text n = (λ h. h, λ h. h)
-
 none_of_its_numbers : (text : List ℕ) → ReadsDecimal text None → (n : ℕ) → n < 4294967296 → ¬ IsDecimal text n
 none_of_its_numbers text h = h
 
 -- ReadsAddress
-the_address_of_a_text : (text : List ℕ) (a : Addr) → ReadsAddress text (Ok a) ↔ IsAddressText text a.0
-the_address_of_a_text text a = (λ h. h, λ h. h)
-
 no_address_has_it : (text : List ℕ) → ReadsAddress text (Err Text) → (address : ℕ) → ¬ IsAddressText text address
 no_address_has_it text h = h
 
@@ -328,17 +255,8 @@ no_other_fault_of_an_address : (text : List ℕ) → (¬ ReadsAddress text (Err 
 no_other_fault_of_an_address text = (λ h. h, λ h. h)
 
 -- AnswersPair
-the_prefix_of_a_pair : (base len : ℕ) (p : Prefix) → AnswersPair base len (Ok p) ↔ ((p.base ≡ base) × (p.len ≡ len))
-the_prefix_of_a_pair base len p = (λ h. h, λ h. h)
-
 a_pair_is_no_text : (base len : ℕ) → ¬ AnswersPair base len (Err Text)
 a_pair_is_no_text base len h = h
-
-a_length_above_32 : (base len : ℕ) → AnswersPair base len (Err Length) → 32 < len
-a_length_above_32 base len h = h
-
-a_bit_past_the_length : (base len : ℕ) → AnswersPair base len (Err Bits) → (len ≤ 32) × (¬ IsPrefix base len)
-a_bit_past_the_length base len h = h
 
 -- buffered
 what_is_below_and_then_what_is_held : buffered 9 (Some (1 ∷ [])) (Some (1 ∷ 2 ∷ [])) (3 ∷ []) ≡ Some (9 ∷ 1 ∷ 1 ∷ 2 ∷ 3 ∷ [])
@@ -352,94 +270,3 @@ not_where_less_is_below_than_at_first = refl
 
 nor_where_the_writer_tells_nothing : (buffered 9 (Some []) None [] ≡ None) × (buffered 9 None (Some []) [] ≡ None) × (buffered 9 None None [] ≡ None)
 nor_where_the_writer_tells_nothing = (refl, refl, refl)
-
-whatever_is_below_and_is_held :
-    (name : ℕ) (began below held : List ℕ) → buffered name (Some began) (Some below) held
-    ≡ (if nat_le (length began) (length below) then Some (name ∷ length began ∷ (below ++ held)) else None)
-whatever_is_below_and_is_held name began below held = refl
-
--- FitsInShortText
-as_many_bytes_as_the_room_has : (text old : List ℕ) → FitsInShortText text old → length text + length old ≤ SHORT_TEXT_BYTES
-as_many_bytes_as_the_room_has text old h = h
-
--- HasOneNumber
-a_text_has_one_number : (IsText : List ℕ → ℕ → Type 0) → HasOneNumber IsText → (text : List ℕ) (m n : ℕ) → IsText text m → IsText text n → m ≡ n
-a_text_has_one_number IsText law = law
-
--- HasOneText
-a_number_has_one_text : (IsText : List ℕ → ℕ → Type 0) → HasOneText IsText → (text other : List ℕ) (n : ℕ) → IsText text n → IsText other n → text ≡ other
-a_number_has_one_text IsText law = law
-
--- HasOnePair
-a_text_has_one_pair :
-    HasOnePair → (text : List ℕ) (address other m n : ℕ) → IsPrefixText text address m → IsPrefixText text other n → (address ≡ other) × (m ≡ n)
-a_text_has_one_pair law = law
-
--- PairHasOneText
-a_pair_has_one_text : PairHasOneText → (text other : List ℕ) (address len : ℕ) → IsPrefixText text address len → IsPrefixText other address len → text ≡ other
-a_pair_has_one_text law = law
-
--- AddressFits
-of_32_bits : AddressFits → (text : List ℕ) (address : ℕ) → IsAddressText text address → address < 4294967296
-of_32_bits law = law
-
--- HasOneAnswer
-a_text_is_read_in_one_way :
-    {A : Type 0} → (Reads : List ℕ → A → Type 0) → HasOneAnswer Reads → (text : List ℕ) (one two : A) → Reads text one → Reads text two → one ≡ two
-a_text_is_read_in_one_way Reads law = law
-
--- PairHasOneAnswer
-a_pair_has_one_answer : PairHasOneAnswer → (base len : ℕ) (one two : Result Prefix TextFault) → AnswersPair base len one → AnswersPair base len two → one ≡ two
-a_pair_has_one_answer law = law
-
--- WritesDecimal
-every_number_of_64_bits : WritesDecimal → (n : ℕ) → n < 18446744073709551616 → IsDecimal (decimal n) n
-every_number_of_64_bits law = law
-
--- WritesAddress
-every_number_of_32_bits : WritesAddress → (address : ℕ) → address < 4294967296 → IsAddressText (address_text address) address
-every_number_of_32_bits law = law
-
--- WritesPrefix
-each_prefix_is_written : WritesPrefix → (p : Prefix) → IsPrefixText (prefix_text p.base p.len) p.base p.len
-each_prefix_is_written law = law
-
--- ReadsDecimalAgain
-a_number_of_32_bits_is_read : ReadsDecimalAgain → (n : ℕ) (answer : Option ℕ) → n < 4294967296 → ReadsDecimal (decimal n) answer → answer ≡ Some n
-a_number_of_32_bits_is_read law = law
-
--- ReadsAddressAgain
-an_address_is_read :
-    ReadsAddressAgain → (a : Addr) (answer : Result Addr TextFault) → a.0 < 4294967296 → ReadsAddress (address_text a.0) answer → answer ≡ Ok a
-an_address_is_read law = law
-
--- ReadsPrefixAgain
-each_prefix_is_read : ReadsPrefixAgain → (p : Prefix) (answer : Result Prefix TextFault) → ReadsPrefix (prefix_text p.base p.len) answer → answer ≡ Ok p
-each_prefix_is_read law = law
-
--- SamePrefix
-base_and_length_are_all_of_a_prefix : SamePrefix → (p q : Prefix) → p.base ≡ q.base → p.len ≡ q.len → p ≡ q
-base_and_length_are_all_of_a_prefix law = law
-
--- CoversItsRange
-what_a_prefix_covers_is_its_range : CoversItsRange → (p : Prefix) (a : Addr) → IsTrue (covers p a) ↔ ((p.base ≤ a.0) × (a.0 < p.base + size_of p.len))
-what_a_prefix_covers_is_its_range law = law
-
--- ContainsByRange
-what_lies_in_a_prefix : ContainsByRange → (p q : Prefix) → IsTrue (contains p q) ↔ ((p.len ≤ q.len) × (p.base ≤ q.base) × (q.base < p.base + size_of p.len))
-what_lies_in_a_prefix law = law
-
--- ContainsWhatItCovers
-whose_addresses_a_prefix_covers :
-    ContainsWhatItCovers → (p q : Prefix) → IsTrue (contains p q) ↔ ((a : Addr) → a.0 < 2 ^ 32 → IsTrue (covers q a) → IsTrue (covers p a))
-whose_addresses_a_prefix_covers law = law
-
--- CoveringAreNested
-of_two_that_cover_an_address_the_shorter_contains_the_other :
-    CoveringAreNested → (p q : Prefix) (a : Addr) → IsTrue (covers p a) → IsTrue (covers q a) → p.len ≤ q.len → IsTrue (contains p q)
-of_two_that_cover_an_address_the_shorter_contains_the_other law = law
-
--- CoveringAreSame
-two_of_one_length_that_cover_an_address_are_one :
-    CoveringAreSame → (p q : Prefix) (a : Addr) → IsTrue (covers p a) → IsTrue (covers q a) → p.len ≡ q.len → p ≡ q
-two_of_one_length_that_cover_an_address_are_one law = law

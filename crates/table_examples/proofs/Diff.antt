@@ -1,26 +1,20 @@
 -- Examples by which the definitions of rt_diff are tested, each under a line with the definition's name. Both sides are
 -- computed, and what a relation or a law says is spelled out for some values.
-use Rattle.std.proofs.Common.{◌≡◌, ℕ, ◌+◌, ◌<◌, ◌≤◌, Some, None, List, [], ◌∷◌, refl, ap, arith}
-use Rattle.std.specs.Prelude.{◌≢◌, ◌↔◌, ◌^◌, All, Any}
-use Rattle.std.specs.List.{AllPairs}
-use Rattle.std.specs.Option.{option_map}
+use Rattle.std.proofs.Common.{◌≡◌, ℕ, ◌+◌, ◌<◌, Some, None, [], ◌∷◌, refl, ap, arith}
 use Rattle.std.proofs.lemmas.List.Elements.{All-nil}
-use Rattle.rt_cidr.specs.declared.address.Addr.{Addr}
 use Rattle.rt_rib.specs.declared.routes.Hop.{Hop}
 use Rattle.rt_rib.specs.declared.routes.Hop.TheVariants.{Discard}
 use Rattle.rt_rib.specs.declared.routes.Route.{Route}
 use Rattle.rt_rib.specs.LookUp.{look_up}
 use Rattle.table_examples.proofs.Cidr.{ten_8}
 use Rattle.table_examples.proofs.Rib.{ten_1_16, at_10_1_2_3, at_10_9_0_1, via_192_0_2, route_via}
-use Rattle.rt_diff.specs.declared.table_answers.By.{By}
 use Rattle.rt_diff.specs.declared.table_answers.By.TheVariants as by
 use Rattle.rt_diff.specs.declared.table_answers.TableAnswer.{TableAnswer}
 use Rattle.rt_diff.specs.declared.table_answers.TableAnswer.TheVariants as answer
 use Rattle.rt_diff.specs.declared.comparison.Difference.{Difference}
-use Rattle.rt_diff.specs.Answers.{answer_by, ToldTable, by_own, told_number, told_route, told_look_up, answer_of}
-use Rattle.rt_diff.specs.Differences.{HasAnswers, IsAlike, IsWithin, IsDifference, IsNextDifference, IsFirstDifference, Compared}
+use Rattle.rt_diff.specs.Answers.{answer_by, ToldTable, by_own, told_number, told_look_up, answer_of}
+use Rattle.rt_diff.specs.Differences.{HasAnswers, IsAlike, IsWithin, IsDifference, IsNextDifference, Compared}
 use Rattle.rt_diff.specs.Differences.{HaveSameAnswers, AreDifferences}
-use Rattle.rt_diff.specs.Laws.{HaveDifferences, HaveOneList}
 use Rattle.rt_diff.proofs.Rest.{at}
 use Rattle.rt_diff.proofs.Lists.{AllPairs-none}
 
@@ -41,9 +35,6 @@ what_is_found_makes_an_answer :
     × (answer_by by.Hop (Some by_1) ≡ answer.Hop (via_192_0_2 1)) × (answer_by by.Route (Some by_1) ≡ answer.Route by_1)
 what_is_found_makes_an_answer = (refl, refl, refl, refl)
 
-whatever_is_found : (route : Route) → (answer_by by.Hop (Some route) ≡ answer.Hop route.hop) × (answer_by by.Route (Some route) ≡ answer.Route route)
-whatever_is_found route = (refl, refl)
-
 -- the table of one route of feed 1, which is told by number 7
 abbrev one_as_seven : ToldTable
 one_as_seven = record { routes = by_1 ∷ []; numbers = 7 ∷ [] }
@@ -52,21 +43,9 @@ one_as_seven = record { routes = by_1 ∷ []; numbers = 7 ∷ [] }
 routes_and_numbers : (one_as_seven.routes ≡ by_1 ∷ []) × (one_as_seven.numbers ≡ 7 ∷ [])
 routes_and_numbers = (refl, refl)
 
--- by_own
-no_number_but_its_own : (routes : List Route) → ((by_own routes).routes ≡ routes) × ((by_own routes).numbers ≡ [])
-no_number_but_its_own routes = (refl, refl)
-
 -- told_number
 the_kth_or_its_own : (told_number (7 ∷ 8 ∷ []) 1 ≡ 7) × (told_number (7 ∷ 8 ∷ []) 2 ≡ 8) × (told_number (7 ∷ 8 ∷ []) 3 ≡ 3) × (told_number [] 1 ≡ 1)
 the_kth_or_its_own = (refl, refl, refl, refl)
-
--- told_route
-its_feed_alone_is_told_so : (numbers : List ℕ) (r : Route)
-    → told_route numbers r ≡ record { prefix = r.prefix; feed = told_number numbers r.feed; pref = r.pref; hop = r.hop }
-its_feed_alone_is_told_so numbers r = refl
-
-as_it_is_by_its_own_number : (r : Route) → told_route [] r ≡ r
-as_it_is_by_its_own_number r = refl
 
 -- told_look_up
 what_is_found_is_told_so : told_look_up at_10_1_2_3 one_as_seven ≡ Some (route_via ten_8 7 5 (via_192_0_2 1))
@@ -79,10 +58,6 @@ the_best_is_so_by_the_own_numbers :
 unfolding look_up
 the_best_is_so_by_the_own_numbers = refl
 
-whatever_is_found_is_told_so : (addr : Addr) (table : ToldTable)
-    → told_look_up addr table ≡ option_map (told_route table.numbers) (look_up addr table.routes)
-whatever_is_found_is_told_so addr table = refl
-
 -- answer_of
 the_longer_prefix_answers : answer_of by.Hop at_10_1_2_3 (by_own (by_1 ∷ longer_by (via_192_0_2 2) ∷ [])) ≡ answer.Hop (via_192_0_2 2)
 unfolding look_up
@@ -91,9 +66,6 @@ the_longer_prefix_answers = refl
 beside_it_the_shorter_one : answer_of by.Route at_10_9_0_1 (by_own (by_1 ∷ longer_by (via_192_0_2 2) ∷ [])) ≡ answer.Route by_1
 unfolding look_up
 beside_it_the_shorter_one = refl
-
-any_answer : (by : By) (addr : Addr) (table : ToldTable) → answer_of by addr table ≡ answer_by by (told_look_up addr table)
-any_answer by addr table = refl
 
 -- IsAlike
 another_route_of_one_hop : IsAlike by.Hop (by_own (by_1 ∷ [])) (by_own (by_1 ∷ longer_by (via_192_0_2 1) ∷ [])) at_10_1_2_3
@@ -119,9 +91,6 @@ is_another_feed : ¬ IsAlike by.Route (by_own (by_1 ∷ [])) one_as_seven at_10_
 unfolding look_up
 is_another_feed same = let feeds : 1 ≡ 7 = ap feed_told same in omega (arith, feeds)
 
-where_both_answer_alike : (by : By) (old new : ToldTable) (addr : Addr) → IsAlike by old new addr ↔ (answer_of by addr old ≡ answer_of by addr new)
-where_both_answer_alike by old new addr = (λ h. h, λ h. h)
-
 -- HasAnswers
 first_the_old_ones_then_the_new_ones : HasAnswers by.Hop (by_own (by_1 ∷ [])) (by_own []) at_10_1_2_3 (answer.Hop (via_192_0_2 1)) answer.NoRoute
 unfolding look_up
@@ -130,11 +99,6 @@ first_the_old_ones_then_the_new_ones = (refl, refl)
 not_exchanged : ¬ HasAnswers by.Hop (by_own (by_1 ∷ [])) (by_own []) at_10_1_2_3 answer.NoRoute (answer.Hop (via_192_0_2 1))
 unfolding look_up
 not_exchanged answers = let of_old = answers.0 in cc
-
-what_each_table_answers :
-    (by : By) (old new : ToldTable) (addr : Addr) (of_old of_new : TableAnswer)
-    → HasAnswers by old new addr of_old of_new ↔ ((answer_of by addr old ≡ of_old) × (answer_of by addr new ≡ of_new))
-what_each_table_answers by old new addr of_old of_new = (λ h. h, λ h. h)
 
 -- IsWithin
 its_first_and_its_last : IsWithin (range 10 20) (at 10) × IsWithin (range 10 20) (at 20)
@@ -152,62 +116,13 @@ not_where_one_is_another :
     × (¬ HaveSameAnswers (range 10 20) (record (range 21 30) { new = answer.Hop Discard }))
 not_where_one_is_another = (λ h. let old = h.0 in cc, λ h. let new = h.1 in cc)
 
-any_two_with_both_answers_the_same : (c d : Difference) → HaveSameAnswers c d ↔ ((c.old ≡ d.old) × (c.new ≡ d.new))
-any_two_with_both_answers_the_same c d = (λ h. h, λ h. h)
-
 -- IsDifference
-what_a_range_is :
-    (old new : ToldTable) → IsDifference by.Hop old new (range 10 20)
-    → (10 ≤ 20) × (20 < 4294967296)
-    × ((addr : Addr) → (10 ≤ addr.0) × (addr.0 ≤ 20)
-    → (answer_of by.Hop addr old ≡ answer.Hop Discard) × (answer_of by.Hop addr new ≡ answer.NoRoute))
-    × (answer.Hop Discard ≢ answer.NoRoute)
-what_a_range_is old new h = (h.some, h.fits, h.each, h.differ)
-
 no_range_without_an_address : (old new : ToldTable) → ¬ IsDifference by.Hop old new (range 20 10)
 no_range_without_an_address old new h = omega (arith, h.some)
 
-what_any_range_is :
-    (by : By) (old new : ToldTable) (d : Difference) → IsDifference by old new d
-    ↔ ((d.first.0 ≤ d.last.0) × (d.last.0 < 2 ^ 32) × ((addr : Addr) → IsWithin d addr → HasAnswers by old new addr d.old d.new) × (d.old ≢ d.new))
-what_any_range_is by old new d = (
-  λ h. (h.some, h.fits, h.each, h.differ),
-  λ (some, fits, each, differ). record { some = some; fits = fits; each = each; differ = differ },
-)
-
 -- IsNextDifference
-what_the_first_range_from_5_on_is :
-    (old new : ToldTable) → IsNextDifference by.Hop old new (at 5) (range 10 20)
-    → (5 ≤ 10) × ((addr : Addr) → 5 ≤ addr.0 → addr.0 < 10 → IsAlike by.Hop old new addr) × IsDifference by.Hop old new (range 10 20)
-    × ((addr : Addr) → addr.0 ≡ 21 → addr.0 < 4294967296 → ¬ HasAnswers by.Hop old new addr (answer.Hop Discard) answer.NoRoute)
-what_the_first_range_from_5_on_is old new h = (h.onward, h.before, h.difference, h.longest)
-
 not_one_before_5 : (old new : ToldTable) → ¬ IsNextDifference by.Hop old new (at 5) (range 4 20)
 not_one_before_5 old new h = omega (arith, h.onward)
-
-what_the_first_range_from_an_address_on_is :
-    (by : By) (old new : ToldTable) (from : Addr) (d : Difference) → IsNextDifference by old new from d
-    ↔ ((from.0 ≤ d.first.0) × ((addr : Addr) → from.0 ≤ addr.0 → addr.0 < d.first.0 → IsAlike by old new addr) × IsDifference by old new d
-    × ((addr : Addr) → addr.0 ≡ d.last.0 + 1 → addr.0 < 2 ^ 32 → ¬ HasAnswers by old new addr d.old d.new))
-what_the_first_range_from_an_address_on_is by old new from d = (
-  λ h. (h.onward, h.before, h.difference, h.longest),
-  λ (onward, before, difference, longest). record { onward = onward; before = before; difference = difference; longest = longest },
-)
-
--- IsFirstDifference
-none_where_all_are_alike :
-    (old new : ToldTable) → ((addr : Addr) → 5 ≤ addr.0 → addr.0 < 4294967296 → IsAlike by.Hop old new addr) → IsFirstDifference by.Hop old new (at 5) None
-none_where_all_are_alike old new h = h
-
-that_range_where_it_is_the_first :
-    (old new : ToldTable) → IsNextDifference by.Hop old new (at 5) (range 10 20) → IsFirstDifference by.Hop old new (at 5) (Some (range 10 20))
-that_range_where_it_is_the_first old new h = h
-
-the_first_one_or_none_from_an_address_on :
-    (by : By) (old new : ToldTable) (from : Addr) (d : Difference)
-    → (IsFirstDifference by old new from None ↔ ((addr : Addr) → from.0 ≤ addr.0 → addr.0 < 2 ^ 32 → IsAlike by old new addr))
-    × (IsFirstDifference by old new from (Some d) ↔ IsNextDifference by old new from d)
-the_first_one_or_none_from_an_address_on by old new from d = ((λ h. h, λ h. h), (λ h. h, λ h. h))
 
 -- a route and an empty table, compared by next hops
 abbrev one_and_none : Compared
@@ -225,30 +140,3 @@ a_table_and_itself_have_none table = record {
   rising = AllPairs-none (λ (c d : Difference). c.last.0 < d.first.0);
   fewest = AllPairs-none (λ (c d : Difference). c.last.0 + 1 ≡ d.first.0 → ¬ HaveSameAnswers c d);
 }
-
-what_a_list_of_ranges_says :
-    (old new : ToldTable) (list : List Difference) → AreDifferences by.Hop old new list
-    → All (IsDifference by.Hop old new) list
-    × ((addr : Addr) → addr.0 < 4294967296 → ¬ IsAlike by.Hop old new addr → Any (λ (d : Difference). (d.first.0 ≤ addr.0) × (addr.0 ≤ d.last.0)) list)
-    × AllPairs (λ (c d : Difference). c.last.0 < d.first.0) list
-    × AllPairs (λ (c d : Difference). c.last.0 + 1 ≡ d.first.0 → ¬ HaveSameAnswers c d) list
-what_a_list_of_ranges_says old new list h = (h.each, h.all, h.rising, h.fewest)
-
-what_any_list_of_ranges_is :
-    (by : By) (old new : ToldTable) (list : List Difference) → AreDifferences by old new list
-    ↔ (All (IsDifference by old new) list × ((addr : Addr) → addr.0 < 2 ^ 32 → ¬ IsAlike by old new addr → Any (λ d. IsWithin d addr) list)
-    × AllPairs (λ c d. c.last.0 < d.first.0) list × AllPairs (λ c d. c.last.0 + 1 ≡ d.first.0 → ¬ HaveSameAnswers c d) list)
-what_any_list_of_ranges_is by old new list = (
-  λ h. (h.each, h.all, h.rising, h.fewest),
-  λ (each, all, rising, fewest). record { each = each; all = all; rising = rising; fewest = fewest },
-)
-
--- HaveDifferences
-what_two_tables_have : HaveDifferences → (by : By) (old new : ToldTable) → (list : List Difference) × AreDifferences by old new list
-what_two_tables_have law = law
-
--- HaveOneList
-and_once :
-    HaveOneList → (by : By) (old new : ToldTable) (one other : List Difference) → AreDifferences by old new one → AreDifferences by old new other
-    → one ≡ other
-and_once law = law

@@ -14,31 +14,26 @@ use Rattle.rt_rib.specs.declared.commands.Cmd.TheVariants.{Add, Replace, Withdra
 use Rattle.rt_rib.specs.declared.commands.Reply.{Reply}
 use Rattle.rt_rib.specs.declared.commands.Reply.TheVariants.{Added, Exists, Full, Replaced, Withdrawn, Missing, Found, NoRoute, Dumped, Purged}
 use Rattle.rt_rib.specs.declared.commands.Entry.{Entry}
-use Rattle.rt_trie.specs.Map.{get, same_prefix, IsOrdered}
-use Rattle.rt_trie.specs.Lawful.{IsLawful}
+use Rattle.rt_trie.specs.Map.{get, same_prefix}
 use Rattle.rt_trie.specs.Tree.{Tree, Vacant, Node}
 use Rattle.rt_rib.specs.declared.offers.Offer.{Offer}
 use Rattle.rt_rib.specs.Maps.{outranks, is_from, IsRanked, IsOffers, Map, route_by, routes_of, IsMap}
 use Rattle.rt_rib.specs.Table.{below_then, is_of, has, count_of, is_better, precedes, put_in, take_out, purge, IsTable}
 use Rattle.rt_rib.specs.Places.{from_place}
 use Rattle.rt_rib.specs.LookUp.{matching, longest_of, best, look_up, beats, ranking, look_up_all, best_routes}
-use Rattle.rt_rib.specs.declared.selection.Selection.{Selection}
 use Rattle.rt_rib.specs.declared.selection.Part.TheVariants as part
 use Rattle.rt_rib.specs.Selection.{is_in, is_by, selected}
 use Rattle.rt_rib.specs.Sequential.{reply_of, table_after, table_of_journal, IsAnswered, IsLawfulJournal}
-use Rattle.rt_rib.specs.Book.{IsLimit, TableState, TableContents, table_state, Serves, BookContents, OfferTrie, table_of, HoldsRoutes, HoldsTable, IsFeed, Applies, Refuses, Reserves}
-use Rattle.rt_rib.specs.Laws.{IsBestMatch, is_own, feed_entries, PutInAdds, TakeOutLeavesOthers, OneTableOfSet, LookUpFindsBest, AreAllMatches}
-use Rattle.rt_rib.specs.Laws.{LookUpAllFindsMatches, BestRoutesSuffice, TableByEntry, LawfulByEntry, LawfulIsDetermined, asked, feed_routes, FeedsStandAlone}
+use Rattle.rt_rib.specs.Book.{IsLimit, TableState, TableContents, table_state, BookContents, OfferTrie, table_of, HoldsRoutes, HoldsTable, IsFeed}
+use Rattle.rt_rib.specs.Laws.{IsBestMatch, is_own, feed_entries, AreAllMatches}
+use Rattle.rt_rib.specs.Laws.{asked, feed_routes}
 use Rattle.rt_rib.proofs.Tables.{IsTable-nil, IsTable-put_in}
 use Rattle.rt_rib.proofs.Sets.{Contains-cases, Contains-none}
 use Rattle.rt_rib.proofs.Best.{look_up_finds_best}
 use Rattle.rt_rib.proofs.Ranking.{look_up_all_finds_matches}
 use Rattle.rt_rib.proofs.OfferLists.{IsRanked-one}
 use Rattle.rt_rib.proofs.Journals.{IsTable-of_journal, IsLawfulJournal-nil, IsLawfulJournal-push}
-use Rattle.std.specs.Prelude.{◌↔◌, ◌⊎◌, ◌≤◌, ◌<◌, ◌==◌, ◌&&◌, ◌||◌, not, nat_lt, nat_le, length, map, filter, slice_get}
-use Rattle.std.specs.Option.{option_map_or}
-use Rattle.std.specs.List.{list_any, AllPairs, Contains}
-use Rattle.rt_cidr.specs.Prefix.{covers, contains}
+use Rattle.std.specs.Prelude.{map}
 
 -- prefixes of the examples, beside those of rt_cidr: 128.0.0.0/1 and 10.1.0.0/16
 abbrev upper_half : Prefix
@@ -115,18 +110,12 @@ not_another_feeds = refl
 not_to_a_longer_prefix : is_of 1 ten_8 (route ten_1_16 1 5) ≡ false
 not_to_a_longer_prefix = refl
 
-whose_route_to_which_prefix : (feed : ℕ) (prefix : Prefix) (r : Route) → is_of feed prefix r ≡ (r.feed == feed && same_prefix r.prefix prefix)
-whose_route_to_which_prefix feed prefix r = refl
-
 -- has
 has_its_own : has 64 last_32 (route ten_8 1 5 ∷ route last_32 64 5 ∷ []) ≡ true
 has_its_own = refl
 
 has_no_other_feeds : has 64 ten_8 (route ten_8 1 5 ∷ route last_32 64 5 ∷ []) ≡ false
 has_no_other_feeds = refl
-
-has_a_route_of_the_feed_to_the_prefix : (feed : ℕ) (prefix : Prefix) (table : List Route) → has feed prefix table ≡ list_any (is_of feed prefix) table
-has_a_route_of_the_feed_to_the_prefix feed prefix table = refl
 
 -- count_of
 three_are_of_feed_1 : count_of 1 (route ten_8 2 5 ∷ nested) ≡ 3
@@ -147,9 +136,6 @@ equal_is_not_below = refl
 
 above_whatever_the_rest : below_then 3 2 true ≡ false
 above_whatever_the_rest = refl
-
-any_number_below_any_other : (a b : ℕ) (rest : Bool) → below_then a b rest ≡ (nat_lt a b || (a == b && rest))
-any_number_below_any_other a b rest = refl
 
 -- is_better
 lesser_preference_is_better : is_better (route ten_8 64 4) (route ten_8 1 5) ≡ true
@@ -191,9 +177,6 @@ behind_a_route_they_are_those_from_the_next_feed_on = refl
 from_a_prefix_on_and_past_all : (from_place (route ten_0_16 0 0) in_order ≡ route ten_1_16 1 10 ∷ []) × (from_place (route last_32 0 0) in_order ≡ [])
 from_a_prefix_on_and_past_all = (refl, refl)
 
-those_that_do_not_precede_it : (r : Route) (table : List Route) → from_place r table ≡ filter (λ s. not (precedes s r)) table
-those_that_do_not_precede_it r table = refl
-
 -- put_in
 put_in_stands_in_dump_order :
     put_in (route ten_8 2 30) (route ten_8 1 50 ∷ route ten_1_16 1 10 ∷ []) ≡ route ten_8 2 30 ∷ route ten_8 1 50 ∷ route ten_1_16 1 10 ∷ []
@@ -208,10 +191,6 @@ take_out_leaves_the_other_feeds = refl
 
 take_out_leaves_the_other_prefixes : take_out 1 ten_1_16 nested ≡ route everything 1 200 ∷ route ten_8 1 100 ∷ []
 take_out_leaves_the_other_prefixes = refl
-
-take_out_leaves_what_is_not_the_feeds_to_the_prefix :
-    (feed : ℕ) (prefix : Prefix) (table : List Route) → take_out feed prefix table ≡ filter (λ r. not (is_of feed prefix r)) table
-take_out_leaves_what_is_not_the_feeds_to_the_prefix feed prefix table = refl
 
 -- purge
 purge_leaves_the_other_feeds : purge 1 (route ten_8 2 30 ∷ nested) ≡ route ten_8 2 30 ∷ []
@@ -229,11 +208,6 @@ another_order_is_no_table h = let same = h.ordered 0 1 (route ten_8 1 50) (omega
 
 two_of_one_feed_and_prefix_are_no_table : ¬ IsTable (route ten_8 1 10 ∷ route ten_8 1 50 ∷ [])
 two_of_one_feed_and_prefix_are_no_table h = let same = h.single 0 1 (route ten_8 1 50) (omega arith) (omega arith) in cc
-
-what_a_table_is :
-    (table : List Route) → IsTable table
-    ↔ (AllPairs (λ r s. precedes r s ≡ true) table × AllPairs (λ r s. is_of s.feed s.prefix r ≡ false) table)
-what_a_table_is table = (λ h. (h.ordered, h.single), λ (ordered, single). record { ordered = ordered; single = single })
 
 -- matching
 matching_leaves_the_prefixes_that_cover : matching at_10_2_3_4 nested ≡ route everything 1 200 ∷ route ten_8 1 100 ∷ []
@@ -349,18 +323,9 @@ what_each_part_has :
     × (map (is_in (part.Exact ten_8)) (everything ∷ ten_8 ∷ ten_0_16 ∷ last_32 ∷ []) ≡ false ∷ true ∷ false ∷ false ∷ [])
 what_each_part_has = (refl, refl, refl, refl)
 
-what_each_part_asks :
-    (p q : Prefix)
-    → (is_in part.All q ≡ true) × (is_in (part.Within p) q ≡ contains p q) × (is_in (part.Covering p) q ≡ contains q p)
-    × (is_in (part.Exact p) q ≡ same_prefix q p)
-what_each_part_asks p q = (refl, refl, refl, refl)
-
 -- is_by
 of_any_feed_or_of_one : map (λ feed. is_by feed (route ten_8 2 30)) (None ∷ Some 2 ∷ Some 1 ∷ []) ≡ true ∷ true ∷ false ∷ []
 of_any_feed_or_of_one = refl
-
-of_which_feed_it_is : (feed : ℕ) (r : Route) → (is_by None r ≡ true) × (is_by (Some feed) r ≡ (r.feed == feed))
-of_which_feed_it_is feed r = (refl, refl)
 
 -- selected
 abbrev three_prefixes : List Route
@@ -372,11 +337,6 @@ of_a_part_what_is_a_feeds = refl
 
 of_the_best_what_is_a_feeds : selected (record { part = part.Within ten_8; only_best = true; feed = Some 2 }) three_prefixes ≡ route ten_8 2 30 ∷ []
 of_the_best_what_is_a_feeds = refl
-
-what_is_selected :
-    (asked : Selection) (table : List Route)
-    → selected asked table ≡ filter (λ r. is_in asked.part r.prefix && is_by asked.feed r) (if asked.only_best then best_routes table else table)
-what_is_selected asked table = refl
 
 -- reply_of
 add_goes_by_the_room_that_there_is :
@@ -424,16 +384,6 @@ purge_counts_its_own : reply_of 9 (route ten_8 2 5 ∷ nested) 2 Purge ≡ Purge
 unfolding reply_of
 purge_counts_its_own = refl
 
-what_each_command_is_answered :
-    (limit feed : ℕ) (table : List Route) (p : Prefix) (pref : ℕ) (hop : Hop) (a : Addr)
-    → (reply_of limit table feed (Add p pref hop) ≡ (if has feed p table then Exists else if nat_le limit (count_of feed table) then Full else Added))
-    × (reply_of limit table feed (Replace p pref hop) ≡ (if has feed p table then Replaced else Missing))
-    × (reply_of limit table feed (Withdraw p) ≡ (if has feed p table then Withdrawn else Missing))
-    × (reply_of limit table feed (Lookup a) ≡ option_map_or Found (look_up a table) NoRoute)
-    × (reply_of limit table feed Dump ≡ Dumped (length table)) × (reply_of limit table feed Purge ≡ Purged (count_of feed table))
-unfolding reply_of
-what_each_command_is_answered limit feed table p pref hop a = (refl, refl, refl, refl, refl, refl)
-
 -- table_after
 added : table_after 2 (route ten_8 1 50 ∷ []) 2 (Add ten_8 30 Discard) ≡ route ten_8 2 30 ∷ route ten_8 1 50 ∷ []
 unfolding table_after
@@ -473,18 +423,6 @@ a_purge_leaves_the_other_feeds : table_after 9 (route ten_8 2 30 ∷ nested) 1 P
 unfolding table_after
 a_purge_leaves_the_other_feeds = refl
 
-what_each_command_leaves :
-    (limit feed : ℕ) (table : List Route) (p : Prefix) (pref : ℕ) (hop : Hop) (a : Addr)
-    → (table_after limit table feed (Add p pref hop) ≡ (if has feed p table then table else if nat_le limit (count_of feed table) then table
-    else put_in (record { prefix = p; feed = feed; pref = pref; hop = hop }) table))
-    × (table_after limit table feed (Replace p pref hop) ≡ (if has feed p table
-    then put_in (record { prefix = p; feed = feed; pref = pref; hop = hop }) (take_out feed p table) else table))
-    × (table_after limit table feed (Withdraw p) ≡ (if has feed p table then take_out feed p table else table))
-    × (table_after limit table feed (Lookup a) ≡ table) × (table_after limit table feed Dump ≡ table)
-    × (table_after limit table feed Purge ≡ purge feed table)
-unfolding table_after
-what_each_command_leaves limit feed table p pref hop a = (refl, refl, refl, refl, refl, refl)
-
 -- table_of_journal
 of_no_entry : table_of_journal 9 [] ≡ []
 unfolding table_of_journal
@@ -520,10 +458,6 @@ not_answered_added_twice :
 unfolding table_of_journal table_after reply_of
 not_answered_added_twice h = cc
 
-as_in_the_table_that_earlier_entries_leave :
-    (limit : ℕ) (earlier : List Entry) (e : Entry) → IsAnswered limit earlier e ↔ (e.reply ≡ reply_of limit (table_of_journal limit earlier) e.feed e.cmd)
-as_in_the_table_that_earlier_entries_leave limit earlier e = (λ h. h, λ h. h)
-
 -- IsLawfulJournal
 a_lawful_journal : IsLawfulJournal 1 (two_look_ups NoRoute)
 unfolding table_of_journal table_after reply_of look_up
@@ -555,11 +489,6 @@ one_entry_of_it_left_out : ¬ IsLawfulJournal 1 (entry 1 (Lookup at_10_1_2_3) (F
 unfolding table_of_journal table_after reply_of look_up
 one_entry_of_it_left_out h = let first = h.answered [] (entry 1 (Lookup at_10_1_2_3) (Found (route ten_8 1 5))) [] refl in cc
 
-each_entry_is_answered :
-    (limit : ℕ) (journal : List Entry) → IsLawfulJournal limit journal
-    ↔ ((earlier : List Entry) (e : Entry) (later : List Entry) → journal ≡ earlier ++ e ∷ later → IsAnswered limit earlier e)
-each_entry_is_answered limit journal = (λ h. h.answered, λ answered. record { answered = answered })
-
 -- IsBestMatch
 the_longest_is_the_best_match : IsBestMatch at_10_2_3_4 (route ten_8 2 30 ∷ []) (route ten_8 2 30)
 unfolding look_up
@@ -572,16 +501,6 @@ a_shorter_is_no_best_match h = omega (arith, h.longest (route ten_1_16 1 100) (2
 one_of_greater_preference_is_no_best_match :
     ¬ IsBestMatch at_10_2_3_4 (route ten_8 2 30 ∷ route ten_8 1 50 ∷ []) (route ten_8 1 50)
 one_of_greater_preference_is_no_best_match h = let better = h.best (route ten_8 2 30) (0, omega arith, refl) refl refl in cc
-
-what_a_best_match_is :
-    (addr : Addr) (table : List Route) (r : Route) → IsBestMatch addr table r
-    ↔ (Contains table r × (covers r.prefix addr ≡ true)
-    × ((s : Route) → Contains table s → covers s.prefix addr ≡ true → s.prefix.len ≤ r.prefix.len)
-    × ((s : Route) → Contains table s → covers s.prefix addr ≡ true → s.prefix.len ≡ r.prefix.len → is_better s r ≡ false))
-what_a_best_match_is addr table r = (
-  λ h. (h.contained, h.covering, h.longest, h.best),
-  λ (contained, covering, longest, best). record { contained = contained; covering = covering; longest = longest; best = best },
-)
 
 -- is_own
 an_add_is_its_own : is_own (Add ten_8 5 Discard) ≡ true
@@ -608,18 +527,12 @@ entries_of_one_feed :
     ≡ entry 2 (Lookup at_last) NoRoute ∷ []
 entries_of_one_feed = refl
 
-entries_of_any_feed : (feed : ℕ) (journal : List Entry) → feed_entries feed journal ≡ filter (λ e. e.feed == feed) journal
-entries_of_any_feed feed journal = refl
-
 -- IsLimit
 from_one_up_to_the_greatest : IsLimit 1 × IsLimit 1000000
 from_one_up_to_the_greatest = ((omega arith, omega arith), (omega arith, omega arith))
 
 neither_none_nor_one_above_the_greatest : (¬ IsLimit 0) × (¬ IsLimit 1000001)
 neither_none_nor_one_above_the_greatest = (λ h. omega (arith, h.0), λ h. omega (arith, h.1))
-
-any_count_between_them : (limit : ℕ) → IsLimit limit ↔ ((1 ≤ limit) × (limit ≤ 1000000))
-any_count_between_them limit = (λ h. h, λ h. h)
 
 -- what a feed offers, and a map of two prefixes
 abbrev offer : ℕ → ℕ → Offer
@@ -661,20 +574,12 @@ the_best_comes_first h = let same = h.ordered 0 1 (offer 1 50) (omega arith) (om
 a_feed_has_one_offer : ¬ IsRanked (offer 1 30 ∷ offer 1 50 ∷ [])
 a_feed_has_one_offer h = let same = h.single 0 1 (offer 1 30) (omega arith) (omega arith) in cc
 
-what_ranked_offers_are :
-    (offers : List Offer) → IsRanked offers
-    ↔ (AllPairs (λ a b. outranks a b ≡ true) offers × AllPairs (λ a b. is_from b.feed a ≡ false) offers)
-what_ranked_offers_are offers = (λ h. (h.ordered, h.single), λ (ordered, single). record { ordered = ordered; single = single })
-
 -- IsOffers
 two_are_offers : IsOffers (offer 2 30 ∷ offer 1 50 ∷ [])
 two_are_offers = record { some = omega arith; ranked = two_ranked }
 
 none_is_not : ¬ IsOffers []
 none_is_not h = omega (arith, h.some)
-
-two_in_order_at_least_one : (offers : List Offer) → IsOffers offers → (0 < length offers) × IsRanked offers
-two_in_order_at_least_one offers h = (h.some, h.ranked)
 
 -- whatever stands at a prefix of the map are offers, where those of its first prefix and of the rest are
 each_of : (q : Prefix) (first : List Offer) (rest : Map) → IsOffers first
@@ -701,15 +606,9 @@ no_prefix_without_offers h = none_is_not (h.each ten_8 [] refl)
 no_prefix_twice : ¬ IsMap ((ten_8, offer 2 30 ∷ []) ∷ (ten_8, offer 1 50 ∷ []) ∷ [])
 no_prefix_twice h = let same = h.ordered.0.0 in cc
 
-what_a_map_is : (m : Map) → IsMap m ↔ (IsOrdered m × ((p : Prefix) (offers : List Offer) → get m p ≡ Some offers → IsOffers offers))
-what_a_map_is m = (λ h. (h.ordered, h.each), λ (ordered, each). record { ordered = ordered; each = each })
-
 -- route_by
 the_route_of_an_offer : route_by ten_8 (offer 2 30) ≡ route ten_8 2 30
 the_route_of_an_offer = refl
-
-the_route_of_any_offer : (p : Prefix) (o : Offer) → route_by p o ≡ record { prefix = p; feed = o.feed; pref = o.pref; hop = o.hop }
-the_route_of_any_offer p o = refl
 
 -- routes_of
 routes_prefix_by_prefix : routes_of two_prefixes ≡ route ten_8 2 30 ∷ route ten_8 1 50 ∷ route ten_1_16 1 10 ∷ []
@@ -762,9 +661,6 @@ a_node_without_its_value : ¬ HoldsTable
     (book_with (record { pairs = two_prefixes; nodes = 2; tree = Node ten_8 false (Node ten_1_16 true Vacant Vacant) Vacant }))
 a_node_without_its_value h = let stored = h.lawful.stored in cc
 
-what_a_book_holds : (book : BookContents) → HoldsTable book ↔ HoldsRoutes book.trie (table_of_journal book.limit book.journal)
-what_a_book_holds book = (λ h. h, λ h. h)
-
 -- a trie of one prefix with one offer
 abbrev one_offer : OfferTrie
 one_offer = record { pairs = (ten_8, offer 1 5 ∷ []) ∷ []; nodes = 1; tree = Node ten_8 true Vacant Vacant }
@@ -793,14 +689,6 @@ not_by_a_prefix_without_offers h = none_is_not (h.map.each ten_8 [] refl)
 none_of_them_twice : (trie : OfferTrie) → ¬ HoldsRoutes trie (route ten_8 1 5 ∷ route ten_8 1 5 ∷ [])
 none_of_them_twice trie h = let same = h.once.single 0 1 (route ten_8 1 5) (omega arith) (omega arith) in cc
 
-what_a_trie_holds :
-    (trie : OfferTrie) (routes : List Route) → HoldsRoutes trie routes
-    ↔ (IsLawful trie × IsMap trie.pairs × (routes_of trie.pairs ≡ routes) × IsTable routes)
-what_a_trie_holds trie routes = (
-  λ h. (h.lawful, h.map, h.exactly, h.once),
-  λ (lawful, map, exactly, once). record { lawful = lawful; map = map; exactly = exactly; once = once },
-)
-
 -- a book without a route
 abbrev pub empty_book : List Entry → BookContents
 empty_book journal = record { limit = 1; journal = journal; trie = record { pairs = []; nodes = 0; tree = Vacant }; room = 0 }
@@ -820,34 +708,9 @@ the_first_and_the_last = ((omega arith, omega arith), (omega arith, omega arith)
 none_before_and_none_behind : (¬ IsFeed 0) × (¬ IsFeed 65)
 none_before_and_none_behind = (λ h. omega (arith, h.0), λ h. omega (arith, h.1))
 
-any_number_between_them : (feed : ℕ) → IsFeed feed ↔ ((1 ≤ feed) × (feed ≤ 64))
-any_number_between_them feed = (λ h. h, λ h. h)
-
 -- feed_routes
 those_of_feed_2 : feed_routes 2 (route everything 1 9 ∷ route ten_8 2 30 ∷ route ten_8 3 50 ∷ []) ≡ route ten_8 2 30 ∷ []
 those_of_feed_2 = refl
-
-those_of_any_feed : (feed : ℕ) (table : List Route) → feed_routes feed table ≡ filter (λ r. r.feed == feed) table
-those_of_any_feed feed table = refl
-
--- PutInAdds
-what_a_table_contains_once_a_route_was_put_in : PutInAdds → (r x : Route) (table : List Route) → Contains (put_in r table) x ↔ (Contains table x ⊎ (r ≡ x))
-what_a_table_contains_once_a_route_was_put_in law = law
-
--- TakeOutLeavesOthers
-what_a_table_contains_once_a_route_was_taken_out :
-    TakeOutLeavesOthers → (feed : ℕ) (prefix : Prefix) (x : Route) (table : List Route)
-    → Contains (take_out feed prefix table) x ↔ (Contains table x × (is_of feed prefix x ≡ false))
-what_a_table_contains_once_a_route_was_taken_out law = law
-
--- OneTableOfSet
-tables_of_one_set_are_one : OneTableOfSet → (t u : List Route) → IsTable t → IsTable u → ((x : Route) → Contains t x ↔ Contains u x) → t ≡ u
-tables_of_one_set_are_one law = law
-
--- LookUpFindsBest
-a_look_up_finds_the_best_match :
-    LookUpFindsBest → (addr : Addr) (table : List Route) → IsTable table → ((r : Route) → (look_up addr table ≡ Some r) ↔ IsBestMatch addr table r) × ((look_up addr table ≡ None) ↔ ((s : Route) → Contains table s → covers s.prefix addr ≡ false))
-a_look_up_finds_the_best_match law = law
 
 -- AreAllMatches
 what_covers_in_order_are_the_matches : AreAllMatches at_10_2_3_4 (route ten_8 2 30 ∷ []) (route ten_8 2 30 ∷ [])
@@ -869,49 +732,9 @@ matches_cover_the_address h = let covered = ((h.exactly (route ten_8 1 5)).0 (0,
 matches_begin_with_the_longest : ¬ AreAllMatches at_10_2_3_4 nested (route everything 1 200 ∷ route ten_8 1 100 ∷ [])
 matches_begin_with_the_longest h = let order = h.ordered 0 1 (route ten_8 1 100) (omega arith) (omega arith) in cc
 
-what_matches_are :
-    (addr : Addr) (table matches : List Route) → AreAllMatches addr table matches
-    ↔ (((r : Route) → Contains matches r ↔ (Contains table r × (covers r.prefix addr ≡ true))) × AllPairs (λ r s. beats r s ≡ true) matches)
-what_matches_are addr table matches = (λ h. (h.exactly, h.ordered), λ (exactly, ordered). record { exactly = exactly; ordered = ordered })
-
--- LookUpAllFindsMatches
-a_look_up_of_all_finds_the_matches :
-    LookUpAllFindsMatches → (addr : Addr) (table : List Route) → IsTable table → ((matches : List Route) → (look_up_all addr table ≡ matches) ↔ AreAllMatches addr table matches) × (slice_get (look_up_all addr table) 0 ≡ look_up addr table)
-a_look_up_of_all_finds_the_matches law = law
-
--- BestRoutesSuffice
-the_best_routes_are_apart_and_answer :
-    BestRoutesSuffice → (addr : Addr) (table : List Route) → IsTable table
-    → AllPairs (λ r s. same_prefix r.prefix s.prefix ≡ false) (best_routes table) × (look_up addr (best_routes table) ≡ look_up addr table)
-the_best_routes_are_apart_and_answer law addr table is = (law.single table is, law.answers addr table is)
-
--- TableByEntry
-by_one_entry_more :
-    TableByEntry → (limit : ℕ) (journal : List Entry) (e : Entry)
-    → IsTable (table_of_journal limit journal) × (table_of_journal limit [] ≡ [])
-    × (table_of_journal limit (journal ++ e ∷ []) ≡ table_after limit (table_of_journal limit journal) e.feed e.cmd)
-by_one_entry_more law limit journal e = (law.table limit journal, law.empty limit, law.step limit journal e)
-
--- LawfulByEntry
-lawful_with_one_entry_more :
-    LawfulByEntry → (limit : ℕ) (journal : List Entry) (e : Entry)
-    → IsLawfulJournal limit [] × (IsLawfulJournal limit (journal ++ e ∷ []) ↔ (IsLawfulJournal limit journal × IsAnswered limit journal e))
-lawful_with_one_entry_more law limit journal e = (law.empty limit, law.step limit journal e)
-
 -- asked
 who_asked_what : asked (entry 1 Dump (Dumped 0) ∷ entry 2 Purge (Purged 0) ∷ []) ≡ (1, Dump) ∷ (2, Purge) ∷ []
 who_asked_what = refl
-
--- LawfulIsDetermined
-one_lawful_journal_of_what_was_asked :
-    LawfulIsDetermined → (limit : ℕ) (j k : List Entry) → IsLawfulJournal limit j → IsLawfulJournal limit k → asked j ≡ asked k → j ≡ k
-one_lawful_journal_of_what_was_asked law = law
-
--- FeedsStandAlone
-each_feed_stands_alone :
-    FeedsStandAlone → (limit feed : ℕ) (journal : List Entry) (cmd : Cmd)
-    → (feed_routes feed (table_of_journal limit journal) ≡ table_of_journal limit (feed_entries feed journal)) × (is_own cmd ≡ true → reply_of limit (table_of_journal limit journal) feed cmd ≡ reply_of limit (table_of_journal limit (feed_entries feed journal)) feed cmd)
-each_feed_stands_alone law = law
 
 -- what contracts see of a table of one route
 abbrev table_of_one_route : TableContents
@@ -928,44 +751,6 @@ state_of_one_route = record { limit = 2; routes = route ten_8 1 5 ∷ [] }
 -- table_state
 state_of_the_table : table_state table_of_one_route ≡ state_of_one_route
 state_of_the_table = refl
-
-state_of_any_table : (t : TableContents) → table_state t ≡ record { limit = t.limit; routes = t.routes }
-state_of_any_table t = refl
-
--- Serves
-what_a_served_command_does :
-    (old new : TableState) (feed : ℕ) (cmd : Cmd) (reply : Reply) → Serves old new feed cmd reply
-    ↔ ((reply ≡ reply_of old.limit old.routes feed cmd) × (new ≡ record { limit = old.limit; routes = table_after old.limit old.routes feed cmd }))
-what_a_served_command_does old new feed cmd reply = (
-  λ h. (h.replied, h.changed),
-  λ (replied, changed). record { replied = replied; changed = changed },
-)
-
--- Applies
-what_an_answered_command_does :
-    (old new : BookContents) (feed : ℕ) (cmd : Cmd) (reply : Reply) → Applies old new feed cmd reply
-    ↔ ((reply ≡ reply_of old.limit (table_of old) feed cmd) × (new.limit ≡ old.limit)
-    × (new.journal ≡ old.journal ++ record { feed = feed; cmd = cmd; reply = reply } ∷ []) × (old.room ≤ new.room + 1))
-what_an_answered_command_does old new feed cmd reply = (
-  λ h. (h.replied, h.limited, h.journaled, h.roomy),
-  λ (replied, limited, journaled, roomy). record { replied = replied; limited = limited; journaled = journaled; roomy = roomy },
-)
-
--- Refuses
-what_a_refused_command_leaves :
-    (old new : BookContents) (feed : ℕ) (cmd : Cmd) → Refuses old new feed cmd
-    ↔ ((new.limit ≡ old.limit) × (new.journal ≡ old.journal) × (new.trie ≡ old.trie) × (old.room ≤ new.room)
-    × ((old.room ≡ 0) ⊎ (reply_of old.limit (table_of old) feed cmd ≡ Added)))
-what_a_refused_command_leaves old new feed cmd = (
-  λ h. (h.limited, h.journaled, h.kept, h.roomy, h.wanted),
-  λ (limited, journaled, kept, roomy, wanted). record { limited = limited; journaled = journaled; kept = kept; roomy = roomy; wanted = wanted },
-)
-
--- Reserves
-what_a_book_with_room_is :
-    (old new : BookContents) (entries : ℕ) → Reserves old new entries
-    → (new.limit ≡ old.limit) × (new.journal ≡ old.journal) × (new.trie ≡ old.trie) × (old.room ≤ new.room) × (entries ≤ new.room)
-what_a_book_with_room_is old new entries h = (h.limited, h.journaled, h.kept, h.roomy, h.reserved)
 
 -- BookContents
 the_parts_of_a_book :
