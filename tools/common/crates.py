@@ -1,9 +1,15 @@
 """The crates of the repository, and on what each stands, as crates.txt says."""
 import functools
+import os
 import pathlib
 
 TOP = pathlib.Path(__file__).resolve().parents[2]
 CRATES = TOP / "crates"
+
+
+def cache(name):
+    """A folder of the user's cache that is for this alone."""
+    return pathlib.Path(os.environ.get("XDG_CACHE_HOME") or pathlib.Path("~/.cache").expanduser()) / "yarib" / name
 
 
 @functools.cache

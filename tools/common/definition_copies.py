@@ -1,18 +1,15 @@
-"""Definitions of specs/, the examples that test them, and copies of both, by which one check tries many changes of definitions.
+"""Copies of definitions of specs/ and of the examples that test them, by which one check tries many changes.
 
-tools/hollow makes such changes by itself, and tools/definitions tries those that a crate lists. For each change three things
-are copied into files of a crate above the crates of examples: the changed definition, examples that name it, and what lies
-between."""
+For each change three things are copied into files of a crate above the crates of examples: the changed definition, the
+example that refuses it, and what both rest on."""
 import collections
-import os
 import pathlib
 import re
-import shutil
-import sys
 
-from .crates import CRATES, TOP, below, crate_of, needs
+from .crates import CRATES, below, crate_of, needs
 from .definition_reader import constructors, example_files, parse_module, uncommented
 from .prover import said_by, said_of
+from .workspaces import lay_out
 
 DECLARED = re.compile(r" *(?:(?:pub|abbrev|unfoldable|record|data) )*([^\s:(){}\[\],;]+)")
 WORD = re.compile(r"(?<![\w.'])[^\W\d][\w']*(?:-[\w']+)*")
@@ -23,12 +20,10 @@ ERROR = re.compile(r"^(?:note: )?\S*\bproofs/((H\d+_)\w+)\.antt: ?(\d+):\d+: (?!
 # -- files and what is declared in them
 
 class Block:
-    """A declaration of a file, or a whole `module _` with all that it declares: its lines and their numbers, its names, and the
-    name in the comment line above it, if that is one name alone."""
+    """A declaration of a file, or a whole `module _` with all that it declares: its lines and their numbers."""
 
-    def __init__(self, file, heading):
-        self.file, self.heading = file, heading
-        self.lines, self.numbers = [], []
+    def __init__(self, file):
+        self.file, self.lines, self.numbers = file, [], []
 
     def add(self, number, line):
         self.numbers.append(number)
@@ -50,20 +45,6 @@ class Block:
         return declared_name(self.lines[0])
 
 
-class Definition:
-    """A definition of a block, as it was read: its name, and from which of the block's lines to which."""
-
-    def __init__(self, block, read):
-        self.block, self.start = block, block.numbers.index(read.line)
-        self.end = self.start + len(read.lines)
-        self.lines = block.lines[self.start : self.end]
-        self.name = read.name
-        self.names = {read.name, *constructors(read)}
-
-    def said(self):
-        return f"{self.block.file.path.relative_to(TOP)}: {self.name}"
-
-
 def declared_name(line):
     found = DECLARED.match(line)
     return found[1] if found else None
@@ -75,14 +56,12 @@ class File:
     def __init__(self, path, text=None):
         self.crate, self.path = crate_of(path), path
         self.module = f"Rattle.{self.crate}." + str(path.relative_to(CRATES / self.crate).with_suffix("")).replace("/", ".")
-        self.uses, self.blocks, self.owner, self.definitions = [], [], {}, []
+        self.uses, self.blocks, self.owner = [], [], {}
         text = path.read_text() if text is None else text
         self.read(text.split("\n"))
         blocks = {number: block for block in self.blocks for number in block.numbers}
         for read in parse_module(self.module, path, text).values():
-            definition = Definition(blocks[read.line], read)
-            self.definitions.append(definition)
-            self.owner.update({name: definition.block for name in definition.names})
+            self.owner.update({name: blocks[read.line] for name in (read.name, *constructors(read))})
         self.imported = {}
         for module, items, _ in self.uses:
             for item in (items or "").split(","):
@@ -91,12 +70,11 @@ class File:
                     self.imported[other or name] = (module, name)
 
     def read(self, lines):
-        current, heading = None, None
+        current = None
         for number, line in enumerate(lines, 1):
             used = USE.match(line)
             if line.startswith("--"):
-                found = re.fullmatch(r"-- (\S+)", line)
-                heading, current = found[1] if found else None, None
+                current = None
             elif used:
                 self.uses.append(used.groups())
                 current = None
@@ -106,16 +84,9 @@ class File:
                               or declared_name(line) == declared_name(current.lines[0])):
                 current.add(number, line)
             else:
-                current = Block(self, heading)
+                current = Block(self)
                 self.blocks.append(current)
                 current.add(number, line)
-
-    def definition_at(self, number):
-        for definition in self.definitions:
-            numbers = definition.block.numbers[definition.start : definition.end]
-            if numbers[0] <= number <= numbers[-1]:
-                return definition
-        return None
 
 
 class Crate:
@@ -148,19 +119,6 @@ class Crate:
                 more = {other for other, spoken in self.speaks.items() if other not in found and spoken & found}
             self.known[block] = found
         return self.known[block]
-
-    def near(self, definition):
-        """The examples under a line with the definition's name, and those that name it, but for those that cite a lemma about
-        it."""
-        resting = self.resting_on(definition.block)
-        named = [block for block in self.examples.blocks
-                 if block.is_example() and (block.heading == definition.name or definition.names & block.words())]
-        return [block for block in named if not any(other.file.path.parent.name == "proofs" and other.file is not self.examples
-                                                    for other in self.speaks[block] & resting)]
-
-    def far(self, definition):
-        resting = self.resting_on(definition.block)
-        return [block for block in self.examples.blocks if block.is_example() and block in resting]
 
 
 # -- the copies that try them
@@ -228,19 +186,13 @@ ROOT = "//! Copies of definitions, changed, and of the examples that try them.\n
 
 
 class Scratch:
-    """A tree of the crates that some crates of examples rest on, and of others, with a crate of copies above those examples."""
+    """A workspace of the crates that some crates of examples rest on, with a crate of copies above those examples."""
 
-    def __init__(self, examples, room, others=()):
-        self.crates, self.folder = pathlib.Path(room) / "crates", pathlib.Path(room) / "crates" / COPIES
+    def __init__(self, examples, room):
+        self.folder = pathlib.Path(room) / "crates" / COPIES
         used = below(examples)
-        for crate in used.union(others):
-            for part in ("src", "specs", "proofs"):
-                if (CRATES / crate / part).exists():
-                    shutil.copytree(CRATES / crate / part, self.crates / crate / part)
-        lines = [f"{crate}: {' '.join(rest)}" for crate, rest in needs().items() if (self.crates / crate).exists()]
         self.named = sorted(used | {name for crate in used for name in needs()[crate]})
-        (self.crates.parent / "crates.txt").write_text("\n".join([*lines, f"{COPIES}: {' '.join(self.named)}", ""]))
-        shutil.copy(TOP / "HANDLES", room)
+        lay_out(pathlib.Path(room), examples, [f"{COPIES}: {' '.join(self.named)}"])
         for part in ("src", "proofs"):
             (self.folder / part).mkdir(parents=True)
         (self.folder / "src/lib.rt").write_text(ROOT)
@@ -279,35 +231,17 @@ class Scratch:
         (self.folder / "proofs/Lib.antt").write_text("".join(f"pub mod {file.stem}\n" for file in sorted(self.files())))
 
 
-def by_check(jobs, seconds=None):
-    """The check of one who works on a crate, over what earlier checks kept in out/. Where it is given so many seconds of
-    processor time and has no verdict by then, it gives None."""
-    def check(scratch):
-        for crate in scratch.crates.iterdir():
-            kept = CRATES / crate.name / "out/rlib"
-            if kept.is_dir() and not (crate / "out").exists():
-                shutil.copytree(kept, crate / "out/rlib", copy_function=linked)
-        words = ["rt", "check", "--jobs", str(jobs), "--allow-holes"]
-        return with_verdict(said_by(words, scratch.folder, seconds), seconds)
-    return check
+def by_check(seconds):
+    """The check of one who works on a crate, over what earlier checks kept in out/. Where it has no verdict after so many
+    seconds of processor time, it gives None."""
+    words = ["rt", "check", "--jobs", "1", "--allow-holes"]
+    return lambda scratch: with_verdict(said_by(words, scratch.folder, seconds))
 
 
-def by_gate(seconds=None):
+def by_gate(seconds):
     """The check of the gate: of the crate of copies alone, over the libraries that `rt ci` has just built."""
-    return lambda scratch: with_verdict(said_of(COPIES, scratch.named, scratch.folder, seconds=seconds), seconds)
+    return lambda scratch: with_verdict(said_of(COPIES, scratch.named, scratch.folder, seconds=seconds))
 
 
-def with_verdict(printed, seconds):
-    if re.search(r"^(?:logic|holes)=", printed, re.M):
-        return printed
-    if not seconds:
-        sys.exit(f"the prover gave no verdict\n{printed[-3000:]}")
-    return None
-
-
-def linked(one, other):
-    """A file of a library gets a second name: rt never writes into such a file."""
-    try:
-        os.link(one, other)
-    except OSError:
-        shutil.copy2(one, other)
+def with_verdict(printed):
+    return printed if re.search(r"^(?:logic|holes)=", printed, re.M) else None

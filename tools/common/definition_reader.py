@@ -1,6 +1,4 @@
-"""Definitions of specs/ and types of src/: where each stands, its lines, and what it speaks of. tools/statement,
-tools/reach,
-tools/lemmas, tools/hollow and tools/definitions are written over it."""
+"""Definitions of specs/ and types of src/: where each is, its lines, and what it speaks of."""
 import functools
 import re
 import sys

@@ -6,10 +6,9 @@ those below it, these as they are built, and the body. So none goes stale, and o
 for nothing. Whoever can write to the folder is trusted, as with what `rt ci` keeps."""
 import hashlib
 import os
-import pathlib
 import tempfile
 
-from .crates import CRATES, TOP, below, heads
+from .crates import CRATES, TOP, below, cache, heads
 from .prover import kit, library
 
 READERS = ("body_lists", "crates", "kept_verdicts", "prover", "rust_sources")
@@ -17,8 +16,8 @@ SCRIPTS = ("tools/bodies", *(f"tools/common/{name}.py" for name in READERS))
 
 
 def folder():
-    """Where they are kept: in the user's cache."""
-    return pathlib.Path(os.environ.get("XDG_CACHE_HOME") or pathlib.Path("~/.cache").expanduser()) / "yarib/bodies"
+    """Where they are kept."""
+    return cache("bodies")
 
 
 def files_read(crate):

@@ -19,9 +19,9 @@ def library(crate):
     return CRATES / crate / f"out/rlib/{crate}.rlib"
 
 
-def words_for(name, named, folder, is_archive=None, libraries=library):
-    """What the prover is told of a crate in this folder: its name, what its line of crates.txt names, whether it becomes
-    an archive for C, as a static library does, and where the library that is built of a crate lies."""
+def words_for(name, named, folder, libraries=library):
+    """The prover's arguments for a crate in this folder: its name, what its line of crates.txt names, and where the built
+    library of a crate is."""
     own = [one for one in named if one in needs()]
     root = "src/main.rt" if (folder / "src/main.rt").exists() else "src/lib.rt"
     words = ["--crate-name", name, root]
@@ -32,7 +32,7 @@ def words_for(name, named, folder, is_archive=None, libraries=library):
         words += ["--extern", f"{one}={libraries(one)}"]
     for place in sorted({libraries(one).parent for one in below(own)}):
         words += ["-L", f"dependency={place}"]
-    words += ["--crate-type", "staticlib"] * (is_static(name) if is_archive is None else is_archive)
+    words += ["--crate-type", "staticlib"] * is_static(name)
     return [*words, "--antt-project", f"{kit()}/rattle/logic/antt-project.json", "--logic-built",
             f"{kit()}/logic_built", "--links", f"{name}="]
 
@@ -60,19 +60,8 @@ def linking_words(program):
 
 
 def archive_built(name):
-    """Proves a static library and builds its archive; the status of the command, which keeps what it proves."""
-    return built(name, True, ["--toolchain", kit() / "toolchain", "--backend", "llvm", "-o", f"out/lib{name}.a"])
-
-
-def library_built(name):
-    """Proves a static library and builds it as one that a crate can stand on, which `rt ci` doesn't; the status as
-    above."""
-    library(name).parent.mkdir(parents=True, exist_ok=True)
-    return built(name, False, ["-o", library(name)])
-
-
-def built(name, is_archive, more):
-    words = [kit() / "bin/rattle", "build", *words_for(name, needs()[name], CRATES / name, is_archive),
-             "--jobs", "1", *more]
+    """Proves a static library and builds its archive; returns the status of the command, which keeps what it proves."""
+    words = [kit() / "bin/rattle", "build", *words_for(name, needs()[name], CRATES / name), "--jobs", "1",
+             "--toolchain", kit() / "toolchain", "--backend", "llvm", "-o", f"out/lib{name}.a"]
     return subprocess.run([*words, "--incremental", "out/incremental"], cwd=CRATES / name, stdin=subprocess.DEVNULL,
                           stderr=subprocess.STDOUT).returncode
