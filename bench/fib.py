@@ -2,7 +2,7 @@
 """Times a forwarding table beside the same one in plain C and Rust and the book that it is made of, and beside DPDK's
 rte_lpm, py-radix and Net::Patricia where they are, over the same prefixes and addresses.
 
-Needs rt, gcc and rustc. The program crates/benches, bench/fib_peer.c, bench/fib_peer.rs and the others run in turn, so
+Needs rt, gcc and rustc. The program bench/benches, bench/fib_peer.c, bench/fib_peer.rs and the others run in turn, so
 many rounds over each number of prefixes (500,000 and 1,000,000 if left out) of a real table's lengths. Each is asked
 for a million addresses, random ones, each of which lies in any of the prefixes, and local ones, in a thousand of these.
 A row has a call, and for each who makes it the least of the times: nanoseconds of processor time for one prefix or

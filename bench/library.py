@@ -3,7 +3,7 @@
 DPDK's rte_lpm where they are, over the same prefixes and addresses.
 
 Needs rt, gcc, cargo and what bindings/build needs. All run in turn, so many rounds (3 if left out) over so many
-prefixes (500,000) of a real table's lengths, asked for addresses each of which lies in one of them; crates/benches
+prefixes (500,000) of a real table's lengths, asked for addresses each of which lies in one of them; bench/benches
 draws the same, and is left out where it times no forwarding table. A row has a call, and for each who makes it the
 least nanoseconds of processor time for one prefix or address. `apply_journaled` is of a table with a journal, `forward`
 makes a forwarding table, and the number behind a look-up says how many one call asks for.
@@ -38,10 +38,10 @@ def python_rows(yarib, pairs, asked):
 
 
 def rattle_rows(benches, prefixes):
-    """The rows of the same calls in Rattle, by the program crates/benches, which draws the same."""
+    """The rows of the same calls in Rattle, by the program bench/benches, which draws the same."""
     ended = subprocess.run([benches, "fib", str(prefixes), str(ASKED)], capture_output=True, text=True)
     if ended.returncode != 0:
-        sys.exit(f"bench/library.py: crates/benches ended with status {ended.returncode}\n{ended.stderr}")
+        sys.exit(f"bench/library.py: bench/benches ended with status {ended.returncode}\n{ended.stderr}")
     words = ended.stderr.split()
     told = {name: int(value) for name, value in zip(words[::2], words[1::2])}
     yield "apply_journaled", told["load"] / prefixes
@@ -93,7 +93,7 @@ def main():
     with tempfile.TemporaryDirectory() as name:
         folder = pathlib.Path(name)
         write_input(folder, pairs, asked)
-        times_it = (checks.TOP / "crates/benches/src/fib.rt").exists()
+        times_it = (checks.TOP / "bench/benches/src/fib.rt").exists()
         programs, benches = built(folder), checks.built_benches("fib", "2000") if times_it else None
         rounds = [measured(folder, programs, benches, pairs, asked) for _ in range(words.rounds)]
     least = {key: min(one[key] for one in rounds) for key in rounds[0]}

@@ -1,7 +1,7 @@
 #!/usr/bin/env python3
 """Times passages of the lock, of the same algorithm in C and of std's mutex, in turn.
 
-Needs rt, gcc and pthreads. Each case runs the program crates/benches, bench/lock.c and the mutex one after another, so
+Needs rt, gcc and pthreads. Each case runs the program bench/benches, bench/lock.c and the mutex one after another, so
 many rounds, each with so many passages. For each case the time of a passage is printed, in nanoseconds, and its ratio
 to C: on the clock, and of the processors (user and system). It is the least of one thread, and of several the middle
 one.

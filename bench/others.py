@@ -26,14 +26,14 @@ $at = clock(); $tree->match_string($_) for @texts; printf "look_up_text %.0f\\n"
 
 
 def draws(seed):
-    """The numbers that crates/benches draws."""
+    """The numbers that bench/benches draws."""
     while True:
         seed = (seed * 6364136223846793005 + 1442695040888963407) % (1 << 64)
         yield seed >> 32
 
 
 def drawn(prefixes, addresses, among=None):
-    """Prefixes as pairs, and addresses in so many of them or in all, as crates/benches draws them."""
+    """Prefixes as pairs, and addresses in so many of them or in all, as bench/benches draws them."""
     draw, pairs, asked = draws(1), [], []
     for _ in range(prefixes):
         lot = next(draw) % 1000

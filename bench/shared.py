@@ -1,7 +1,7 @@
 #!/usr/bin/env python3
 """Times commands of the shared table of 64 feeds beside those of a book under std's mutex, in turn.
 
-Needs rt. Each case runs the program crates/benches for the table and for the mutex one after the other, so many rounds,
+Needs rt. Each case runs the program bench/benches for the table and for the mutex one after the other, so many rounds,
 each with so many commands in all. For each case the nanoseconds of a command are printed, on the clock and of the
 processors (user and system), and their ratios to the mutex: the least of one thread, whom other work can only slow
 down, and the middle one of several, of which single rounds differ much. The last rows are of two processors alone.

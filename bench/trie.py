@@ -1,7 +1,7 @@
 #!/usr/bin/env python3
 """Times the trie beside one in plain Rust, over the same prefixes, in one run.
 
-Needs rt and rustc. The program crates/benches and bench/trie_peer.rs run in turn, so many rounds over each number of
+Needs rt and rustc. The program bench/benches and bench/trie_peer.rs run in turn, so many rounds over each number of
 prefixes (3,000, 30,000 and 500,000 if left out; a small number is run more often). The table has a row for each call,
 with the least of the times in nanoseconds and the ratio: on the clock, and of the processor, for the user and the
 system. `together` is a look-up where 64 are asked for at once, beside the plain trie's single one; `retain` is a walk

@@ -1,6 +1,7 @@
 """What the scripts share that judge the program: their command line and their cases, a call, and what is noted where
 something else was found."""
 import argparse
+import hashlib
 import inspect
 import os
 import pathlib
@@ -12,7 +13,8 @@ import threading
 import traceback
 
 sys.path.append(str(pathlib.Path(__file__).resolve().parents[1] / "tools"))
-from common.crates import TOP
+from common.crates import TOP, cache
+from common.workspaces import lay_out, renew
 
 # What the launchers set before the program starts, as ./yarib's own line says it: one arena of large pages.
 LAUNCHED = {"GLIBC_TUNABLES": re.search(r'^export GLIBC_TUNABLES="(.*?)\$', (TOP / "yarib").read_text(), re.M)[1]}
@@ -93,12 +95,18 @@ def compiled(folder, source, *options):
 
 
 def built_benches(*words):
-    """The program of crates/benches, which is built first and run with these words."""
-    crate = TOP / "crates" / "benches"
+    """The program of bench/benches, in a workspace outside the repository, which is proved and built first and run with
+    these words."""
+    room = cache("benches-" + hashlib.sha256(str(TOP).encode()).hexdigest()[:12])
+    line = (TOP / "bench/benches/crates.txt.in").read_text().strip()
+    lay_out(room, line.partition(":")[2].split(), [line])
+    crate = room / "crates/benches"
+    for part in ("src", "proofs"):
+        renew(TOP / "bench/benches" / part, crate / part, ".in")
     ended = subprocess.run(["rt", "run", "--", *words], cwd=crate, capture_output=True, text=True)
-    if ended.returncode != 0 or not (crate / "out" / "benches").exists():
-        sys.exit(f"{sys.argv[0]}: crates/benches was not built\n" + ended.stdout[-2000:] + ended.stderr[-2000:])
-    return crate / "out" / "benches"
+    if ended.returncode != 0 or not (crate / "out/benches").exists():
+        sys.exit(f"{sys.argv[0]}: bench/benches was not built\n" + ended.stdout[-2000:] + ended.stderr[-2000:])
+    return crate / "out/benches"
 
 
 def run(words, **how):

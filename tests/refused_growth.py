@@ -2,11 +2,11 @@
 """Refuses each request for memory in turn, and compares what comes out with a plain model.
 
 tests/refused_growth.py [PROGRAM BENCHES [CASE..]], or --list for the names of the cases. BENCHES is a built
-crates/benches. Needs gcc and glibc, and rt where something is to be built; takes some minutes once all is built.
+bench/benches. Needs gcc and glibc, and rt where something is to be built; takes some minutes once all is built.
 
 Each case is run with its first request refused, then with its second, and so on until a run meets no refusal; and once
-more so that all requests after the refused one are refused as well. The cases are those of crates/benches/src/growth.rt
-(the lock, the shared table, feeds on gates) and runs and replays of the program. After each run the answers, the
+more so that all requests after the refused one are refused as well. The cases are those of
+bench/benches/src/growth.rt.in (the lock, the shared table, feeds on gates) and runs and replays of the program. After each run the answers, the
 journal, the routes and what was printed are compared whole with a model that leaves out what was refused, and no run
 may end by a signal. All cases together must have met each kind of refusal. The requests are refused before the C
 library sees them, so what the launchers set changes nothing here, and all is run once.
