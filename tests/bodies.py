@@ -38,7 +38,7 @@ pub fn four_times(n: u64) -> u64
 """
 # Of each body its old and new text, where it is to be refused, and how the line that tells of it begins.
 BODIES = {
-    "answers-the-number": ("    n + n", "    n", "twice", "refused, as it must be: "),
+    "answers-the-number": ("{⏎    n + n⏎}", "{⏎    n⏎}", "twice", "refused, as it must be: "),
     "changes-another-function": ("twice(twice(n))", "twice(n)", "twice",
                                  "BAD BODY: it changes more than the text of twice"),
     "four-times-given-up": ("twice(twice(n))", "twice(n)", "four_times", "refused, as it must be: "),

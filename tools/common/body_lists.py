@@ -14,13 +14,15 @@ class BadBody(Exception):
 
 class Body:
     """A body of a list: its crate, text and name, and, where it is written as one, its file, its pairs of old and new,
-    the function that the prover refuses, as the prover names it, and perhaps a goal of that function."""
+    the function that the prover refuses, as the prover names it, and perhaps a goal of that function. In a pair `⏎`
+    stands for the end of a line."""
 
     def __init__(self, crate, section):
         self.crate, self.section, self.name = crate, section, section.partition("\n")[0]
         self.form = FORM.fullmatch(section)
         _, self.file, pairs, self.function, self.goal = self.form.groups() if self.form else ("", "", "", "", None)
-        self.pairs = re.findall(r"^old: (.+)\nnew: ?(.*)$", pairs, re.M)
+        self.pairs = [tuple(one.replace("⏎", "\n") for one in pair)
+                      for pair in re.findall(r"^old: (.+)\nnew: ?(.*)$", pairs, re.M)]
 
     def changed(self, text):
         """The file's text with each pair made, one after another."""
