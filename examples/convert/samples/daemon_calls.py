@@ -1,12 +1,18 @@
 """How the samples' daemons are started and asked, and where what they say is kept: what `make` and `make-ranks` share."""
 import json
+import os
 import pathlib
+import shutil
 import subprocess
 import sys
 import time
 
 HERE = pathlib.Path(__file__).resolve().parent
 ADDRESSES = (HERE / "addresses.txt").read_text().split()
+# Addresses of what the daemons have in other configurations than the others'.
+SECONDS = (0, 1, 2, 40, 41, 42, 43, 44, 96, 97, 98, 99)
+OTHER = [f"10.{second}.{third}.7" for second in SECONDS for third in range(0, 255, 25)]
+REFUSED_BY_KERNEL = ("Invalid argument", "Permission denied", "No route to host")
 FRR = "/usr/lib/frr/bgpd -S -Z -n -l 127.0.0.11 -f collector.conf -i frr.pid --vty_socket . --log file:frr.log"
 
 
@@ -50,12 +56,24 @@ def bird_answer(control, address, table=""):
     return " ".join(hops or peer or ["0.0.0.0"])
 
 
+def kernel_answer(address):
+    asked = subprocess.run(["ip", "-j", "route", "get", "fibmatch", address], capture_output=True, text=True)
+    if asked.returncode:
+        return "discard" if any(error in asked.stderr for error in REFUSED_BY_KERNEL) else "no route"
+    route = json.loads(asked.stdout)[0]
+    return " ".join(hop.get("gateway", "0.0.0.0") for hop in route.get("nexthops", [route]))
+
+
 def frr(command):
     return say_words("vtysh", "--vty_socket", ".", "-d", "bgpd", *(word for part in command for word in ("-c", part)))
 
 
 def say_words(*words):
     return subprocess.run(words, check=True, capture_output=True, text=True).stdout
+
+
+def zebra(*commands):
+    return say_words("vtysh", "--vty_socket", ".", *(word for command in commands for word in ("-c", command)))
 
 
 def frr_answer(address):
@@ -107,3 +125,15 @@ def make_uplink():
     for command in ("link add uplink type veth peer name far", "link set far up",
                     "addr add 192.0.2.254/24 dev uplink", "link set uplink up"):
         say(f"ip {command}")
+
+
+def start_frr(daemons, folder, names, more=""):
+    """FRR's daemons, zebra first, each with its part of that folder. Their user is frr, which writes to this folder."""
+    shutil.copytree(HERE / "frr" / folder, folder)
+    os.chmod(".", 0o755)
+    shutil.chown(".", "frr", "frr")
+    for name in names:
+        options = {"zebra": more, "bgpd": "-l 192.0.2.254"}.get(name, "")
+        daemons.start(name, f"/usr/lib/frr/{name} -i {name}.pid -z zserv --vty_socket . -A 127.0.0.1 "
+                            f"--log file:{name}.log -f {folder}/{name}.conf {options}")
+        time.sleep(1)
