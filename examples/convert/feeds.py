@@ -1,32 +1,4 @@
 """What the converters have in common: how a table is read, ranked, and written as feed files."""
-import os
-import sys
-
-NAME = os.path.basename(sys.argv[0])
-# what erases a terminal's line
-ERASED = "\r\033[K"
-NO_MEMORY = f"{NAME}: the memory is not enough for this input"
-
-
-def say_in_one_line(kind, error, _):
-    """What Python would show as a traceback. Where memory ends modules can't be loaded, which is told in many ways."""
-    if issubclass(kind, (MemoryError, ImportError, SystemError)):
-        os.write(2, b"%s\n" % NO_MEMORY.encode())
-    elif not issubclass(kind, KeyboardInterrupt):
-        os.write(2, f"{NAME}: {kind.__name__}: {error}\n".encode())
-
-
-# before anything else is loaded
-sys.excepthook = say_in_one_line
-
-
-def say(text):
-    """A line on standard error, if that is open: else `print` would write it to standard output. On a terminal it takes
-    the place of the line of progress."""
-    if sys.stderr is not None:
-        print(ERASED + text if is_terminal() else text, file=sys.stderr)
-
-
 import argparse
 import codecs
 import contextlib
@@ -35,17 +7,24 @@ import gc
 import ipaddress
 import json
 import operator
+import os
+import pathlib
 import re
-import shutil
+import shlex
 import signal
 import stat
 import struct
+import sys
 import typing
 from socket import AF_INET, inet_pton
 
+import dealing
+from ending import NAME, NO_MEMORY
 from errors import Missing, Refused, Wrong, in_words, naming
 from folders import Folder
 
+# what erases a terminal's line
+ERASED = "\r\033[K"
 GREATEST = 4294967295
 MOST_FILES = 64
 # of what is told so many names are said
@@ -72,40 +51,60 @@ MOST_WAITING = 200000
 # how a compressed file begins, and what reads it
 COMPRESSED = {b"\x1f\x8b": ("gzip", "zcat"), b"\xfd7zXZ\0": ("xz", "xzcat"), b"BZh": ("bzip2", "bzcat"),
               b"\x28\xb5\x2f\xfd": ("zstd", "zstdcat")}
-# the signals that end a converter which has something to clear away
-ENDING = (signal.SIGTERM, signal.SIGHUP)
+# the exit status if what is written answers some addresses otherwise than the daemon, or `yarib` doesn't take it
+OTHERWISE = 3
+# the signals by which a converter ends
+ENDING = (signal.SIGTERM, signal.SIGHUP, signal.SIGINT)
 # the number of an address's four bytes
 NUMBER = struct.Struct(">I").unpack
 # the bits past a prefix of that length
 HOST_BITS = {str(length): (1 << 32 - length) - 1 for length in range(33)}
 
 
+def say(text):
+    """A line on standard error, if that is open: else `print` would write it to standard output. On a terminal it takes
+    the place of the line of progress."""
+    if sys.stderr is not None:
+        # where nobody reads it, nothing becomes otherwise
+        with contextlib.suppress(OSError):
+            os.write(2, f"{ERASED if is_terminal() else ''}{text}\n".encode())
+
+
 class Offer(typing.NamedTuple):
-    """What one source offers for a prefix. `wish` is the daemon's own number, of which the greater one wins."""
+    """What one source offers for a prefix. `wish` is the daemon's own number, of which the greater one wins; `sought` is the
+    address that the daemon looked up among its routes to find the next hop, if it did."""
 
     source: str
     hop: str
     wish: int | None = None
+    # the address that the daemon looked up among its routes to find the hop
+    sought: str | None = None
 
 
 class Notes:
-    """Counts what is left out, by its name, in the order in which it was first met."""
+    """Counts what is left out, by its name, in the order in which it was first met. By some of it addresses are answered
+    otherwise than by the daemon (`differs`)."""
 
     def __init__(self):
-        self.left_out = {}
-        self.told = {}
+        self.left_out, self.told = {}, {}
+        self.differs = False
 
-    def leave_out(self, name, number=1):
+    def leave_out(self, name, number=1, differs=False):
         self.left_out[name] = self.left_out.get(name, 0) + number
+        self.differs = self.differs or differs
 
-    def tell(self, name, number=1):
+    def tell(self, name, number=1, differs=False):
         """Counts what is taken and yet has to be told."""
         self.told[name] = self.told.get(name, 0) + number
+        self.differs = self.differs or differs
 
     def report(self, taken, what):
         parts = [f"{number} {name}" for name, number in self.left_out.items()]
         lines = [f"took {taken} {what}; left out " + (", ".join(parts) or "nothing")]
-        return "\n".join(lines + [f"{number} {name}" for name, number in self.told.items()])
+        lines += [f"{number} {name}" for name, number in self.told.items()]
+        if self.differs:
+            lines.append(f"by this some addresses are answered otherwise than by the daemon (status {OTHERWISE})")
+        return "\n".join(lines)
 
 
 class Progress:
@@ -498,7 +497,9 @@ def preference_of(prefix, offer):
 def add_lines(files, prefix, offers, by_rank, notes):
     """Adds the offers of a prefix, best first, to the feeds of their sources."""
     for rank, offer in enumerate(one_each(offers, notes) if len(offers) > 1 else offers, 1):
-        source, hop, _ = offer
+        source, hop, _, sought = offer
+        if sought:
+            files.sought.add((source, sought))
         preference = rank if by_rank else preference_of(prefix, offer)
         lines = files.waiting.get(source) or files.lines(source)
         lines.append(f"add {prefix} {preference} {hop}\n")
@@ -523,17 +524,17 @@ class FeedFiles:
     A source's lines are appended to its list in `waiting`, in the order of which the files are numbered until they are
     named."""
 
-    def __init__(self, folder):
-        self.folder = Folder(folder, NAME)
+    def __init__(self, arguments):
+        if arguments.merge and arguments.by != "rank":
+            raise Refused("--merge compares ranks, which are of the whole table: leave out --by")
+        self.arguments, self.folder = arguments, Folder(arguments.folder, NAME)
         self.waiting, self.counts = {}, []
+        # the sources with the addresses that the daemon looked up for them
+        self.sought = set()
         self.taken = 0
         PROGRESS.files = self
 
     def __enter__(self):
-        for number in ENDING:
-            # what `nohup` ignores stays ignored
-            if signal.getsignal(number) is signal.SIG_DFL:
-                signal.signal(number, end)
         self.folder.__enter__()
         return self
 
@@ -576,57 +577,93 @@ class FeedFiles:
             file.writelines(lines)
         path.rename(self.path(list(self.waiting).index(source)))
 
+    def sources(self, names, routes):
+        """The sources that have commands, under these names."""
+        every = zip(names, map(self.path, range(len(names))), self.counts, routes)
+        return [dealing.Source(*source).counted(GREATEST_LIMIT) for source in every if source[2]]
+
     def put_in_place(self, sources):
-        """Gives the files of the sources that have lines their names, and the folder its place. Returns how many feeds
-        are there, and lines that tell what became of others."""
-        numbers = [number for number, count in enumerate(self.counts) if count]
-        names = file_names([sources[number] for number in numbers])
-        for number, name in zip(numbers, names):
-            path = self.folder.new / name
-            with naming(path), open(path, "wb") as file, open(self.path(number), "rb") as lines:
-                file.write(b"version 2\n")
-                shutil.copyfileobj(lines, file, BLOCK)
-            self.path(number).unlink()
-        replaced, kept = self.folder.put_in_place(names)
+        """Gives the sources' commands their files, and the folder its place. Returns how many feeds are there, and lines
+        that tell what became of others."""
+        stems = [name.removesuffix(".feed") for name in file_names([source.name for source in sources])]
+        parts = [[stem] if number == 1 else [f"{stem}-{part}of{number}" for part in range(1, number + 1)]
+                 for stem, number in zip(stems, (source.feeds(GREATEST_LIMIT) for source in sources))]
+        names = iter(file_names([name for dealt in parts for name in dealt]))
+        written = [[next(names) for _ in dealt] for dealt in parts]
+        for source, files in zip(sources, written):
+            dealing.write(source, self.folder.new, files)
+        replaced, kept = self.folder.put_in_place([name for files in written for name in files])
         told = [f"replaced {replaced} feeds that {NAME} had written"] if replaced else []
         if kept:
-            names = ", ".join(kept[:MOST_NAMED]) + (", .." if len(kept) > MOST_NAMED else "")
-            told.append(f"kept {len(kept)} feeds that {NAME} had not written: {names}")
-        return len(numbers) + len(kept), told
+            told.append(f"kept {len(kept)} feeds that {NAME} had not written: {listed(kept)}")
+        told += [f"{source.name} has {source.routes} routes, and a feed at most {GREATEST_LIMIT}: it is in {', '.join(files)}, "
+                 "each prefix in one of them" for source, files in zip(sources, written) if len(files) > 1]
+        return sum(map(len, written)) + len(kept), told
 
-    def finish(self, notes, what="routes", names=None, most_routes=None):
-        """Puts the files in their place and says what was taken; a table of which nothing is taken is refused.
-        `most_routes` is how many routes the largest feed has at a time, where it isn't the number of its lines."""
+    def merge(self, sources, most, prefixes):
+        """Has the sources with the fewest routes share a feed, if there would be more than so many. Returns the sources, and
+        lines that tell of it."""
+        own, together = dealing.plan(sources, most, GREATEST_LIMIT, prefixes)
+        if not together:
+            return own, []
+        source, left = dealing.merged(together, self.folder.new)
+        return [*own, source], [f"merged the {len(together)} sources with the fewest routes into {source.name}.feed, with the best "
+                                f"route of each prefix among theirs; {left} further routes are left out"]
+
+    def finish(self, notes, prefixes, what="routes", names=None, routes=None):
+        """Puts the files in their place and says what was taken; a table of which nothing is taken is refused. Returns the
+        exit status. `prefixes` is how many prefixes there are, and `routes` how many routes each source has at a time, where
+        that isn't the number of its commands."""
         self.flush()
         if self.taken == 0:
             raise Refused(notes.report(0, what).replace("\n", "; ") + "; nothing is written")
-        number, told = self.put_in_place(names or list(self.waiting))
+        sources, merged = self.sources(names or list(self.waiting), routes or self.counts), []
+        if self.arguments.merge:
+            sources, merged = self.merge(sources, self.arguments.merge, prefixes)
+        number, told = self.put_in_place(sources)
         PROGRESS.erase()
-        say("\n".join([notes.report(self.taken, what), *told]))
+        say("\n".join([notes.report(self.taken, what), *merged, *told]))
         if number > MOST_FILES:
-            say(f"{number} feeds are in the folder; `yarib run` takes at most {MOST_FILES} files")
-        tell_limit(most_routes or max(self.counts))
+            names = listed([source.name for source in sources])
+            say(f"{number} feeds are in the folder, and `yarib` takes at most {MOST_FILES} files (status {OTHERWISE}): --merge "
+                f"{MOST_FILES} has the sources with the fewest routes share one; the sources are {names}")
+        tell_limit(max(-(-source.routes // source.feeds(GREATEST_LIMIT)) for source in sources), self.arguments.folder)
+        return OTHERWISE if notes.differs or number > MOST_FILES else 0
 
 
-def tell_limit(routes):
-    """Says which limit `yarib` needs for a feed of so many routes, if it isn't the usual one."""
-    if routes > GREATEST_LIMIT:
-        say(f"a feed has {routes} routes; `yarib` takes at most {GREATEST_LIMIT} of a feed")
-    elif routes > USUAL_LIMIT:
-        say(f"a feed has {routes} routes: `yarib` needs --limit {routes}")
+def listed(names):
+    """The first of these names."""
+    return ", ".join(names[:MOST_NAMED]) + (", .." if len(names) > MOST_NAMED else "")
+
+
+def tell_limit(routes, folder):
+    """Says which limit `yarib run` needs for a feed of so many routes, if it isn't the usual one."""
+    if routes > USUAL_LIMIT:
+        say(f"a feed has {routes} routes: `yarib run` needs --limit {routes}, as in yarib run --batch 256 --limit {routes} "
+            f"{shlex.quote(str(pathlib.Path(folder)))}/*.feed")
 
 
 def end(number, _):
     """Ends the program so that what it has begun is cleared away, which a further signal doesn't interrupt."""
     for ending in ENDING:
-        signal.signal(ending, signal.SIG_IGN)
+        # Python is surprised by one that came before it was ignored
+        signal.signal(ending, lambda *_: None)
+    with contextlib.suppress(OSError):
+        os.write(2, f"{NAME}: ended by {signal.Signals(number).name}\n".encode())
     sys.exit(128 + number)
+
+
+def end_by_signals():
+    for number in ENDING:
+        # what `nohup` or a shell ignores stays ignored
+        if signal.getsignal(number) in (signal.SIG_DFL, signal.default_int_handler):
+            signal.signal(number, end)
 
 
 def convert_table(arguments, given, read):
     """Converts the table that `read(given, arguments, notes)` gives: each prefix with its offers, best first."""
     notes, met = Notes(), set()
-    with FeedFiles(arguments.folder) as files:
+    with FeedFiles(arguments) as files:
         given.after_block = files.flush_many
         with given.named():
             for prefix, offers in read(given, arguments, notes):
@@ -634,7 +671,42 @@ def convert_table(arguments, given, read):
                     raise Refused(f"{prefix} comes twice: that is more than one table, or one that isn't in order")
                 met.add(prefix)
                 add_lines(files, prefix, offers, arguments.by == "rank", notes)
-        files.finish(notes)
+        tell_of_finders(files, met, notes)
+        return files.finish(notes, len(met))
+
+
+def covering(address):
+    """The prefixes that cover the address, each with its length."""
+    number = address_number(address)
+    return {f"{ipaddress.IPv4Address(number & ~past)}/{length}": int(length) for length, past in HOST_BITS.items()}
+
+
+def tell_of_finders(files, met, notes):
+    """Tells of the sources by whose routes the daemon found next hops of others, where without them it would find others:
+    the table without such a source's feed has the next hops as they were found with it."""
+    if not files.sought:
+        return
+    files.flush()
+    prefixes = {address: {prefix: length for prefix, length in covering(address).items() if prefix in met}
+                for address in {address for _, address in files.sought if is_address(address)}}
+    wanted = {prefix for found in prefixes.values() for prefix in found}
+    routes = {}
+    for source in files.waiting:
+        for line in files.written(source):
+            _, prefix, preference, hop = line.split()
+            if prefix in wanted:
+                routes.setdefault(prefix, []).append((int(preference), source, hop))
+    told = {}
+    for source, address in sorted(files.sought):
+        order = [route for prefix, _ in sorted(prefixes.get(address, {}).items(), key=lambda found: -found[1])
+                 for route in sorted(routes[prefix])]
+        _, finder, hop = order[0] if order else (0, source, "")
+        others = [other for _, name, other in order if name != finder]
+        if finder != source and hop != CONNECTED and others[:1] != [hop]:
+            told.setdefault(finder, {})[address] = source
+    for finder, found in told.items():
+        notes.tell(f"next hops ({listed(list(found))}) of {listed(sorted(set(found.values())))} are found by routes of {finder}: "
+                   f"without {finder} the daemon finds others, and the table without its feed has them as they are", len(found))
 
 
 def parser(documentation, numbers=("local-pref",)):
@@ -649,6 +721,8 @@ def parser(documentation, numbers=("local-pref",)):
     )
     made.add_argument("--connected", default=CONNECTED, metavar="ADDRESS", type=ipv4, help="hop of connected networks")
     made.add_argument("--ipv6-hop", metavar="ADDRESS", type=ipv4, help="what stands for IPv6 next hops")
+    made.add_argument("--merge", metavar="N", type=count,
+                      help="write at most N feeds: the sources with the fewest routes share one, of their best routes")
     return made
 
 
@@ -698,22 +772,31 @@ def count(text):
     return int(text)
 
 
+def status_of(convert, *arguments):
+    """The exit status of a converter, also where it ends by itself, as of `--help`."""
+    try:
+        return convert(*arguments)
+    except SystemExit as ended:
+        return ended.code
+
+
 def run(convert, *arguments):
-    """Runs a converter; what it can't do is one line on standard error and status 1."""
+    """Runs a converter, which returns its exit status; what it can't do is one line on standard error and status 1."""
     # nothing that is kept refers to itself, so there is nothing for the collector of cycles to find
     gc.disable()
+    end_by_signals()
     try:
         with PROGRESS:
-            convert(*arguments)
-        with naming("standard output"):
-            sys.stdout.flush()
-        return
+            status = status_of(convert, *arguments)
+        if sys.stdout is not None:
+            with naming("standard output"):
+                sys.stdout.flush()
+        sys.exit(status)
     except (Refused, Wrong, OSError) as error:
         said = f"{NAME}: {in_words(error)}"
     except MemoryError:
         said = NO_MEMORY
-    except KeyboardInterrupt:
-        sys.exit(130)
     # what is left to be flushed has nobody to read it
     sys.stdout = None
-    sys.exit(said)
+    say(said)
+    sys.exit(1)

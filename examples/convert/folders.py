@@ -44,6 +44,8 @@ class Folder:
 
     def __init__(self, path, writer):
         self.path, self.writer = pathlib.Path(path).resolve(), writer
+        if not self.path.name:
+            raise Refused(f"{path} is no folder of feeds: name one in it")
         self.new = self.path.with_name(f".{self.path.name}.new")
         self.old = self.path.with_name(f".{self.path.name}.old")
         self.made = [parent for parent in self.path.parents if not parent.exists()]

@@ -1,5 +1,7 @@
-"""What the converters out of a table have in common: the best route of each prefix, as `yarib run` prints it."""
+"""What the converters out of a table have in common: the best route of each prefix, as `yarib table` prints it, or `yarib
+run`."""
 import functools
+import json
 import re
 import sys
 
@@ -9,9 +11,10 @@ REPORT = re.compile(r"\d+:\d+ .+")
 # what a report says of a line whose route is not in the table
 NOT_TAKEN = re.compile(r".* (?:full|refused|fault E\d)")
 HEAD = re.compile(r"table (\d+)")
+NOT_IN_TABLE = "lines of the report say full, refused or fault: their routes are not in the table"
 
 
-def table_lines(lines):
+def table_lines(lines, notes):
     """The table's lines: those after `table COUNT`, or all where the input is a bare list."""
     given = iter(lines)
     reports, not_taken, head, rows = 0, 0, None, 0
@@ -31,19 +34,30 @@ def table_lines(lines):
     if head and rows != int(head[1]):
         raise feeds.Refused(f"the table should have {head[1]} routes and has {rows}")
     if not_taken:
-        feeds.say(f"{not_taken} lines of the report say full, refused or fault: their routes are not in the table")
+        notes.tell(NOT_IN_TABLE, not_taken, differs=True)
 
 
-def best_routes(most):
+def route_of(line):
+    """The prefix and the next hop of a line of the table, which names a feed by its number or (--names) by its name; with
+    --json it is an object."""
+    if line.startswith("{"):
+        route = json.loads(line)
+        prefix, hop = feeds.member(route, "prefix", str), route.get("via")
+        return prefix, feeds.DISCARD if hop is None and feeds.member(route, "discard", bool) else hop
+    prefix, feed, name, pref, preference, via, hop = line.split(" ")
+    if (feed, pref, via) != ("feed", "pref", "via") or not name or not preference.isdecimal():
+        raise ValueError
+    return prefix, hop
+
+
+def best_routes(most, notes):
     """The prefixes and next hops of the best routes: of each prefix the first line."""
     best = {}
     lines = feeds.Lines(most)
     hops = {feeds.DISCARD: feeds.DISCARD}
     with lines.named():
-        for line in table_lines(lines):
-            prefix, feed, number, pref, preference, via, hop = line.split(" ")
-            if (feed, pref, via) != ("feed", "pref", "via") or not number.isdecimal() or not preference.isdecimal():
-                raise ValueError
+        for line in table_lines(lines, notes):
+            prefix, hop = route_of(line)
             if hop not in hops:
                 if not feeds.is_address(hop):
                     raise ValueError
@@ -57,19 +71,23 @@ def best_routes(most):
     return best
 
 
-def kinds(connected):
-    """What tells the kind of a route with a next hop: whether it lies in one of the connected networks."""
+def kinds(devices, onlink):
+    """What tells the kind of a route with a next hop, and its interface: that of the longest connected network in which the
+    next hop lies, if there is one."""
     networks = {}
-    for prefix in connected:
+    for prefix, device in devices.items():
         address, _, length = prefix.partition("/")
-        networks.setdefault(feeds.HOST_BITS[length], set()).add(feeds.address_number(address))
+        networks.setdefault(feeds.HOST_BITS[length], {})[feeds.address_number(address)] = device
+    networks = sorted(networks.items())
 
     @functools.lru_cache(feeds.MOST_KNOWN)
     def kind(hop):
         if hop in (feeds.DISCARD, feeds.CONNECTED):
-            return hop
+            return hop, None
         number = feeds.address_number(hop)
-        return "via" if any(number & ~past in bases for past, bases in networks.items()) else "outside"
+        found = (bases[number & ~past] for past, bases in networks if number & ~past in bases)
+        device = next(found, None)
+        return ("outside", onlink) if device is None else ("via", device)
 
     return kind
 
@@ -101,29 +119,37 @@ def options(documentation):
     return parser
 
 
-def around(pattern, hop, device):
+def around(patterns, hop, kind, device):
     """What a pattern writes before a route's prefix and behind it."""
-    before, _, behind = pattern.partition("{prefix}")
+    before, _, behind = patterns[kind].partition("{prefix}")
     return before, behind.format(hop=hop, device=device)
 
 
-def convert(patterns, arguments, told_outside, before="", after=""):
-    """Writes each best route by the pattern of its kind; connected networks come first, since next hops lie in them."""
+def convert(patterns, arguments, told_outside, before="", after="", further=None):
+    """Writes each best route by the pattern of its kind; connected networks come first, since next hops lie in them. What
+    `further` makes of the best routes comes last. Returns the exit status."""
     if sys.stdout is None:
         raise feeds.Refused("standard output is closed")
-    best = best_routes(arguments.most)
+    notes = feeds.Notes()
+    best = best_routes(arguments.most, notes)
+    lines = list(further(best)) if further else []
     connected = [prefix for prefix, hop in best.items() if hop == feeds.CONNECTED]
     devices = devices_of(connected, arguments.device)
-    kind = kinds(connected)
+    kind = kinds(devices, arguments.onlink)
     if arguments.onlink:
         patterns = patterns | {"outside": patterns["onlink"]}
-    text = functools.lru_cache(feeds.MOST_KNOWN)(lambda hop: around(patterns[kind(hop)], hop, arguments.onlink))
+    text = functools.lru_cache(feeds.MOST_KNOWN)(lambda hop: around(patterns, hop, *kind(hop)))
     with feeds.naming("standard output"):
         sys.stdout.write(before)
         sys.stdout.writelines(patterns["device"].format(prefix=prefix, device=devices[prefix]) for prefix in connected)
         sys.stdout.writelines(prefix.join(text(hop)) for prefix, hop in best.items() if hop != feeds.CONNECTED)
+        sys.stdout.writelines(lines)
         sys.stdout.write(after)
-    outside = sum(kind(hop) == "outside" for hop in best.values())
+        sys.stdout.flush()
+    for name, number in notes.told.items():
+        feeds.say(f"{number} {name} (status {feeds.OTHERWISE})")
+    outside = sum(kind(hop)[0] == "outside" for hop in best.values())
     if outside and not arguments.onlink:
         feeds.say(f"{outside} routes have a next hop in no connected network of the table: {told_outside} "
                   "(--onlink NAME names the interface to use)")
+    return feeds.OTHERWISE if notes.differs else 0

@@ -27,11 +27,11 @@ def names_in(folder):
     return sorted(path.name for path in folder.iterdir())
 
 
-def converted(command, data, folder):
-    """What a converter says that has to succeed."""
-    status, _, said = run(command, data, folder)
-    if status:
-        raise Failed(f"{command} has status {status} and says {said}")
+def converted(command, data, folder, status=0):
+    """What a converter says that has to succeed, or to end with that status."""
+    ended, _, said = run(command, data, folder)
+    if ended != status:
+        raise Failed(f"{command} has status {ended} and says {said}")
     return said.splitlines()[1:]
 
 
@@ -39,8 +39,9 @@ def check_own(made):
     """What the converter wrote before is replaced, also where it had many more sources, and told."""
     folder = made / "own"
     many = "".join(LINE.format(number // 200, number % 200) for number in range(1500)).encode()
-    expect("many sources", converted("bgpdump-to-feeds", many, folder),
-           ["1500 feeds are in the folder; `yarib run` takes at most 64 files"])
+    expect("many sources", converted("bgpdump-to-feeds", many, folder, 3),
+           ["1500 feeds are in the folder, and `yarib` takes at most 64 files (status 3): --merge 64 has the sources with the "
+            "fewest routes share one; the sources are 127.0.0.0, 127.0.0.1, 127.0.0.2, .."])
     expect("many sources", len(files_of(folder)), 1500)
     expect("its own", converted("bgpdump-to-feeds", DUMP, folder), ["replaced 1500 feeds that bgpdump-to-feeds had written"])
     expect("its own", names_in(folder), [".written", "127.0.0.1.feed"])
@@ -125,8 +126,12 @@ def check_ended(made):
         process = started(folder)
         signal.signal(ending, before)
         process.send_signal(ending)
+        process.send_signal(signal.SIGINT)
         said = process.communicate()[1]
-        expect(ending.name, (process.returncode, said, folder.parent.exists()), (128 + ending, b"", False))
+        ended = signal.Signals(process.returncode - 128).name if process.returncode > 128 else process.returncode
+        # of two that come at once either may be the first
+        expect(ending.name, ended in (ending.name, "SIGINT"), True)
+        expect(ending.name, (said, folder.parent.exists()), (f"bgpdump-to-feeds: ended by {ended}\n".encode(), False))
     folder = made / "killed" / "feeds"
     process = started(folder)
     process.kill()

@@ -24,7 +24,7 @@ IPV6_DEFAULT = {
                     '"nexthops":[{"ip":"192.0.2.1","used":true}]}]}}',
     "openbgpd-to-feeds": '{"rib":[{"prefix":"::/0"},{"prefix":"10.0.0.0/8","neighbor":{},"exit_nexthop":"192.0.2.1",'
                          '"valid":true,"best":true,"localpref":100}]}',
-    "ip-to-feeds": '[{"dst":"::/0","gateway":"fe80::1","dev":"a","flags":[]},{"dst":"10.0.0.0/8","dev":"a","flags":[]}]',
+    "ip-to-feeds": '[{"dst":"::/0","gateway":"fe80::1","dev":"a","flags":[]},{"dst":"10.0.0.0/8","dev":"a","scope":"link","flags":[]}]',
 }
 # Routes of two protocols whose names become the same, one of which has two routes to a prefix.
 SAME_NAMES = b"""Table master4:
@@ -164,7 +164,7 @@ def check_many(made):
         data = "".join(DUMPED.format(f"127.0.{peer >> 8}.{peer & 255}", prefix) for prefix in prefixes(each)
                        for peer in range(peers))
         status, _, said = run("bgpdump-to-feeds", data.encode(), folder, constants=constants)
-        expect(f"many {name}: {said}", (status, said.split(";")[0]), (0, f"took {peers * each} routes"))
+        expect(f"many {name}: {said}", (status, said.split(";")[0]), (3 if peers > 64 else 0, f"took {peers * each} routes"))
         files = files_of(folder)
         expect(f"many {name}", len(files), peers)
         for peer in range(peers):
@@ -187,19 +187,22 @@ def at_a_time(last):
 def check_limit(made):
     """A feed of more routes than a run takes is told with the limit that it needs, of updates for as many as it has at a
     time."""
-    needs = "a feed has {0} routes: `yarib` needs --limit {0}"
-    for each, told in ((65536, []), (65537, [needs.format(65537)])):
+    needs = "a feed has {0} routes: `yarib run` needs --limit {0}, as in yarib run --batch 256 --limit {0} {1}/*.feed"
+    for each, told in ((65536, []), (65537, [needs.format(65537, made / "limit65537")])):
         data = "".join(DUMPED.format("127.0.0.1", prefix) for prefix in prefixes(each))
         said = run("bgpdump-to-feeds", data.encode(), made / f"limit{each}")[2]
         expect(f"{each} routes", said.splitlines()[1:], told)
     for last in ("W|127.0.0.1|1|10.1.0.0/16", "STATE|127.0.0.1|1|6|1"):
         data = at_a_time(last)
-        for limit, told in ((3, []), (2, [needs.format(3)])):
+        for limit in (3, 2):
             folder = made / f"at-a-time{limit}{last[0]}"
+            told = [needs.format(3, folder)] if limit == 2 else []
             said = run("bgpdump-to-feeds", data.encode(), folder, constants=f"USUAL_LIMIT = {limit}")[2]
             expect(f"routes at a time: {said}", said.splitlines()[1:], told)
     said = run("bgpdump-to-feeds", data.encode(), made / "too-many", constants="GREATEST_LIMIT = 2")[2]
-    expect("more than any limit", said.splitlines()[1:], ["a feed has 3 routes; `yarib` takes at most 2 of a feed"])
+    expect("more than any limit", said.splitlines()[1:],
+           ["127.0.0.1 has 4 routes, and a feed at most 2: it is in 127.0.0.1-1of2.feed, 127.0.0.1-2of2.feed, each prefix in one "
+            "of them"])
 
 
 def check_compressed(made):

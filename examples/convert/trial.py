@@ -1,4 +1,5 @@
 """What the tests have in common: how a converter is run."""
+import importlib
 import ipaddress
 import os
 import pathlib
@@ -39,7 +40,7 @@ def run(command, data, *more, constants="", **settings):
     return done.returncode, done.stdout.decode(), done.stderr.decode()
 
 
-def run_here(command, data, folder):
+def run_here(command, data, folder, constants=""):
     """The status of a converter and what it says, as `run`; it is run in a copy of this process, which is begun sooner."""
     name, *options = command.split()
     with tempfile.TemporaryFile() as given, tempfile.TemporaryFile() as said:
@@ -49,16 +50,19 @@ def run_here(command, data, folder):
         if child == 0:
             os.dup2(given.fileno(), 0)
             os.dup2(said.fileno(), 2)
-            run_in_child([str(HERE / name), *options, str(folder)])
+            run_in_child([str(HERE / name), *options, str(folder)], constants)
         _, status = os.waitpid(child, 0)
         said.seek(0)
         return os.waitstatus_to_exitcode(status), said.read().decode()
 
 
-def run_in_child(words):
+def run_in_child(words, constants):
     status = 0
     sys.argv = words
     try:
+        if constants:
+            sys.path.insert(0, str(HERE))
+            exec(constants, vars(importlib.import_module("feeds")))
         runpy.run_path(words[0], run_name="__main__")
     except SystemExit as ended:
         if isinstance(ended.code, str):
