@@ -1,8 +1,8 @@
 """Where the benches keep what they measured: `bench/figures/NAME.json` has the machine, the day, and a row for each
 case.
 
-A bench that is called with `--store` writes its file there. `tools/figures` makes the tables of docs/PERFORMANCE.md out
-of these files, and `tools/draw_figures.py` the pictures. It measures in the ordinary scheduling class, and doesn't
+A bench that is called with `--store` writes its file there. `bench/tables.py` makes the tables of docs/PERFORMANCE.md out
+of these files, and `bench/draw_figures.py` the pictures. It measures in the ordinary scheduling class, and doesn't
 begin to measure for a file while the machine has other work: half a processor's or more. It measures with the memory
 that ./yarib and what is installed start the program with, or, with `--default-memory`, with the C library's own; the
 plain programs have the same. What benches build besides the program is built here too."""

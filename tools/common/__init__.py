@@ -1,5 +1,5 @@
-"""What the commands of tools/ share: readers of crates, sources, definitions, clauses, changes and help, the pages of
-statements, and pictures. Scripts of other folders find it by tools/, and by it the modules of all folders."""
+"""Modules that the commands of tools/ share. Scripts of other folders find them by tools/, and by this module those of
+all folders."""
 import sys
 
 # A command leaves nothing beside the sources.

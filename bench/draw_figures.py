@@ -1,16 +1,18 @@
 #!/usr/bin/env python3
 """Draws what the benches measured, out of bench/figures/.
 
-Usage: tools/draw_figures.py [--check]. Writes time_by_prefixes.svg, time_by_feeds.svg, time_beside_others.svg,
+Usage: bench/draw_figures.py [--check]. Writes time_by_prefixes.svg, time_by_feeds.svg, time_beside_others.svg,
 lock_by_threads.svg and trie_by_size.svg into docs/pictures/, or with --check compares them with what it would write.
 Each axis begins at zero, but for the lower ones, which have one place for each number that was measured.
 """
+import html
 import statistics
+import sys
 
-from common.picture import BLUE, GREEN, QUIET, Picture, settle
 import figures
 
-ORANGE = "#b3541e"
+FOLDER = figures.TOP / "docs/pictures"
+INK, QUIET, BLUE, GREEN, ORANGE = "#222", "#777", "#1f5fa8", "#1a7f37", "#b3541e"
 # Of a panel, in a picture of so many.
 WIDTHS = {1: 560, 2: 300, 3: 260, 4: 230}
 HEIGHT, LEFT, TOP, GAP = 220, 70, 70, 70
@@ -27,6 +29,43 @@ def top_of(most):
         if factor * power >= most:
             return factor * power, parts
     return 10 * power, 5
+
+
+class Picture:
+    """Shapes on a white ground."""
+
+    def __init__(self, width, height, title):
+        self.size, self.title, self.shapes = (width, height), title, []
+
+    def text(self, x, y, words, anchor="middle", size=13, fill=INK, weight="normal"):
+        self.shapes.append(
+            f'<text x="{x:g}" y="{y:g}" text-anchor="{anchor}" font-size="{size}" fill="{fill}" '
+            f'font-weight="{weight}">{html.escape(words)}</text>'
+        )
+
+    def line(self, x1, y1, x2, y2, stroke=QUIET, width=1.5):
+        self.shapes.append(
+            f'<line x1="{x1:g}" y1="{y1:g}" x2="{x2:g}" y2="{y2:g}" stroke="{stroke}" stroke-width="{width:g}"/>'
+        )
+
+    def path(self, points, stroke, dash=False):
+        """One line through the points, with a dot at each."""
+        dashed = ' stroke-dasharray="6 4"' if dash else ""
+        joined = " ".join(f"{x:g},{y:g}" for x, y in points)
+        self.shapes.append(f'<polyline points="{joined}" fill="none" stroke="{stroke}" stroke-width="2"{dashed}/>')
+        self.shapes.extend(f'<circle cx="{x:g}" cy="{y:g}" r="3" fill="{stroke}"/>' for x, y in points)
+
+    def svg(self):
+        width, height = self.size
+        head = (
+            f'<svg xmlns="http://www.w3.org/2000/svg" width="{width}" height="{height}" '
+            f'viewBox="0 0 {width} {height}" font-family="Helvetica, Arial, sans-serif">\n'
+            f"<title>{html.escape(self.title)}</title>\n"
+            '<defs><marker id="arrow" viewBox="0 0 8 8" refX="8" refY="4" markerWidth="7" markerHeight="7" '
+            f'orient="auto"><path d="M0 0 L8 4 L0 8 z" fill="{QUIET}"/></marker></defs>\n'
+            f'<rect width="{width}" height="{height}" fill="#ffffff"/>\n'
+        )
+        return head + "\n".join(self.shapes) + "\n</svg>\n"
 
 
 class Panel:
@@ -156,8 +195,16 @@ def trie_by_size():
     return charts("The trie", "ns a call, on the clock", "prefixes", kinds, panels, kept)
 
 
-settle(
-    "draw_figures.py",
-    [(draw.__name__, draw())
-     for draw in (time_by_prefixes, time_by_feeds, time_beside_others, lock_by_threads, trie_by_size)],
-)
+def main():
+    stale = []
+    for draw in (time_by_prefixes, time_by_feeds, time_beside_others, lock_by_threads, trie_by_size):
+        path, drawn = FOLDER / f"{draw.__name__}.svg", draw().svg()
+        if "--check" not in sys.argv:
+            path.write_text(drawn)
+        elif not path.exists() or path.read_text() != drawn:
+            stale.append(path.name)
+    if stale:
+        sys.exit(f"bench/draw_figures.py: no longer true, draw them again: {', '.join(stale)}")
+
+
+main()

@@ -1,8 +1,8 @@
 #!/usr/bin/env python3
 """The tables of docs/PERFORMANCE.md, out of what the benches kept in bench/figures/.
 
-  tools/figures --write   # writes them into the page, each between its two marks
-  tools/figures --check   # ends with status 1 where one says something else
+  bench/tables.py --write   # writes them into the page, each between its two marks
+  bench/tables.py --check   # ends with status 1 where one says something else
 
 A table stands between `<!-- figures: NAME -->` and `<!-- end -->`, where bench/figures/NAME.json is what a bench kept. Of a long
 one the page shows the rows at both ends and some between, the worst among them, and of the processors' time how it compares. What
@@ -11,8 +11,8 @@ import re
 import sys
 import textwrap
 
-from common.crates import TOP
 import figures
+from common.crates import TOP
 
 PAGE = TOP / "docs/PERFORMANCE.md"
 MARKED = re.compile(r"(<!-- figures: (\w+) -->\n).*?(<!-- end -->)", re.S)
@@ -178,11 +178,11 @@ def main():
     head = page.partition("\n## ")[0]
     written = MARKED.sub(lambda found: found[1] + table(found[2], head) + found[3], page)
     if not MARKED.search(page):
-        sys.exit("tools/figures: docs/PERFORMANCE.md has no table between marks")
+        sys.exit("bench/tables.py: docs/PERFORMANCE.md has no table between marks")
     if "--write" in sys.argv:
         PAGE.write_text(written)
     elif written != page:
-        sys.exit("tools/figures: docs/PERFORMANCE.md says something else than bench/figures/; tools/figures --write mends it")
+        sys.exit("bench/tables.py: docs/PERFORMANCE.md says something else than bench/figures/; bench/tables.py --write mends it")
 
 
 main()
