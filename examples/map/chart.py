@@ -120,6 +120,11 @@ def by_length(name, column, totals, fixed):
     return Colouring(name, column, classes, legend, totals)
 
 
+def feed_text(made):
+    """Returns a function from a feed's number to its text in a legend."""
+    return lambda number: f"feed {made.feeds.texts[number]}"
+
+
 def of_table(table):
     """The ways to colour a table."""
     hops, answers, sizes = table.hops, table.sides[""], sizes_of(table.firsts)
@@ -127,7 +132,7 @@ def of_table(table):
     return [
         by_size("next hop", "hop", hop, len(hops.addresses),
                 [(NO_ROUTE, "no route", "ground"), (DISCARD, "discard", "ink")], hops.text, "further next hops"),
-        by_size("feed", "feed", feed, 256, [(NO_FEED, "no route", "ground")], "feed {}".format, "further feeds"),
+        by_size("feed", "feed", feed, 256, [(NO_FEED, "no route", "ground")], feed_text(table), "further feeds"),
         by_length("length", "length", length, [(NO_LENGTH, "no route", "ground")]),
     ]
 
@@ -145,7 +150,7 @@ def of_comparison(made, changes):
         if made.are_routes:
             colourings += [
                 by_size(f"{side}feed", f"{side}feed", feed, 256,
-                        [(SAME_FEED, "unchanged", "ground"), (NO_FEED, "no route", "ink")], "feed {}".format,
+                        [(SAME_FEED, "unchanged", "ground"), (NO_FEED, "no route", "ink")], feed_text(made),
                         "further feeds"),
                 by_length(f"{side}length", f"{side}length", length,
                           [(SAME_LENGTH, "unchanged", "ground"), (NO_LENGTH, "no route", "ink")]),

@@ -56,11 +56,12 @@ def for_script(value):
     return json.dumps(value, separators=(",", ":")).replace("<", "\\u003c")
 
 
-def page(title, kind, order, held, colourings):
+def page(title, kind, order, feeds, held, colourings):
     """The page's text."""
     about = {
         "kind": kind,
         "order": order,
+        "feeds": feeds.texts,
         "ways": chart.WAYS,
         "columns": [[name, column.itemsize, len(column)] for name, column in held.items()],
         "colourings": [vars(colouring) | {"classes": f"class by {colouring.name}"} for colouring in colourings],
@@ -78,7 +79,7 @@ def page(title, kind, order, held, colourings):
 def of_table(table, title):
     colourings = chart.of_table(table)
     title = title or f"Prefixes of the table: {table.rows:,}"
-    return page(title, "table", TABLE_ORDER, columns(table, colourings), colourings)
+    return page(title, "table", TABLE_ORDER, table.feeds, columns(table, colourings), colourings)
 
 
 def of_comparison(made, title):
@@ -86,7 +87,7 @@ def of_comparison(made, title):
     colourings = chart.of_comparison(made, changes)
     held = columns(made, colourings) | {"change": changes}
     title = title or f"Ranges answered otherwise: {made.rows:,}"
-    return page(title, "comparison", COMPARISON_ORDER, held, colourings)
+    return page(title, "comparison", COMPARISON_ORDER, made.feeds, held, colourings)
 
 
 def run(documentation, read, write, empty):

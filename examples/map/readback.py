@@ -73,7 +73,7 @@ class Page:
             return via if hop == 2 else f"via {via}"
         length = self.held[f"{side}length"][number]
         base = self.firsts[number] >> 32 - length << 32 - length
-        feed, pref = self.held[f"{side}feed"][number], self.held[f"{side}pref"][number]
+        feed, pref = self.about["feeds"][self.held[f"{side}feed"][number]], self.held[f"{side}pref"][number]
         return f"{text_of(base)}/{length} feed {feed} pref {pref} via {via}"
 
     def colours(self, number):

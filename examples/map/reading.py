@@ -1,6 +1,7 @@
-"""What a map is made of: the ranges of addresses that `yarib table --best` or `yarib diff` speaks of, and their answers."""
+"""Reads what `yarib table --best` or `yarib diff` prints, as text or as JSON: ranges of addresses and their answers."""
 import array
 import functools
+import json
 import operator
 import re
 import struct
@@ -8,9 +9,10 @@ import typing
 from socket import AF_INET, inet_pton
 
 END = 1 << 32
-GREATEST_FEED, GREATEST = 64, END - 1
-# how much is read at once; a line of more bytes than the second is none that yarib prints
-BLOCK, LONGEST = 1 << 20, 300
+# the greatest preference; the maximum number of feeds, of both sides of a comparison together
+GREATEST, MAX_FEEDS = END - 1, 128
+# bytes read at once; a longer line than the second isn't printed by yarib, also not with the longest paths
+BLOCK, LONGEST = 1 << 20, 1 << 16
 # what is answered where no next hop is: these numbers come before those of the next hops
 NO_ROUTE, UNCHANGED, DISCARD = range(3)
 NAMES = ["no route", "unchanged", "discard"]
@@ -24,7 +26,7 @@ NUMBER = struct.Struct(">I").unpack
 # the bits past a prefix of that length
 HOST_BITS = {str(length): (1 << 32 - length) - 1 for length in range(33)}
 MIXED = "some answers are next hops and some are routes: that is more than one output"
-ROUTE = re.compile(r"feed ([1-9][0-9]?) pref (0|[1-9][0-9]{0,9}) via (\S+)")
+ROUTE = re.compile(r"feed ([^ \x00-\x1f\x7f]+) pref (0|[1-9][0-9]{0,9}) via (\S+)")
 
 
 class Refused(Exception):
@@ -77,6 +79,22 @@ class Hops:
         return NAMES[number] if number < len(NAMES) else address_text(self.addresses[number])
 
 
+class Feeds:
+    """The feeds in the order in which they were met, numbered from 1: each by the number or the name that is printed."""
+
+    def __init__(self):
+        self.numbers, self.texts = {}, ["no route"]
+
+    def number(self, text):
+        found = self.numbers.get(text)
+        if found is None:
+            if len(self.numbers) == MAX_FEEDS:
+                raise Wrong(f"{shown(text)} is one feed more than {MAX_FEEDS}")
+            found = self.numbers[text] = len(self.texts)
+            self.texts.append(text)
+        return found
+
+
 class Answers:
     """What one table answers: for each range the next hop, and of the route the prefix's length, feed and preference."""
 
@@ -98,21 +116,24 @@ class Ranges(typing.NamedTuple):
     firsts: array.array
     sides: dict[str, Answers]
     hops: Hops
+    feeds: Feeds
     are_routes: bool
     rows: int
 
 
 def lines(stream):
-    """The lines without their ends. Bytes that aren't ASCII stand in none that is taken."""
-    number, rest = 0, ""
+    """Yields the lines without their ends. A character that isn't UTF-8 is replaced by one that no line may have."""
+    number, rest = 0, b""
     while block := stream.read(BLOCK):
-        *whole, rest = (rest + block.decode("ascii", errors="replace")).split("\n")
-        yield from whole
-        number += len(whole)
+        whole, end, rest = (rest + block).rpartition(b"\n")
+        if end:
+            found = whole.decode(errors="replace").split("\n")
+            yield from found
+            number += len(found)
         if len(rest) > LONGEST:
-            raise Refused(f"line {number + 1} is too long: {shown(rest)}")
+            raise Refused(f"line {number + 1} is too long: {shown(rest.decode(errors='replace'))}")
     if rest:
-        raise Refused(f"line {number + 1} has no end (LF), so the input was cut: {shown(rest)}")
+        raise Refused(f"line {number + 1} has no end (LF), so the input was cut: {shown(rest.decode(errors='replace'))}")
 
 
 def shown(text):
@@ -132,27 +153,91 @@ def each(stream, take, command):
     return count
 
 
-def route_reader(hops):
-    """What reads a route behind its prefix; rows have few such texts."""
+def route_reader(hops, feeds):
+    """Returns a function that reads a route after its prefix; few rows differ there."""
 
     @functools.lru_cache(MOST_KNOWN)
     def read(text):
         found = ROUTE.fullmatch(text)
-        if not found:
+        if not found or "\ufffd" in text:
             raise ValueError
-        feed, pref = int(found[1]), int(found[2])
-        if feed > GREATEST_FEED or pref > GREATEST:
+        pref = int(found[2])
+        if pref > GREATEST:
             raise Wrong(f"{shown(text)} has too great a number")
-        return hops.number(found[3]), feed, pref
+        return hops.number(found[3]), feeds.number(found[1]), pref
 
     return read
+
+
+# the members of an object that is a route, with the type of each; a feed's name comes before its file
+ROUTE_MEMBERS = {"prefix": str, "feed": int, "file": str, "pref": int, "via": (str, type(None))}
+NAMED_MEMBERS = {"prefix": str, "feed": int, "name": str, "file": str, "pref": int, "via": (str, type(None))}
+
+
+def has_members(found, members):
+    """Returns true if an object has these members, in this order, and no others."""
+    return list(found) == list(members) and all(type(value) is kind or isinstance(kind, tuple) and isinstance(value, kind)
+                                                for value, kind in zip(found.values(), members.values()))
+
+
+def hop_of_object(found):
+    """Returns the next hop of an object, whose members for it are removed: `via`, and with `discard` null."""
+    discard = found.pop("discard", None)
+    via = found["via"] if "via" in found else 0
+    if discard is not None and (discard is not True or via is not None) or discard is None and not isinstance(via, str):
+        raise ValueError
+    return "discard" if discard else via
+
+
+def text_of_route(found):
+    """Returns the text of a route that is an object: its feed by name if it has one."""
+    hop = hop_of_object(found)
+    if not (has_members(found, ROUTE_MEMBERS) or has_members(found, NAMED_MEMBERS)):
+        raise ValueError
+    return f"{found['prefix']} feed {found.get('name', found['feed'])} pref {found['pref']} via {hop}"
+
+
+def text_of_answer(found):
+    """Returns the text of an answer of a comparison that is null or an object."""
+    if found is None:
+        return "no route"
+    if "prefix" in found:
+        return text_of_route(found)
+    hop = hop_of_object(found)
+    if list(found) != ["via"]:
+        raise ValueError
+    return hop if hop == "discard" else f"via {hop}"
+
+
+def object_of(line):
+    """Returns the object that a line holds."""
+    found = json.loads(line)
+    if type(found) is not dict or "\ufffd" in line:
+        raise ValueError
+    return found
+
+
+def row_text(line):
+    """Returns the text of a row of a table, which may be an object."""
+    return text_of_route(object_of(line)) if line.startswith("{") else line
+
+
+def change_text(line):
+    """Returns the text of a row of a comparison, which may be an object."""
+    if not line.startswith("{"):
+        return line
+    found = object_of(line)
+    if list(found) != ["first", "last", "old", "new"]:
+        raise ValueError
+    old, new = text_of_answer(found["old"]), text_of_answer(found["new"])
+    return f"{found['first']}-{found['last']} {old} -> {new}"
 
 
 def read_table(stream):
     """The ranges of the rows of `yarib table --best`: each address has the longest prefix that covers it. A prefix is
     open until its last address is behind; those that are open lie in one another."""
-    hops, firsts, answers = Hops(), array.array("I"), []
-    route = route_reader(hops)
+    hops, feeds, firsts, answers = Hops(), Feeds(), array.array("I"), []
+    route = route_reader(hops, feeds)
     opened, at, before = [(END, without_route(NO_ROUTE))], 0, (-1, 0)
 
     def close(base):
@@ -173,7 +258,7 @@ def read_table(stream):
 
     def take(line):
         nonlocal before
-        prefix, _, rest = line.partition(" ")
+        prefix, _, rest = row_text(line).partition(" ")
         base, last, length = prefix_range(prefix)
         hop, feed, pref = route(rest)
         if (base, length) <= before:
@@ -184,7 +269,7 @@ def read_table(stream):
 
     rows = each(stream, take, "yarib table --best")
     close(END)
-    return Ranges(firsts, {"": Answers(answers)}, hops, True, rows)
+    return Ranges(firsts, {"": Answers(answers)}, hops, feeds, True, rows)
 
 
 def refuse_order(prefix, is_same):
@@ -193,9 +278,9 @@ def refuse_order(prefix, is_same):
     raise Wrong(f"{prefix} is not in the order of a table: it stands behind a greater prefix")
 
 
-def answer_reader(hops):
+def answer_reader(hops, feeds):
     """What reads an answer of `yarib diff`: the answer, and the range of its route's prefix, if it has one."""
-    route = route_reader(hops)
+    route = route_reader(hops, feeds)
 
     def read(text):
         if text == "no route":
@@ -219,9 +304,9 @@ def hop_address(text):
     return text
 
 
-def change_reader(hops):
+def change_reader(hops, feeds):
     """What reads both answers of a row: these, the ranges of their prefixes, and whether they are routes."""
-    answer = answer_reader(hops)
+    answer = answer_reader(hops, feeds)
 
     @functools.lru_cache(MOST_KNOWN)
     def read(text):
@@ -242,8 +327,8 @@ def change_reader(hops):
 
 def read_diff(stream):
     """The ranges of `yarib diff`, and those between them, which are answered as before."""
-    hops, firsts, olds, news = Hops(), array.array("I"), [], []
-    change = change_reader(hops)
+    hops, feeds, firsts, olds, news = Hops(), Feeds(), array.array("I"), [], []
+    change = change_reader(hops, feeds)
     same, at, are_routes = (UNCHANGED, SAME_LENGTH, SAME_FEED, 0), 0, None
 
     def append(first, old, new):
@@ -253,7 +338,7 @@ def read_diff(stream):
 
     def take(line):
         nonlocal at, are_routes
-        span, _, said = line.partition(" ")
+        span, _, said = change_text(line).partition(" ")
         first, dash, last = span.partition("-")
         if not dash:
             raise ValueError
@@ -270,7 +355,7 @@ def read_diff(stream):
     rows = each(stream, take, "yarib diff")
     if at < END:
         append(at, same, same)
-    return Ranges(firsts, {"old ": Answers(olds), "new ": Answers(news)}, hops, are_routes is True, rows)
+    return Ranges(firsts, {"old ": Answers(olds), "new ": Answers(news)}, hops, feeds, are_routes is True, rows)
 
 
 def check_range(first, last, at, prefixes):

@@ -5,6 +5,7 @@ the same answer. So the look-ups at these addresses tell what every address is a
 import collections
 import functools
 import itertools
+import pathlib
 import random
 import subprocess
 
@@ -219,8 +220,29 @@ def cases(made):
     return tables, [*((files(first), files(second)) for first, second in COMPARISONS), (old, new)]
 
 
+def check_forms(program, files, old, new):
+    """A page is the same if `yarib` prints objects, and by name has the names of the files in place of numbers."""
+    plain, by_json, named, named_json = (
+        page_of("table-to-map", yarib(program, "table", "--best", *options, *files))
+        for options in ((), ("--json",), ("--names",), ("--names", "--json")))
+    expect("what a page holds of a table in JSON", (by_json.held, by_json.about), (plain.held, plain.about))
+    expect("what a page holds of a table in JSON by name", (named_json.held, named_json.about), (named.held, named.about))
+    expect("ranges and answers of a table by name", named.held, plain.held)
+    names = [pathlib.Path(files[int(number) - 1]).name.removesuffix(".feed") for number in plain.about["feeds"][1:]]
+    expect("names of the feeds of a table", named.about["feeds"][1:], names)
+    for options in ((), ("--by", "route"), ("--names", "--by", "route")):
+        words = ("diff", *options, *old, "--", *new)
+        plain = page_of("diff-to-map", yarib(program, *words))
+        by_json = page_of("diff-to-map", yarib(program, words[0], "--json", *words[1:]))
+        expect(f"what a page holds of {words} in JSON", (by_json.held, by_json.about), (plain.held, plain.about))
+    expect("names of the feeds of a comparison", set(plain.about["feeds"][1:]) <= {
+        pathlib.Path(file).name.removesuffix(".feed") for file in (*old, *new)}, True)
+
+
 def check(program, made):
     tables, comparisons = cases(made)
+    for files, (old, new) in ((tables[0], comparisons[0]), (tables[-1], comparisons[-1])):
+        check_forms(program, files, old, new)
     for files in tables:
         check_table(program, made, files)
     for old, new in comparisons:

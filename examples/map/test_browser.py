@@ -123,7 +123,8 @@ STEPS = [
 
 
 def views(page, said):
-    """The views that are asked for, with some of their dots: those where an answer begins or ends, and random ones."""
+    """Yields the views to be compared, with some of their dots: those where an answer begins or ends, the last, and random
+    ones."""
     draw = random.Random(61)
     begins = [address for address in said if page.firsts[page.range_of(address)] == address]
     bases = {(0, 0)} | {(draw.choice(begins) >> 32 - length << 32 - length, length) for length in (8, 16) for _ in range(3)}
@@ -133,6 +134,7 @@ def views(page, said):
         within = [(address - base) // size for address in begins if base <= address < base + (1 << 32 - length)]
         dots = set(draw.sample(within, min(len(within), CELLS_ASKED)))
         dots |= {draw.randrange(4**order) for _ in range(CELLS_ASKED)}
+        dots.add(4**order - 1)
         if base <= DENSE < base + (1 << 32 - length):
             dots.add((DENSE - base) // size)
         # where the dots lie in the view, from where they lie among all addresses
@@ -157,17 +159,30 @@ class Said:
             first, at = behind, at + 1
 
 
-def expected_colours(scheme, colouring, said, first, last):
-    """The colour that most addresses have which don't have the ground's; of as many the one that the legend has first. Then
-    the colour where the legend's last line is shown alone: that, if any address has it."""
+# of a comparison the strength of a cell's colour, by the greatest share of its addresses that change
+SHARES = ((1 / 16, 0.4), (1 / 4, 0.6), (3 / 4, 0.8), (1, 1))
+
+
+def mixed(scheme, colour, share, is_table):
+    """Returns a colour mixed with the ground's: of a comparison by the share of the addresses that change."""
+    strength = 1 if is_table else next(strength for most, strength in SHARES if share <= most)
+    parts = zip(*([int(scheme[name][at : at + 2], 16) for at in (1, 3, 5)] for name in ("ground", colour)))
+    return "#" + "".join(f"{int(ground + (own - ground) * strength + 0.5):02x}" for ground, own in parts)
+
+
+def expected_colours(scheme, colouring, said, first, last, is_table):
+    """Returns the colour that most addresses have which don't have the ground's; of as many the one that the legend has
+    first. Then the colour if only the legend's last line is shown: that, if any address has it."""
     legend = colouring["legend"]
     texts = {text: number for number, (text, *_) in enumerate(legend)}
     counts = [0] * (len(texts) + 1)
     for begin, end, (_, colours) in said.parts(first, last):
         counts[texts.get(colours[colouring["name"]], len(texts) - 1)] += end + 1 - begin
     most = max(range(1, len(counts)), key=lambda number: counts[number])
-    alone = len(legend) - 1
-    return [scheme[legend[number if counts[number] else 0][1]] for number in (most, alone)]
+    alone, size = len(legend) - 1, last + 1 - first
+    shares = (size - counts[0]) / size, counts[alone] / size
+    return [mixed(scheme, legend[number if counts[number] else 0][1], share, is_table)
+            for number, share in zip((most, alone), shares)]
 
 
 def expected_words(said, first, size, length):
@@ -218,7 +233,7 @@ def check_shown(browser, made, page, said, dark):
             where = f"dot {dot} of {text_of(base)}/{length}"
             for colouring, colours in zip(page.about["colourings"], found["colours"], strict=True):
                 expect(f"the colours of {where} by {colouring['name']}", [shown[number] for shown in colours],
-                       expected_colours(scheme, colouring, said, first, first + size - 1))
+                       expected_colours(scheme, colouring, said, first, first + size - 1, page.about["kind"] == "table"))
             begin = first - first % cell
             goes = text_of(begin) + (f"/{length + 16}" if length < 16 else "")
             expect(f"what is said of {where}, and where a click goes", found["pointed"][number],
