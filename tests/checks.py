@@ -94,6 +94,12 @@ def compiled(folder, source, *options):
     return made
 
 
+def meeting(folder):
+    """The environment of a run whose feeds meet: each `add` is held up inside the lock until another feed waits there
+    (tests/waits.c), so that they alternate on a busy machine too."""
+    return os.environ | {"LD_PRELOAD": str(compiled(folder, "tests/waits.c", "-shared", "-fPIC")), "HOLD_UP": "1"}
+
+
 def built_benches(*words):
     """The program of bench/benches, in a workspace outside the repository, which is proved and built first and run with
     these words."""

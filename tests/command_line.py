@@ -378,9 +378,18 @@ def pages(yarib):
     for name in ("run", "lookup", "table", "diff", "replay"):
         for words in ([name, "--help"], [name, "-h"], ["help", name], [name, "--help", "row.feed"]):
             expect(f"{words}", yarib(*words), (0, page(name), ""))
+    stored = lambda name: (TOP / "tests" / "help" / name).read_text()
     for words in (["--version"], ["-V"]):
         expect(f"{words}", yarib(*words), (0, "yarib 0.1.0\n", ""))
+    expect("the version that ./yarib prints without a program", stored("version"), "yarib 0.1.0\n")
     expect("no word", yarib(), (3, "", page("yarib")))
+    # What ./yarib says of such words without a program: all but a hint at a similar word, and where it belongs.
+    for name, listed in (("no-subcommand", ("walk", "RUN", "runs", "row.feed", "-", "a b", "help.")),
+                         ("no-option", ("--frob", "--limit", "--limits", "--help-me", "--versions", "--run"))):
+        for words in [[one, *more] for one in listed for more in ([], ["run", "row.feed"], ["--help"])]:
+            status, out, err = yarib(*words)
+            found = re.sub(r"\n\n  tip: .*?\n\nUsage: yarib (--\w+ )?", "\n\nUsage: yarib ", err, flags=re.S)
+            expect(f"{words}, without a hint", (status, out, found), (3, "", stored(name).replace("WORD", words[0])))
     for words, part in (
         (["walk"], "'walk'"), (["help", "walk"], "'walk'"), (["row.feed"], "'row.feed'"), (["run"], "<FILE>"),
         ([""], "''"), (["run", "--frob", "row.feed"], "'--frob'"), (["replay", "--limit", "1"], "'--limit'"),
@@ -968,21 +977,28 @@ def progress(yarib):
 
 # Fails where the line is written each 200 ms, or every other second: `the second line comes after ..`.
 def line_each_second(yarib):
-    """A held up run says a second time after two seconds how far it has come, or somewhat later beside other work."""
+    """A held up run says a second time after two seconds how far it has come; later beside other work, but not each time."""
     os.mkfifo("slow.feed")
+    seconds = []
+    while not seconds or not 2 <= seconds[-1] < 2.9 and len(seconds) < 8:
+        seconds.append(seconds_to_second_line(yarib))
+    expect(f"the second line comes after {seconds} seconds", min(seconds) >= 2 and min(seconds) < 2.9, True)
+
+
+def seconds_to_second_line(program):
     began, told = time.monotonic(), b"yarib: files read: 0 of 1"
     screen, terminal = pty.openpty()
     tty.setraw(terminal)
-    child = subprocess.Popen([yarib, "run", "slow.feed"], stdout=subprocess.DEVNULL, stderr=terminal)
+    child = subprocess.Popen([program, "run", "slow.feed"], stdout=subprocess.DEVNULL, stderr=terminal)
     os.close(terminal)
     sent = b""
     while sent.count(told) < 2 and (piece := sent_to(screen)):
         sent += piece
     seconds = time.monotonic() - began
-    expect(f"the second line comes after {seconds:.1f} seconds", 2 <= seconds < 4, True)
     pathlib.Path("slow.feed").write_text(ROW)
     expect("a run that told twice how far it has come", child.wait(timeout=120), 0)
     os.close(screen)
+    return round(seconds, 1)
 
 
 # Fails where the line tells only of the old feeds of a comparison: `32 busy feeds compared with 32`.

@@ -53,8 +53,8 @@ echo "end $crate" >>"$NOTES"
 """
 # That for the linker puts the program where the words want it.
 LINKER = """#!/bin/sh
-if [ "$LINKER_FAILS" ]; then exit 1; fi
 while [ "$1" != -o ]; do shift; done
+if [ "$LINKER_FAILS" ]; then echo half >"$2"; exit 1; fi
 cp "$STARTED" "$2"
 """
 # What the launcher sets of glibc's memory.
@@ -81,6 +81,7 @@ class Copy:
         for path in self.top.rglob("*"):
             os.utime(path, (time.time() - 1_000,) * 2)
         self.notes.write_text("")
+        shutil.copytree(TOP / "tests/help", self.top / "tests/help")
 
     def names(self, path="with"):
         """The environment of a call."""
@@ -103,7 +104,7 @@ class Copy:
 
     def built_by_call(self):
         """What the stand-in notes of a call, which has to start the program."""
-        expect("the program is started", self.start("x")[:2], (0, told(["x"], self.top)))
+        expect("the program is started", self.start("run", "x")[:2], (0, told(["run", "x"], self.top)))
         return self.built()
 
     def product(self, crate):
@@ -136,7 +137,7 @@ def with_own(tunables):
 # Fails where the program is started in the repository's folder, or by another name: `from elsewhere`, `the words []`.
 # Fails where a user's own tunables are lost: `a user's own tunables`.
 def what_it_is_given(copy):
-    copy.start()
+    copy.start("run")
     for words in (
         [], ["run"], ["run", "--limit", "3", "--batch", "4", "one.feed", "two.feed"],
         [str(count) for count in range(300)],
@@ -146,15 +147,15 @@ def what_it_is_given(copy):
     status, out, _ = copy.start(b"\xff", "--")
     expect("a word that is no text", (status, out.split("\0")[:4]), (0, ["3", "yarib", "\\xff", "--"]))
     for status in (1, 2, 6, 126, 127, 255):
-        expect(f"the status {status}", copy.start("x", names={"STARTED_STATUS": str(status)})[::2], (status, ""))
-    expect("standard input", copy.start("x", stdin=None, input=b"10.0.0.1\n"),
-           (0, told(["x"], copy.top, given="10.0.0.1\n"), ""))
+        expect(f"the status {status}", copy.start("run", names={"STARTED_STATUS": str(status)})[::2], (status, ""))
+    expect("standard input", copy.start("run", stdin=None, input=b"10.0.0.1\n"),
+           (0, told(["run"], copy.top, given="10.0.0.1\n"), ""))
     own = "glibc.malloc.arena_max=2"
-    ended = copy.start("x", names={"GLIBC_TUNABLES": own})
-    expect("a user's own tunables", ended, (0, told(["x"], copy.top, tunables=with_own(own)), ""))
+    ended = copy.start("run", names={"GLIBC_TUNABLES": own})
+    expect("a user's own tunables", ended, (0, told(["run"], copy.top, tunables=with_own(own)), ""))
     link = copy.top.parent / "called"
     link.symlink_to(copy.top / "yarib")
-    expect("from elsewhere", copy.start("x", by=link, cwd=link.parent), (0, told(["x"], link.parent), ""))
+    expect("from elsewhere", copy.start("run", by=link, cwd=link.parent), (0, told(["run"], link.parent), ""))
     expect("what is built for calls with nothing changed",
            len([note for note in copy.built() if note == "begin rt_app"]), 1)
 
@@ -194,17 +195,17 @@ def what_is_built_anew(copy):
     for name in ("crates/rt_trie/must-fail/m.edit", *others, "crates/rt_trie/out/rlib", "README.md", "tests/rows.py"):
         copy.change(name)
         expect(f"not built where {name} is another", copy.built_by_call(), [])
-    copy.start("x", names={"VERSION": "2"})
+    copy.start("run", names={"VERSION": "2"})
     expect("not built where only the toolchain is another", copy.built(), [])
     copy.change("crates/rt_app/src/main.rt")
-    copy.start("x", names={"VERSION": "2"})
+    copy.start("run", names={"VERSION": "2"})
     expect("built where the toolchain is another", begun(copy.built()), whole)
 
 
 # Fails where the program of an edit that was taken back is started, or anything below crates/ counts as built: `the edit
 # taken back`.
 def taken_back(copy):
-    copy.start()
+    copy.start("run")
     copy.built()
     source = copy.top / "crates/rt_app/src/main.rt"
     text = source.read_text()
@@ -229,14 +230,14 @@ def beside_the_gate(copy):
     kept.parent.mkdir(parents=True)
     kept.write_text("kept\n")
     for round in ("first", "second"):
-        copy.start("x")
+        copy.start("run")
         expect(f"what the toolchain says of the tree after the {round} ./yarib", refused_files(copy.top), None)
         judged = {crate: copy.top / f"crates/{crate}/out/{crate}" for crate in ("rt_app", "yarib_c")}
         for path in judged.values():
             path.parent.mkdir(exist_ok=True)
             path.write_text(f"of the gate's {round} run")
         copy.change("crates/rt_app/src/main.rt")
-        copy.start("x")
+        copy.start("run")
         copy.start("yarib_c", by=copy.top / "tools/build")
         expect(f"the gate's own files after the {round} run",
                (kept.read_text(), [path.read_text() for path in judged.values()]),
@@ -272,7 +273,7 @@ def begun_build(copy, crate):
     pid.unlink(missing_ok=True)
     how = {"env": copy.names() | {"HANGS": crate}, "stdin": subprocess.DEVNULL, "cwd": copy.top,
            "stdout": subprocess.PIPE, "stderr": subprocess.PIPE, "start_new_session": True}
-    with subprocess.Popen([copy.top / "yarib", "x"], **how) as call:
+    with subprocess.Popen([copy.top / "yarib", "run"], **how) as call:
         wait_until(lambda: pid.exists() and pid.read_text().endswith("\n"))
         yield call, int(pid.read_text())
         if call.poll() is None:
@@ -334,20 +335,20 @@ def command(pid):
 # Fails where a folder that can't be written, a full disk, a toolchain of another logic or a missing python3 is not told of
 # in a line, or something counts as built then: `.. : its line`, `built after ..`.
 def what_is_missing(copy):
-    status, out, err = copy.start("x", names={"LOGIC": "another"})
+    status, out, err = copy.start("run", names={"LOGIC": "another"})
     expect("a toolchain of another logic: its line", (status, out, len(err.splitlines()), LOGIC in err), (127, "", 1, True))
     (copy.tools / "bare").mkdir()
     for name in ("bash", "dirname", "readlink", "rt"):
         (copy.tools / "bare" / name).symlink_to(copy.tools / "with" / name)
-    status, out, err = copy.start("x", path="bare")
+    status, out, err = copy.start("run", path="bare")
     expect("python3 missing: its line", (status, out, len(err.splitlines()), "python3" in err), (127, "", 1, True))
     (copy.top / "out").write_text("no folder\n")
-    status, out, err = copy.start("x")
+    status, out, err = copy.start("run")
     expect("a folder that can't be made: its line", (status, out, len(err.splitlines())), (126, "", 1))
     (copy.top / "out").unlink()
     # A file may have 100 kB, so that one can't be written whole: as on a full disk.
     (copy.top / "crates/rt_rib/src/lib.rt").write_text("// " + "x" * 150_000 + "\n")
-    limited = ["bash", "-c", 'trap "" XFSZ; ulimit -f 100; exec "$0" "$@"', copy.top / "yarib", "x"]
+    limited = ["bash", "-c", 'trap "" XFSZ; ulimit -f 100; exec "$0" "$@"', copy.top / "yarib", "run"]
     status, out, err = run(limited, env=copy.names(), stdin=subprocess.DEVNULL, cwd=copy.top)
     expect("a file that can't be written: its line", (status, out, "can't be built" in err.splitlines()[-1]),
            (126, "", True))
@@ -358,7 +359,7 @@ def what_is_missing(copy):
 
 # Fails where the prover has other words than these, such as ones that leave out its checks: `the words for the prover`.
 def words_for_the_prover(copy):
-    copy.start("x")
+    copy.start("run")
     known = {"--jobs", "--crate-name", "--extern", "-L", "--antt-project", "--logic-built", "--links", "--statements", "-o",
              "--toolchain", "--backend"}
     for line in pathlib.Path(f"{copy.notes}.words").read_text().splitlines():
@@ -377,7 +378,7 @@ def begun(notes):
 # Fails where a crate is proved before one that it needs: `rt_trie begins when rt_cidr has ended`.
 # Fails where a crate that the program needs isn't proved, or another one is: `what is proved`.
 def in_order(copy):
-    status, _, err = copy.start("x")
+    status, _, err = copy.start("run")
     noted = copy.built()
     expect("what is proved", ({note.split()[1] for note in noted}, status), (below(["rt_app"]), 0))
     for crate in sorted(below(["rt_app"])):
@@ -390,9 +391,9 @@ def in_order(copy):
 # Fails where nothing keeps two builds apart: `three calls at once build once`, `two builds at once prove each crate once`.
 def one_at_a_time(copy):
     with concurrent.futures.ThreadPoolExecutor(3) as pool:
-        ended = list(pool.map(lambda word: copy.start(word), "xyz"))
+        ended = list(pool.map(copy.start, ("run", "table", "diff")))
     expect("three calls at once start the program", [one[:2] for one in ended],
-           [(0, told([word], copy.top)) for word in "xyz"])
+           [(0, told([word], copy.top)) for word in ("run", "table", "diff")])
     expect("three calls at once build once", copy.built().count("begin rt_app"), 1)
     copy.change("crates/rt_cidr/src/lib.rt")
     with concurrent.futures.ThreadPoolExecutor(2) as pool:
@@ -405,12 +406,12 @@ def one_at_a_time(copy):
 # Fails where what a killed prover, a failing linker or a prover without checks left counts as built: `a prover is killed`,
 # `the linker fails`, `a prover says of nothing that it is proved`.
 def failed_builds(copy):
-    copy.start()
+    copy.start("run")
     for crate in ("ya_core", "rt_run", "rt_app"):
         copy.change("crates/rt_cidr/src/lib.rt")
         copy.change("crates/ya_core/src/lib.rt")
         copy.built()
-        status, out, err = copy.start("x", names={"FAILS": crate})
+        status, out, err = copy.start("run", names={"FAILS": crate})
         log = copy.top / f"out/build/{crate}.log"
         is_told = f"{crate} is not proved; {log}" in err, log.read_text() == f"no proof of {crate}\n"
         expect(f"{crate} fails", (status, out, *is_told), (126, "", True, True))
@@ -419,7 +420,7 @@ def failed_builds(copy):
     for how, names in (("a prover is killed", {"DIES": "rt_app"}), ("the linker fails", {"LINKER_FAILS": "1"}),
                        ("a prover says of nothing that it is proved", {"SILENT": "rt_app"})):
         copy.change("crates/rt_app/src/main.rt")
-        expect(f"{how}: no program", copy.start("x", names=names)[:2], (126, ""))
+        expect(f"{how}: no program", copy.start("run", names=names)[:2], (126, ""))
         copy.built()
         expect(f"{how}: built after it", begun(copy.built_by_call()), {"rt_app"})
 
@@ -447,38 +448,61 @@ def libraries(copy):
 
 # Fails where the lock of a build is kept while the program runs: `built while the program runs`.
 def beside_a_run(copy):
-    copy.start()
+    copy.start("run")
     how = {"env": copy.names(), "stdin": subprocess.PIPE, "stdout": subprocess.PIPE, "cwd": copy.top}
     for round in ("found built", "just built"):
-        with subprocess.Popen([copy.top / "yarib", "x"], **how) as running:
-            wait_until(lambda: b"yarib\0x" in command(running.pid))
+        with subprocess.Popen([copy.top / "yarib", "run"], **how) as running:
+            wait_until(lambda: b"yarib\0run" in command(running.pid))
             copy.change("crates/rt_cidr/src/lib.rt")
-            expect(f"built while the program runs that was {round}", copy.start("x", timeout=60)[0], 0)
+            expect(f"built while the program runs that was {round}", copy.start("run", timeout=60)[0], 0)
             copy.change("crates/rt_app/src/main.rt")
-            expect("it still runs", running.communicate()[0].decode(), told(["x"], copy.top))
+            expect("it still runs", running.communicate()[0].decode(), told(["run"], copy.top))
 
 
 # Fails where a source that was changed during the build counts as built: `a source was changed while ..`.
 def changed_meanwhile(copy):
     for crate in ("rt_diff", "rt_app"):
         copy.change("crates/rt_cidr/src/lib.rt")
-        copy.start(names={"CHANGES": crate})
+        copy.start("run", names={"CHANGES": crate})
         copy.built()
         expect(f"a source was changed while {crate} was built", copy.built_by_call().count("end rt_app"), 1)
     expect("nothing was changed since", copy.built_by_call(), [])
 
 
+# Fails where help, the version or a word that is no command has a program built, or another text or status; where they
+# still come from the texts once there is a program.
+def without_a_program(copy):
+    page = lambda name: (TOP / "tests/help" / name).read_text()
+    known = [([name, flag], 0, f"{name}.txt") for name in ("run", "lookup", "table", "diff", "replay")
+             for flag in ("--help", "-h")]
+    known += [(["help", name], 0, f"{name}.txt") for name in ("run", "replay")]
+    known += [(["run", "--help", "one.feed"], 0, "run.txt"), (["--version"], 0, "version"), (["-V"], 0, "version")]
+    known += [([word], 0, "yarib.txt") for word in ("--help", "-h", "help")]
+    for words, status, name in known:
+        expect(f"without a program {words}", copy.start(*words, path="without"), (status, page(name), ""))
+    expect("without a program, no word", copy.start(path="without"), (3, "", page("yarib.txt")))
+    for words, name in ((["walk"], "no-subcommand"), (["a&b\\c", "x"], "no-subcommand"), (["--frob", "run"], "no-option")):
+        misuse = page(name).replace("WORD", words[0])
+        expect(f"without a program {words}", copy.start(*words, path="without"), (3, "", misuse))
+    expect("nothing is built for them", copy.built(), [])
+    for words in (["run", "one.feed", "--help"], ["help", "walk"], ["-hx"], ["--help=x"], ["--"], ["run"], ["a\tb"]):
+        expect(f"what needs a program {words}", copy.start(*words, path="without")[0], 127)
+    copy.start("run", "x.feed")
+    for words in (["--help"], ["--version"], ["walk"], []):
+        expect(f"with a program {words}", copy.start(*words), (0, told(words, copy.top), ""))
+
+
 # Fails where the toolchain is asked for though nothing is to be built, or its want has another status: `without rt`.
 # Fails where something is built or removed in a folder that isn't the repository: `a folder without sources`.
 def nothing_to_build_with(copy):
-    status, out, err = copy.start("x", path="without")
+    status, out, err = copy.start("run", path="without")
     expect("without rt", (status, out, "PATH" in err and "rt" in err), (127, "", True))
-    copy.start()
-    expect("built, and then without rt", copy.start("x", path="without"), (0, told(["x"], copy.top), ""))
+    copy.start("run")
+    expect("built, and then without rt", copy.start("run", path="without"), (0, told(["run"], copy.top), ""))
     copy.built()
     for name in ("crates.txt", "crates/rt_app/src/main.rt"):
         (copy.top / name).rename(copy.top / "kept")
-        status, out, err = copy.start("x")
+        status, out, err = copy.start("run")
         expect(f"a folder without sources: no {name}", (status, out, str(copy.top) in err, copy.built()),
                (126, "", True, []))
         (copy.top / "kept").rename(copy.top / name)
@@ -549,7 +573,8 @@ def put_tools(folder):
 
 CASES = (
     what_it_is_given, what_is_built_anew, taken_back, beside_the_gate, interrupted, what_is_missing, words_for_the_prover,
-    in_order, one_at_a_time, failed_builds, libraries, beside_a_run, changed_meanwhile, nothing_to_build_with, completions,
+    in_order, one_at_a_time, failed_builds, libraries, beside_a_run, changed_meanwhile, nothing_to_build_with,
+    without_a_program, completions,
 )
 
 
