@@ -1,9 +1,9 @@
-// Package yarib has IPv4 routing tables whose answers are proved.
+// Package yarib provides IPv4 routing tables with proved answers.
 //
-// Feeds are 1 to 64; the least preference number is preferred, and of equal ones the least feed. After an error all is as it was.
-// One call at a time may be on a Table, look-ups too: goroutines share one behind a lock of theirs. A Forwarding answers look-ups of
-// several goroutines at once, each of which has a handle of its own (Share). Close frees what is held at once, and else the garbage
-// collector does.
+// Feeds are 1 to 64. The lowest preference number is preferred; between equal preferences, the lowest feed. After an error the
+// table is unchanged. Only one call at a time may use a Table, also for look-ups: goroutines share one behind their own lock. A
+// Forwarding answers look-ups of several goroutines concurrently; each has its own handle (Share). Close frees memory at once;
+// otherwise the garbage collector does.
 package yarib
 
 // #cgo CFLAGS: -I${SRCDIR}/../c
@@ -20,17 +20,17 @@ import (
 	"unsafe"
 )
 
-// Why a call did nothing.
+// The reasons why a call did nothing.
 var (
 	ErrClosed  = errors.New("yarib: the table is closed")
-	ErrNumber  = errors.New("yarib: a limit or a feed is out of its range")
-	ErrCommand = errors.New("yarib: a prefix or an address is none of IPv4")
-	ErrMemory  = errors.New("yarib: memory was refused")
-	ErrSize    = errors.New("yarib: two lists are not as long")
-	ErrText    = errors.New("yarib: the text is no prefix")
+	ErrNumber  = errors.New("yarib: a limit or a feed is out of range")
+	ErrCommand = errors.New("yarib: a prefix or an address isn't IPv4")
+	ErrMemory  = errors.New("yarib: out of memory")
+	ErrSize    = errors.New("yarib: two lists differ in length")
+	ErrText    = errors.New("yarib: the text isn't a prefix")
 	ErrLength  = errors.New("yarib: the length is over 32")
 	ErrBits    = errors.New("yarib: a bit past the length is set")
-	ErrKind    = errors.New("yarib: the table can't be asked this")
+	ErrKind    = errors.New("yarib: the table doesn't support this call")
 )
 
 func failed(status C.uint32_t) error {
@@ -57,7 +57,7 @@ func failed(status C.uint32_t) error {
 	return ErrNumber
 }
 
-// Hop is where packets go: to the router with this address, or, where it is the zero Hop, nowhere.
+// Hop is the next hop of a route: the router with this address or, for the zero Hop, none.
 type Hop struct {
 	via netip.Addr
 }
@@ -70,7 +70,7 @@ func Via(router netip.Addr) Hop {
 	return Hop{router}
 }
 
-// Router is the address of the router, if packets go to one.
+// Router returns the address of the router, if there is one.
 func (hop Hop) Router() (netip.Addr, bool) {
 	return hop.via, hop.via.IsValid()
 }
@@ -127,7 +127,7 @@ func routesOf(raw []C.yarib_route) []Route {
 	return routes
 }
 
-// Operation is what a command does.
+// Operation is the kind of a command.
 type Operation uint32
 
 // The operations.
@@ -140,7 +140,7 @@ const (
 	Purge    Operation = C.YARIB_PURGE    // take all of the feed's routes out
 )
 
-// Command is a command of a feed. What its operation doesn't speak of isn't read.
+// Command is a command of a feed. Fields that its operation doesn't use aren't read.
 type Command struct {
 	Operation Operation
 	Feed      uint32
@@ -150,7 +150,7 @@ type Command struct {
 	Hop       Hop
 }
 
-// numbers are those of the command. What isn't of IPv4 becomes a length that there is not, or a hop.
+// numbers returns the command for C. A prefix or hop that isn't IPv4 becomes an invalid length or hop.
 func (command Command) numbers() C.yarib_command {
 	raw := C.yarib_command{operation: C.uint32_t(command.Operation), feed: C.uint32_t(command.Feed), pref: C.uint32_t(command.Pref)}
 	if command.Operation == Lookup {
@@ -178,7 +178,7 @@ func (command Command) numbers() C.yarib_command {
 	return raw
 }
 
-// Code is what a command was answered.
+// Code is the kind of a reply.
 type Code uint32
 
 // The codes.
@@ -195,14 +195,14 @@ const (
 	Purged    Code = C.YARIB_PURGED
 )
 
-// Reply is what a command was answered: Count is of Dumped and Purged, Route of Found.
+// Reply is the reply to a command. Count is set for Dumped and Purged, Route for Found.
 type Reply struct {
 	Code  Code
 	Count uint32
 	Route Route
 }
 
-// Outcome is what became of one of many commands: its reply, or why it has none.
+// Outcome is the reply to one of several commands, or the reason why there is none.
 type Outcome struct {
 	Reply Reply
 	Err   error
@@ -213,7 +213,7 @@ func replyOf(raw *C.yarib_reply) Reply {
 	return Reply{Code(raw.code), uint32(raw.count), route}
 }
 
-// Part says of which prefixes routes are asked for.
+// Part selects the prefixes of routes.
 type Part uint32
 
 // The parts.
@@ -224,8 +224,8 @@ const (
 	Exact    Part = C.YARIB_EXACT    // the prefix alone
 )
 
-// Selection says which routes are asked for: to which prefixes, of which feed, or with 0 of any, and with OnlyBest only the best
-// route to each prefix.
+// Selection selects routes: their prefixes, their feed (0 for all feeds) and, with OnlyBest, only the best route of each
+// prefix.
 type Selection struct {
 	Part     Part
 	Prefix   netip.Prefix
@@ -233,7 +233,7 @@ type Selection struct {
 	OnlyBest bool
 }
 
-// handle is what C calls one. It is never copied.
+// handle is a handle of the C library. It is never copied.
 type handle struct {
 	inside C.yarib
 }
@@ -248,7 +248,7 @@ func (one *handle) free() {
 	C.yarib_free(&one.inside)
 }
 
-// Table is a routing table. It is made by New or NewJournaled.
+// Table is a routing table, created by New or NewJournaled.
 type Table struct {
 	held *handle
 }
@@ -261,22 +261,22 @@ func made(limit uint32, kind C.uint32_t) (*Table, error) {
 	return table, nil
 }
 
-// New makes an empty table in which each feed may have so many routes, 1 to 1,000,000. Its memory is bounded by its routes.
+// New returns an empty table in which each feed may have up to limit routes, 1 to 1,000,000. Its memory is bounded by its routes.
 func New(limit uint32) (*Table, error) {
 	return made(limit, C.YARIB_PLAIN)
 }
 
-// NewJournaled makes one that keeps each command that it answered, 56 bytes each, for good.
+// NewJournaled returns an empty table with a journal that keeps every answered command, 56 bytes each.
 func NewJournaled(limit uint32) (*Table, error) {
 	return made(limit, C.YARIB_JOURNALED)
 }
 
-// Close frees what the table holds. Closing twice is harmless.
+// Close frees the table's memory. Closing twice is harmless.
 func (table *Table) Close() {
 	table.held.free()
 }
 
-// Apply answers a command.
+// Apply executes a command and returns its reply.
 func (table *Table) Apply(command Command) (Reply, error) {
 	asked, raw := command.numbers(), C.yarib_reply{}
 	if err := failed(C.yarib_apply(&table.held.inside, &asked, &raw)); err != nil {
@@ -285,7 +285,7 @@ func (table *Table) Apply(command Command) (Reply, error) {
 	return replyOf(&raw), nil
 }
 
-// ApplyEach answers the commands one after another. One that has no reply doesn't keep the others back.
+// ApplyEach executes the commands in order. A command that fails doesn't stop the others.
 func (table *Table) ApplyEach(commands []Command) ([]Outcome, error) {
 	// One more, so that there is a first one.
 	asked, replies := make([]C.yarib_command, len(commands)+1), make([]C.yarib_reply, len(commands)+1)
@@ -307,12 +307,12 @@ func (table *Table) ApplyEach(commands []Command) ([]Outcome, error) {
 	return outcomes, nil
 }
 
-// Add puts a route in.
+// Add executes an Add command.
 func (table *Table) Add(feed uint32, prefix netip.Prefix, pref uint32, hop Hop) (Reply, error) {
 	return table.Apply(Command{Operation: Add, Feed: feed, Prefix: prefix, Pref: pref, Hop: hop})
 }
 
-// Withdraw takes a route out.
+// Withdraw executes a Withdraw command.
 func (table *Table) Withdraw(feed uint32, prefix netip.Prefix) (Reply, error) {
 	return table.Apply(Command{Operation: Withdraw, Feed: feed, Prefix: prefix})
 }
@@ -330,17 +330,17 @@ func lookUp(held *handle, asked netip.Addr) (Route, bool, error) {
 	return route, found, nil
 }
 
-// Answers are those to many look-ups, one after another.
+// Answers has the answers to several look-ups, in order.
 type Answers struct {
 	raw []C.yarib_route
 }
 
-// Len is how many there are.
+// Len returns the number of answers.
 func (answers Answers) Len() int {
 	return len(answers.raw) - 1
 }
 
-// At is the answer at an index: a route, if there is one.
+// At returns the answer at an index: a route, if there is one.
 func (answers Answers) At(k int) (Route, bool) {
 	return routeOf(&answers.raw[k])
 }
@@ -354,17 +354,17 @@ func lookUpEach(held *handle, addresses []uint32) (Answers, error) {
 	return Answers{raw}, failed(C.yarib_look_up(&held.inside, first, size, &raw[0], size))
 }
 
-// LookUp is the best route of the longest prefix that covers the address, if one does.
+// LookUp returns the best route of the longest prefix that covers the address, if there is one.
 func (table *Table) LookUp(address netip.Addr) (Route, bool, error) {
 	return lookUp(table.held, address)
 }
 
-// LookUpEach answers look-ups of all these addresses, the first octet the most significant, which takes less time than one by one.
+// LookUpEach looks up all these addresses, in host byte order, in less time than one call each.
 func (table *Table) LookUpEach(addresses []uint32) (Answers, error) {
 	return lookUpEach(table.held, addresses)
 }
 
-// whole is a list of which the call tells how long it is: of another size it is asked once more.
+// whole returns a whole list. The call reports its length; if the list is longer than expected, it is called once more.
 func whole(call func(room []C.yarib_route, total *C.size_t) C.uint32_t) ([]Route, error) {
 	total, room := C.size_t(64), []C.yarib_route{}
 	for int(total) > len(room) {
@@ -376,7 +376,7 @@ func whole(call func(room []C.yarib_route, total *C.size_t) C.uint32_t) ([]Route
 	return routesOf(room[:total]), nil
 }
 
-// LookUpAll are all routes whose prefix covers the address, the best first.
+// LookUpAll returns all routes whose prefix covers the address, the best first.
 func (table *Table) LookUpAll(address netip.Addr) ([]Route, error) {
 	base, isRight := number(address)
 	if !isRight {
@@ -387,7 +387,7 @@ func (table *Table) LookUpAll(address netip.Addr) ([]Route, error) {
 	})
 }
 
-// Select are the routes that are asked for, by base, length, preference and feed.
+// Select returns the selected routes, sorted by base, length, preference and feed.
 func (table *Table) Select(asked Selection) ([]Route, error) {
 	raw := C.yarib_selection{part: C.uint32_t(asked.Part), feed: C.uint32_t(asked.Feed)}
 	if asked.OnlyBest {
@@ -405,26 +405,26 @@ func (table *Table) Select(asked Selection) ([]Route, error) {
 	})
 }
 
-// Routes are all routes by base, length, preference and feed.
+// Routes returns all routes, sorted by base, length, preference and feed.
 func (table *Table) Routes() ([]Route, error) {
 	return table.Select(Selection{Part: All})
 }
 
-// Place is a place in the order of a table's routes, whether or not there is such a route. No route to the prefix stands before
-// preference and feed 0.
+// Place is a position in the order of a table's routes; there need not be such a route. Preference and feed 0 are before all
+// routes to the prefix.
 type Place struct {
 	Prefix netip.Prefix
 	Pref   uint32
 	Feed   uint32
 }
 
-// Behind is the place behind a route, from which the next page goes on.
+// Behind returns the position after a route, at which the next page begins.
 func (route Route) Behind() Place {
 	return Place{Prefix: route.Prefix, Pref: route.Pref, Feed: route.Feed + 1}
 }
 
-// RoutesFrom are the routes, by base, length, preference and feed, from a place on, so many at most. It takes memory for them
-// alone.
+// RoutesFrom returns up to the given number of routes, sorted by base, length, preference and feed, from a position on. It
+// allocates memory only for them.
 func (table *Table) RoutesFrom(from Place, most int) ([]Route, error) {
 	base, isRight := number(from.Prefix.Addr())
 	if !isRight || from.Prefix.Bits() < 0 || most < 0 {
@@ -438,14 +438,14 @@ func (table *Table) RoutesFrom(from Place, most int) ([]Route, error) {
 	return routesOf(room[:used]), nil
 }
 
-// Count is how many routes there are.
+// Count returns the number of routes.
 func (table *Table) Count() (int, error) {
 	total := C.size_t(0)
 	err := failed(C.yarib_count(&table.held.inside, &total))
 	return int(total), err
 }
 
-// Reserve makes room for so many entries of the journal, if there is one.
+// Reserve reserves capacity for this many journal entries, if there is a journal.
 func (table *Table) Reserve(entries int) error {
 	return failed(C.yarib_reserve(&table.held.inside, C.size_t(entries)))
 }
@@ -471,7 +471,7 @@ func entryOf(raw *C.yarib_entry) Entry {
 	return Entry{command, replyOf(&raw.reply)}
 }
 
-// Journal is all that was answered, of a table that keeps it; ErrKind of any other.
+// Journal returns the journal of a table that keeps one, and ErrKind otherwise.
 func (table *Table) Journal() ([]Entry, error) {
 	total, room := C.size_t(64), []C.yarib_entry{}
 	for int(total) > len(room) {
@@ -487,7 +487,7 @@ func (table *Table) Journal() ([]Entry, error) {
 	return entries, nil
 }
 
-// By says by what the answers of two tables are told apart.
+// By says how the answers of two tables are compared.
 type By uint32
 
 // The ways.
@@ -496,14 +496,14 @@ const (
 	ByRoute By = 1 // by the whole route
 )
 
-// Difference is a range of addresses that two tables answer otherwise. An answer that is there says so.
+// Difference is a range of addresses for which two tables give different answers. Each answer says whether there is a route.
 type Difference struct {
 	First, Last    netip.Addr
 	Old, New       Route
 	HasOld, HasNew bool
 }
 
-// Differences are the ranges that this table and a newer one answer otherwise, one after another.
+// Differences returns the ranges for which this table and a newer one give different answers, in order.
 func (table *Table) Differences(newer *Table, by By) ([]Difference, error) {
 	found, raw := []Difference{}, C.yarib_difference{}
 	if table.held == newer.held {
@@ -525,8 +525,9 @@ func (table *Table) Differences(newer *Table, by By) ([]Difference, error) {
 	return found, nil
 }
 
-// Follow makes a forwarding table beside this one, 64 MiB and more, if there is none yet: it follows each command from then on, and
-// look-ups go by it. Where a command finds no memory for it, it goes until this is called again. ErrKind where a journal is kept.
+// Follow attaches a forwarding table of 64 MiB or more, if none is attached. From then on every command updates it, and look-ups use
+// it. If a command finds no memory for the update, the forwarding table is freed until this is called again. It returns ErrKind if
+// the table keeps a journal.
 func (table *Table) Follow() error {
 	return failed(C.yarib_follow(&table.held.inside))
 }
@@ -537,18 +538,17 @@ func memory(held *handle) (int, error) {
 	return int(bytes), err
 }
 
-// Memory is about how many bytes it takes, with what is beside it.
+// Memory returns an estimate of the table's size in bytes, including an attached forwarding table.
 func (table *Table) Memory() (int, error) {
 	return memory(table.held)
 }
 
-// Forwarding is what a table answered each address when this was made: 64 MiB and more, for look-ups that read memory two or three
-// times.
+// Forwarding has a table's answers at the time when it was created: 64 MiB or more, for look-ups with two or three memory reads.
 type Forwarding struct {
 	held *handle
 }
 
-// Forward makes a forwarding table of what this table answers now.
+// Forward returns a forwarding table with the current answers of this table.
 func (table *Table) Forward() (*Forwarding, error) {
 	forwarding := &Forwarding{newHandle()}
 	if err := failed(C.yarib_forward(&table.held.inside, &forwarding.held.inside)); err != nil {
@@ -557,7 +557,7 @@ func (table *Table) Forward() (*Forwarding, error) {
 	return forwarding, nil
 }
 
-// Share is another handle on it, for another goroutine. The memory goes with the last of its handles.
+// Share returns another handle to it, for another goroutine. The memory is freed with the last handle.
 func (forwarding *Forwarding) Share() (*Forwarding, error) {
 	other := &Forwarding{newHandle()}
 	if err := failed(C.yarib_share(&forwarding.held.inside, &other.held.inside)); err != nil {
@@ -566,27 +566,27 @@ func (forwarding *Forwarding) Share() (*Forwarding, error) {
 	return other, nil
 }
 
-// Close lets the handle go. Closing twice is harmless.
+// Close releases the handle. Closing twice is harmless.
 func (forwarding *Forwarding) Close() {
 	forwarding.held.free()
 }
 
-// LookUp is the best route of the longest prefix that covers the address, if one does.
+// LookUp returns the best route of the longest prefix that covers the address, if there is one.
 func (forwarding *Forwarding) LookUp(address netip.Addr) (Route, bool, error) {
 	return lookUp(forwarding.held, address)
 }
 
-// LookUpEach answers look-ups of all these addresses, the first octet the most significant.
+// LookUpEach looks up all these addresses, in host byte order.
 func (forwarding *Forwarding) LookUpEach(addresses []uint32) (Answers, error) {
 	return lookUpEach(forwarding.held, addresses)
 }
 
-// Memory is how many bytes it takes, for all its handles together.
+// Memory returns its size in bytes, counted once for all its handles.
 func (forwarding *Forwarding) Memory() (int, error) {
 	return memory(forwarding.held)
 }
 
-// ParsePrefix reads a prefix, as 10.0.0.0/8: no leading zeros, and no bit set past the length.
+// ParsePrefix parses a prefix such as 10.0.0.0/8, without leading zeros and without a bit set past the length.
 func ParsePrefix(text string) (netip.Prefix, error) {
 	bytes, read := C.CString(text), C.yarib_prefix{}
 	defer C.free(unsafe.Pointer(bytes))

@@ -1,4 +1,4 @@
-"""IPv4 routing tables whose answers are proved, for Python 3.9 and later.
+"""IPv4 routing tables with proved answers, for Python 3.9 and later.
 
     import yarib
 
@@ -9,12 +9,12 @@
         table.look_up("192.0.2.1")                      # None
 
 A prefix is a text ("10.0.0.0/8"), an ipaddress.IPv4Network or a pair (base, length) of numbers; an address is a text,
-an ipaddress.IPv4Address or a number. Feeds are 1 to 64; the least preference number is preferred, and of equal ones the
-least feed. A number, a text or a prefix that isn't one is a ValueError, want of memory a MemoryError; after either all
-is as it was.
+an ipaddress.IPv4Address or a number. Feeds are 1 to 64. The lowest preference number is preferred; between equal
+preferences, the lowest feed. An invalid number, text or prefix raises ValueError, and MemoryError means out of memory;
+after either error the table is unchanged.
 
-A Table may be used by several threads: each call holds Python's lock, so it is one at a time. A Forwarding is asked by
-threads at the same time: each thread has a handle of its own on it, and a look-up of many lets other threads run.
+Several threads may use a Table: each call holds Python's global lock, so only one runs at a time. Several threads can
+query a Forwarding concurrently: each thread has its own handle, and a look-up of many lets other threads run.
 """
 from ._library import STATUS, VERSION
 from ._tables import (

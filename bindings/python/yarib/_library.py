@@ -1,4 +1,4 @@
-"""The shared library and what its header declares."""
+"""The shared library and the declarations of its header."""
 import ctypes
 import ctypes.util
 import os
@@ -78,7 +78,7 @@ CALLS = {
 
 
 def file_of_library():
-    """Where the shared library lies: as YARIB_LIBRARY says, beside this package, or where the system finds it."""
+    """Returns the path of the shared library: YARIB_LIBRARY, in this package's directory, or where the system finds it."""
     if named := os.environ.get("YARIB_LIBRARY"):
         return named
     beside = pathlib.Path(__file__).with_name(NAME)
@@ -100,15 +100,15 @@ held, freed = load(ctypes.PyDLL), load(ctypes.CDLL)
 
 
 class Refused(RuntimeError):
-    """A call that what the handle holds can't be asked, or a table that was closed."""
+    """The table is closed, or doesn't support the call."""
 
 
 def check(status):
-    """Raises what a status stands for."""
+    """Raises the error that a status means."""
     if status == DONE:
         return
     if status == NO_MEMORY:
-        raise MemoryError("yarib: memory was refused")
+        raise MemoryError("yarib: out of memory")
     if status in (NOTHING, WRONG_KIND):
-        raise Refused("the table is closed" if status == NOTHING else "what the handle holds can't be asked this")
+        raise Refused("the table is closed" if status == NOTHING else "the table doesn't support this call")
     raise ValueError(f"yarib: {STATUS[status]}")

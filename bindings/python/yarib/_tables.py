@@ -17,7 +17,7 @@ class Exists(ValueError):
 
 
 class Full(ValueError):
-    """The feed has as many routes as its limit allows; nothing changed."""
+    """The feed is at its limit; nothing changed."""
 
 
 class Missing(KeyError):
@@ -25,7 +25,7 @@ class Missing(KeyError):
 
 
 class Route(NamedTuple):
-    """A feed's route: to the addresses of a prefix, through the router `via`, or None where packets are discarded."""
+    """A feed's route to the addresses of a prefix. `via` is the router, or None if packets are discarded."""
     base: int
     length: int
     feed: int
@@ -46,8 +46,8 @@ class Route(NamedTuple):
 
 
 class Difference(NamedTuple):
-    """Addresses that two tables answer otherwise, from first to last. By next hop an answer is an address, None where
-    packets are discarded, or False where there is no route; by route it is a Route or None."""
+    """A range of addresses for which two tables give different answers. When next hops are compared, an answer is an
+    address, None if packets are discarded, or False if there is no route; otherwise it is a Route or None."""
     first: int
     last: int
     before: object
@@ -55,8 +55,8 @@ class Difference(NamedTuple):
 
 
 class Outcome(NamedTuple):
-    """What became of a command: "added", "exists", "full", "replaced", "withdrawn", "missing", "found", "no route",
-    "dumped", "purged", or "unanswered" with the status that says why."""
+    """The outcome of a command: "added", "exists", "full", "replaced", "withdrawn", "missing", "found", "no route",
+    "dumped", "purged", or "unanswered" with the status as the reason."""
     said: str
     count: int
     route: Optional[Route]
@@ -64,13 +64,13 @@ class Outcome(NamedTuple):
 
 
 class Entry(NamedTuple):
-    """An entry of the journal: a feed's command, as the words of `apply`, and what it was answered."""
+    """An entry of the journal: a feed's command, as the arguments of `apply`, and its reply."""
     command: tuple
     outcome: Outcome
 
 
 def address_of(value):
-    """The number of an address."""
+    """Returns the number of an address."""
     if isinstance(value, str):
         found = ctypes.c_uint32()
         text = value.encode("utf-8", "surrogateescape")
@@ -80,7 +80,7 @@ def address_of(value):
 
 
 def number(value, said="a number"):
-    """A number of 32 bits: ctypes would cut off what is over."""
+    """Returns a number of 32 bits or raises: ctypes would drop further bits."""
     value = int(value)
     if not 0 <= value < 1 << 32:
         raise ValueError(f"yarib: {value} is not {said} of 32 bits")
@@ -88,7 +88,7 @@ def number(value, said="a number"):
 
 
 def prefix_of(value):
-    """The base and length of a prefix."""
+    """Returns the base and length of a prefix."""
     if isinstance(value, str):
         found = c.RawPrefix()
         text = value.encode("utf-8", "surrogateescape")
@@ -120,7 +120,7 @@ NAMES = {number: name for name, number in OPERATIONS.items()}
 
 
 def command_of(feed, name, *words):
-    """A command by its words, as in ("add", prefix, pref, via) or ("lookup", address)."""
+    """Returns a command from its arguments, such as ("add", prefix, pref, via) or ("lookup", address)."""
     operation = OPERATIONS[name]
     raw = c.RawCommand(operation=operation, feed=number(feed, "a feed"))
     if operation == c.LOOKUP:
@@ -141,7 +141,7 @@ def command_of(feed, name, *words):
 
 
 def words_of(raw):
-    """The words of a command."""
+    """Returns the arguments of a command."""
     prefix = NETWORK((raw.base, raw.len)) if raw.operation <= c.WITHDRAW else None
     name = NAMES[raw.operation]
     if raw.operation in (c.ADD, c.REPLACE):
@@ -152,8 +152,8 @@ def words_of(raw):
 
 
 class Answers:
-    """The answers to many look-ups, one after another: a Route or None each. They lie in one block of memory, 20 bytes
-    each, which `memory` and `numpy.frombuffer(answers.memory(), answers.dtype)` read without a copy."""
+    """The answers to several look-ups, in order: a Route or None each. They are in one block of memory, 20 bytes each,
+    which `memory` and `numpy.frombuffer(answers.memory(), answers.dtype)` read without a copy."""
 
     dtype = {"names": ["base", "pref", "via", "feed", "len", "hop"], "formats": ["u4", "u4", "u4", "u4", "u1", "u1"],
              "offsets": [0, 4, 8, 12, 16, 17], "itemsize": ctypes.sizeof(c.RawRoute)}
@@ -174,12 +174,12 @@ class Answers:
         return map(route_of, self.raw)
 
     def memory(self):
-        """The block of memory, to be read."""
+        """Returns the block of memory, read-only."""
         return memoryview(self.block).toreadonly()
 
 
 def addresses_of(addresses):
-    """The addresses as a block that C reads, without a copy where they are a writable buffer of 32-bit numbers."""
+    """Returns the addresses as a block for C, without a copy if they are a writable buffer of 32-bit numbers."""
     try:
         view = memoryview(addresses)
     except TypeError:
@@ -213,14 +213,14 @@ def bytes_of(handle):
 
 
 class Handle:
-    """What C calls a handle, freed with this object."""
+    """A handle of the C library, freed with this object."""
 
     def __init__(self):
         self._handle = ctypes.c_void_p()
         self._at = ctypes.byref(self._handle)
 
     def close(self):
-        """Frees what the handle holds. Closing twice is harmless."""
+        """Frees the handle's contents. Closing twice is harmless."""
         held.yarib_free(self._at)
 
     def __del__(self):
@@ -235,22 +235,22 @@ class Handle:
 
 
 class Table(Handle):
-    """A routing table in which each feed may have `limit` routes, 1 to 1,000,000. With `journal` it keeps each command
-    that it answered, 56 bytes each, for good."""
+    """A routing table in which each feed may have `limit` routes, 1 to 1,000,000. With `journal` it keeps every
+    answered command, 56 bytes each."""
 
     def __init__(self, limit=1_000_000, journal=False):
         super().__init__()
         check(held.yarib_new(self._at, number(limit, "a limit"), int(bool(journal))))
 
     def apply(self, feed, name, *words):
-        """What a command of the feed is answered: add or replace with prefix, preference and via, withdraw with prefix,
-        lookup with address, dump and purge."""
+        """Executes a command of the feed and returns its outcome: add or replace with prefix, preference and via, withdraw
+        with prefix, lookup with address, dump or purge."""
         raw, reply = command_of(feed, name, *words), c.RawReply()
         check(held.yarib_apply(self._at, ctypes.byref(raw), ctypes.byref(reply)))
         return outcome_of(reply)
 
     def apply_each(self, commands):
-        """What became of each command, given as the words of `apply`: a list of outcomes."""
+        """Executes commands, given as the arguments of `apply`, and returns the list of their outcomes."""
         raw = [command_of(*words) for words in commands]
         if not raw:
             return []
@@ -266,37 +266,37 @@ class Table(Handle):
             raise Missing(f"feed {feed}: {prefix}")
 
     def add(self, prefix, via, pref=0, feed=1):
-        """Puts a route in; `via` None discards packets. Raises Exists or Full."""
+        """Adds a route; `via` None discards packets. Raises Exists or Full."""
         self._change(prefix, feed, "add", pref, via)
 
     def replace(self, prefix, via, pref=0, feed=1):
-        """Gives the feed's route another preference and next hop. Raises Missing."""
+        """Changes preference and next hop of the feed's route. Raises Missing."""
         self._change(prefix, feed, "replace", pref, via)
 
     def withdraw(self, prefix, feed=1):
-        """Takes the feed's route out. Raises Missing."""
+        """Removes the feed's route. Raises Missing."""
         self._change(prefix, feed, "withdraw")
 
     def purge(self, feed=1):
-        """Takes all of the feed's routes out, and returns how many there were."""
+        """Removes all routes of the feed and returns their number."""
         return self.apply(feed, "purge").count
 
     def look_up(self, address):
-        """The best route of the longest prefix that covers the address, or None."""
+        """Returns the best route of the longest prefix that covers the address, or None."""
         return ask_one(held, self._at, address)
 
     def look_up_each(self, addresses):
-        """The answers to look-ups of all these addresses: any iterable, or a buffer of numbers of 32 bits."""
+        """Looks up all these addresses and returns the Answers. They are any iterable, or a buffer of 32-bit numbers."""
         return ask(held, self._at, addresses)
 
     def look_up_all(self, address):
-        """All routes whose prefix covers the address, the best first."""
+        """Returns all routes whose prefix covers the address, the best first."""
         address = address_of(address)
         found = self._pages(c.RawRoute, 64, lambda *place: held.yarib_look_up_all(self._at, address, *place))
         return [route_of(raw) for raw in found]
 
     def _pages(self, kind, size, call):
-        """All of a list, which is told in two calls at most while it doesn't change."""
+        """Returns a whole list, in at most two calls while it doesn't change."""
         total = ctypes.c_size_t()
         while True:
             block = (kind * size)()
@@ -311,23 +311,23 @@ class Table(Handle):
         return total.value
 
     def routes(self, feed=None, best=False):
-        """The routes by base, length, preference and feed: all, or a feed's, or with `best` the best of each prefix (of
-        a feed then those of them that are the feed's)."""
+        """Returns the routes, sorted by base, length, preference and feed: all, or those of a feed. With `best` only the
+        best of each prefix; with a feed, only those best routes that belong to the feed."""
         if feed is not None or best:
             return self._select(c.ALL, (0, 0), feed, best)
         found = self._pages(c.RawRoute, len(self) + 1, lambda *place: held.yarib_routes(self._at, *place))
         return [route_of(raw) for raw in found]
 
     def exact(self, prefix, feed=None, best=False):
-        """The routes to this prefix, the best first, as `routes` has them."""
+        """Returns the routes to this prefix, the best first, selected as in `routes`."""
         return self._select(c.EXACT, prefix_of(prefix), feed, best)
 
     def within(self, prefix, feed=None, best=False):
-        """The routes to this prefix and to the longer ones in it, as `routes` has them."""
+        """Returns the routes to this prefix and to longer prefixes inside it, selected as in `routes`."""
         return self._select(c.WITHIN, prefix_of(prefix), feed, best)
 
     def covering(self, prefix, feed=None, best=False):
-        """The routes to this prefix and to the shorter ones that it lies in, as `routes` has them."""
+        """Returns the routes to this prefix and to shorter prefixes that contain it, selected as in `routes`."""
         return self._select(c.COVERING, prefix_of(prefix), feed, best)
 
     def _select(self, part, prefix, feed, best):
@@ -339,9 +339,9 @@ class Table(Handle):
         return [route_of(raw) for raw in found]
 
     def routes_from(self, prefix, pref=0, feed=0):
-        """An iterator over the routes, as `routes` has them, from the place of this prefix, preference and feed on: no
-        route to the prefix stands before preference and feed 0. It takes memory for a page of them alone. The table may
-        change meanwhile: a route is told, or not, by what is there when its turn comes, and none twice."""
+        """Iterates over the routes, in the order of `routes`, from the position of this prefix, preference and feed on.
+        Preference and feed 0 are before all routes to the prefix. Allocates memory for one page of routes. The table
+        may change during the iteration: a route is included if it exists when its turn comes, and never twice."""
         base, length = prefix_of(prefix)
         return self._pages_from(c.RawRoute(base, number(pref, "a preference"), 0, number(feed, "a feed"), length))
 
@@ -355,24 +355,24 @@ class Table(Handle):
             place.feed += 1
 
     def __iter__(self):
-        """An iterator over all routes, page by page, as `routes_from` goes."""
+        """Iterates over all routes, page by page, like `routes_from`."""
         return self.routes_from((0, 0))
 
     def __contains__(self, prefix):
-        """Whether some feed has a route to just this prefix."""
+        """Returns True if some feed has a route to exactly this prefix."""
         return bool(self.exact(prefix))
 
     def journal(self):
-        """Each command that was answered, with its outcome. Raises Refused where the table keeps none."""
+        """Returns each answered command with its outcome. Raises Refused if the table keeps no journal."""
         raws = self._pages(c.RawEntry, ENTRIES, lambda *place: held.yarib_journal(self._at, *place))
         return [Entry(words_of(raw.command), outcome_of(raw.reply)) for raw in raws]
 
     def reserve(self, entries):
-        """Makes room for so many entries of the journal, if there is one."""
+        """Reserves capacity for this many journal entries, if there is a journal."""
         check(held.yarib_reserve(self._at, entries))
 
     def differences(self, other, by="hop"):
-        """The ranges of addresses that this table and another one answer otherwise, by "hop" or by "route"."""
+        """Iterates over the ranges for which this table and another give different answers, by "hop" or by "route"."""
         if other is self:
             return
         kind, told = {"hop": (0, hop_of), "route": (1, route_of)}[by]
@@ -386,17 +386,17 @@ class Table(Handle):
             first = raw.last + 1
 
     def forward(self):
-        """A forwarding table of what this table answers now."""
+        """Returns a forwarding table with the current answers of this table."""
         return Forwarding(self)
 
     def follow(self):
-        """Makes a forwarding table beside this one, 64 MiB and more, if there is none yet: it follows each command from
-        then on, and look-ups go by it. Where a command finds no memory for it, it goes until this is called again. A
-        table with a journal refuses."""
+        """Attaches a forwarding table of 64 MiB or more, if none is attached. From then on every command updates it, and
+        look-ups use it. If a command finds no memory for the update, the forwarding table is freed until this is called
+        again. Raises Refused if the table keeps a journal."""
         check(held.yarib_follow(self._at))
 
     def memory(self):
-        """About how many bytes it takes, with what is beside it."""
+        """Returns an estimate of its size in bytes, including an attached forwarding table."""
         return bytes_of(self._at)
 
 
@@ -405,8 +405,8 @@ def hop_of(raw):
 
 
 class Forwarding:
-    """What a table answered each address when this was made: 64 MiB and more, for look-ups that read memory two or
-    three times. Threads ask it at the same time."""
+    """A table's answers at the time when this was created: 64 MiB or more, for look-ups with two or three memory reads.
+    Several threads can query it concurrently."""
 
     def __init__(self, table):
         self._first = Handle()
@@ -414,7 +414,7 @@ class Forwarding:
         check(held.yarib_forward(table._at, self._first._at))
 
     def _mine(self):
-        """This thread's own handle."""
+        """Returns this thread's own handle."""
         if not hasattr(self._own, "handle"):
             handle = Handle()
             check(held.yarib_share(self._first._at, handle._at))
@@ -422,13 +422,13 @@ class Forwarding:
         return self._own.handle._at
 
     def look_up(self, address):
-        """The best route of the longest prefix that covers the address, or None."""
+        """Returns the best route of the longest prefix that covers the address, or None."""
         return ask_one(held, self._mine(), address)
 
     def look_up_each(self, addresses):
-        """The answers to look-ups of all these addresses. Other threads run meanwhile."""
+        """Looks up all these addresses and returns the Answers. Other threads run meanwhile."""
         return ask(c.freed, self._mine(), addresses)
 
     def memory(self):
-        """How many bytes it takes."""
+        """Returns its size in bytes."""
         return bytes_of(self._first._at)

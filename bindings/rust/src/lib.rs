@@ -12,9 +12,10 @@
 //! # Ok::<(), yarib::Error>(())
 //! ```
 //!
-//! Feeds are 1 to 64; the least preference number is preferred, and of equal ones the least feed. After an [`Error`] all is as
-//! it was. Look-ups take `&mut self`, as one call at a time may be on a table: threads share one behind a lock of theirs. A
-//! [`Forwarding`] answers look-ups of several threads at once, each of which has a handle of its own ([`Forwarding::share`]).
+//! Feeds are 1 to 64. The lowest preference number is preferred; between equal preferences, the lowest feed. After an [`Error`]
+//! the table is unchanged. Look-ups take `&mut self`: only one call at a time may use a table, so threads share one behind their
+//! own lock. A [`Forwarding`] answers look-ups of several threads concurrently; each has its own handle
+//! ([`Forwarding::share`]).
 #![deny(unsafe_code)]
 #![warn(missing_docs)]
 
@@ -24,22 +25,22 @@ use std::fmt;
 use std::net::Ipv4Addr;
 use std::str::FromStr;
 
-/// Why a call did nothing.
+/// The reason why a call did nothing.
 #[derive(Clone, Copy, Debug, PartialEq, Eq)]
 pub enum Error {
-    /// A limit or a feed is out of its range.
+    /// A limit or a feed is out of range.
     Number,
-    /// Memory was refused.
+    /// Out of memory.
     Memory,
-    /// A text is no prefix.
+    /// The text isn't a prefix.
     Text,
     /// The length of a prefix is over 32.
     Length,
     /// A bit past the length of a prefix is set.
     Bits,
-    /// Two lists are not as long.
+    /// Two lists differ in length.
     Size,
-    /// The table keeps no journal, or one where none may be kept.
+    /// The call needs a table with a journal, or one without.
     Kind,
 }
 
@@ -60,20 +61,20 @@ impl Error {
 impl fmt::Display for Error {
     fn fmt(&self, f: &mut fmt::Formatter<'_>) -> fmt::Result {
         f.write_str(match self {
-            Error::Number => "a limit or a feed is out of its range",
-            Error::Memory => "memory was refused",
-            Error::Text => "the text is no prefix",
+            Error::Number => "a limit or a feed is out of range",
+            Error::Memory => "out of memory",
+            Error::Text => "the text isn't a prefix",
             Error::Length => "the length is over 32",
             Error::Bits => "a bit past the length is set",
-            Error::Size => "two lists are not as long",
-            Error::Kind => "the table can't be asked this",
+            Error::Size => "two lists differ in length",
+            Error::Kind => "the table doesn't support this call",
         })
     }
 }
 
 impl std::error::Error for Error {}
 
-/// What a call gives.
+/// The result of a call.
 pub type Result<T> = std::result::Result<T, Error>;
 
 /// An IPv4 prefix: no bit of the base past the length is set.
@@ -84,7 +85,10 @@ pub struct Prefix {
 }
 
 impl Prefix {
-    /// The prefix of this base and length.
+    /// Returns the prefix with this base and length.
+    ///
+    /// # Errors
+    /// [`Error::Length`], [`Error::Bits`].
     pub fn new(base: Ipv4Addr, len: u8) -> Result<Prefix> {
         if len > 32 {
             return Err(Error::Length);
@@ -95,12 +99,12 @@ impl Prefix {
         Ok(Prefix { base, len })
     }
 
-    /// The first address that it covers.
+    /// Returns the first address that it covers.
     pub fn base(&self) -> Ipv4Addr {
         self.base
     }
 
-    /// How many leading bits it fixes, 0 to 32.
+    /// Returns the number of leading bits that it fixes, 0 to 32.
     #[allow(clippy::len_without_is_empty)]
     pub fn len(&self) -> u8 {
         self.len
@@ -129,12 +133,12 @@ impl fmt::Display for Prefix {
     }
 }
 
-/// Where packets to a route's addresses go.
+/// The next hop of a route.
 #[derive(Clone, Copy, Debug, PartialEq, Eq, Hash)]
 pub enum Hop {
-    /// To the router with this address.
+    /// The router with this address.
     Via(Ipv4Addr),
-    /// Nowhere: they are discarded.
+    /// None: packets are discarded.
     Discard,
 }
 
@@ -167,11 +171,11 @@ impl fmt::Display for Hop {
 /// One feed's route to a prefix.
 #[derive(Clone, Copy, Debug, PartialEq, Eq, Hash)]
 pub struct Route {
-    /// The addresses that it serves.
+    /// The addresses that it covers.
     pub prefix: Prefix,
     /// The feed that announced it, from 1.
     pub feed: u32,
-    /// The preference number; the least is preferred.
+    /// The preference number; the lowest is preferred.
     pub pref: u32,
     /// The next hop.
     pub hop: Hop,
@@ -201,17 +205,17 @@ impl fmt::Display for Route {
 /// A command of a feed.
 #[derive(Clone, Copy, Debug, PartialEq, Eq)]
 pub enum Command {
-    /// Put in a route, unless the feed has one of this prefix or as many as its limit allows.
+    /// Inserts a route, unless the feed has one to this prefix or is at its limit.
     Add(Prefix, u32, Hop),
-    /// Give the feed's route of this prefix another preference and next hop.
+    /// Changes preference and next hop of the feed's route to this prefix.
     Replace(Prefix, u32, Hop),
-    /// Take out the feed's route of this prefix.
+    /// Removes the feed's route to this prefix.
     Withdraw(Prefix),
-    /// Ask for the best route of the longest prefix that covers the address.
+    /// Finds the best route of the longest prefix that covers the address.
     Lookup(Ipv4Addr),
-    /// Ask how many routes there are.
+    /// Counts the routes of all feeds.
     Dump,
-    /// Take out all of the feed's routes.
+    /// Removes all routes of the feed.
     Purge,
 }
 
@@ -267,33 +271,33 @@ impl Command {
     }
 }
 
-/// What a command is answered.
+/// The reply to a command.
 #[derive(Clone, Copy, Debug, PartialEq, Eq)]
 pub enum Reply {
-    /// The route was put in.
+    /// The route was inserted.
     Added,
-    /// The feed has a route of this prefix already; nothing changed.
+    /// The feed already has a route to this prefix; nothing changed.
     Exists,
-    /// The feed has as many routes as its limit allows; nothing changed.
+    /// The feed is at its limit; nothing changed.
     Full,
     /// The feed's route has the new preference and next hop.
     Replaced,
-    /// The feed's route was taken out.
+    /// The feed's route was removed.
     Withdrawn,
-    /// The feed has no route of this prefix; nothing changed.
+    /// The feed has no route to this prefix; nothing changed.
     Missing,
     /// The best route of the longest prefix that covers the address.
     Found(Route),
     /// No prefix covers the address.
     NoRoute,
-    /// How many routes there are.
+    /// The number of routes of all feeds.
     Dumped(u32),
-    /// The feed's routes were taken out, which were so many.
+    /// This many routes of the feed were removed.
     Purged(u32),
 }
 
 impl Reply {
-    /// The reply, or why there is none.
+    /// Returns the reply, or the reason why there is none.
     fn of(raw: &raw::Reply) -> Result<Reply> {
         Ok(match raw.code {
             1 => Reply::Added,
@@ -314,29 +318,29 @@ impl Reply {
 /// An entry of the journal.
 #[derive(Clone, Copy, Debug, PartialEq, Eq)]
 pub struct Entry {
-    /// The feed that asked.
+    /// The feed that executed it.
     pub feed: u32,
-    /// What it asked.
+    /// The command.
     pub command: Command,
-    /// What it was answered.
+    /// The reply to it.
     pub reply: Reply,
 }
 
-/// By what the answers of two tables are told apart.
+/// How the answers of two tables are compared.
 #[derive(Clone, Copy, Debug, PartialEq, Eq)]
 pub enum By {
-    /// By where packets go.
+    /// By next hop.
     Hop,
     /// By the whole route.
     Route,
 }
 
-/// What a table answers the addresses of a range.
+/// The answer of a table for the addresses of a range.
 #[derive(Clone, Copy, Debug, PartialEq, Eq)]
 pub enum Answer {
     /// No route covers them.
     NoRoute,
-    /// Their packets go there.
+    /// Their next hop.
     Hop(Hop),
     /// This is their best route.
     Route(Route),
@@ -351,45 +355,45 @@ impl Answer {
     }
 }
 
-/// A range of addresses that two tables answer otherwise.
+/// A range of addresses for which two tables give different answers.
 #[derive(Clone, Copy, Debug, PartialEq, Eq)]
 pub struct Difference {
     /// Its first address.
     pub first: Ipv4Addr,
-    /// Its last one.
+    /// Its last address.
     pub last: Ipv4Addr,
-    /// What the old table answers each of them.
+    /// The old table's answer for each of them.
     pub old: Answer,
-    /// What the new table answers each of them.
+    /// The new table's answer for each of them.
     pub new: Answer,
 }
 
-/// Which prefixes are asked for.
+/// The prefixes of a selection.
 #[derive(Clone, Copy, Debug, PartialEq, Eq)]
 pub enum Part {
     /// All.
     All,
-    /// This one and the longer ones in it.
+    /// This prefix and longer prefixes inside it.
     Within(Prefix),
-    /// This one and the shorter ones that it lies in.
+    /// This prefix and shorter prefixes that contain it.
     Covering(Prefix),
-    /// This one alone.
+    /// Only this prefix.
     Exact(Prefix),
 }
 
-/// Which routes are asked for.
+/// A selection of routes.
 #[derive(Clone, Copy, Debug, PartialEq, Eq)]
 pub struct Selection {
-    /// To which prefixes.
+    /// Their prefixes.
     pub part: Part,
-    /// Of which feed, or of any.
+    /// Their feed, or `None` for all feeds.
     pub feed: Option<u32>,
-    /// Whether only the best route to each prefix: with a feed, those of the best ones that are the feed's.
+    /// True to select only the best route of each prefix; with a feed, only those best routes that belong to the feed.
     pub only_best: bool,
 }
 
 impl Selection {
-    /// All routes to these prefixes.
+    /// Selects all routes to these prefixes.
     pub fn of(part: Part) -> Selection {
         Selection {
             part,
@@ -398,7 +402,7 @@ impl Selection {
         }
     }
 
-    /// The numbers; a feed 0, which C reads as any, is one that there is not.
+    /// Returns the numbers for C. C reads feed 0 as any feed, so a feed 0 becomes one that doesn't exist.
     fn numbers(self) -> raw::Selection {
         let (part, prefix) = match self.part {
             Part::All => (0, Prefix::of(0, 0)),
@@ -423,23 +427,24 @@ impl Selection {
 pub struct Table(raw::Handle);
 
 impl Table {
-    /// An empty table in which each feed may have so many routes, 1 to 1,000,000. Its memory is bounded by its routes.
+    /// Returns an empty table in which each feed may have up to `limit` routes, 1 to 1,000,000. Its memory is bounded by its
+    /// routes.
     pub fn new(limit: u32) -> Result<Table> {
         raw::Handle::new(limit, 0).map(Table).map_err(Error::of)
     }
 
-    /// One that keeps a journal of all that it answers, 56 bytes a command, for good.
+    /// Returns an empty table with a journal that keeps every answered command, 56 bytes each.
     pub fn with_journal(limit: u32) -> Result<Table> {
         raw::Handle::new(limit, 1).map(Table).map_err(Error::of)
     }
 
-    /// Answers a command of the feed.
+    /// Executes a command of the feed and returns its reply.
     pub fn apply(&mut self, feed: u32, command: Command) -> Result<Reply> {
         let reply = self.0.apply(&command.numbers(feed)).map_err(Error::of)?;
         Reply::of(&reply)
     }
 
-    /// Answers the commands one after another: what became of each. One that fails doesn't keep the others back.
+    /// Executes the commands in order and returns the outcome of each. A command that fails doesn't stop the others.
     pub fn apply_each(&mut self, commands: &[(u32, Command)]) -> Result<Vec<Result<Reply>>> {
         let asked: Vec<raw::Command> = commands
             .iter()
@@ -450,46 +455,46 @@ impl Table {
         Ok(replies.iter().map(Reply::of).collect())
     }
 
-    /// `Command::Add`.
+    /// Executes `Command::Add`.
     pub fn add(&mut self, feed: u32, prefix: Prefix, pref: u32, hop: Hop) -> Result<Reply> {
         self.apply(feed, Command::Add(prefix, pref, hop))
     }
 
-    /// `Command::Withdraw`.
+    /// Executes `Command::Withdraw`.
     pub fn withdraw(&mut self, feed: u32, prefix: Prefix) -> Result<Reply> {
         self.apply(feed, Command::Withdraw(prefix))
     }
 
-    /// The best route of the longest prefix that covers the address.
+    /// Returns the best route of the longest prefix that covers the address.
     pub fn look_up(&mut self, address: Ipv4Addr) -> Result<Option<Route>> {
         Ok(self.look_up_each(&[u32::from(address)])?[0])
     }
 
-    /// The answers to look-ups of all these addresses, which takes less time than one by one.
+    /// Returns the answers for all these addresses, in less time than one call each.
     pub fn look_up_each(&mut self, addresses: &[u32]) -> Result<Vec<Option<Route>>> {
         answers(&mut self.0, addresses)
     }
 
-    /// All routes whose prefix covers the address, the best first.
+    /// Returns all routes whose prefix covers the address, the best first.
     pub fn look_up_all(&mut self, address: Ipv4Addr) -> Result<Vec<Route>> {
         let found = whole(64, |part| self.0.look_up_all(u32::from(address), part))?;
         Ok(found.iter().filter_map(Route::of).collect())
     }
 
-    /// How many routes there are.
+    /// Returns the number of routes.
     pub fn count(&mut self) -> Result<usize> {
         self.0.count().map_err(Error::of)
     }
 
-    /// All routes by base, length, preference and feed.
+    /// Returns all routes, sorted by base, length, preference and feed.
     pub fn routes(&mut self) -> Result<Vec<Route>> {
         let size = self.count()?;
         let found = whole(size, |part| self.0.routes(part))?;
         Ok(found.iter().filter_map(Route::of).collect())
     }
 
-    /// The routes in the order of `routes` from the place of this prefix, preference and feed on, whether or not there is such a
-    /// route; none to the prefix stands before preference and feed 0. It takes memory for a few of them at a time.
+    /// Returns the routes in the order of `routes` from the position of this prefix, preference and feed on; there need not be such
+    /// a route. Preference and feed 0 are before all routes to the prefix. Allocates memory for a few routes at a time.
     pub fn routes_from(&mut self, prefix: Prefix, pref: u32, feed: u32) -> RoutesFrom<'_> {
         let place = raw::Route {
             base: u32::from(prefix.base),
@@ -505,25 +510,25 @@ impl Table {
         }
     }
 
-    /// The routes that are asked for, in the order of `routes`.
+    /// Returns the selected routes in the order of `routes`.
     pub fn select(&mut self, asked: Selection) -> Result<Vec<Route>> {
         let asked = asked.numbers();
         let found = whole(64, |part| self.0.select(&asked, part))?;
         Ok(found.iter().filter_map(Route::of).collect())
     }
 
-    /// All that was answered, of a table that keeps a journal; `Error::Kind` of any other.
+    /// Returns the journal of a table that keeps one; `Error::Kind` otherwise.
     pub fn journal(&mut self) -> Result<Vec<Entry>> {
         let found = whole(0, |part| self.0.journal(part))?;
         found.iter().map(entry).collect()
     }
 
-    /// Makes room for so many entries of the journal, if there is one, so that they want no memory later.
+    /// Reserves capacity for this many further journal entries, if there is a journal, so that they don't allocate later.
     pub fn reserve(&mut self, entries: usize) -> Result<()> {
         self.0.reserve(entries).map_err(Error::of)
     }
 
-    /// The ranges of addresses that this table and a newer one answer otherwise, one after another.
+    /// Returns the ranges of addresses for which this table and a newer one give different answers, one after another.
     pub fn differences<'a>(&'a mut self, new: &'a mut Table, by: By) -> Differences<'a> {
         Differences {
             old: self,
@@ -533,19 +538,19 @@ impl Table {
         }
     }
 
-    /// Makes a forwarding table beside this one, 64 MiB and more, if there is none yet: it follows each command from then on, and
-    /// look-ups go by it. Where a command finds no memory for it, it goes until this is called again. `Error::Kind` where a journal
-    /// is kept.
+    /// Attaches a forwarding table of 64 MiB or more, if none is attached. From then on every command updates it, and look-ups use it.
+    /// If a command finds no memory for the update, the forwarding table is freed until this is called again. Returns `Error::Kind`
+    /// if the table keeps a journal.
     pub fn follow(&mut self) -> Result<()> {
         self.0.follow().map_err(Error::of)
     }
 
-    /// About how many bytes it takes, with what is beside it.
+    /// Returns an estimate of its size in bytes, including an attached forwarding table.
     pub fn memory(&mut self) -> Result<usize> {
         self.0.memory().map_err(Error::of)
     }
 
-    /// A forwarding table of what this table answers now.
+    /// Returns a forwarding table with the current answers of this table.
     pub fn forward(&mut self) -> Result<Forwarding> {
         self.0.forward().map(Forwarding).map_err(Error::of)
     }
@@ -565,7 +570,7 @@ fn answers(handle: &mut raw::Handle, addresses: &[u32]) -> Result<Vec<Option<Rou
     Ok(found.iter().map(Route::of).collect())
 }
 
-/// A whole list, of which the call tells how long it is: of another size it is asked once more.
+/// Returns a whole list. The call reports its length; if the list is longer than `size`, it is called once more.
 fn whole<T: Clone + Default>(
     size: usize,
     mut call: impl FnMut(&mut [T]) -> std::result::Result<usize, u32>,
@@ -580,20 +585,20 @@ fn whole<T: Clone + Default>(
     Ok(found)
 }
 
-/// So many routes an iterator over them asks for at once.
+/// The number of routes that an iterator over them fetches at once.
 const PAGE: usize = 256;
 
-/// The routes of a table from a place on.
+/// The routes of a table from a position on.
 #[derive(Debug)]
 pub struct RoutesFrom<'a> {
     table: &'a mut Table,
-    /// From where the next page is, if there is one.
+    /// The position of the next page, if there is one.
     place: Option<raw::Route>,
     page: std::vec::IntoIter<raw::Route>,
 }
 
 impl RoutesFrom<'_> {
-    /// The next page. Behind one that isn't full there is none.
+    /// Fetches the next page. A page that isn't full is the last.
     fn turn(&mut self) -> Option<()> {
         let mut page = vec![raw::Route::default(); PAGE];
         let used = self.table.0.routes_from(&self.place?, &mut page).ok()?;
@@ -618,7 +623,7 @@ impl Iterator for RoutesFrom<'_> {
     }
 }
 
-/// The ranges that two tables answer otherwise.
+/// The ranges for which two tables give different answers.
 #[derive(Debug)]
 pub struct Differences<'a> {
     old: &'a mut Table,
@@ -647,27 +652,27 @@ impl Iterator for Differences<'_> {
     }
 }
 
-/// What a table answered each address when this was made: 64 MiB and more, for look-ups that read memory two or three times.
+/// A table's answers at the time when this was created: 64 MiB, for look-ups with two or three memory reads.
 #[derive(Debug)]
 pub struct Forwarding(raw::Handle);
 
 impl Forwarding {
-    /// Another handle on it, for another thread. The memory goes with the last of its handles.
+    /// Returns another handle to it, for another thread. The memory is freed with the last handle.
     pub fn share(&mut self) -> Result<Forwarding> {
         self.0.share().map(Forwarding).map_err(Error::of)
     }
 
-    /// The best route of the longest prefix that covers the address.
+    /// Returns the best route of the longest prefix that covers the address.
     pub fn look_up(&mut self, address: Ipv4Addr) -> Result<Option<Route>> {
         Ok(self.look_up_each(&[u32::from(address)])?[0])
     }
 
-    /// The answers to look-ups of all these addresses.
+    /// Returns the answers for all these addresses.
     pub fn look_up_each(&mut self, addresses: &[u32]) -> Result<Vec<Option<Route>>> {
         answers(&mut self.0, addresses)
     }
 
-    /// How many bytes it takes, for all its handles together.
+    /// Returns its size in bytes, counted once for all its handles.
     pub fn memory(&mut self) -> Result<usize> {
         self.0.memory().map_err(Error::of)
     }
