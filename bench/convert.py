@@ -56,9 +56,11 @@ def updates(count):
 
 def of_bird(count):
     """What `birdc show route` prints."""
+    draw = random.Random(3)
     yield "BIRD 2.0.12 ready.\nTable master4:\n"
     for prefix in prefixes(count):
-        yield f"{prefix:20} unicast [peer1 09:20:39.677] * (100) [AS65001i]\n\tvia 192.0.2.1 on eth0\n"
+        yield (f"{prefix:20} unicast [peer1 09:20:39.677] * (100) [AS{draw.randrange(1, 400_000)}i]\n"
+               "\tvia 192.0.2.1 on eth0\n")
 
 
 def of_bird_all(count):
@@ -66,8 +68,9 @@ def of_bird_all(count):
     draw, some = random.Random(3), paths()
     yield "BIRD 2.0.12 ready.\nTable master4:\n"
     for prefix in prefixes(count):
-        yield (f"{prefix:20} unicast [peer1 09:20:39.677] * (100) [AS65001i]\n\tvia 192.0.2.1 on eth0\n"
-               f"\tType: BGP univ\n\tBGP.origin: IGP\n\tBGP.as_path: 65001 {draw.choice(some)}\n"
+        path = draw.choice(some)
+        yield (f"{prefix:20} unicast [peer1 09:20:39.677] * (100) [AS{path.split()[-1]}i]\n\tvia 192.0.2.1 on eth0\n"
+               f"\tType: BGP univ\n\tBGP.origin: IGP\n\tBGP.as_path: 65001 {path}\n"
                "\tBGP.next_hop: 192.0.2.1\n\tBGP.local_pref: 100\n")
 
 

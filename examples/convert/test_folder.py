@@ -83,6 +83,13 @@ def check_other_things(made):
     expect("a folder with other things", names_in(folder), ["notes.txt"])
 
 
+def check_root(made):
+    """The root is no folder that could be replaced."""
+    for name in ("/", "//", f"{made}/../" + "../" * 20):
+        status, _, said = run("bgpdump-to-feeds", DUMP, name)
+        expect(name, (status, said), (1, f"bgpdump-to-feeds: {name} is no folder of feeds: name one in it\n"))
+
+
 def started(folder):
     """A converter that has written some lines and waits for more."""
     command = [*words("bgpdump-to-feeds", "BLOCK, MOST_WAITING = 64, 0"), folder]
@@ -173,5 +180,5 @@ def check_disk(made):
 
 
 def check(made):
-    for each in (check_own, check_others, check_other_things, check_two, check_ended, check_half_replaced, check_disk):
+    for each in (check_own, check_others, check_other_things, check_root, check_two, check_ended, check_half_replaced, check_disk):
         each(made)
