@@ -515,10 +515,11 @@ def parts_of_tables(yarib):
         misused(f"{option} twice", yarib("table", option, "10.0.0.0/8", option, "10.0.0.0/8", "row.feed"), option)
         misused(f"{option} of a look-up", yarib("lookup", option, "10.0.0.0/8", "--address", "10.0.0.1", "row.feed"),
                 option)
-        other = next(each for each in holds if each != option)
-        ended = yarib("table", option, "10.0.0.0/8", other, "10.0.0.0/8", "row.feed")
-        expect(f"{option} and {other}", ended,
-               (3, "", "yarib: only one of --within, --covering and --exact may be given\n"))
+        for others in [[other] for other in holds if other != option] + [[other for other in holds if other != option]]:
+            words = [word for other in others for word in (other, "10.0.0.0/8")]
+            for given in ([option, "10.0.0.0/8", *words], [*words, option, "10.0.0.0/8"]):
+                expect(f"{given}", yarib("table", *given, "row.feed"),
+                       (3, "", "yarib: only one of --within, --covering and --exact may be given\n"))
     for word in ("0", "65", "x"):
         misused(f"--feed {word}", yarib("table", "--feed", word, "row.feed"), "--feed")
 

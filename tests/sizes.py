@@ -7,10 +7,12 @@ That a call which wants memory gets it where there is some, no clause can say. S
 than a million lines, entries and answers; each number of files from 1 to 64, with as many offers of one prefix; feeds
 with other texts of their own; batches about the sizes at which lists grow; the greatest numbers and the last address.
 `lookup` and `table` are called on each number of files, on 300,000 routes and with 100,000 addresses, and `lookup` on
-both sides of the numbers from which on a forwarding table answers. All is run with memory as the launchers set it. What
+both sides of the numbers from which on a forwarding table answers. Each option that changes what is printed is given
+at, just above and far above these sizes. All is run with memory as the launchers set it. What
 has 64 threads, which by the C library's default share several arenas, and what fills large pages is about that memory,
 and is run once more by that default (`OF_MEMORY`). The others are about numbers in the code, and are run once.
 """
+import ipaddress
 import os
 import pathlib
 import subprocess
@@ -240,6 +242,85 @@ def covered(yarib):
             pathlib.Path(file).write_text(text)
         ended = yarib("lookup", "--all", *[f"--address={addr}" for addr in asked], *names)
         compare(f"addresses that {counts[0]} to {sum(counts)} routes cover", ended, 0, all_answers_text(texts, asked))
+        listed = ran(texts, set())[1].listed()
+        covers = lambda row, addr: ipaddress.IPv4Address(addr) in ipaddress.IPv4Network(row.split()[0])
+        for addr in asked[:: 8 if name == "some" else 1]:
+            rows = [row for row in listed if covers(row, addr)]
+            compare(f"{len(rows)} routes by --covering", yarib("table", "--covering", f"{addr}/32", *names), 0,
+                    "".join(row + "\n" for row in rows))
+
+
+def rows_by_options(places, name):
+    """How `table`, `lookup` and `diff` print the route of each place, a single address, of the first file, which has this name:
+    each with options, and their outputs."""
+    row = '"feed":1,{}"file":"{}.feed","pref":1,"via":"192.0.2.1"}}'
+    hop, route = "via 192.0.2.1", "{0}/32 feed {1} pref 1 via 192.0.2.1"
+    said = '{{"prefix":"{0}/32",' + row.format("", name).replace("}", "}}")
+    named = '{{"prefix":"{0}/32",' + row.format(f'"name":"{name}",', name).replace("}", "}}")
+    tables = [(options, route) for options in (
+        ["--within", "10.0.0.0/7"], ["--feed", "1"], ["--best"], ["--best", "--feed", "1"])]
+    tables += [(["--names"], route.replace("{1}", name)), (["--json"], said), (["--names", "--json"], named),
+               (["--json", "--within", "10.0.0.0/7", "--feed", "1"], said)]
+    answers = [(options, "{0} route " + route) for options in ([], ["--all"])]
+    answers += [([*more, "--names"], "{0} route " + route.replace("{1}", name)) for more in ([], ["--all"])]
+    answers += [(["--json"], '{{"address":"{0}","route":' + said + "}}"),
+                (["--json", "--all", "--names"], '{{"address":"{0}","route":' + named + ',"also":[]}}')]
+    ranges = [([], "{0}-{0} no route -> " + hop),
+              (["--by", "route"], "{0}-{0} no route -> " + route),
+               (["--by", "route", "--names"], "{0}-{0} no route -> " + route.replace("{1}", name)),
+               (["--json"], '{{"first":"{0}","last":"{0}","old":null,"new":{{"via":"192.0.2.1"}}}}'),
+               (["--by", "route", "--json"], '{{"first":"{0}","last":"{0}","old":null,"new":' + said + "}}")]
+    print_each = lambda form: "".join(form.format(place, 1) + "\n" for place in places)
+    return [[(options, print_each(form)) for options, form in forms] for forms in (tables, answers, ranges)]
+
+
+# Fails where F3 is answered to --within or --feed of over 2,000 rows, or to JSON of over 5,000: `['--feed', '1'] of 2001 rows`,
+# `['--json'] of 5001 rows`.
+def options(yarib):
+    """Each option that changes what is printed, at, just above and far above the sizes of the other cases."""
+    pathlib.Path("none.feed").write_text("")
+    for count in (1, 64, 65, 2_000, 2_001, 2_112, 2_113, 5_001, 65_537, 300_000, 300_001, 600_000):
+        places = [dotted(0x0A00_0000 + 2 * at) for at in range(count)]
+        pathlib.Path("rows.feed").write_text("".join(f"add {place}/32 1 192.0.2.1\n" for place in places))
+        pathlib.Path("asked.txt").write_text("".join(place + "\n" for place in places))
+        files = ["rows.feed", "none.feed"]
+        tables, answers, ranges = rows_by_options(places, "rows")
+        for words, out in tables:
+            compare(f"{words} of {count} rows", yarib("table", *words, *files), 0, out)
+        for words, out in answers:
+            compare(f"{words} of {count} answers", yarib("lookup", *words, "--addresses", "asked.txt", *files), 0, out)
+        for words, out in ranges:
+            compare(f"{words} of {count} ranges", yarib("diff", *words, "none.feed", "--", *files), 1, out)
+        counts = f"routes {count} prefixes {count}\nfeed 1 routes {count}\nlength 32 routes {count}\n"
+        for words in ([], ["--best"], ["--feed", "1"], ["--within", "10.0.0.0/7"]):
+            compare(f"--count {words} of {count} rows", yarib("table", "--count", *words, *files), 0, counts)
+
+
+# Fails where F3 is answered to --names of over 40 files, or of a name of over 200 bytes: `--names of 41 files`, `a name of 201
+# bytes`.
+def names(yarib):
+    """Feeds by name and as JSON: from 1 to 64 files, and names up to the longest of a file."""
+    files = [f"file{feed}.feed" for feed in range(1, 65)]
+    line = '{{"prefix":"10.0.0.0/8","feed":{0},"name":"file{0}","file":"file{0}.feed","pref":{0},"via":"192.0.2.1"}}\n'
+    row = "10.0.0.0/8 feed file{0} pref {0} via 192.0.2.1\n"
+    for feed, file in enumerate(files, 1):
+        pathlib.Path(file).write_text(f"add 10.0.0.0/8 {feed} 192.0.2.1\n")
+    for count in range(1, 65):
+        each = range(1, count + 1)
+        compare(f"--names of {count} files", yarib("table", "--names", *files[:count]), 0, "".join(map(row.format, each)))
+        ended = yarib("table", "--names", "--json", *files[:count])
+        compare(f"--names --json of {count} files", ended, 0, "".join(map(line.format, each)))
+        sides = yarib("diff", "--by", "route", "--names", *files[:count], "--", *reversed(files[:count]))
+        compare(f"diff --names of {count} files", sides, 0, "")
+        asked = yarib("lookup", "--names", "--address", "10.0.0.1", *files[:count])
+        compare(f"lookup --names of {count} files", asked, 0, "10.0.0.1 route " + row.format(1))
+    for size in (1, 63, 64, 65, 199, 200, 201, 249, 250):
+        name = "n" * size
+        for folder in ("", "d" * 250 + "/", ("d" * 250 + "/") * 3):
+            os.makedirs(folder or ".", exist_ok=True)
+            pathlib.Path(f"{folder}{name}.feed").write_text("add 10.0.0.0/8 1 192.0.2.1\n")
+            ended = yarib("table", "--names", "--feed", "1", f"{folder}{name}.feed", "file1.feed")
+            compare(f"a name of {size} bytes", ended, 0, f"10.0.0.0/8 feed {name} pref 1 via 192.0.2.1\n")
 
 
 # Fails where F3 is answered to a comparison of more than 8,192 or 262,144 nodes, or after 1,000 ranges: `8193 routes
@@ -337,7 +418,7 @@ def part_of_a_million(yarib):
         expect(f"{name}: {more} bytes more than a look-up", more < 4_000_000, True)
 
 
-CASES = (batches, purges, feeds, many_offers, at_limit, at_greatest_limit, covered, compared, addresses, forwarded, in_all, million,
+CASES = (batches, purges, feeds, many_offers, at_limit, at_greatest_limit, covered, options, names, compared, addresses, forwarded, in_all, million,
          part_of_a_million)
 OF_MEMORY = (feeds, many_offers, in_all, million)
 
