@@ -3,7 +3,7 @@
 
 tests/bodies.py, with the toolchain on PATH. Among the bodies are a right one, one that can't be read and is in a round
 with another, and one whose function calls another that is refused in the same round. And what is kept of a refused body
-has to be forgotten where any text changes that the verdict rests on.
+has to be forgotten if a text changes that the verdict can rest on, and only then.
 """
 import os
 import pathlib
@@ -13,6 +13,8 @@ import sys
 import tempfile
 
 from checks import TOP
+from common.body_lists import bodies_of
+from common.rust_sources import Source
 
 SOURCE = """\
 //! A number twice, and four times.
@@ -52,7 +54,7 @@ def listed(name, old, new, function):
     return f"## {name}\n\n```\nfile: src/lib.rt\nold: {old}\nnew: {new}\nrefused in: {function}\n```\n"
 
 
-# Tells what is kept of two bodies of a crate, and keeps that the first was refused.
+# Prints what is kept of two bodies of a crate, and keeps that the first was refused.
 KEEPS = """
 from common.body_lists import bodies_of
 from common.kept_verdicts import Kept
@@ -62,7 +64,41 @@ kept.keep(one, "kept")
 """
 
 
-# Fails where a verdict is kept though a text changed, or serves another body: `.. is changed`, `what is kept`.
+def changes(top):
+    """Changes of files under a kept verdict: the file, its new text, and whether the verdict stays."""
+    cidr, body = top / "crates/rt_cidr", bodies_of("rt_cidr")[0]
+    own, name = cidr / body.file, body.function.rpartition("::")[2]
+    proofs = sorted((cidr / "proofs").rglob("*.antt"))
+    other = next(file for file in sorted((cidr / "src").rglob("*.rt")) if file != own and has_body(file))
+    yield own, own.read_text() + "\n", False
+    yield other, other.read_text() + "\n", False
+    yield other, with_line(other), True
+    yield next((cidr / "specs").rglob("*.antt")), "changed", False
+    yield next(file for file in proofs if file.parent == cidr / "proofs"), "changed", False
+    others = [file for file in proofs if file.parent != cidr / "proofs" and not {name, "fn"} & set(file.parts)]
+    yield others[0], "changed", True
+    yield from ((file, "changed", False) for file in proofs if name in file.parts)
+    for file, old, new, stays in (
+            (cidr / "must-fail/bodies.md", "\nold: ", "\nold:  ", False),
+            (top / "crates.txt", "rt_cidr:", "rt_cidr: std", False),
+            (top / "tools/bodies", "import argparse", "# more\nimport argparse", True),
+            (top / "tools/bodies", "not proved|no proof", "not proved", False)):
+        yield file, file.read_text().replace(old, new, 1), stays
+
+
+def has_body(file):
+    return any(one.end - one.start - one.clauses_end() > 1 for one in Source(file).functions)
+
+
+def with_line(file):
+    """The text of a source with one more line in a function's body."""
+    found = Source(file)
+    one = next(one for one in found.functions if one.end - one.start - one.clauses_end() > 1)
+    return "\n".join([*found.lines[: one.end - 1], "    // more", *found.lines[one.end - 1 :]])
+
+
+# Fails where a verdict is kept though something changed that it can rest on, or serves another body: `.. is changed`,
+# `what is kept`.
 def wrongly_kept():
     """Each change after which something else is kept than is to be, in a copy of what a verdict on rt_cidr rests on."""
     with tempfile.TemporaryDirectory(prefix="kept-") as room:
@@ -75,14 +111,12 @@ def wrongly_kept():
                                       text=True).stdout.strip()
         if (call(), call()) != ("None None", "kept None"):
             wrong.append("what is kept")
-        cidr = top / "crates/rt_cidr"
-        some = [sorted((cidr / part).rglob("*.*t"))[0] for part in ("src", "specs", "proofs")]
-        for file in (*some, cidr / "must-fail/bodies.md", top / "tools/bodies", top / "crates.txt"):
+        for file, changed, stays in changes(top):
             text = file.read_text()
-            old, new = ("\nold: ", "\nold:  ") if file.name == "bodies.md" else ("rt_cidr:", "rt_cidr: std")
-            changed = text.replace(old, new, 1)
-            file.write_text(changed if changed != text else text + "\n")
-            if call() != "None None":
+            if changed == text:
+                wrong.append(f"{file.relative_to(top)} has no such text")
+            file.write_text(changed)
+            if call() != ("kept None" if stays else "None None"):
                 wrong.append(f"{file.relative_to(top)} is changed")
             file.write_text(text)
             if call() != "kept None":

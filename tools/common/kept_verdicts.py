@@ -1,56 +1,116 @@
-"""Which wrong bodies earlier gates on this machine saw refused, so that a later one tries only those that something
-changed under.
+"""Which wrong bodies earlier gates on this machine saw refused. A later gate tries a body again only if something
+changed that its verdict can rest on.
 
-An entry's name is a sum of all that its verdict rests on: the toolchain, the scripts, the text of the crate and of
-those below it, these as they are built, and the body. So none goes stale, and one that can't be read or written counts
-for nothing. Whoever can write to the folder is trusted, as with what `rt ci` keeps."""
+A function is proved from its own text, the contracts of what it calls, types, definitions and lemmas, never from the
+body of another function. So the name of an entry is a sum of: the toolchain; what decides in the scripts; the body; its
+file; all other sources of its crate and of those below without the bodies of functions; all of specs/; all files of
+lemmas; the proofs of the function itself, of closures, and of what these cite. For a function that calls itself, or
+whose proof cites the goals of another, it is a sum of all files of its crate. An entry that can't be read or written
+counts for nothing. Whoever can write to the folder is trusted, as with what `rt ci` keeps."""
+import ast
+import functools
 import hashlib
 import os
+import re
 import tempfile
 
 from .crates import CRATES, TOP, below, cache, heads
-from .prover import kit, library
+from .prover import kit
+from .rust_sources import Source
 
-READERS = ("body_lists", "crates", "kept_verdicts", "prover", "rust_sources")
-SCRIPTS = ("tools/bodies", *(f"tools/common/{name}.py" for name in READERS))
-
-
-def folder():
-    """Where they are kept."""
-    return cache("bodies")
+SCRIPTS = ("tools/bodies", "tools/common/body_lists.py", "tools/common/prover.py")
+CITED = re.compile(r"\bproofs\.([\w.+']+)")
 
 
-def files_read(crate):
-    """The files that a verdict on a body of the crate rests on. The format of what is built has a sum of its files."""
-    found = [TOP / name for name in SCRIPTS]
-    found += [library(one) / "format" for one in sorted(below([crate]) - {crate})]
-    for one in sorted(below([crate])):
-        for part in ("src", "specs", "proofs"):
-            found += sorted(path for path in (CRATES / one / part).rglob("*") if path.is_file())
-    return found
+@functools.cache
+def decides():
+    """What the scripts say without comments, docstrings and layout."""
+    trees = [ast.parse((TOP / name).read_text()) for name in SCRIPTS]
+    for tree in trees:
+        for node in ast.walk(tree):
+            if isinstance(getattr(node, "body", None), list):
+                node.body = [one for one in node.body if not isinstance(getattr(one, "value", None), ast.Constant)
+                             or not isinstance(one, ast.Expr)]
+    return [ast.dump(tree) for tree in trees]
 
 
-def state_of(crate):
-    """A sum of all that a verdict on a body of the crate rests on, but the body."""
-    found = hashlib.sha256()
+@functools.cache
+def text_of(path):
+    return path.read_text()
+
+
+@functools.cache
+def without_bodies(path):
+    """A source without the bodies of its functions, but for those whose value or type other functions can see."""
+    source = Source(None, text_of(path))
+    dropped = set()
+    for one in source.functions:
+        head = "\n".join(one.lines[:one.clauses_end()])
+        if not re.search(r"\bconst fn\b|-> *[^{]*\bimpl\b", head):
+            dropped |= set(range(one.start + one.clauses_end(), one.end))
+    return "\n".join(line for number, line in enumerate(source.lines) if number not in dropped)
+
+
+@functools.cache
+def files(crate, part):
+    return sorted(path for path in (CRATES / crate / part).rglob("*") if path.is_file())
+
+
+@functools.cache
+def shared(crate):
+    """What the verdicts on all bodies of a crate rest on."""
     named = below([crate])
     prover = os.stat(kit() / "bin/rattle")
-    lines = [line for line in heads() if line[0][0] in named]
-    said = [(kit() / name).read_bytes() for name in ("KIT-ID", "WHAT")]
-    found.update(repr((said, prover.st_size, prover.st_mtime_ns, lines)).encode())
-    for path in files_read(crate):
-        found.update(repr((str(path.relative_to(TOP)), path.read_bytes())).encode())
-    return found.hexdigest()
+    found = [decides(), [(kit() / name).read_bytes() for name in ("KIT-ID", "WHAT")], prover.st_size,
+             prover.st_mtime_ns, [line for line in heads() if line[0][0] in named]]
+    for one in sorted(named):
+        found += [(one, str(path), without_bodies(path)) for path in files(one, "src") if path.suffix == ".rt"]
+        found += [(one, str(path), text_of(path)) for path in files(one, "specs")]
+        found += [(one, str(path), text_of(path)) for path in files(one, "proofs") if is_of_lemmas(one, path)]
+    return hashlib.sha256(repr(found).replace(str(TOP), "").encode()).hexdigest()
+
+
+def is_of_lemmas(crate, path):
+    return path.parent == CRATES / crate / "proofs"
+
+
+def own_proofs(body):
+    """The files of the proofs of a body's function and of closures, with what these cite; None if they cite the goals
+    of another function, or the function calls itself."""
+    proofs, name = CRATES / body.crate / "proofs", body.function.rpartition("::")[2]
+    waiting = [path for path in files(body.crate, "proofs")
+               if {name, f"+{name}", "fn"} & set(path.relative_to(proofs).parts)]
+    found = set()
+    while waiting:
+        path = waiting.pop()
+        if path in found:
+            continue
+        found.add(path)
+        if f"+{name}" in path.parts:
+            return None
+        for cited in CITED.findall(text_of(path)):
+            parts = cited.split(".")
+            if parts[-1] in ("Goals", "Given") and name not in parts and "fn" not in parts:
+                return None
+            file = proofs.joinpath(*parts).with_suffix(".antt")
+            if file.exists() and not is_of_lemmas(body.crate, file):
+                waiting.append(file)
+    return sorted(found)
 
 
 class Kept:
     """What is kept of the bodies of one crate."""
 
     def __init__(self, crate):
-        self.state = state_of(crate)
+        self.crate = crate
 
     def entry(self, body):
-        return folder() / hashlib.sha256(repr((self.state, body.name, body.section)).encode()).hexdigest()
+        own = own_proofs(body)
+        read = [CRATES / body.crate / body.file, *own] if own is not None else [
+            path for part in ("src", "specs", "proofs") for path in files(body.crate, part)]
+        texts = [(str(path.relative_to(TOP)), text_of(path)) for path in read]
+        return cache("bodies") / hashlib.sha256(
+            repr((shared(self.crate), texts, body.name, body.section)).encode()).hexdigest()
 
     def said_of(self, body):
         """What was said of the body as it was refused, or None."""
@@ -63,8 +123,8 @@ class Kept:
         """Keeps that the body was refused. It is written apart and then renamed, so that no other run meets half of
         it."""
         try:
-            folder().mkdir(parents=True, exist_ok=True)
-            with tempfile.NamedTemporaryFile("w", dir=folder(), delete=False) as new:
+            cache("bodies").mkdir(parents=True, exist_ok=True)
+            with tempfile.NamedTemporaryFile("w", dir=cache("bodies"), delete=False) as new:
                 new.write(said)
             os.replace(new.name, self.entry(body))
         except OSError:
