@@ -52,6 +52,36 @@ OF_MED = (
 # How those three are listed, and their order where a daemon goes through them in turn.
 IN_TURN = (("abc", "cab"), ("acb", "bca"), ("bac", "cab"), ("bca", "abc"), ("cab", "bca"), ("cba", "abc"))
 
+# Routes of one neighbouring AS that are compared in turn, of which the first wins: what is compared before MED decides before it.
+BEFORE_MED_IN_TURN = (
+    ("local preference", {"local_pref": 200, "path": "1 5", "med": 20}, {"local_pref": 100, "path": "1 5", "med": 10}),
+    ("length of the path", {"path": "1", "med": 20}, {"path": "1 5", "med": 10}),
+    ("origin", {"path": "1", "origin": ORIGINS["IGP"], "med": 20}, {"path": "1", "origin": ORIGINS["EGP"], "med": 10}),
+)
+
+
+def systems(number):
+    """A path of so many AS."""
+    return " ".join(str(65000 + place % 500) for place in range(number))
+
+
+# Pairs of which the first wins, with numbers at the borders of what is stored in so many bits.
+BORDERS = (
+    *((f"local preference {greater}", {"local_pref": greater}, {"local_pref": less})
+      for greater, less in ((128, 127), (32768, 32767), (65536, 65535), (1 << 31, (1 << 31) - 1), (1 << 31, 0),
+                            ((1 << 32) - 1, 1 << 31), ((1 << 32) - 1, 0))),
+    *((f"a path of {longer} AS", {"path": systems(shorter), "origin": ORIGINS["INCOMPLETE"]}, {"path": systems(longer)})
+      for shorter, longer in ((1, 127), (1, 128), (127, 128), (128, 129), (255, 256), (1, 256), (256, 300), (300, 1000))),
+    *((f"local preference before a path of {longer} AS", {"local_pref": 101, "path": systems(longer)}, {"path": "1"})
+      for longer in (127, 128, 256, 1000)),
+    *((f"{ahead} of the daemon's own", {"ahead": ahead - 1, "local_pref": 0}, {"ahead": ahead, "local_pref": (1 << 32) - 1})
+      for ahead in (1, 2, 8, 15, 16, 17, 32, 256, 1 << 31, (1 << 32) - 1)),
+    *((f"the session {greater}", {name: choice.address_order(less)}, {name: choice.address_order(greater)})
+      for name in ("peer", "identifier")
+      for less, greater in (("127.0.0.1", "::1"), ("255.255.255.255", "::"), ("192.0.2.1", "2001:db8::1"),
+                            ("9.0.0.1", "10.0.0.1"), ("2001:db8::9", "2001:db8::10"))),
+)
+
 
 class Sample:
     """A converter's input made by hand, and the table that it has to give: of each prefix the next hops, best first; or,
@@ -116,6 +146,14 @@ BGPDUMP = (
     Sample("no local preference is 100", LOCAL_PREFERENCE, "bgpdump-to-feeds",
            dumped((2, "65010", {"local_pref": 50}), (3, "65020", {}), (4, "65030", {"local_pref": 101})),
            {"10.0.0.0/8": "4 3 2"}),
+    Sample("local preferences of 2^31 and more", LOCAL_PREFERENCE, "bgpdump-to-feeds",
+           dumped((2, "65010", {"local_pref": 1 << 31}), (3, "65020", {"local_pref": (1 << 32) - 1}),
+                  (4, "65030", {"local_pref": (1 << 31) - 1})), {"10.0.0.0/8": "3 2 4"}),
+    Sample("paths of over 127 AS", LENGTH, "bgpdump-to-feeds",
+           dumped((2, systems(300), {}), (3, systems(127), {}), (4, systems(128), {}), (5, systems(256), {})),
+           {"10.0.0.0/8": "3 4 5 2"}),
+    Sample("a session over IPv4 comes before one over IPv6", "RFC 4271, 9.1.2.2 g: the lowest peer address", "bgpdump-to-feeds",
+           dumped((9, "65010", {})).replace("127.0.0.9", "::1") + dumped((2, "65020", {})), {"10.0.0.0/8": "2 9"}),
     Sample("IGP comes before EGP", ORIGIN, "bgpdump-to-feeds",
            dumped((2, "65010", {"origin": "EGP"}), (3, "65020", {})), {"10.0.0.0/8": "3 2"}),
     Sample("EGP comes before INCOMPLETE", ORIGIN, "bgpdump-to-feeds",

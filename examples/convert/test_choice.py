@@ -57,6 +57,26 @@ def check_med():
             raise Failed(f"MED, in turn: the order is {found} where {listed} is listed")
 
 
+def check_before_med():
+    """In turn too, what is compared before MED decides within one neighbouring AS, however the routes are listed."""
+    for name, wins, loses in choice_cases.BEFORE_MED_IN_TURN:
+        # without the third, which differs from the second in MED alone, nothing is compared in turn
+        routes = [candidate("a", wins), candidate("b", loses), candidate("c", {**loses, "med": 30})]
+        for listed in itertools.permutations(routes):
+            for in_turn in (False, True):
+                if order_of(listed, in_turn) != "abc":
+                    raise Failed(f"MED decides before the {name} (in turn: {in_turn})")
+
+
+def check_borders():
+    """Numbers of all sizes are compared as numbers, and IPv4 comes before IPv6."""
+    for name, *attributes in choice_cases.BORDERS:
+        routes = [candidate(source, known) for source, known in zip("ab", attributes)]
+        for listed in (routes, routes[::-1]):
+            if order_of(listed) != "ab":
+                raise Failed(f"{name}: the order is {order_of(listed)}")
+
+
 def check_sample(folder, sample):
     """The table of a sample made by hand."""
     status, said = run_here(sample.command, sample.text.encode(), folder)
@@ -72,5 +92,7 @@ def check(made):
     check_steps()
     check_paths()
     check_med()
+    check_before_med()
+    check_borders()
     for number, sample in enumerate(choice_cases.SAMPLES):
         check_sample(made / f"sample{number}", sample)

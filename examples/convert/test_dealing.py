@@ -101,6 +101,19 @@ def check_merge(made, conversions):
                 raise Failed(f"{what} has other best routes")
 
 
+def check_changing(made):
+    """A peer that has had far more prefixes than routes at a time is dealt by its prefixes."""
+    line = "BGP4MP|1|{}|127.0.0.1|1|10.{}.0.0/16|1|IGP|192.0.2.1|0|0||NAG||\n"
+    changes = [("A", second) for second in range(4)]
+    changes += [change for second in range(4, 12) for change in (("W", second - 4), ("A", second))]
+    data = "".join(line.format(*change) for change in changes).encode()
+    whole, _ = converted("bgpdump-to-feeds", data, made / "changing")
+    files, said = converted("bgpdump-to-feeds", data, made / "changing-dealt", constants="GREATEST_LIMIT = 3")
+    check_dealt("a peer whose prefixes change", files, said, 3)
+    if routes_of(files) != routes_of(whole) or len(files) != 4:
+        raise Failed(f"a peer whose prefixes change is dealt to {[file.name for file in files]}")
+
+
 def many_peers():
     """70 peers; of each prefix some have routes, and the shortest path isn't the first peer's."""
     lines = []
@@ -124,6 +137,10 @@ def check_many(made):
                                 constants=constants)
         if len(files) > 64 or best_of(files) != best_of(whole) or "routes into merged.feed" not in said:
             raise Failed(f"--merge 64 with {constants!r} writes {len(files)} feeds and says {said}")
+        own = {re.sub("-[0-9]+of[0-9]+$", "", file.stem) for file in files}
+        sizes = {file.stem: len(file.read_text().splitlines()) for file in whole}
+        if max(size for name, size in sizes.items() if name not in own) > min(sizes[name] for name in own if name in sizes):
+            raise Failed(f"--merge 64 with {constants!r} merges others than the sources with the fewest routes")
     status, _, said = run("bgpdump-to-feeds --merge 3", data, made / "refused", constants="GREATEST_LIMIT = 10")
     if status != 1 or "the routes need more than 3 feeds, of 10 routes each" not in said or (made / "refused").exists():
         raise Failed(f"--merge 3 for 40 prefixes of 10 a feed has status {status} and says {said}")
@@ -133,4 +150,5 @@ def check(made, conversions):
     folder = made / "dealing"
     check_deal(folder, conversions)
     check_merge(folder, conversions)
+    check_changing(folder)
     check_many(folder)

@@ -83,6 +83,26 @@ def check_other_things(made):
     expect("a folder with other things", names_in(folder), ["notes.txt"])
 
 
+def check_link(made):
+    """A kept feed that is a link stays one, and what it leads to stays as it is."""
+    folder, elsewhere = made / "links", made / "elsewhere.feed"
+    folder.mkdir()
+    elsewhere.write_text("version 2\nadd 10.0.0.0/8 7 192.0.2.7\n")
+    (folder / "mine.feed").symlink_to("../elsewhere.feed")
+    for data in (DUMP, OTHER_DUMP):
+        expect("a link", converted("bgpdump-to-feeds", data, folder)[-1],
+               "kept 1 feeds that bgpdump-to-feeds had not written: mine.feed")
+        expect("a kept link", ((folder / "mine.feed").is_symlink(), os.readlink(folder / "mine.feed")), (True, "../elsewhere.feed"))
+        expect("what a link leads to", (elsewhere.stat().st_nlink, elsewhere.read_text()),
+               (1, "version 2\nadd 10.0.0.0/8 7 192.0.2.7\n"))
+    # a link in place of what the converter wrote is another's, also if it leads to the same
+    written = folder / "127.0.0.2.feed"
+    written.rename(made / "moved.feed")
+    written.symlink_to("../moved.feed")
+    status, _, said = run("bgpdump-to-feeds", OTHER_DUMP, folder)
+    expect(f"a link in place of a feed: {said}", (status, written.is_symlink()), (1, True))
+
+
 def check_root(made):
     """The root is no folder that could be replaced."""
     for name in ("/", "//", f"{made}/../" + "../" * 20):
@@ -180,5 +200,5 @@ def check_disk(made):
 
 
 def check(made):
-    for each in (check_own, check_others, check_other_things, check_root, check_two, check_ended, check_half_replaced, check_disk):
+    for each in (check_own, check_others, check_other_things, check_link, check_root, check_two, check_ended, check_half_replaced, check_disk):
         each(made)
