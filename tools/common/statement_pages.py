@@ -84,7 +84,7 @@ RUN = Page("STATEMENT-RUN.md", "What a run prints", (
 
 LOCK = Page("STATEMENT-LOCK.md", "The lock", (
     "That no two feeds are ever inside, what then holds of the journal and of the lent book, how many remote accesses "
-    "a passage makes, and that everybody gets on."), [
+    "a passage makes, and that under a fair schedule everybody gets on in the algorithm."), [
     Chapter("The headline", (
         "In every interleaving of any number of atomic steps of the places of a tree, no two are inside; the content "
         "is a lawful journal, which leaves a table; each place's entries in it are those that it made, in order; and "
