@@ -582,9 +582,14 @@ def a_thousand_routes_of_two_feeds(yarib):
 
 # Fails where `run_texts` bypasses `run_feeds` and runs one feed after another.
 def feeds_run_at_the_same_time(yarib):
-    """A route comes and goes 10,000 times, and some dump of another feed meets it."""
+    """A route comes and goes 10,000 times, and some dump of another feed meets it. Each run ends with an empty table."""
     texts = ["add 10.0.0.0/8 1 192.0.2.1\nwithdraw 10.0.0.0/8\n" * 10_000, "dump\n" * 20_000]
-    met = any(" dumped 1\n" in run_texts(yarib, texts, ["--batch", "1"])[1] for _ in range(100))
+    met = False
+    for _ in range(100):
+        status, out, _ = run_texts(yarib, texts, ["--limit", "1", "--batch", "1"])
+        expect("the status and the table", (status, out.splitlines()[-1:]), (0, ["table 0"]))
+        if met := " dumped 1\n" in out:
+            break
     expect("a dump of feed 2 met the route of feed 1", met, True)
 
 
