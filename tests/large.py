@@ -1,21 +1,31 @@
 #!/usr/bin/env python3
-"""Has `yarib run` run very long texts to their end, and prints what a line or a byte of each takes.
+"""Has `yarib` run very long texts and full Internet tables to their end, and prints what a line, a byte or a route takes.
 
 tests/large.py [PROGRAM [CASE..]], or --list for the names of the cases. Takes some minutes, and up to 8 GB of memory:
-texts of 1 to 10 million lines, and lines of 100 MB to 1 GB. It is called as the benches are, with --store and
+texts of 1 to 10 million lines, lines of 100 MB to 1 GB, and the tables of 1, 8 and 32 peers with 1,050,000 routes each,
+which examples/convert/bgpdump-to-feeds makes out of a dump. Each best route is compared with what BGP's rules choose, and
+the answers to 20,000 addresses with a plain longest match. It is called as the benches are, with --store and
 --default-memory.
 """
 import itertools
 import os
+import pathlib
+import random
+import subprocess
 import tempfile
 
 import checks
 import figures
-from inputs import write_apart
+from inputs import real_prefixes, write_apart
+from table_model import dotted
 from texts import AGAIN
 from timed import taken
 
 ROWS = []
+CONVERTER = figures.TOP / "examples/convert/bgpdump-to-feeds"
+PEERS, ROUTES, ADDRESSES = (1, 8, 32), 1_050_000, 20_000
+DUMPED = "TABLE_DUMP2|1|B|127.0.0.{0}|{0}|{1}|{2}|IGP|192.0.2.{0}|0|0||NAG||\n"
+PATHS = [" ".join(["1"] * length) for length in range(1, 6)]
 
 
 def measured(words):
@@ -51,7 +61,69 @@ def long_lines(program):
         add_row(f"a line of {megabytes} MB", "byte", megabytes * 1_000_000, seconds, peak)
 
 
-CASES = [many_lines, long_lines]
+def length_of(place, peer):
+    """The place in PATHS of the path that a peer has to a prefix."""
+    return (place * 31 + peer * 17) % len(PATHS)
+
+
+def dump(prefixes, peers):
+    """The lines of a dump, prefix by prefix."""
+    for place, (base, length) in enumerate(prefixes):
+        prefix = f"{dotted(base)}/{length}"
+        for peer in range(1, peers + 1):
+            yield DUMPED.format(peer, prefix, PATHS[length_of(place, peer)])
+
+
+def best_peer(place, peers):
+    """The peer with the shortest path, and of several the one with the least address."""
+    return min(range(1, peers + 1), key=lambda peer: (length_of(place, peer), peer))
+
+
+def converted(prefixes, peers):
+    """The feeds of so many peers, which the converter has to deal if they have too many routes."""
+    folder = pathlib.Path(f"{peers}-peers")
+    with subprocess.Popen([CONVERTER, folder], stdin=subprocess.PIPE, stderr=subprocess.PIPE, text=True) as converter:
+        with converter.stdin as given:
+            given.writelines(dump(prefixes, peers))
+        said = converter.stderr.read()
+    checks.expect(f"{peers} peers are converted: {said}", converter.returncode, 0)
+    return sorted(folder.glob("*.feed"))
+
+
+def full_tables(program):
+    prefixes = sorted(real_prefixes(ROUTES, random.Random(1)))
+    for peers in PEERS:
+        feeds = converted(prefixes, peers)
+        best = [f"192.0.2.{best_peer(place, peers)}" for place in range(len(prefixes))]
+        with open("table.txt", "w+") as output:
+            seconds, usage, child = taken([program, "table", "--best", *feeds], stdout=output)
+            output.seek(0)
+            differing = sum(1 for line, (base, length), hop in itertools.zip_longest(output, prefixes, best)
+                            if (line.split()[0], line.split()[-1]) != (f"{dotted(base)}/{length}", hop))
+        checks.expect(f"status and differing routes of {peers} peers", (child.returncode, differing), (0, 0))
+        add_row(f"{peers} full tables", "route", peers * len(prefixes), seconds, usage.ru_maxrss * 1024)
+        compare_look_ups(program, feeds, dict(zip(prefixes, best)), peers)
+
+
+def longest_match(table, address):
+    """The answer to an address by the longest prefix of a table that covers it."""
+    for length in range(32, -1, -1):
+        if hop := table.get((address >> 32 - length << 32 - length, length)):
+            return hop
+    return "route"
+
+
+def compare_look_ups(program, feeds, table, peers):
+    draw = random.Random(70)
+    addresses = [draw.getrandbits(32) for _ in range(ADDRESSES)]
+    write_apart("addresses.txt", (f"{dotted(address)}\n" for address in addresses))
+    _, written, _ = program("lookup", "--addresses", "addresses.txt", *feeds)
+    found = [line.split()[-1] for line in written.splitlines()]
+    # the last word of `no route`
+    checks.expect(f"look-ups in {peers} tables", found, [longest_match(table, address) for address in addresses])
+
+
+CASES = [many_lines, long_lines, full_tables]
 
 
 def main():
