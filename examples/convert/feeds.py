@@ -53,6 +53,10 @@ COMPRESSED = {b"\x1f\x8b": ("gzip", "zcat"), b"\xfd7zXZ\0": ("xz", "xzcat"), b"B
               b"\x28\xb5\x2f\xfd": ("zstd", "zstdcat")}
 # the exit status if what is written answers some addresses otherwise than the daemon, or `yarib` doesn't take it
 OTHERWISE = 3
+ENDS = f"""exit status:
+  0 done   1 refused, nothing is changed   2 command line
+  {OTHERWISE} written, but some addresses may be answered otherwise than by the daemon,
+    or there are more feeds than yarib takes; standard error says why"""
 # the signals by which a converter ends
 ENDING = (signal.SIGTERM, signal.SIGHUP, signal.SIGINT)
 # the number of an address's four bytes
@@ -753,7 +757,7 @@ def as_number(text):
 
 def plain_parser(documentation):
     made = argparse.ArgumentParser(
-        description=documentation, formatter_class=argparse.RawDescriptionHelpFormatter, allow_abbrev=False
+        description=documentation, epilog=ENDS, formatter_class=argparse.RawDescriptionHelpFormatter, allow_abbrev=False
     )
     made.add_argument("--most", default=MOST_BYTES, metavar="BYTES", type=count,
                       help="how long the input may be, for it might have no end (default: %(default)s)")

@@ -1,4 +1,5 @@
-"""How the samples' daemons are started and asked, and where what they say is kept: what `make` and `make-ranks` share."""
+"""How the samples' daemons are started and asked, and where what they say is kept: what `make`, `make-ranks` and
+`make-hosts` share."""
 import json
 import os
 import pathlib
