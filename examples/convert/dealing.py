@@ -83,19 +83,30 @@ def merged(sources, folder):
 
 def write(source, folder, names):
     """Writes the source's commands to feeds of these names, those of each prefix to one of them."""
+    if len(names) == 1:
+        copy(source.file, folder / names[0])
+    else:
+        deal(source, folder, names)
+    source.file.unlink()
+
+
+def copy(file, feed):
+    with naming(feed), open(feed, "wb") as written, open(file, "rb") as lines:
+        written.write(FIRST_LINE.encode())
+        shutil.copyfileobj(lines, written, BLOCK)
+
+
+def deal(source, folder, names):
     with contextlib.ExitStack() as stack:
         stack.enter_context(naming(folder / names[0]))
         feeds = [stack.enter_context(open(folder / name, "w")) for name in names]
         for feed in feeds:
             feed.write(FIRST_LINE)
         lines = stack.enter_context(open(source.file))
-        if len(feeds) == 1:
-            shutil.copyfileobj(lines, feeds[0], BLOCK)
-        elif source.commands == source.routes:
+        if source.commands == source.routes:
             deal_routes(lines, source.routes, feeds)
         else:
             deal_commands(lines, places_of(source.file), feeds)
-    source.file.unlink()
 
 
 def deal_routes(lines, number, feeds):

@@ -55,8 +55,8 @@ COMPRESSED = {b"\x1f\x8b": ("gzip", "zcat"), b"\xfd7zXZ\0": ("xz", "xzcat"), b"B
 OTHERWISE = 3
 ENDS = f"""exit status:
   0 done   1 refused, nothing is changed   2 command line
-  {OTHERWISE} written, but some addresses may be answered otherwise than by the daemon,
-    or there are more feeds than yarib takes; standard error says why"""
+  {OTHERWISE} written, but some addresses may be answered differently than by the daemon,
+    or there are more feeds than yarib accepts; standard error says why"""
 # the signals by which a converter ends
 ENDING = (signal.SIGTERM, signal.SIGHUP, signal.SIGINT)
 # the number of an address's four bytes
@@ -107,7 +107,7 @@ class Notes:
         lines = [f"took {taken} {what}; left out " + (", ".join(parts) or "nothing")]
         lines += [f"{number} {name}" for name, number in self.told.items()]
         if self.differs:
-            lines.append(f"by this some addresses are answered otherwise than by the daemon (status {OTHERWISE})")
+            lines.append(f"so some addresses may be answered differently than by the daemon (status {OTHERWISE})")
         return "\n".join(lines)
 
 
