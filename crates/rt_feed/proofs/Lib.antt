@@ -1,3 +1,4 @@
+pub mod Promised
 pub mod CutBytes
 pub mod CommandWords
 pub mod LinesSay
