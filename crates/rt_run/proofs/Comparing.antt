@@ -6,22 +6,18 @@ use Rattle.std.specs.Io.KnownBytes.{Appends}
 use Rattle.rt_cidr.specs.Output.{AppendsBeginning}
 use Rattle.rt_cidr.proofs.Promised.{begins_after, begins_longer}
 use Rattle.rt_rib.specs.declared.routes.Route.{Route}
-use Rattle.rt_rib.specs.Book.{BookContents, table_of}
 use Rattle.rt_diff.specs.declared.comparison.Difference.{Difference}
 use Rattle.rt_diff.specs.Answers.{by_own}
 use Rattle.rt_diff.specs.Differences.{AreDifferences}
 use Rattle.rt_diff.proofs.Promised.{at, rest_none, rest_next, rest_there, whole, differences_of, differences_are, is_differences_of}
-use Rattle.rt_feed.specs.declared.report.Line.{Line}
 use Rattle.rt_feed.specs.declared.styles.Form.{Form}
 use Rattle.rt_feed.specs.declared.styles.Form.TheVariants.{Numbers, Labels, Json}
 use Rattle.rt_feed.specs.DifferenceText.{range_as, difference_as, differences_as}
 use Rattle.rt_run.specs.declared.compared.DiffSummary.{DiffSummary}
 use Rattle.rt_run.specs.AskedRun.{AskedRun}
-use Rattle.rt_run.specs.TableText.{IsSummary}
+use Rattle.rt_run.specs.TableText.{LeavesTable}
 use Rattle.rt_run.specs.DiffText.{AskedDiff, new_told, differ_status, IsDiffText}
 use Rattle.rt_run.specs.inside.Comparisons.{IsFirstFrom, IsFirstOf, lines_of, compared_status, IsSoFar}
-use Rattle.rt_run.specs.inside.RunResults.{RunOverBook}
-use Rattle.rt_run.proofs.Outputs.{left_table}
 
 -- what is no difference is none
 pub none_left : (next : Option Difference) → ((d : Difference) → next ≡ Some d → ⊥) → next ≡ None
@@ -117,18 +113,16 @@ module _ (asked : AskedDiff) (old new : List Route) where
       ap (λ list. max (differ_status list) (max m n)) all
 
 -- what was written of two runs tells of both tables
-pub is_diff : (asked : AskedDiff) (old_asked new_asked : AskedRun) (old_reports new_reports : List (List Line)) (old new : BookContents)
-    (given : DiffSummary) (first : Option Difference) → RunOverBook old_asked old_reports old → RunOverBook new_asked new_reports new
-    → IsSummary old_reports given.old → IsSummary new_reports given.new → IsFirstOf asked (table_of old) (table_of new) first
-    → given.status ≡ compared_status given.old.status given.new.status first
-    → IsDiffText asked old_asked new_asked (lines_of asked (table_of old) (table_of new)) given
-is_diff asked old_asked new_asked old_reports new_reports old new given first old_ran new_ran of_old of_new is status = record {
-  old_table = table_of old;
-  new_table = table_of new;
-  old_left = left_table old_asked old_reports old given.old old_ran of_old;
-  new_left = left_table new_asked new_reports new given.new new_ran of_new;
-  list = differences_of asked.by (by_own (table_of old)) (new_told asked (table_of new));
-  differences = differences_are asked.by (by_own (table_of old)) (new_told asked (table_of new));
+pub is_diff : (asked : AskedDiff) (old_asked new_asked : AskedRun) (old new : List Route) (given : DiffSummary) (first : Option Difference)
+    → LeavesTable old_asked old given.old → LeavesTable new_asked new given.new → IsFirstOf asked old new first
+    → given.status ≡ compared_status given.old.status given.new.status first → IsDiffText asked old_asked new_asked (lines_of asked old new) given
+is_diff asked old_asked new_asked old new given first old_left new_left is status = record {
+  old_table = old;
+  new_table = new;
+  old_left = old_left;
+  new_left = new_left;
+  list = differences_of asked.by (by_own old) (new_told asked new);
+  differences = differences_are asked.by (by_own old) (new_told asked new);
   printed = refl;
-  is_status = status ∙ status_by_first asked (table_of old) (table_of new) first given.old.status given.new.status is;
+  is_status = status ∙ status_by_first asked old new first given.old.status given.new.status is;
 }

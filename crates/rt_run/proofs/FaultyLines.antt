@@ -1,6 +1,6 @@
 -- The faulty lines of a report: how many there are and which is the first, line by line.
 use Rattle.std.proofs.Common.{◌≡◌, ℕ, ◌+◌, Option, Some, None, List, [], ◌∷◌, length, refl, sym, ap, ◌∙◌, arith}
-use Rattle.std.specs.Prelude.{count_by, cond, find, nat_lt}
+use Rattle.std.specs.Prelude.{count_by, cond, nat_lt}
 use Rattle.std.proofs.lemmas.List.Sums.{sum_by-cons}
 use Rattle.rt_feed.specs.declared.parse.LineFault.{LineFault}
 use Rattle.rt_feed.specs.declared.faulty.FaultyLines.{FaultyLines}
@@ -9,9 +9,7 @@ use Rattle.rt_feed.specs.declared.report.Answer.{Answer}
 use Rattle.rt_feed.specs.declared.report.Answer.TheVariants.{Did, Refused, Fault}
 use Rattle.rt_feed.specs.Addresses.{faulty_lines}
 use Rattle.rt_feed.specs.Reports.{is_fault, has_fault}
-use Rattle.rt_run.specs.TableText.{was_full, was_existing, was_missing, fault_at, faults_of, tally_of}
-use Rattle.rt_feed.specs.Reports.{is_refusal}
-use Rattle.rt_run.specs.inside.Tallies.{fault_of}
+use Rattle.rt_run.specs.TableText.{fault_at, faults_of}
 use Rattle.rt_run.proofs.Lists.{counts_some}
 
 -- faulty lines with one more in front, if there is one
@@ -40,36 +38,14 @@ counted-line number (Did reply) count faulty same = omega (arith, same)
 counted-line number Refused count faulty same = omega (arith, same)
 counted-line number (Fault fault) count faulty same = omega (arith, same)
 
-counted : (report : List Line) → count_by (λ (line : Line). is_fault line.answer) report ≡ (faulty_lines (faults_of report)).count
+-- the faulty lines of a report are as many as its lines that are
+pub counted : (report : List Line) → count_by (λ (line : Line). is_fault line.answer) report ≡ (faulty_lines (faults_of report)).count
 counted [] = refl
 counted (line ∷ report) =
     sum_by-cons (λ (line : Line). cond (is_fault line.answer) 1 0) line report
     ∙ (counted-line line.number line.answer (count_by (λ (line : Line). is_fault line.answer) report) (faulty_lines (faults_of report)) (counted report)
     ∙ sym (ap (λ (faulty : FaultyLines). faulty.count) (faults-line line.number line.answer report)))
 
-first-line : (number : ℕ) (answer : Answer) (report : List Line) (faulty : FaultyLines)
-    → fault_of (find (λ (line : Line). is_fault line.answer) report) ≡ faulty.first
-    → fault_of (find (λ (line : Line). is_fault line.answer) (record { number = number; answer = answer } ∷ report))
-    ≡ (with_fault (fault_at number answer) faulty).first
-first-line number (Did reply) report faulty same = same
-first-line number Refused report faulty same = same
-first-line number (Fault fault) report faulty same = refl
-
-found : (report : List Line) → fault_of (find (λ (line : Line). is_fault line.answer) report) ≡ (faulty_lines (faults_of report)).first
-found [] = refl
-found (line ∷ report) =
-    first-line line.number line.answer report (faulty_lines (faults_of report)) (found report)
-    ∙ sym (ap (λ (faulty : FaultyLines). faulty.first) (faults-line line.number line.answer report))
-
 -- there are faulty lines where the report has a fault
 pub some_faulty : (report : List Line) → has_fault report ≡ nat_lt 0 (faulty_lines (faults_of report)).count
 some_faulty report = sym (counts_some (λ (line : Line). is_fault line.answer) report) ∙ ap (λ n. nat_lt 0 n) (counted report)
-
--- what was counted and found is the tally
-pub tallied : (report : List Line) (count : ℕ) (first : Option (ℕ × LineFault)) (full existing missing refused : ℕ)
-    → count ≡ count_by (λ (line : Line). is_fault line.answer) report → first ≡ fault_of (find (λ (line : Line). is_fault line.answer) report)
-    → full ≡ count_by (λ (line : Line). was_full line.answer) report → existing ≡ count_by (λ (line : Line). was_existing line.answer) report
-    → missing ≡ count_by (λ (line : Line). was_missing line.answer) report → refused ≡ count_by (λ (line : Line). is_refusal line.answer) report
-    → record { faulty = record { count = count; first = first }; full = full; existing = existing; missing = missing; refused = refused } ≡ tally_of report
-tallied report count first full existing missing refused c f full_is existing_is missing_is refused_is =
-    rw (c, f, full_is, existing_is, missing_is, refused_is, counted report, found report) refl

@@ -4,6 +4,8 @@ pub mod Answering
 pub mod Outputs
 pub mod Comparing
 pub mod FaultyLines
+pub mod CountedLines
+pub mod InTurn
 pub mod SeveralFeeds
 pub mod SameTables
 pub mod SameLookups

@@ -3,8 +3,6 @@ use Rattle.std.proofs.Common.{◌≡◌, ℕ, max, false, List, Option, Ok, Err,
 use Rattle.std.specs.Prelude.{nat_lt}
 use Rattle.rt_cidr.specs.declared.address.Addr.{Addr}
 use Rattle.rt_rib.specs.declared.routes.Route.{Route}
-use Rattle.rt_rib.specs.Book.{BookContents, table_of}
-use Rattle.rt_feed.specs.declared.report.Line.{Line}
 use Rattle.rt_feed.specs.declared.faulty.FaultyLines.{FaultyLines}
 use Rattle.rt_feed.specs.declared.faults.RunFault.TheVariants as refusal
 use Rattle.rt_run.specs.declared.faults.AppFault.{AppFault}
@@ -13,9 +11,8 @@ use Rattle.rt_run.specs.declared.tallies.RunSummary.{RunSummary}
 use Rattle.rt_run.specs.declared.shown.LookupSummary.{LookupSummary}
 use Rattle.rt_run.specs.RunText.{Leaves, status_where}
 use Rattle.rt_run.specs.AskedRun.{AskedRun}
-use Rattle.rt_run.specs.TableText.{IsSummary, LeavesTable, IsShown, IsLookup}
+use Rattle.rt_run.specs.TableText.{LeavesTable, IsShown, IsLookup}
 use Rattle.rt_run.specs.inside.AskedAddresses.{IsAsked}
-use Rattle.rt_run.specs.inside.RunResults.{RunOverBook}
 use Rattle.rt_run.specs.inside.Outputs.{Writes}
 
 -- after a fault of the writer or want of memory, where the bytes are such
@@ -25,25 +22,10 @@ leaves_fault IsSuch old new bytes given (Run why) is wrote = (λ same. let other
 leaves_fault IsSuch old new bytes given (Replay why) is wrote = absurd wrote
 leaves_fault IsSuch old new bytes given Write is wrote = (bytes, given, is, wrote)
 
--- a run leaves the table of its book
-pub left_table : (asked : AskedRun) (reports : List (List Line)) (book : BookContents) (summary : RunSummary)
-    → RunOverBook asked reports book → IsSummary reports summary → LeavesTable asked (table_of book) summary
-left_table asked reports book summary ran told = record {
-  journal = book.journal;
-  outcomes = ran.outcomes;
-  history = ran.history;
-  left = rw ran.limited refl;
-  summed = subst (λ (reports : List (List Line)). IsSummary reports summary) ran.reported told;
-}
-
 -- what was written of a run's table tells of it
-pub is_shown : (asked : AskedRun) (text_of : List Route → List ℕ) (reports : List (List Line)) (book : BookContents) (summary : RunSummary) (bytes : List ℕ)
-    → RunOverBook asked reports book → IsSummary reports summary → bytes ≡ text_of (table_of book) → IsShown asked text_of bytes summary
-is_shown asked text_of reports book summary bytes ran told shown = record {
-  table = table_of book;
-  leaves = left_table asked reports book summary ran told;
-  shown = shown;
-}
+pub is_shown : (asked : AskedRun) (text_of : List Route → List ℕ) (table : List Route) (summary : RunSummary) (bytes : List ℕ)
+    → LeavesTable asked table summary → bytes ≡ text_of table → IsShown asked text_of bytes summary
+is_shown asked text_of table summary bytes leaves shown = record { table = table; leaves = leaves; shown = shown }
 
 -- what look-ups come to
 abbrev looked_up : RunSummary → FaultyLines → LookupSummary

@@ -2,26 +2,23 @@
 ghost use Rattle.std.specs.Prelude.{◌≡◌, ◌≢◌, ◌↔◌, ◌⊎◌, []};
 ghost use Rattle.rt_run.specs.AskedRun.{AskedRun};
 ghost use Rattle.rt_run.specs.RunText.{Leaves};
-ghost use Rattle.rt_rib.specs.Book.{table_of};
 ghost use Rattle.rt_run.specs.DiffText.{IsDiffText};
-ghost use Rattle.rt_run.specs.inside.RunResults.{RunOverBook};
+ghost use Rattle.rt_run.specs.TableText.{LeavesTable};
 ghost use Rattle.rt_run.specs.inside.Comparisons.{compared_status, IsFirstOf};
 
 use crate::diff_terms::DiffTerms;
 use crate::faults::AppFault;
 use crate::feed_texts::FeedTexts;
 use crate::output::{Output, write_output};
-use crate::runs::{FinishedRun, run_all};
 use crate::status::Status;
 use crate::tallies::RunSummary;
+use crate::turns::{FinishedQuery, run_in_turn};
 use rt_cidr::Addr;
 use rt_diff::Difference;
 use rt_feed::RunFault;
-use rt_rib::Book;
+use rt_rib::Table;
 use std::alloc::Global;
 use std::io::Write;
-use std::sync::Wait;
-use std::thread::Threads;
 
 /// What a comparison of two runs gives.
 #[derive(Debug, Drop)]
@@ -34,14 +31,13 @@ pub struct DiffSummary {
     pub new: RunSummary,
 }
 
-/// Runs the old texts and then the new ones as `run_texts` does, each over a table of its own, and when all have ended writes
+/// Executes the old texts and then the new ones, one after another and each side over a table of its own, and then writes
 /// to `w` each range of addresses that the two tables answer otherwise, in rising order and on these terms: as a line
 /// `FIRST-LAST OLD -> NEW`, or as a JSON object (`write_difference_as`). Nothing else is written, so where nothing is, every
 /// address is answered alike. Gives how much of the texts was taken, where all was
 /// written. Its faults are those of `run_texts`: F1 where there is no old text or no new one, and F3 also where there is no
 /// memory for what was taken.
-pub fn diff_texts<R: Threads + Wait + Sync, W: Write>(
-    rt: &R,
+pub fn diff_texts<W: Write>(
     alloc: Global,
     old_asked: &FeedTexts<'_>,
     new_asked: &FeedTexts<'_>,
@@ -54,8 +50,8 @@ pub fn diff_texts<R: Threads + Wait + Sync, W: Write>(
     if new_asked.count() == 0 {
         return Err(AppFault::Run(RunFault::NoText));
     }
-    let old = run_all(rt, alloc, old_asked)?;
-    let new = run_all(rt, alloc, new_asked)?;
+    let old = run_in_turn(alloc, old_asked)?;
+    let new = run_in_turn(alloc, new_asked)?;
     let compared = compare_runs(alloc, &old, &new, terms, w);
     old.leave_table();
     new.leave_table();
@@ -65,23 +61,23 @@ pub fn diff_texts<R: Threads + Wait + Sync, W: Write>(
 /// Writes what two runs' tables answer otherwise, and tells how much of the texts was taken.
 fn compare_runs<W: Write>(
     alloc: Global,
-    old: &FinishedRun,
-    new: &FinishedRun,
+    old: &FinishedQuery,
+    new: &FinishedQuery,
     terms: &DiffTerms<'_>,
     w: &mut W,
 ) -> Result<DiffSummary, AppFault>
-    ensures text { (old_asked new_asked : AskedRun) → RunOverBook old_asked old.now.reports.items old.now.book
-        → RunOverBook new_asked new.now.reports.items new.now.book
+    ensures text { (old_asked new_asked : AskedRun) → LeavesTable old_asked old.now.table.routes old.now.summary
+        → LeavesTable new_asked new.now.table.routes new.now.summary
         → Leaves (IsDiffText terms.now old_asked new_asked) (W.contents w.old) (W.contents w.new) result }
     ensures ran { result ≢ Err (AppFault.Run RunFault.NoText) }
 {
     let of_old = old.summary(alloc)?;
     let of_new = new.summary(alloc)?;
-    let first = first_difference(&old.book, &new.book, terms);
+    let first = first_difference(&old.table, &new.table, terms);
     let status = status_of(&of_old, &of_new, first);
     write_output(
         alloc,
-        Output::Differences(terms, &old.book, &new.book, first),
+        Output::Differences(terms, &old.table, &new.table, first),
         w,
     )?;
     Ok(DiffSummary {
@@ -91,13 +87,13 @@ fn compare_runs<W: Write>(
     })
 }
 
-/// What the tables of two books answer otherwise first.
+/// What two tables answer otherwise first.
 fn first_difference(
-    old: &Book<Global>,
-    new: &Book<Global>,
+    old: &Table<Global>,
+    new: &Table<Global>,
     terms: &DiffTerms<'_>,
 ) -> Option<Difference>
-    ensures { IsFirstOf terms.now (table_of old.now) (table_of new.now) result }
+    ensures { IsFirstOf terms.now old.now.routes new.now.routes result }
 {
     terms.comparison(old, new).first_difference(Addr(0))
 }

@@ -1,11 +1,10 @@
 //! On what terms two runs are compared.
 ghost use Rattle.std.specs.Prelude.{◌≡◌};
-ghost use Rattle.rt_rib.specs.Book.{table_of};
 ghost use Rattle.rt_run.specs.inside.Comparisons.{compared_of};
 
 use rt_diff::{By, Comparison};
 use rt_feed::SideStyles;
-use rt_rib::Book;
+use rt_rib::Table;
 use std::alloc::Global;
 use std::marker::Model;
 
@@ -45,15 +44,15 @@ impl<'a> DiffTerms<'a> {
         self.styles
     }
 
-    /// The tables of two books, compared so.
+    /// Two tables, compared so.
     pub(crate) fn comparison(
         &self,
-        old: &'a Book<Global>,
-        new: &'a Book<Global>,
+        old: &'a Table<Global>,
+        new: &'a Table<Global>,
     ) -> Comparison<'a, Global>
-        ensures { result ≡ compared_of self.now (table_of old.now) (table_of new.now) }
+        ensures { result ≡ compared_of self.now old.now.routes new.now.routes }
     {
-        let mut tables = Comparison::new(old, new, self.by);
+        let mut tables = Comparison::of(old.answers(), new.answers(), self.by);
         tables.tell_new_by(self.numbers);
         tables
     }

@@ -2,9 +2,10 @@
 //!
 //! [`run_texts`] is a run over values: the texts of 1 to 64 feeds, each on a thread of its own, over one table behind the
 //! lock, and a writer. Its clause `text` is the theorem from bytes to bytes: what was written is a run's text.
-//! [`lookup_texts`], [`lookup_all_texts`] and [`table_texts`] run texts in the same way and tell of the finished table alone:
-//! what look-ups of addresses find in it, all that covers them, its routes, or how many there are ([`count_texts`]); and they give how much of each text was taken.
-//! [`diff_texts`] runs two sets of texts and tells which addresses their finished tables answer otherwise.
+//! [`lookup_texts`], [`lookup_all_texts`] and [`table_texts`] execute the texts one after another, and store neither journal nor
+//! reports. They write what the finished table says: what look-ups of addresses find in it, all that covers them, its routes, or
+//! how many there are ([`count_texts`]); and they return how much of each text was taken.
+//! [`diff_texts`] does so with two sets of texts, and writes which addresses their finished tables answer otherwise.
 //! [`replay_text`] does the same for a schedule of the lock: one line for each atomic step of the one run that it names.
 //! `laws` says what holds of every run, however its threads ran.
 //!
@@ -30,6 +31,7 @@ mod runs;
 mod shown;
 mod status;
 mod tallies;
+mod turns;
 
 pub use asked_addresses::AskedAddresses;
 pub use compared::{DiffSummary, diff_texts};

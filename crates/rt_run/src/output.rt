@@ -3,7 +3,6 @@
 ghost use Rattle.std.specs.Prelude.{◌≡◌, ◌++◌, [], ◌<◌, ◌≤◌, true, false, length, IfSome};
 ghost use Rattle.rt_cidr.specs.Output.{WritesText};
 ghost use Rattle.rt_rib.specs.declared.limits.TheConstants.{MOST_FEEDS};
-ghost use Rattle.rt_rib.specs.Book.{table_of};
 ghost use Rattle.rt_feed.specs.Printed.{table_text};
 ghost use Rattle.rt_run.specs.RunText.{reports_text};
 ghost use Rattle.rt_run.specs.TableText.{answers_text};
@@ -20,7 +19,7 @@ use rt_feed::{
     write_found_as, write_report, write_rows_as, write_table,
 };
 use rt_fib::Fib;
-use rt_rib::{Book, Route};
+use rt_rib::{Route, Table};
 use std::alloc::Global;
 use std::io::{self, Write};
 use ya_core::Step;
@@ -41,12 +40,12 @@ pub(crate) struct AddressMatches {
 pub(crate) enum Output<'a> {
     /// The reports, the k-th as feed k's, and then the table of these routes.
     Run(&'a [Report], &'a [Route]),
-    /// In which style, what a look-up of each address finds in the book, by its forwarding table where there is one.
-    Answers(&'a Style<'a>, &'a Book<Global>, &'a Option<Fib<Global>>, &'a [Addr]),
+    /// In which style, what a look-up of each address finds in the table, by its forwarding table where there is one.
+    Answers(&'a Style<'a>, &'a Table<Global>, &'a Option<Fib<Global>>, &'a [Addr]),
     /// In which style, all routes that cover each address.
     Matches(&'a Style<'a>, &'a [AddressMatches]),
-    /// On which terms, what the two books' tables answer otherwise, of which this is the first.
-    Differences(&'a DiffTerms<'a>, &'a Book<Global>, &'a Book<Global>, Option<Difference>),
+    /// On which terms, what the two tables answer otherwise, of which this is the first.
+    Differences(&'a DiffTerms<'a>, &'a Table<Global>, &'a Table<Global>, Option<Difference>),
     /// In which style, the routes alone.
     Routes(&'a Style<'a>, &'a [Route]),
     /// In which style, how many routes there are.
@@ -121,8 +120,8 @@ fn write_parts<W: Write>(w: &mut W, output: Output<'_>) -> Result<(), io::Error>
 {
     match output {
         Output::Run(reports, routes) => write_run(w, reports, routes),
-        Output::Answers(style, book, fib, addresses) => {
-            write_answers(w, style, book, fib, addresses)
+        Output::Answers(style, table, fib, addresses) => {
+            write_answers(w, style, table, fib, addresses)
         }
         Output::Matches(style, all) => write_matches(w, style, all),
         Output::Differences(terms, old, new, first) => write_differences(w, terms, old, new, first),
@@ -152,41 +151,41 @@ fn write_reports<W: Write>(w: &mut W, reports: &[Report]) -> Result<(), io::Erro
     Ok(())
 }
 
-/// Writes what a look-up of each address finds in the book.
+/// Writes what a look-up of each address finds in the table.
 fn write_answers<W: Write>(
     w: &mut W,
     style: &Style<'_>,
-    book: &Book<Global>,
+    table: &Table<Global>,
     fib: &Option<Fib<Global>>,
     addresses: &[Addr],
 ) -> Result<(), io::Error>
-    requires { IfSome fib.now (λ fib. fib ≡ table_of book.now) }
-    ensures { WritesText (W.contents w.old) (W.contents w.new) (answers_text style.now addresses.now (table_of book.now)) result }
+    requires { IfSome fib.now (λ fib. fib ≡ table.now.routes) }
+    ensures { WritesText (W.contents w.old) (W.contents w.new) (answers_text style.now addresses.now table.now.routes) result }
 {
     let mut rest = addresses;
     while !rest.is_empty() {
         let (piece, behind) = rest.split_at(rest.len().min(PIECE));
-        write_piece(w, style, book, fib, piece)?;
+        write_piece(w, style, table, fib, piece)?;
         rest = behind;
     }
     Ok(())
 }
 
-/// Writes what a look-up of each of a few addresses finds in the book.
+/// Writes what a look-up of each of a few addresses finds in the table.
 fn write_piece<W: Write>(
     w: &mut W,
     style: &Style<'_>,
-    book: &Book<Global>,
+    table: &Table<Global>,
     fib: &Option<Fib<Global>>,
     piece: &[Addr],
 ) -> Result<(), io::Error>
-    requires fib { IfSome fib.now (λ fib. fib ≡ table_of book.now) }
+    requires fib { IfSome fib.now (λ fib. fib ≡ table.now.routes) }
     requires few { length piece.now ≤ 256 }
-    ensures { WritesText (W.contents w.old) (W.contents w.new) (answers_text style.now piece.now (table_of book.now)) result }
+    ensures { WritesText (W.contents w.old) (W.contents w.new) (answers_text style.now piece.now table.now.routes) result }
 {
     let mut places = [None; PIECE];
     let found = &mut places[..piece.len()];
-    look_up_by(book, fib, piece, found);
+    look_up_by(table, fib, piece, found);
     for (index, address) in piece.iter().enumerate() {
         write_found_as(w, style, *address, found[index])?;
     }
@@ -207,16 +206,16 @@ fn write_matches<W: Write>(
     Ok(())
 }
 
-/// Writes what the tables of two books answer otherwise, of which this is the first.
+/// Writes what two tables answer otherwise, of which this is the first.
 fn write_differences<'a, W: Write>(
     w: &mut W,
     terms: &DiffTerms<'a>,
-    old: &'a Book<Global>,
-    new: &'a Book<Global>,
+    old: &'a Table<Global>,
+    new: &'a Table<Global>,
     first: Option<Difference>,
 ) -> Result<(), io::Error>
-    requires { IsFirstOf terms.now (table_of old.now) (table_of new.now) first }
-    ensures { WritesText (W.contents w.old) (W.contents w.new) (lines_of terms.now (table_of old.now) (table_of new.now)) result }
+    requires { IsFirstOf terms.now old.now.routes new.now.routes first }
+    ensures { WritesText (W.contents w.old) (W.contents w.new) (lines_of terms.now old.now.routes new.now.routes) result }
 {
     let mut tables = terms.comparison(old, new);
     let mut next = first;

@@ -6,14 +6,13 @@ ghost use Rattle.std.specs.List.{list_any};
 ghost use Rattle.rt_feed.specs.Reports.{has_refusal, has_fault};
 ghost use Rattle.rt_run.specs.AskedRun.{AskedRun};
 ghost use Rattle.rt_run.specs.RunText.{IsRunText, Leaves, reports_status};
-ghost use Rattle.rt_run.specs.TableText.{IsSummary};
 ghost use Rattle.rt_run.specs.inside.RunResults.{RunOverBook, RunBeforeSettle};
 ghost use Rattle.rt_shared.specs.Table.{ArePassesOf};
 
 use crate::faults::AppFault;
 use crate::feed_texts::FeedTexts;
 use crate::output::{Output, write_output};
-use crate::tallies::{RunSummary, status_where, summary_of};
+use crate::tallies::status_where;
 use rt_feed::{Feed, Report, RunFault, TableGate, run_feeds};
 use rt_rib::{Book, MOST_FEEDS, Refused};
 use rt_shared::{FeedPass, SharedRib};
@@ -54,28 +53,21 @@ pub fn run_texts<R: Threads + Wait + Sync, W: Write>(
 
 /// What a run has done: each feed's report, in order, and the book.
 #[derive(Drop)]
-pub(crate) struct FinishedRun {
-    pub(crate) reports: Vec<Report>,
-    pub(crate) book: Book<Global>,
+struct FinishedRun {
+    reports: Vec<Report>,
+    book: Book<Global>,
 }
 
 impl FinishedRun {
-    /// How much of the texts was taken.
-    pub(crate) fn summary(&self, alloc: Global) -> Result<RunSummary, AllocError>
-        ensures { IfOk result (λ summary. IsSummary self.now.reports.items summary) }
-    {
-        summary_of(alloc, self.reports.as_slice())
-    }
-
     /// Leaves the table where it is: to free it node by node would take a tenth of a run, and the system takes its
     /// pages back at once.
-    pub(crate) fn leave_table(self) {
+    fn leave_table(self) {
         mem::forget(self.book);
     }
 }
 
 /// Runs the texts over one table. No text at all is F1, and want of memory outside of a command F3.
-pub(crate) fn run_all<R: Threads + Wait + Sync>(
+fn run_all<R: Threads + Wait + Sync>(
     rt: &R,
     alloc: Global,
     asked: &FeedTexts<'_>,

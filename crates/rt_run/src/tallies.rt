@@ -1,16 +1,13 @@
 //! How much of its texts a run has taken, for those who don't read its reports.
-ghost use Rattle.std.specs.Prelude.{◌≡◌, find, map, IfOk};
+ghost use Rattle.std.specs.Prelude.{◌≡◌, ◌<◌, List, [], ◌∷◌, ◌++◌};
 ghost use Rattle.std.specs.List.{list_any};
 ghost use Rattle.rt_feed.specs.declared.report.Line.{Line};
-ghost use Rattle.rt_feed.specs.Reports.{is_fault};
 ghost use Rattle.rt_run.specs.RunText.{status_where};
-ghost use Rattle.rt_run.specs.TableText.{was_full, was_existing, was_missing, tally_of, has_refused, has_left_out, tallies_status, IsSummary};
-ghost use Rattle.rt_run.specs.inside.Tallies.{fault_of};
+ghost use Rattle.rt_run.specs.TableText.{was_full, was_existing, was_missing, has_refused, has_left_out, tallies_status};
 
 use crate::status::Status;
-use rt_feed::{Answer, FaultyLines, Line, LineFault, Report};
+use rt_feed::{Answer, FaultyLines};
 use rt_rib::Reply;
-use std::alloc::{AllocError, Global};
 
 /// What of a feed's text was not taken.
 #[derive(Clone, Copy, Debug)]
@@ -28,6 +25,51 @@ pub struct Tally {
 }
 
 impl Tally {
+    ghost use Rattle.rt_feed.specs.Lines.{numbered};
+    ghost use Rattle.rt_feed.specs.Addresses.{faulty_lines};
+    ghost use Rattle.rt_run.specs.TableText.{tally_of, faults_of};
+    ghost use Rattle.rt_run.specs.inside.Turns.{IsBelow};
+
+    /// Returns the tally of a report without lines.
+    pub(crate) fn new() -> Tally
+        ensures { result ≡ tally_of [] }
+    {
+        Tally {
+            faulty: FaultyLines::none(),
+            full: 0,
+            existing: 0,
+            missing: 0,
+            refused: 0,
+        }
+    }
+
+    /// Counts what a report would say of the line of this number, if anything.
+    pub(crate) fn count(&mut self, number: usize, said: Option<Answer>)
+        requires { IsBelow number self.old }
+        ensures { (report : List Line) → self.old ≡ tally_of report → self.new ≡ tally_of (report ++ numbered number said) }
+    {
+        let Some(answer) = said else {
+            return;
+        };
+        self.count_fault(number, answer);
+        self.full += usize::from(was_full(answer));
+        self.existing += usize::from(was_existing(answer));
+        self.missing += usize::from(was_missing(answer));
+        self.refused += usize::from(answer.is_refusal());
+    }
+
+    /// Counts the line of this number if it is faulty.
+    fn count_fault(&mut self, number: usize, answer: Answer)
+        requires { self.old.faulty.count < number }
+        ensures faulty { (report : List Line) → self.old.faulty ≡ faulty_lines (faults_of report)
+            → self.new.faulty ≡ faulty_lines (faults_of (report ++ record { number = number; answer = answer } ∷ [])) }
+        ensures others { self.new ≡ record self.old { faulty = self.new.faulty } }
+    {
+        if let Answer::Fault(fault) = answer {
+            self.faulty.put(number, fault);
+        }
+    }
+
     /// Whether a command was refused for want of memory.
     fn has_refused(&self) -> bool
         ensures { result ≡ has_refused self.now }
@@ -53,71 +95,13 @@ pub struct RunSummary {
     pub tallies: Vec<Tally>,
 }
 
-/// Tells of the reports how much of the texts was taken.
-pub(crate) fn summary_of(alloc: Global, reports: &[Report]) -> Result<RunSummary, AllocError>
-    ensures { IfOk result (λ summary. IsSummary reports.now summary) }
+/// Returns how much of the texts was taken, of which these are the tallies.
+pub(crate) fn summary_of(tallies: Vec<Tally>) -> RunSummary
+    ensures tallies { result.tallies ≡ tallies }
+    ensures is_status { result.status ≡ tallies_status tallies.items }
 {
-    let tallies = tallies_of(alloc, reports)?;
     let status = status_of(tallies.as_slice());
-    Ok(RunSummary { status, tallies })
-}
-
-fn tallies_of(alloc: Global, reports: &[Report]) -> Result<Vec<Tally>, AllocError>
-    ensures { IfOk result (λ tallies. tallies.items ≡ map tally_of reports.now) }
-{
-    reports.iter().map(|report| tally_of(report)).collect(alloc)
-}
-
-/// What of a text was not taken, by its report.
-fn tally_of(report: &Report) -> Tally
-    ensures { result ≡ tally_of report.now }
-{
-    let lines = report.lines();
-    let mut tally = Tally {
-        faulty: FaultyLines {
-            count: 0,
-            first: first_faulty(lines),
-        },
-        full: 0,
-        existing: 0,
-        missing: 0,
-        refused: 0,
-    };
-    for line in lines {
-        tally.faulty.count += usize::from(line.answer.is_fault());
-        tally.full += usize::from(was_full(line.answer));
-        tally.existing += usize::from(was_existing(line.answer));
-        tally.missing += usize::from(was_missing(line.answer));
-        tally.refused += usize::from(line.answer.is_refusal());
-    }
-    tally
-}
-
-/// The number of the first faulty line, and its fault.
-fn first_faulty(lines: &[Line]) -> Option<(usize, LineFault)>
-    ensures { result ≡ fault_of (find (λ (line : Line). is_fault line.answer) lines.now) }
-{
-    fault_of(faulty_line(lines))
-}
-
-/// The first faulty line.
-fn faulty_line(lines: &[Line]) -> Option<Line>
-    ensures { result ≡ find (λ (line : Line). is_fault line.answer) lines.now }
-{
-    lines.iter().copied().find(|line| line.answer.is_fault())
-}
-
-/// The number of the line and its fault, if it is one that has a fault.
-fn fault_of(line: Option<Line>) -> Option<(usize, LineFault)>
-    ensures { result ≡ fault_of line }
-{
-    match line {
-        Some(line) => match line.answer {
-            Answer::Fault(fault) => Some((line.number, fault)),
-            Answer::Did(_) | Answer::Refused => None,
-        },
-        None => None,
-    }
+    RunSummary { status, tallies }
 }
 
 /// Whether an `add` was over the limit.

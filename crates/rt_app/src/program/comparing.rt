@@ -32,7 +32,7 @@ impl<R: Files + Threads + Wait + Sync + AllocGlobal, O: Write, E: Write> Program
         let feeds = old_asked.count() + new_asked.count();
         let mut out = self.screen.beside(feeds, self.out);
         let DiffSummary { status, old, new } = diff_texts(
-            self.rt, self.alloc, &old_asked, &new_asked, &terms, &mut out,
+            self.alloc, &old_asked, &new_asked, &terms, &mut out,
         )?;
         tell_summary(&mut self.screen, old_names, &old);
         tell_summary(&mut self.screen, new_names, &new);

@@ -36,9 +36,9 @@ impl<R: Files + Threads + Wait + Sync + AllocGlobal, O: Write, E: Write> Program
         };
         let mut out = self.screen.beside(asked.count(), self.out);
         let told = if request.all {
-            lookup_all_texts(self.rt, self.alloc, &asked, &style, &addresses, &mut out)?
+            lookup_all_texts(self.alloc, &asked, &style, &addresses, &mut out)?
         } else {
-            lookup_texts(self.rt, self.alloc, &asked, &style, &addresses, &mut out)?
+            lookup_texts(self.alloc, &asked, &style, &addresses, &mut out)?
         };
         if let Some(name) = request.more {
             tell_faulty(&mut self.screen, name, told.faulty);
@@ -57,9 +57,9 @@ impl<R: Files + Threads + Wait + Sync + AllocGlobal, O: Write, E: Write> Program
         let style = Style::new(form_of(request.telling), labels.as_slice());
         let mut out = self.screen.beside(asked.count(), self.out);
         let summary = if request.count {
-            count_texts(self.rt, self.alloc, &asked, &style, &selection, &mut out)?
+            count_texts(self.alloc, &asked, &style, &selection, &mut out)?
         } else {
-            table_texts(self.rt, self.alloc, &asked, &style, &selection, &mut out)?
+            table_texts(self.alloc, &asked, &style, &selection, &mut out)?
         };
         tell_summary(&mut self.screen, run.files.as_slice(), &summary);
         Ok(summary.status)

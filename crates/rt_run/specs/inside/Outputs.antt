@@ -4,7 +4,6 @@ use Rattle.std.specs.List.{flat_map}
 use Rattle.std.specs.Io.KnownBytes.{Appends}
 use Rattle.rt_cidr.specs.Output.{AppendsBeginning}
 use Rattle.rt_rib.specs.declared.limits.TheConstants.{MOST_FEEDS}
-use Rattle.rt_rib.specs.Book.{table_of}
 use Rattle.rt_feed.specs.declared.faults.RunFault.TheVariants as fault
 use Rattle.rt_feed.specs.Printed.{table_text}
 use Rattle.rt_feed.specs.Counts.{counts_as}
@@ -26,20 +25,20 @@ matches_text style all = flat_map (λ one. all_found_as style.form (label_of sty
 -- the text of the reports and the table, of the answers, of all that was found, of the differences, of the routes or how many there are, or of a replay
 abbrev pub output_text : Output → List ℕ
 output_text (output.Run reports routes) = reports_text 1 reports.now ++ table_text routes.now
-output_text (output.Answers style book fib addresses) = answers_text style.now addresses.now (table_of book.now)
+output_text (output.Answers style table fib addresses) = answers_text style.now addresses.now table.now.routes
 output_text (output.Matches style all) = matches_text style.now all.now
-output_text (output.Differences asked old new first) = lines_of asked.now (table_of old.now) (table_of new.now)
+output_text (output.Differences asked old new first) = lines_of asked.now old.now.routes new.now.routes
 output_text (output.Routes style routes) = rows_as style.now.form (label_of style.now.labels) routes.now
 output_text (output.Counts style routes) = counts_as style.now.form (label_of style.now.labels) routes.now
 output_text (output.Replay steps inside) = replay_text_of steps.now inside
 
--- of reports there are at most as many as feeds, a forwarding table answers by the book's table, the difference is the
+-- of reports there are at most as many as feeds, a forwarding table answers by the table, the difference is the
 -- first, and of steps there are so many that each has a number
 abbrev pub IsOutput : Output → Type 0
 IsOutput (output.Run reports routes) = length reports.now ≤ MOST_FEEDS
-IsOutput (output.Answers style book fib addresses) = IfSome fib.now (λ fib. fib ≡ table_of book.now)
+IsOutput (output.Answers style table fib addresses) = IfSome fib.now (λ fib. fib ≡ table.now.routes)
 IsOutput (output.Matches style all) = Unit {0}
-IsOutput (output.Differences asked old new first) = IsFirstOf asked.now (table_of old.now) (table_of new.now) first
+IsOutput (output.Differences asked old new first) = IsFirstOf asked.now old.now.routes new.now.routes first
 IsOutput (output.Routes style routes) = Unit {0}
 IsOutput (output.Counts style routes) = Unit {0}
 IsOutput (output.Replay steps inside) = length steps.now < 2 ^ 63

@@ -2,7 +2,6 @@ use Rattle.std.proofs.Common.{◌≡◌, ◌++◌, sym, take-append-drop, arith}
 use Rattle.std.proofs.lemmas.Result.{err_from_is_err_and}
 use Rattle.std.proofs.lemmas.Grind.{common_steps}
 use Rattle.rt_cidr.proofs.Promised.{appends_after}
-use Rattle.rt_rib.specs.Book.{table_of}
 use Rattle.rt_run.specs.TableText.{answers_text}
 use Rattle.rt_run.proofs.Answering.{answers_grow, answers_begin}
 use Rattle.rt_run.proofs.output.write_answers.Goals as goal
@@ -14,14 +13,14 @@ returns-in_err-write_piece g c =
     rw (c.split_at.ensures.front, c.split_at.ensures.back) (sym (take-append-drop c.min.result c.loop-rest.rest.now)) in
     rw fault.1 (record {
       ok = tt;
-      err = answers_begin c.args.style.now (table_of c.args.book.now) c.args.addresses.now
+      err = answers_begin c.args.style.now c.args.table.now.routes c.args.addresses.now
           c.loop-rest.rest.now c.split_at.result.0.now c.split_at.result.1.now c.loop-rest.invariant.text c.loop-rest.invariant.whole
           cut _ _ _ c.loop-rest.invariant.written c.in_err-write_piece.ensures.err;
     })
 
 pub loop-rest-preserved : goal.loop-rest-preserved
 loop-rest-preserved g c =
-    let table = table_of c.args.book.now in
+    let table = c.args.table.now.routes in
     let cut : c.loop-rest.rest.now ≡ c.split_at.result.0.now ++ c.split_at.result.1.now =
     rw (c.split_at.ensures.front, c.split_at.ensures.back) (sym (take-append-drop c.min.result c.loop-rest.rest.now)) in
     record {

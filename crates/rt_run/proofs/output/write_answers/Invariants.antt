@@ -1,6 +1,5 @@
 use Rattle.std.proofs.Common.{◌≡◌, ℕ, List, ◌++◌, length}
 use Rattle.std.specs.Io.KnownBytes.{Appends}
-use Rattle.rt_rib.specs.Book.{table_of}
 use Rattle.rt_run.specs.TableText.{answers_text}
 use Rattle.rt_run.proofs.output.write_answers.Given as goal
 
@@ -9,7 +8,7 @@ abbrev pub invariant-loop-rest : goal.invariant-loop-rest
 invariant-loop-rest g l = record {
   text : List ℕ;
   written : Appends (g.W.Write.contents l.initial.w) (g.W.Write.contents l.w) text;
-  whole : text ++ answers_text l.style l.rest (table_of l.book) ≡ answers_text l.style l.fn.addresses (table_of l.book);
+  whole : text ++ answers_text l.style l.rest l.table.routes ≡ answers_text l.style l.fn.addresses l.table.routes;
 }
 
 abbrev pub decreases-loop-rest : goal.decreases-loop-rest

@@ -3,7 +3,6 @@ use Rattle.std.proofs.lemmas.Result.{err_from_is_err_and}
 use Rattle.std.specs.Io.KnownBytes.{Appends}
 use Rattle.std.proofs.KnownBytes.{Appends-nil}
 use Rattle.rt_cidr.proofs.Promised.{appends_after}
-use Rattle.rt_rib.specs.Book.{table_of}
 use Rattle.rt_feed.specs.DifferenceText.{difference_as}
 use Rattle.rt_rib.specs.declared.routes.Route.{Route}
 use Rattle.rt_diff.specs.declared.comparison.Difference.{Difference}
@@ -20,7 +19,7 @@ loop-next-init g c = record {
   tables = c.comparison-tables.ensures;
   text = [];
   written = Appends-nil _;
-  far = none_so_far c.args.terms.now (table_of c.args.old.now) (table_of c.args.new.now) c.args.first c.requires;
+  far = none_so_far c.args.terms.now c.args.old.now.routes c.args.new.now.routes c.args.first c.requires;
 }
 
 pub returns-in_err-write_difference_as : goal.returns-in_err-write_difference_as
@@ -30,13 +29,13 @@ returns-in_err-write_difference_as g c =
     let begun = rw c.styles.ensures at c.in_err-write_difference_as.ensures.err in
     rw fault.1 (record {
       ok = tt;
-      err = stops_there c.args.terms.now (table_of c.args.old.now) (table_of c.args.new.now) _ _ _ c.loop-next.invariant.text c.in-Some.difference
+      err = stops_there c.args.terms.now c.args.old.now.routes c.args.new.now.routes _ _ _ c.loop-next.invariant.text c.in-Some.difference
           (rw c.in-Some.is at far) c.loop-next.invariant.written begun;
     })
 
 -- what comes behind a range that was written, by the two tables
 first_behind : (g : Over) (c : After-difference_behind-next g)
-    → IsFirstFrom c.args.terms.now (table_of c.args.old.now) (table_of c.args.new.now) (record { 0 = c.in-Some.difference.last.0 + 1 })
+    → IsFirstFrom c.args.terms.now c.args.old.now.routes c.args.new.now.routes (record { 0 = c.in-Some.difference.last.0 + 1 })
     c.difference_behind-next.result
 first_behind g c =
     subst (λ t. IsFirstDifference t.by t.old_table t.new_table (record { 0 = c.in-Some.difference.last.0 + 1 }) c.difference_behind-next.result)
@@ -52,7 +51,7 @@ loop-next-preserved g c =
       text = c.loop-next.invariant.text ++ difference_as c.args.terms.now.styles c.in-Some.difference;
       written = appends_after _ _ _ c.loop-next.invariant.text (difference_as c.args.terms.now.styles c.in-Some.difference)
           c.loop-next.invariant.written put;
-      far = one_more c.args.terms.now (table_of c.args.old.now) (table_of c.args.new.now) c.loop-next.invariant.text c.in-Some.difference
+      far = one_more c.args.terms.now c.args.old.now.routes c.args.new.now.routes c.loop-next.invariant.text c.in-Some.difference
           c.difference_behind-next.result (rw c.in-Some.is at far) behind;
     }
 
@@ -66,7 +65,7 @@ pub loop-next-smaller : goal.loop-next-smaller
 loop-next-smaller g c =
     let far = rw c.in-Some.is at c.loop-next.invariant.far in
     let d = far.first.difference in
-    rw c.in-Some.is (fewer c.args.terms.now (table_of c.args.old.now) (table_of c.args.new.now) c.in-Some.difference c.difference_behind-next.result
+    rw c.in-Some.is (fewer c.args.terms.now c.args.old.now.routes c.args.new.now.routes c.in-Some.difference c.difference_behind-next.result
     d.some d.fits (first_behind g c))
 
 pub returns : goal.returns
@@ -75,7 +74,7 @@ returns g c =
     let none = none_left c.loop-next.next c.in_default.not-Some in
     record {
       ok = subst (Appends (g.W.Write.contents c.args.w.now) (g.W.Write.contents c.loop-next.w))
-          (all_so_far c.args.terms.now (table_of c.args.old.now) (table_of c.args.new.now) c.loop-next.invariant.text (rw none at far))
+          (all_so_far c.args.terms.now c.args.old.now.routes c.args.new.now.routes c.loop-next.invariant.text (rw none at far))
           c.loop-next.invariant.written;
       err = tt;
     }

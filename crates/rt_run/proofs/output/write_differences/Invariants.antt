@@ -1,16 +1,15 @@
 use Rattle.std.proofs.Common.{◌≡◌, ℕ, List}
 use Rattle.std.specs.Io.KnownBytes.{Appends}
-use Rattle.rt_rib.specs.Book.{table_of}
 use Rattle.rt_run.specs.inside.Comparisons.{compared_of, IsSoFar, addresses_from}
 use Rattle.rt_run.proofs.output.write_differences.Given as goal
 
 -- the tables stay, and the lines so far were written
 abbrev pub invariant-loop-next : goal.invariant-loop-next
 invariant-loop-next g l = record {
-  tables : l.tables ≡ compared_of l.terms (table_of l.old) (table_of l.new);
+  tables : l.tables ≡ compared_of l.terms l.old.routes l.new.routes;
   text : List ℕ;
   written : Appends (g.W.Write.contents l.initial.w) (g.W.Write.contents l.w) text;
-  far : IsSoFar l.terms (table_of l.old) (table_of l.new) l.next text;
+  far : IsSoFar l.terms l.old.routes l.new.routes l.next text;
 }
 
 abbrev pub decreases-loop-next : goal.decreases-loop-next

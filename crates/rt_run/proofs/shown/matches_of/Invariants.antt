@@ -1,5 +1,4 @@
 use Rattle.std.proofs.Common.{◌≡◌, ◌≤◌, length, take, vec_len, vec_capacity}
-use Rattle.rt_rib.specs.Book.{table_of}
 use Rattle.rt_feed.specs.Styles.{StyleContents}
 use Rattle.rt_run.specs.TableText.{all_answers_text}
 use Rattle.rt_run.specs.inside.Outputs.{matches_text}
@@ -8,7 +7,7 @@ use Rattle.rt_run.proofs.shown.matches_of.Given as goal
 -- all that was found for each address so far, and room for the others
 abbrev pub invariant-loop-addr : goal.invariant-loop-addr
 invariant-loop-addr l = record {
-  found : (style : StyleContents) → matches_text style l.all.items ≡ all_answers_text style (take l.addr-index l.addresses) (table_of l.book);
+  found : (style : StyleContents) → matches_text style l.all.items ≡ all_answers_text style (take l.addr-index l.addresses) l.table.routes;
   counted : vec_len l.all ≡ l.addr-index;
   room : length l.addresses ≤ vec_capacity l.all;
 }

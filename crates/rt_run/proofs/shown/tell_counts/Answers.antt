@@ -1,5 +1,4 @@
 use Rattle.std.proofs.Common.{◌∙◌, ap}
-use Rattle.rt_rib.specs.Selection.{selected}
 use Rattle.rt_feed.specs.Counts.{counts_as}
 use Rattle.rt_feed.specs.Styles.{label_of}
 use Rattle.rt_run.specs.TableText.{counts_text}
@@ -7,6 +6,6 @@ use Rattle.rt_run.proofs.shown.tell_counts.Goals as goal
 
 pub returns-clause-text : goal.returns-clause-text
 returns-clause-text g c asked ran =
-    let routes = c.in_ok-counted.ensures {u = tt} ∙ ap (selected c.args.selection.now) c.table.ensures.routes in
+    let routes = c.in_ok-counted.ensures {u = tt} in
     c.tell_run.ensures.text asked (counts_text c.args.style.now c.args.selection.now) ran
     (ap (counts_as c.args.style.now.form (label_of c.args.style.now.labels)) (c.as_slice.ensures.value ∙ routes))

@@ -8,15 +8,15 @@ pub returns-clause-text : goal.returns-clause-text
 returns-clause-text g c asked text_of ran shown =
     let ended = c.args.run.now in
     let bytes = output_text c.args.output in
-    let told = c.in_ok-summary.ensures {u = tt} in
-    (bytes, is_shown asked text_of ended.reports.items ended.book c.in_ok-summary.summary bytes ran told shown, c.in_ok-write_output.ensures {u = tt})
+    let left = c.in_ok-summary.ensures {u = tt} asked ended.table.routes ran in
+    (bytes, is_shown asked text_of ended.table.routes c.in_ok-summary.summary bytes left shown, c.in_ok-write_output.ensures {u = tt})
 
 pub returns-in_err-write_output-clause-text : goal.returns-in_err-write_output-clause-text
 returns-in_err-write_output-clause-text g c asked text_of ran shown =
     let ended = c.args.run.now in
     let bytes = output_text c.args.output in
-    let told = c.in_ok-summary.ensures {u = tt} in
+    let left = c.in_ok-summary.ensures {u = tt} asked ended.table.routes ran in
     let fault = err_from_is_err_and c.from_residual-in_err-write_output.result c.from_residual-in_err-write_output.ensures.1 in
     rw (fault.1, fault.2)
     (leaves_fault (IsShown asked text_of) _ _ bytes c.in_ok-summary.summary _
-    (is_shown asked text_of ended.reports.items ended.book c.in_ok-summary.summary bytes ran told shown) (c.in_err-write_output.ensures {u = tt}))
+    (is_shown asked text_of ended.table.routes c.in_ok-summary.summary bytes left shown) (c.in_err-write_output.ensures {u = tt}))

@@ -1,0 +1,296 @@
+-- Texts executed one after another, line by line and text by text, and why some history of them leaves what they leave.
+use Rattle.std.proofs.Common.{◌≡◌, ◌≢◌, ◌⊎◌, inl, inr, ℕ, zero, suc, ◌+◌, ◌<◌, ◌≤◌, Option, List, [], ◌∷◌, ◌++◌, length, map, take, drop}
+use Rattle.std.proofs.Common.{get_or, refl, sym, ap, subst, ◌∙◌, arith, add-one, append_assoc, append-nil, length-append, length-drop, take-append-drop}
+use Rattle.std.proofs.Math.Seq.{take-suc}
+use Rattle.std.proofs.lemmas.List.{map-append, length-map, length-take-le}
+use Rattle.std.proofs.lemmas.List.Elements.{All-nil, All-cons, All-append, All-weaker}
+use Rattle.rt_rib.specs.declared.commands.Cmd.{Cmd}
+use Rattle.rt_rib.specs.declared.commands.Reply.{Reply}
+use Rattle.rt_rib.specs.declared.commands.Entry.{Entry}
+use Rattle.rt_rib.specs.Book.{TableState, Serves}
+use Rattle.rt_rib.specs.Sequential.{reply_of, table_after, table_of_journal, IsAnswered, IsLawfulJournal}
+use Rattle.rt_rib.proofs.Promised.{table_of_journal-push, IsLawfulJournal-nil, IsLawfulJournal-push}
+use Rattle.rt_shared.specs.declared.outcome.Outcome.{Outcome}
+use Rattle.rt_shared.specs.declared.outcome.Outcome.TheVariants.{Did}
+use Rattle.rt_shared.specs.Visits.{AllBy, NoneBy, Uncut, Visit, reply_to, visit_of, entries}
+use Rattle.rt_shared.proofs.Promised.{uncut_since}
+use Rattle.rt_feed.specs.declared.versions.Version.{Version}
+use Rattle.rt_feed.specs.declared.versions.Version.TheVariants.{One, Two}
+use Rattle.rt_feed.specs.declared.report.Line.{Line}
+use Rattle.rt_feed.specs.declared.report.Answer.{Answer}
+use Rattle.rt_feed.specs.Lines.{IsBody, CutsLine, LineOutcome, skipped, Becomes, heading, line_answer, numbered, report_lines, asked_by, asked_of}
+use Rattle.rt_feed.specs.Visits.{concatenated, piece_of, IsCut}
+use Rattle.rt_feed.proofs.Promised.{length-cut, report_lines-push, asked_of-append}
+use Rattle.rt_run.specs.declared.tallies.Tally.{Tally}
+use Rattle.rt_run.specs.declared.tallies.RunSummary.{RunSummary}
+use Rattle.rt_run.specs.RunText.{Explains, ExplainsFrom, reports_of}
+use Rattle.rt_run.specs.TableText.{tally_of, tallies_status, LeavesTable}
+use Rattle.rt_run.specs.inside.Turns.{Continues, ExecutesText, ExecutesLine, IsExecuting, LeavesSoFar}
+use Rattle.rt_run.proofs.Lists.{map_more, cut-joined}
+
+-- a feed's command with its reply as an entry
+abbrev entry_by : ℕ → Cmd × Reply → Entry
+entry_by feed p = record { feed = feed; cmd = p.0; reply = p.1 }
+
+-- the entries of more commands after some
+visit_of-append : (one two : List (Cmd × Outcome)) → visit_of (one ++ two) ≡ visit_of one ++ visit_of two
+visit_of-append [] two = refl
+visit_of-append (asked ∷ one) two =
+    ap (λ (v : Visit). reply_to asked.0 asked.1 ++ v) (visit_of-append one two) ∙ sym (append_assoc (reply_to asked.0 asked.1) (visit_of one) (visit_of two))
+
+entries-append : (feed : ℕ) (one two : List (Cmd × Outcome)) → entries feed (visit_of (one ++ two)) ≡ entries feed (visit_of one) ++ entries feed (visit_of two)
+entries-append feed one two = ap (entries feed) (visit_of-append one two) ∙ map-append (entry_by feed) (visit_of one) (visit_of two)
+
+entries_by : (feed : ℕ) (visit : Visit) → AllBy feed (entries feed visit)
+entries_by feed [] = All-nil (λ (e : Entry). e.feed ≡ feed)
+entries_by feed (p ∷ visit) = All-cons (λ (e : Entry). e.feed ≡ feed) (entry_by feed p) (entries feed visit) refl (entries_by feed visit)
+
+-- what a journal leaves, lawfully
+abbrev Leaves : ℕ → TableState → List Entry → Type 0
+Leaves limit table journal = IsLawfulJournal limit journal × (table.routes ≡ table_of_journal limit journal)
+
+-- no command changes nothing
+pub continues-none : (feed : ℕ) (table : TableState) → Continues feed [] table table
+continues-none feed table = (refl, λ journal lawful left. subst (Leaves table.limit table) (sym (append-nil journal)) (lawful, left))
+
+-- a command with a reply is one entry
+pub continues-did : (feed : ℕ) (cmd : Cmd) (reply : Reply) (old new : TableState) → Serves old new feed cmd reply
+    → Continues feed ((cmd, Did reply) ∷ []) old new
+continues-did feed cmd reply old new served = (
+  ap (λ (t : TableState). t.limit) served.changed,
+  λ journal lawful left.
+      let e : Entry = record { feed = feed; cmd = cmd; reply = reply } in
+      let is : IsAnswered old.limit journal e = served.replied ∙ ap (λ routes. reply_of old.limit routes feed cmd) left in (
+        IsLawfulJournal-push old.limit journal e lawful is,
+        ap (λ (t : TableState). t.routes) served.changed
+            ∙ (ap (λ routes. table_after old.limit routes feed cmd) left ∙ sym (table_of_journal-push old.limit journal e)),
+      ),
+)
+
+-- some commands and then others
+pub continues-both : (feed : ℕ) (one two : List (Cmd × Outcome)) (a b c : TableState) → Continues feed one a b → Continues feed two b c
+    → Continues feed (one ++ two) a c
+continues-both feed one two a b c first second = (
+  second.0 ∙ first.0,
+  λ journal lawful left.
+      let middle = first.1 journal lawful left in
+      let front = journal ++ entries feed (visit_of one) in
+      let ended : Leaves b.limit c (front ++ entries feed (visit_of two)) =
+      second.1 front (subst (λ (limit : ℕ). IsLawfulJournal limit front) (sym first.0) middle.0)
+      (subst (λ (limit : ℕ). b.routes ≡ table_of_journal limit front) (sym first.0) middle.1) in
+      let joined : front ++ entries feed (visit_of two) ≡ journal ++ entries feed (visit_of (one ++ two)) =
+      append_assoc journal (entries feed (visit_of one)) (entries feed (visit_of two)) ∙ ap (λ (own : List Entry). journal ++ own) (sym (entries-append feed one two)) in
+      subst (Leaves a.limit c) joined (subst (λ (limit : ℕ). Leaves limit c (front ++ entries feed (visit_of two))) first.0 ended),
+)
+
+-- before the first line that is read
+pub begins : (version : Version) (feed : ℕ) (text lines : List ℕ) (number : ℕ) (table : TableState) (tally : Tally) → IsBody text version lines
+    → number ≡ length (heading version) → tally ≡ tally_of [] → IsExecuting version feed text lines number table table tally
+begins One feed text lines number table tally body counted tallied = record {
+  outcomes = [];
+  onward = λ more is. record { version = One; lines = lines; read = more; body = body; become = is; joined = refl };
+  counted = counted;
+  within = omega (arith, counted, ap length body.1);
+  continued = continues-none feed table;
+  tallied = tallied;
+}
+begins Two feed text lines number table tally body counted tallied = record {
+  outcomes = skipped ∷ [];
+  onward = λ more is. record { version = Two; lines = lines; read = more; body = body; become = is; joined = refl };
+  counted = counted;
+  within = omega (arith, counted, length-cut text _ lines body);
+  continued = continues-none feed table;
+  tallied = tallied;
+}
+
+-- one line more
+pub reads_on : (version : Version) (feed : ℕ) (text rest line next : List ℕ) (number : ℕ) (old now new : TableState) (tally tally' : Tally) (said : Option Answer)
+    → IsExecuting version feed text rest number old now tally → CutsLine rest line next → ExecutesLine version feed line now new said
+    → ((report : List Line) → tally ≡ tally_of report → tally' ≡ tally_of (report ++ numbered (number + 1) said))
+    → IsExecuting version feed text next (number + 1) old new tally'
+reads_on version feed text rest line next number old now new tally tally' said so_far cut executed counts =
+    let outcome = executed.outcome in
+    let next_number : number + 1 ≡ 1 + length so_far.outcomes = omega (arith, so_far.counted) in
+    let report : report_lines 1 so_far.outcomes ++ numbered (number + 1) said ≡ report_lines 1 (so_far.outcomes ++ outcome ∷ []) =
+    ap (λ a. report_lines 1 so_far.outcomes ++ numbered (number + 1) a) executed.answered
+    ∙ (ap (λ n. report_lines 1 so_far.outcomes ++ numbered n (line_answer outcome)) next_number ∙ sym (report_lines-push 1 so_far.outcomes outcome)) in
+    let asked : asked_of so_far.outcomes ++ asked_by outcome ≡ asked_of (so_far.outcomes ++ outcome ∷ []) =
+    ap (λ own. asked_of so_far.outcomes ++ own) (sym (append-nil (asked_by outcome))) ∙ sym (asked_of-append so_far.outcomes (outcome ∷ [])) in
+    record {
+      outcomes = so_far.outcomes ++ outcome ∷ [];
+      onward = λ more is.
+          subst (λ (os : List LineOutcome). Becomes text os []) (sym (append_assoc so_far.outcomes (outcome ∷ []) more))
+          (so_far.onward (outcome ∷ more) (line, next, cut, executed.reads, is));
+      counted = omega (arith, so_far.counted, length-append so_far.outcomes (outcome ∷ []));
+      within = omega (arith, so_far.within, length-cut rest line next cut);
+      continued = subst (λ (own : List (Cmd × Outcome)). Continues feed own old new) asked
+          (continues-both feed (asked_of so_far.outcomes) (asked_by outcome) old now new so_far.continued executed.continued);
+      tallied = counts (report_lines 1 so_far.outcomes) so_far.tallied ∙ ap tally_of report;
+    }
+
+-- and behind the last one the whole text was executed
+pub ends : (version : Version) (feed : ℕ) (text rest : List ℕ) (number : ℕ) (old now : TableState) (tally : Tally)
+    → IsExecuting version feed text rest number old now tally → rest ≡ [] → ExecutesText feed text old now tally
+ends version feed text rest number old now tally so_far none = record {
+  outcomes = so_far.outcomes;
+  becomes = subst (λ (os : List LineOutcome). Becomes text os []) (append-nil so_far.outcomes) (so_far.onward [] none);
+  continued = so_far.continued;
+  tallied = so_far.tallied;
+}
+
+-- one number is below another, or it is not
+lt_or_le : (m n : ℕ) → (m < n) ⊎ (n ≤ m)
+lt_or_le m zero = inr (omega arith)
+lt_or_le zero (suc n) = inl (omega arith)
+lt_or_le (suc m) (suc n) = elim (lt_or_le m n) [ inl less ↦ inl (omega (arith, less)) | inr more ↦ inr (omega (arith, more)) ]
+
+-- each list can be cut into pieces
+abbrev Cut : {X : Type 0} → ℕ → List X → Type 0
+Cut {X} size xs = (pieces : List (List X)) × IsCut size xs pieces
+
+cut_short : {X : Type 0} (size : ℕ) (xs : List X) → length xs < size → Cut size xs
+cut_short size xs fewer =
+    (piece_of xs, record { whole = []; last = xs; full = All-nil _; fewer = fewer; is_joined = refl; is_cut = refl })
+
+cut_front : {X : Type 0} (size : ℕ) (xs : List X) → size ≤ length xs → Cut size (drop size xs) → Cut size xs
+cut_front {X} size xs more rest = (
+  take size xs ∷ rest.0,
+  record {
+    whole = take size xs ∷ rest.1.whole;
+    last = rest.1.last;
+    full = All-cons (λ (piece : List X). length piece ≡ size) (take size xs) rest.1.whole (length-take-le size xs more) rest.1.full;
+    fewer = rest.1.fewer;
+    is_joined = sym (take-append-drop size xs) ∙ (ap (λ (t : List X). take size xs ++ t) rest.1.is_joined
+        ∙ sym (append_assoc (take size xs) (concatenated rest.1.whole) rest.1.last));
+    is_cut = ap (λ (ps : List (List X)). take size xs ∷ ps) rest.1.is_cut;
+  },
+)
+
+cut_within : {X : Type 0} (size : ℕ) → 1 ≤ size → (most : ℕ) (xs : List X) → length xs ≤ most → Cut size xs
+cut_within size some zero xs within = cut_short size xs (omega (arith, some, within))
+cut_within size some (suc most) xs within = elim (lt_or_le (length xs) size) [
+  | inl fewer ↦ cut_short size xs fewer
+  | inr more ↦ cut_front size xs more (cut_within size some most (drop size xs) (omega (arith, length-drop size xs, within, some, more)))
+]
+
+-- however a feed's commands are cut, where their entries stand together each piece is uncut
+pieces_uncut : (feed : ℕ) (pieces : List (List (Cmd × Outcome))) (before : List Entry) → NoneBy feed before
+    → Uncut feed (map (entries feed) (map visit_of pieces)) (before ++ entries feed (visit_of (concatenated pieces)))
+pieces_uncut feed [] before none = subst (NoneBy feed) (sym (append-nil before)) none
+pieces_uncut feed (piece ∷ pieces) before none = (
+  before,
+  entries feed (visit_of (concatenated pieces)),
+  ap (λ (own : List Entry). before ++ own) (entries-append feed piece (concatenated pieces)),
+  none,
+  entries_by feed (visit_of piece),
+  pieces_uncut feed pieces [] (All-nil (λ (e : Entry). e.feed ≢ feed)),
+)
+
+-- a text whose commands were asked at the end of a journal is explained
+explained_last : (batch feed : ℕ) (journal : List Entry) (text : List ℕ) (lines : List LineOutcome) → 1 ≤ batch → NoneBy feed journal → Becomes text lines []
+    → Explains batch feed (journal ++ entries feed (visit_of (asked_of lines))) text lines
+explained_last batch feed journal text lines some none becomes =
+    let cut = cut_within batch some (length (asked_of lines)) (asked_of lines) (omega arith) in
+    let joined : concatenated cut.0 ≡ asked_of lines = ap concatenated cut.1.is_cut ∙ (cut-joined cut.1.whole cut.1.last ∙ sym cut.1.is_joined) in
+    record {
+      becomes = becomes;
+      pieces = cut.0;
+      cut = cut.1;
+      uncut = subst (λ (asked : List (Cmd × Outcome)). Uncut feed (map (entries feed) (map visit_of cut.0)) (journal ++ entries feed (visit_of asked))) joined
+          (pieces_uncut feed cut.0 journal none);
+    }
+
+-- what is one feed's is no earlier one's
+not_earlier : (feed later : ℕ) (own : List Entry) → feed < later → AllBy later own → NoneBy feed own
+not_earlier feed later own before by =
+    All-weaker (λ (e : Entry). e.feed ≡ later) (λ (e : Entry). e.feed ≢ feed) (λ e of same. absurd (omega (arith, before, of, same))) own by
+
+-- the texts before it are explained still
+explains_more : (batch last : ℕ) (journal own : List Entry) (text : List ℕ) (lines : List LineOutcome) → AllBy last own → Explains batch last (journal ++ own) text lines
+    → (feed : ℕ) (texts : List (List ℕ)) (outcomes : List (List LineOutcome)) → last ≡ feed + length texts → ExplainsFrom batch feed journal texts outcomes
+    → ExplainsFrom batch feed (journal ++ own) (texts ++ text ∷ []) (outcomes ++ lines ∷ [])
+explains_more batch last journal own text lines by explained feed [] [] is so_far =
+    let same : last ≡ feed = omega (arith, is) in (subst (λ (n : ℕ). Explains batch n (journal ++ own) text lines) same explained, tt)
+explains_more batch last journal own text lines by explained feed [] (more ∷ outcomes) is so_far = absurd so_far
+explains_more batch last journal own text lines by explained feed (one ∷ texts) [] is so_far = absurd so_far
+explains_more batch last journal own text lines by explained feed (one ∷ texts) (more ∷ outcomes) is (first, others) = (
+  record {
+    becomes = first.becomes;
+    pieces = first.pieces;
+    cut = first.cut;
+    uncut = uncut_since feed (map (entries feed) (map visit_of first.pieces)) journal (journal ++ own) first.uncut
+        (record { others = own; grown = refl; by_others = not_earlier feed last own (omega (arith, is)) by });
+  },
+  explains_more batch last journal own text lines by explained (feed + 1) texts outcomes (omega (arith, is)) others,
+)
+
+-- before the first text
+pub leaves_nothing : (limit batch : ℕ) (table : TableState) → table ≡ record { limit = limit; routes = [] } → LeavesSoFar [] limit batch table []
+unfolding table_of_journal
+leaves_nothing limit batch table is = record {
+  limited = ap (λ (t : TableState). t.limit) is;
+  journal = [];
+  outcomes = [];
+  history = record { lawful = IsLawfulJournal-nil limit; explained = tt; no_other = All-nil _ };
+  left = ap (λ (t : TableState). t.routes) is;
+  tallied = refl;
+}
+
+-- one text more
+pub leaves_more : (texts : List (List ℕ)) (text : List ℕ) (limit batch feed : ℕ) (old new : TableState) (tallies tallies' : List Tally) (tally : Tally)
+    → 1 ≤ batch → feed ≡ length texts + 1 → LeavesSoFar texts limit batch old tallies → ExecutesText feed text old new tally
+    → tallies' ≡ tallies ++ tally ∷ [] → LeavesSoFar (texts ++ text ∷ []) limit batch new tallies'
+leaves_more texts text limit batch feed old new tallies tallies' tally some is so_far executed pushed =
+    let journal = so_far.journal in
+    let own = entries feed (visit_of (asked_of executed.outcomes)) in
+    let by : AllBy feed own = entries_by feed (visit_of (asked_of executed.outcomes)) in
+    let Fits : Entry → Type 0 = λ e. (1 ≤ e.feed) × (e.feed ≤ length (texts ++ text ∷ [])) in
+    let others : NoneBy feed journal =
+    All-weaker (λ (e : Entry). (1 ≤ e.feed) × (e.feed ≤ length texts)) (λ (e : Entry). e.feed ≢ feed)
+    (λ e of same. absurd (omega (arith, of.1, same, is))) journal so_far.history.no_other in
+    let at_old : Leaves old.limit old journal =
+    subst (λ (l : ℕ). Leaves l old journal) (sym so_far.limited) (so_far.history.lawful, so_far.left) in
+    let now : Leaves limit new (journal ++ own) =
+    subst (λ (l : ℕ). Leaves l new (journal ++ own)) so_far.limited (executed.continued.1 journal at_old.0 at_old.1) in
+    record {
+      limited = executed.continued.0 ∙ so_far.limited;
+      journal = journal ++ own;
+      outcomes = so_far.outcomes ++ executed.outcomes ∷ [];
+      history = record {
+        lawful = now.0;
+        explained = explains_more batch feed journal own text executed.outcomes by
+            (explained_last batch feed journal text executed.outcomes some others executed.becomes) 1 texts so_far.outcomes (omega (arith, is)) so_far.history.explained;
+        no_other = All-append Fits journal own
+            (All-weaker (λ (e : Entry). (1 ≤ e.feed) × (e.feed ≤ length texts)) Fits (λ e of. (of.0, omega (arith, of.1, length-append texts (text ∷ [])))) journal
+            so_far.history.no_other)
+            (All-weaker (λ (e : Entry). e.feed ≡ feed) Fits (λ e of. (omega (arith, of, is), omega (arith, of, is, length-append texts (text ∷ [])))) own by);
+      };
+      left = now.1;
+      tallied = map_more tally_of tallies tallies' (reports_of so_far.outcomes) (report_lines 1 executed.outcomes) tally so_far.tallied pushed executed.tallied
+          ∙ ap (map tally_of) (sym (map-append (report_lines 1) so_far.outcomes (executed.outcomes ∷ [])));
+    }
+
+-- and behind the last one
+pub leaves_all : (texts : List (List ℕ)) (limit batch : ℕ) (table : TableState) (tallies : List Tally) (summary : RunSummary) → LeavesSoFar texts limit batch table tallies
+    → summary.tallies.items ≡ tallies → summary.status ≡ tallies_status tallies
+    → LeavesTable (record { texts = texts; limit = limit; batch = batch }) table.routes summary
+leaves_all texts limit batch table tallies summary so_far same status = record {
+  journal = so_far.journal;
+  outcomes = so_far.outcomes;
+  history = so_far.history;
+  left = so_far.left;
+  summed = record { tallied = same ∙ so_far.tallied; is_status = status ∙ ap tallies_status (sym same) };
+}
+
+-- the texts so far, and one more
+pub texts_more : {V : Type 0} (items : V → List ℕ) (texts : List V) (i : ℕ) (one : V) (text : List ℕ) → i < length texts → one ≡ get_or texts i one
+    → text ≡ items one → map items (take i texts) ++ text ∷ [] ≡ map items (take (i + 1) texts)
+texts_more {V} items texts i one text here is same =
+    let next : take (i + 1) texts ≡ take i texts ++ one ∷ [] =
+    ap (λ n. take n texts) (add-one i) ∙ (take-suc texts i one here ∙ ap (λ (x : V). take i texts ++ x ∷ []) (sym is)) in
+    ap (λ (t : List ℕ). map items (take i texts) ++ t ∷ []) same ∙ (sym (map-append items (take i texts) (one ∷ [])) ∙ ap (map items) (sym next))
+
+pub texts_count : {V : Type 0} (items : V → List ℕ) (texts : List V) (i : ℕ) → i < length texts → i + 1 ≡ length (map items (take i texts)) + 1
+texts_count items texts i here =
+    let taken : length (take i texts) ≡ i = length-take-le i texts (omega (arith, here)) in
+    omega (arith, length-map (take i texts) items, taken)

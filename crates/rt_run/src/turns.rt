@@ -1,0 +1,123 @@
+//! A run for those who print neither its journal nor its reports: the texts are executed one after another, on the caller's
+//! thread, and nothing is stored of them but the table and a tally of each text.
+ghost use Rattle.std.specs.Prelude.{◌≡◌, ◌≢◌, ◌↔◌, ◌≤◌, ℕ, List, [], length, map, IfOk};
+ghost use Rattle.rt_rib.specs.declared.limits.TheConstants.{MOST_FEEDS};
+ghost use Rattle.rt_rib.specs.declared.routes.Route.{Route};
+ghost use Rattle.rt_rib.specs.Book.{IsLimit, IsFeed, table_state};
+ghost use Rattle.rt_run.specs.AskedRun.{AskedRun};
+ghost use Rattle.rt_run.specs.TableText.{LeavesTable};
+ghost use Rattle.rt_run.specs.inside.Turns.{ExecutesText, ExecutesLine, ExecutesCommand};
+
+use crate::feed_texts::FeedTexts;
+use crate::tallies::{RunSummary, Tally, summary_of};
+use rt_feed::{Answer, RunFault, Version, next_line, parse_line, text_body};
+use rt_rib::{Cmd, Refused, Table};
+use std::alloc::{AllocError, Global};
+use std::mem;
+
+/// What a query stores of a run: the table that all texts leave, and how much of them was taken.
+#[derive(Drop)]
+pub(crate) struct FinishedQuery {
+    pub(crate) table: Table<Global>,
+    pub(crate) summary: RunSummary,
+}
+
+impl FinishedQuery {
+    /// Returns a copy of the summary.
+    pub(crate) fn summary(&self, alloc: Global) -> Result<RunSummary, AllocError>
+        ensures { IfOk result (λ summary. (asked : AskedRun) (table : List Route)
+            → LeavesTable asked table self.now.summary → LeavesTable asked table summary) }
+    {
+        let tallies = self.summary.tallies.as_slice().to_vec(alloc)?;
+        Ok(RunSummary {
+            status: self.summary.status,
+            tallies,
+        })
+    }
+
+    /// Leaves the table where it is, as `FinishedRun::leave_table` does.
+    pub(crate) fn leave_table(self) {
+        mem::forget(self.table);
+    }
+}
+
+/// Executes the texts one after another over one table, the k-th as feed k's. This is one of the runs that threads could have
+/// made. No text at all is F1, and want of memory outside of a command F3.
+pub(crate) fn run_in_turn(alloc: Global, asked: &FeedTexts<'_>) -> Result<FinishedQuery, RunFault>
+    ensures ran { IfOk result (λ run. LeavesTable asked.now run.table.routes run.summary) }
+    ensures refused { result ≢ Err RunFault.FeedCount }
+    ensures no_text { (result ≡ Err RunFault.NoText) ↔ (asked.now.texts ≡ []) }
+{
+    if asked.count() == 0 {
+        return Err(RunFault::NoText);
+    }
+    match execute_texts(alloc, asked.texts, asked.limit) {
+        Ok(run) => Ok(run),
+        Err(AllocError) => Err(RunFault::Memory),
+    }
+}
+
+/// Executes the texts one after another over one table. Its result doesn't depend on how many commands a batch has.
+fn execute_texts(alloc: Global, texts: &[Vec<u8>], limit: u32) -> Result<FinishedQuery, AllocError>
+    requires limited { IsLimit limit }
+    requires few { length texts.now ≤ MOST_FEEDS }
+    ensures { IfOk result (λ run. (batch : ℕ) → 1 ≤ batch
+        → LeavesTable (record { texts = map (λ text. text.items) texts.now; limit = limit; batch = batch }) run.table.routes run.summary) }
+{
+    let mut table = Table::new(alloc, limit);
+    let mut tallies = Vec::with_capacity(alloc, texts.len())?;
+    for (index, text) in texts.iter().enumerate() {
+        let tally = execute_text(&mut table, index as u32 + 1, text.as_slice());
+        tallies.push_reserved(tally);
+    }
+    let summary = summary_of(tallies);
+    Ok(FinishedQuery { table, summary })
+}
+
+/// Executes the commands of the feed's text in order, and tallies what was not taken.
+fn execute_text(table: &mut Table<Global>, feed: u32, text: &[u8]) -> Tally
+    requires { IsFeed feed }
+    ensures { ExecutesText feed text.now (table_state table.old) (table_state table.new) result }
+{
+    let (version, lines) = text_body(text);
+    let mut tally = Tally::new();
+    let mut rest = lines;
+    let mut number = version.first_line() - 1;
+    while let Some((line, next)) = next_line(rest) {
+        number += 1;
+        let said = execute_line(table, feed, line, version);
+        tally.count(number, said);
+        rest = next;
+    }
+    tally
+}
+
+/// Executes the line's command, and returns what a report would say of the line, if anything.
+fn execute_line(
+    table: &mut Table<Global>,
+    feed: u32,
+    line: &[u8],
+    version: Version,
+) -> Option<Answer>
+    requires { IsFeed feed }
+    ensures { ExecutesLine version feed line.now (table_state table.old) (table_state table.new) result }
+{
+    match parse_line(line, version) {
+        Err(fault) => Some(Answer::Fault(fault)),
+        Ok(asked) => match asked {
+            None => None,
+            Some(cmd) => Some(execute(table, feed, cmd)),
+        },
+    }
+}
+
+/// Executes the command.
+fn execute(table: &mut Table<Global>, feed: u32, cmd: Cmd) -> Answer
+    requires { IsFeed feed }
+    ensures { ExecutesCommand feed cmd (table_state table.old) (table_state table.new) result }
+{
+    match table.apply(feed, cmd) {
+        Ok(reply) => Answer::Did(reply),
+        Err(Refused) => Answer::Refused,
+    }
+}
