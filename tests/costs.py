@@ -167,7 +167,21 @@ def outputs(called):
         called.at_most(what, min(one.of_output / one.before_output for one in ended), bound)
 
 
-CASES = (one_file, crowd, door, forgotten, passage_alone, outputs)
+# Fails where a forwarding table is built for one address, or anew for each of a few: `1 addresses, to a list of one prefix`,
+# `1000 addresses, to a list of one prefix`.
+def few_addresses(called):
+    """What look-ups of few addresses in few routes take, the run included, to a list of one prefix: no forwarding table, which
+    takes as long as many such runs."""
+    pathlib.Path("few.feed").write_text("".join(f"add {dotted(at << 12)}/24 1 192.0.2.1\n" for at in range(1_000)))
+    taken = lambda *words: min(sum(called.call(*words, "few.feed")[1:]) for _ in range(5))
+    listed = taken("table", "--exact", "0.0.0.0/24")
+    for count, bound in ((1, 2), (1_000, 4)):
+        pathlib.Path("asked.txt").write_text("".join(f"{dotted(at << 12)}\n" for at in range(count)))
+        found = taken("lookup", "--addresses", "asked.txt") / listed
+        called.at_most(f"{count} addresses, to a list of one prefix", found, bound)
+
+
+CASES = (one_file, crowd, door, forgotten, passage_alone, outputs, few_addresses)
 
 
 def main():
