@@ -100,15 +100,16 @@ LOCK = Page("STATEMENT-LOCK.md", "The lock", (
         "leaves, the journal is lawful, and what each pass away has seen begins it, with no entry of that pass's feed "
         "behind. That so no two guards exist: who has a guard or a pass has its seat, whose view nobody else can "
         "change, and the view of a guard's seat says that its place is inside (`enter`), that of a pass's that it is "
-        "idle (`leave`). The lock's rule allows one such view at most (`rule`), and the views go on by the core's "
-        "steps alone (`steps`)."), (
+        "idle (`leave`). The lock's rule allows one such view at most (`rule`). Each seat may take its process's step "
+        "(`steps`). Whatever that leads to is the core's step, and every other kind of step changes no word of the "
+        "tree and no process that isn't idle (`kinds`)."), (
         "sequential consistency; `Rule`, which the type of the lock's table keeps at every moment; and that the "
         "threads share nothing but this table, which no clause can say and `tools/accesses` looks after; that a seat's "
         "view is what its holder knows between any two steps, which is what `atomic_table` states of its `Seat` and "
         "`Table`. That a trie's `tree` is what its nodes in memory are, its [view](../crates/rt_trie/src/tries.rt) "
         "says."),
         ["rt_shared::laws::running", "ya_lock::TreeLock::enter.guard", "ya_lock::TreeLock::leave.pass",
-         "ya_lock::laws::rule", "ya_lock::laws::steps"],
+         "ya_lock::laws::rule", "ya_lock::laws::steps", "ya_lock::laws::kinds"],
         [("ya_lock/src/rule.rt", "impl<V: Kept> TableRule<Option<V>, View<V>, u32> for LockRule", ["holds"],
           "What ties `running` to the lock: `Rule` is the rule of its table."),
          ("rt_shared/src/lent.rt", "impl Kept for Lent", ["since"],
@@ -225,6 +226,15 @@ KIT = {
     "option_map f o": "`Some` of f of the value, and `None` where there is none",
     "option_map_or f o d": "f of the value, and d where there is none",
     "slice_get xs i, slice_index xs i": "the i-th element from 0, if there is one; the i-th number, and 0 past the end",
+    "slice_set xs i x": "the list with `x` as its i-th element from 0, or as it is past the end",
+    "Me":
+        "of `atomic_table`, what a seat knows: its view, and the slots that it has taken, each with its value, the last first",
+    "Act, Valid homes slots act":
+        "of `atomic_table`: what a step takes out of slots and gives home; a slot taken is at home with that value",
+    "carried_after, homes_after":
+        "of `atomic_table`: the seat's slots and the slots at home after an act",
+    "stepped s word number seat slots view act":
+        "of `atomic_table`, the table after a step of the seat: the word has the number, the seat the view, and the act was done",
     "slice_split p xs":
         "xs cut at each element that passes the test, which is left out: one part more than there are such",
     "unwrap_or o d": "the value, and d where there is none",

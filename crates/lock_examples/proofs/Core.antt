@@ -1102,6 +1102,39 @@ both_compete =
     ∷ Steps 1 ∷ Steps 1 ∷ Steps 1 ∷ Steps 1 ∷ Steps 0 ∷ Steps 0 ∷ Steps 0
     ∷ Steps 1 ∷ Steps 1 ∷ Steps 1 ∷ Appends 1 8 ∷ Steps 1 ∷ Steps 1 ∷ []
 
+-- whether both places are inside once these have stepped
+abbrev both_inside : (levels p q : ℕ) → List ℕ → Bool
+both_inside levels p q picks =
+    let s = (follow {X = ℕ} levels (map (λ place. Steps place) picks) opening_world).state in
+    is_inside (s.processes p) && is_inside (s.processes q)
+
+-- Under each of these schedules two are inside by the step relation with one mistake in it.
+
+-- entry_access
+one_alone_whose_claim_comes_before_its_turn : both_inside 1 0 1 (0 ∷ 1 ∷ 1 ∷ 1 ∷ 1 ∷ 0 ∷ 0 ∷ 0 ∷ 0 ∷ []) ≡ false
+unfolding node_of side_of
+one_alone_whose_claim_comes_before_its_turn = refl
+
+one_alone_whose_spin_word_is_cleared_behind_its_turn :
+    both_inside 1 0 1
+    (0 ∷ 0 ∷ 0 ∷ 0 ∷ 0 ∷ 1 ∷ 1 ∷ 1 ∷ 0 ∷ 1 ∷ 1 ∷ 1 ∷ 1 ∷ 1 ∷ 0 ∷ 0 ∷ 0 ∷ 0 ∷ 0 ∷ 1 ∷ 0 ∷ 1 ∷ 1 ∷ 1 ∷ 1 ∷ 1 ∷ 1
+    ∷ 1 ∷ []) ≡ false
+unfolding node_of side_of
+one_alone_whose_spin_word_is_cleared_behind_its_turn = refl
+
+-- entry_next
+one_alone_that_waits_on_its_own_turn : both_inside 1 0 1 (0 ∷ 0 ∷ 0 ∷ 0 ∷ 1 ∷ 1 ∷ 1 ∷ 1 ∷ 1 ∷ []) ≡ false
+unfolding node_of side_of
+one_alone_that_waits_on_its_own_turn = refl
+
+-- access_of
+one_alone_that_leaves_from_the_root :
+    both_inside 2 1 2
+    (0 ∷ 0 ∷ 0 ∷ 0 ∷ 0 ∷ 0 ∷ 0 ∷ 0 ∷ 0 ∷ 0 ∷ 1 ∷ 1 ∷ 1 ∷ 1 ∷ 1 ∷ 0 ∷ 1 ∷ 1 ∷ 1 ∷ 2 ∷ 2 ∷ 2 ∷ 2 ∷ 2 ∷ 2 ∷ 2 ∷ 2
+    ∷ []) ≡ false
+unfolding node_of side_of
+one_alone_that_leaves_from_the_root = refl
+
 -- place 0 is inside, and its copy has an entry
 abbrev one_inside : World ℕ
 one_inside = follow 1 (Steps 0 ∷ Steps 0 ∷ Steps 0 ∷ Steps 0 ∷ Appends 0 7 ∷ []) opening_world

@@ -1,12 +1,12 @@
 -- Examples by which the definitions of ya_lock are tested, each under a line with the definition's name. Both sides are
 -- computed, and what a relation says is spelled out for some values. The value that the lock lends is a number here,
 -- which others can only raise.
-use Rattle.std.proofs.Common.{◌≡◌, ◌≢◌, ℕ, zero, suc, ◌+◌, ◌≤◌, inl, inr, List, [], ◌∷◌, ◌++◌, ◌∙◌, refl, sym, subst, arith, None, Some, replicate, set}
+use Rattle.std.proofs.Common.{◌≡◌, ◌≢◌, ℕ, zero, suc, ◌+◌, ◌<◌, ◌≤◌, inl, inr, List, [], ◌∷◌, ◌++◌, ◌∙◌, refl, sym, ap, subst, arith, None, Some, replicate, set}
 use Rattle.std.specs.Prelude as std
 use Rattle.std.specs.Prelude.{IsTrue, ◌-◌, true, false}
 use mathlib.Core.Option.{Option, none, some, some-injective, some-ne-none}
 use lib.ListN.{get_elem?}
-use Rattle.atomic_table.specs.Table.{State}
+use Rattle.atomic_table.specs.Table.{State, Me}
 use Rattle.ya_core.specs.declared.word.Word.{Word}
 use Rattle.ya_core.specs.declared.word.Word.TheVariants.{C, P}
 use Rattle.ya_core.specs.declared.process.EntryPoint.TheVariants.{E1, E2, E3, E4, E8}
@@ -21,10 +21,12 @@ use Rattle.ya_lock.specs.declared.rule.View.TheVariants.{Unused, Making, Filling
 use Rattle.ya_lock.specs.Rule.{index_of, making_index, words_in, row_length, place_of_view, least_at, least_count, count_from, count_after}
 use Rattle.ya_lock.specs.Rule.{GlobalView, IsBegun, ViewFits, Rule}
 use Rattle.ya_lock.specs.LockState.{IsOf, IsFilling, IsMaking, HasProcess, IsAway, NoneInside, ShowsCore, GoesOn, SomeSeatGoesOn}
-use Rattle.ya_lock.specs.LockState.{OneSeatAPlace, OneInside, IsToMake, IsGiven, IsInSlot, IsFresh, IsMadeByOne, IsLockState}
+use Rattle.ya_lock.specs.LockState.{EachInTree, OneSeatAPlace, OneInside, IsToMake, IsGiven, IsInSlot, IsFresh, IsMadeByOne, IsLockState}
 use Rattle.ya_lock.specs.Lock.{LockId, IdlePass, OpenGuard, new_pass, guard_of, pass_of}
 use Rattle.ya_lock.specs.GuardLends.{guard_with_value}
 use Rattle.ya_lock.specs.DueStep.{IsReady, process_after, MovesValue, TakesStep, EachMayStep}
+use Rattle.ya_lock.specs.StepEffects.{BeginsMaking}
+use Rattle.ya_lock.specs.StepKinds.{HasSlot, IsContent, LeavesProcesses, IsGift}
 use Rattle.ya_lock.proofs.DueSteps.{each_may_step}
 use Rattle.ya_lock.proofs.WordsInRow.{words_zero, words_behind}
 use Rattle.ya_lock.specs.Lock.{LockId, IdlePass, OpenGuard, guard_of, pass_of, new_pass}
@@ -189,6 +191,19 @@ one_that_is_away_does_not_count h =
 each_has_its_own : OneSeatAPlace both_away
 each_has_its_own one other place x y v w a b = (away_both one place x v a).0 ∙ sym (away_both other place y w b).0
 
+-- EachInTree
+each_in_the_tree : EachInTree both_away 1
+each_in_the_tree zero place process value has =
+    let is = is_view both_away 0 (Seated 0 Idle 7 0) place process value has refl in omega (arith, is.0)
+each_in_the_tree (suc zero) place process value has =
+    let is = is_view both_away 1 (Seated 1 Idle 5 0) place process value has refl in omega (arith, is.0)
+each_in_the_tree (suc (suc seat)) place process value has = absurd (some-ne-none has.0 (sym has.1))
+
+no_idle_place_beyond_it : ¬ EachInTree (moment (some (Some 7) ∷ []) (Seated 2 Idle 7 0 ∷ [])) 1
+no_idle_place_beyond_it h =
+    let below = h 0 2 Idle 7 (Seated 2 Idle 7 0, refl, (refl, refl, refl)) in omega (arith, below)
+
+-- OneSeatAPlace
 not_two_of_place_0 : ¬ OneSeatAPlace (moment (some (Some 7) ∷ []) (Seated 0 Idle 7 0 ∷ Seated 0 Idle 7 0 ∷ []))
 not_two_of_place_0 h =
     let same = h 0 1 0 Idle Idle 7 7 (Seated 0 Idle 7 0, refl, (refl, refl, refl)) (Seated 0 Idle 7 0, refl, (refl, refl, refl)) in omega (arith, same)
@@ -449,6 +464,7 @@ where_both_are_away : IsLockState raised 1 both_away
 where_both_are_away = record {
   core = all_idle;
   progress = nobody_takes_part;
+  in_tree = each_in_the_tree;
   places = each_has_its_own;
   exclusion = none_inside;
   value = in_slot_where_both_are_away;
@@ -514,10 +530,10 @@ module _ {V : Type 0} (since : ℕ → V → V → Type 0) (first second now : V
       → ViewFits since 1 state (both_away_with now) seat view
   view_of_each zero view at =
       subst (ViewFits since 1 state (both_away_with now) 0) (some-injective (Seated 0 Idle first 0) view at)
-      (making_has_begun, refl, refl, (now, refl, from_first), (let none : 0 ≤ 0 = omega arith in none))
+      (making_has_begun, refl, refl, (now, refl, from_first), (let none : 0 ≤ 0 = omega arith in none), (let in_tree : 0 < 2 = omega arith in in_tree))
   view_of_each (suc zero) view at =
       subst (ViewFits since 1 state (both_away_with now) 1) (some-injective (Seated 1 Idle second 0) view at)
-      (making_has_begun, refl, refl, (now, refl, from_second), (let none : 0 ≤ 0 = omega arith in none))
+      (making_has_begun, refl, refl, (now, refl, from_second), (let none : 0 ≤ 0 = omega arith in none), (let in_tree : 1 < 2 = omega arith in in_tree))
   view_of_each (suc (suc seat)) view at = absurd (some-ne-none view (sym at))
 
   both_passes_seen : Rule since 1 state
@@ -716,3 +732,44 @@ each_of_both_may_step : EachMayStep raised raised 1 both_made
 each_of_both_may_step =
     each_may_step raised raised (λ place a. omega arith)
     (λ place other a b c apart since done. omega (arith, since, done)) 1 (omega arith) both_made once_both_passes_were_made
+
+-- ViewFits
+no_place_beyond_the_tree : (s : State (std.Option ℕ) (View ℕ)) (x : GlobalView ℕ) (seat : ℕ) → ¬ ViewFits raised 1 s x seat (Seated 2 Idle 7 0)
+no_place_beyond_the_tree s x seat fits = let below : 2 < 2 = fits.5 in omega (arith, below)
+
+-- HasSlot
+none_or_the_one_that_is_out : HasSlot {V = ℕ} [] (some (Some 7) ∷ []) × HasSlot {V = ℕ} ((0, Some 9) ∷ []) (none ∷ [])
+none_or_the_one_that_is_out = (inl refl, inr (Some 9, refl, refl))
+
+not_one_that_lies_at_home : ¬ HasSlot {V = ℕ} ((0, Some 9) ∷ []) (some (Some 7) ∷ [])
+not_one_that_lies_at_home (inl nothing) = cc
+not_one_that_lies_at_home (inr held) = let home = held.2 in cc
+
+-- BeginsMaking
+unused_where_it_found_1 : BeginsMaking {V = ℕ} 1 (Unused, [])
+unused_where_it_found_1 = (λ none. absurd (omega (arith, none)), λ other. refl, refl)
+
+not_the_maker_where_it_found_1 : ¬ BeginsMaking {V = ℕ} 1 (Making, [])
+not_the_maker_where_it_found_1 h =
+    let unused : ◌≡◌ {A = View ℕ} Making Unused = ap (λ (me : Me (std.Option ℕ) (View ℕ)). me.0) (h.1 (λ same. omega (arith, same))) in cc
+
+-- IsContent
+at_home_what_lies_there : IsContent both_away 7
+at_home_what_lies_there = inl refl
+
+and_else_what_one_inside_found : IsContent one_inside 7
+and_else_what_one_inside_found = inr (0, (0, (Seated 0 Inside 7 3, refl, (refl, refl, refl))))
+
+not_what_one_away_has_seen : ¬ IsContent both_away 5
+not_what_one_away_has_seen (inl home) = let same = home in cc
+not_what_one_away_has_seen (inr inside) = none_where_both_are_away inside.0 inside.1.0 5 inside.1.1
+
+-- LeavesProcesses
+not_where_one_comes_inside : ¬ LeavesProcesses both_away one_inside 1
+not_where_one_comes_inside h =
+    let was = (h.busy 0 0 Inside 7 (λ same. cc)).1 (Seated 0 Inside 7 3, refl, (refl, refl, refl)) in
+    none_where_both_are_away 0 0 7 was
+
+-- IsGift
+not_where_there_was_content : (s t : State (std.Option ℕ) (View ℕ)) → IsContent s 7 → ¬ IsGift 1 s t 8
+not_where_there_was_content s t content gift = gift.1 7 content

@@ -11,7 +11,7 @@ use Rattle.ya_core.specs.declared.process.Process.TheVariants.{Idle, Inside}
 use Rattle.ya_lock.specs.declared.rule.View.{View}
 use Rattle.ya_lock.specs.declared.rule.View.TheVariants.{Unused, Making, Filling, HandingOut, Seated, Joining, Spent}
 use Rattle.ya_lock.specs.Rule.{making_index, GlobalView, ViewFits, Rule}
-use Rattle.ya_lock.specs.inside.StepEffects.{LearnsSince}
+use Rattle.ya_lock.specs.StepEffects.{LearnsSince}
 use Rattle.ya_lock.proofs.Frames.{refits, sees, sits_still, sits_else}
 
 module _ {V : Type 0} (since : ℕ → V → V → Type 0) (levels : ℕ) where
@@ -90,6 +90,7 @@ module _ {V : Type 0} (since : ℕ → V → V → Type 0) (levels : ℕ) where
     f.2,
     f.3,
     f.4,
+    f.5,
   )
   freed_fits s t x id place here words homes seat (Joining p value other seen count) ne f = (
     subst (λ (r : List ℕ). slice_index r (making_index levels) ≢ 0) (sym words) f.0,
@@ -98,6 +99,7 @@ module _ {V : Type 0} (since : ℕ → V → V → Type 0) (levels : ℕ) where
     f.3,
     f.4,
     f.5,
+    f.6,
   )
   freed_fits s t x id place here words homes seat Spent ne f =
       subst (λ (r : List ℕ). slice_index r (making_index levels) ≢ 0) (sym words) f
@@ -138,6 +140,7 @@ module _ {V : Type 0} (since : ℕ → V → V → Type 0) (levels : ℕ) where
                 f.3,
                 g.3,
                 f.4,
+                f.5,
               ))
               (λ p. freed_fits s t x rival other g.1 refl refl seat view q.0 (o.fits seat view p.1))
               (at_set s.views id seat w view q.1))
@@ -166,7 +169,7 @@ module _ {V : Type 0} (since : ℕ → V → V → Type 0) (levels : ℕ) where
           sound = o.sound;
           lies = o.lies;
           fits = λ seat view there. ⊎_elim
-              (λ p. subst (λ (v : View V). ViewFits since levels t x seat v) p.1 (f.0, f.1 ∙ ap some (sym p.0), f.2, f.3, f.5))
+              (λ p. subst (λ (v : View V). ViewFits since levels t x seat v) p.1 (f.0, f.1 ∙ ap some (sym p.0), f.2, f.3, f.5, f.6))
               (λ p. refits since levels s t x (λ b. b) seat view (λ _. refl) (o.fits seat view p.1))
               (at_set s.views id seat w view there);
         },

@@ -18,13 +18,13 @@ use Rattle.ya_lock.specs.declared.rule.View.{View}
 use Rattle.ya_lock.specs.declared.rule.View.TheVariants.{Seated}
 use Rattle.ya_lock.specs.Rule.{index_of, making_index, words_in, Rule, Slots, count_after}
 use Rattle.ya_lock.specs.DueStep.{IsReady, MovesValue, TakesStep, EachMayStep}
-use Rattle.ya_lock.specs.inside.StepEffects.{value_after}
+use Rattle.ya_lock.specs.inside.Rule.{value_after}
 use Rattle.ya_lock.proofs.WordsInRow.{index_below}
 use Rattle.ya_lock.proofs.Frames.{set_at}
 use Rattle.ya_lock.proofs.ProcessSteps.{value_is, accesses, moves_value}
 
 -- an access that is within the tree is of a word of the tree
-word_within : (levels : ℕ) (a : Access) → AccessIsWithin levels a → IsWord levels (word_of a)
+pub word_within : (levels : ℕ) (a : Access) → AccessIsWithin levels a → IsWord levels (word_of a)
 word_within levels (Load word) within = within
 word_within levels (Store word value) within = within
 
@@ -37,11 +37,12 @@ module _ {V : Type 0} (since done : ℕ → V → V → Type 0) (since_same : (p
 
   -- the step of the process that the global view shows
   takes : (s : St) (r : Rule since levels s) (seat place : ℕ) (value : V) (count : ℕ) (slots : Slots V)
-      → get_elem? s.views seat ≡ some (Seated place (r.0.processes place) value count) → place < 2 ^ levels
+      → get_elem? s.views seat ≡ some (Seated place (r.0.processes place) value count)
       → IsReady done (is_inside (r.0.processes place)) place value slots
       → (t : St) × TakesStep since levels seat place (r.0.processes place) value count slots s t
-  takes s r seat place value count slots at room ready =
+  takes s r seat place value count slots at ready =
       let x : Process = r.0.processes place in
+      let room : place < 2 ^ levels = (r.1.fits seat (Seated place x value count) at).5 in
       let a : Access = access_of levels place x in
       let word : IsWord levels (word_of a) =
       word_within levels a (within_access levels place x least room (r.1.sound.proper place)) in
@@ -72,8 +73,8 @@ module _ {V : Type 0} (since done : ℕ → V → V → Type 0) (since_same : (p
 
   -- so at each moment
   pub each_may_step : (s : St) → Rule since levels s → EachMayStep since done levels s
-  each_may_step s r seat place process value count slots at room ready =
+  each_may_step s r seat place process value count slots at ready =
       let f : r.0.processes place ≡ process = (r.1.fits seat (Seated place process value count) at).2 in
       subst (λ (x : Process). (t : St) × TakesStep since levels seat place x value count slots s t) f
-      (takes s r seat place value count slots (at ∙ ap (λ (x : Process). some (Seated place x value count)) (sym f)) room
+      (takes s r seat place value count slots (at ∙ ap (λ (x : Process). some (Seated place x value count)) (sym f))
       (subst (λ (x : Process). IsReady done (is_inside x) place value slots) (sym f) ready))

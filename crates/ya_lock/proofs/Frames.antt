@@ -116,6 +116,7 @@ module _ {V : Type 0} (since : ℕ → V → V → Type 0) (levels : ℕ) where
         moved_else x.processes place process k other ∙ f.2,
         knows_later x place content k value (is_inside p) later other (ap is_inside f.2) f.3,
         f.4,
+        f.5,
       )
   other_fits s t x id place process content now is word here later seat (Joining k value j seen count) ne f =
       let other = other_place x place id k seat here f.1 ne in
@@ -126,6 +127,7 @@ module _ {V : Type 0} (since : ℕ → V → V → Type 0) (levels : ℕ) where
         both.0,
         both.1,
         f.5,
+        f.6,
       )
   other_fits s t x id place process content now is word here later seat Spent ne f = λ e. f (sym word ∙ e)
 
@@ -193,8 +195,14 @@ module _ {V : Type 0} (since : ℕ → V → V → Type 0) (levels : ℕ) where
         sound = sound;
         lies = lies;
         fits = λ seat view at. ⊎_elim
-            (λ p. subst (λ (y : View V). ViewFits since levels t (gone_on x place process content) seat y) p.1
-            ((λ e. begun (sym word ∙ e)), here ∙ ap some (sym p.0), moved_here x.processes place process, knows, least))
+            (λ p. subst (λ (y : View V). ViewFits since levels t (gone_on x place process content) seat y) p.1 (
+              (λ e. begun (sym word ∙ e)),
+              here ∙ ap some (sym p.0),
+              moved_here x.processes place process,
+              knows,
+              least,
+              (o.fits id (Seated place before value count) at').5,
+            ))
             (λ p. other_fits s t x id place process content now was word here later seat view p.0
             (o.fits seat view p.1))
             (at_set s.views id seat (Seated place process next total) view at);
@@ -209,8 +217,8 @@ module _ {V : Type 0} (since : ℕ → V → V → Type 0) (levels : ℕ) where
   refits s t x begun seat Making slot f = (begun f.0, f.1, f.2, slot f.1 ∙ f.3)
   refits s t x begun seat Filling slot f = (begun f.0, f.1, f.2, ap length (slot f.1) ∙ f.3)
   refits s t x begun seat (HandingOut first value) slot f = (begun f.0, f.1, f.2, f.3)
-  refits s t x begun seat (Seated place process value count) slot f = (begun f.0, f.1, f.2, f.3, f.4)
-  refits s t x begun seat (Joining place value other seen count) slot f = (begun f.0, f.1, f.2, f.3, f.4, f.5)
+  refits s t x begun seat (Seated place process value count) slot f = (begun f.0, f.1, f.2, f.3, f.4, f.5)
+  refits s t x begun seat (Joining place value other seen count) slot f = (begun f.0, f.1, f.2, f.3, f.4, f.5, f.6)
   refits s t x begun seat Spent slot f = begun f
 
   -- what a load that changes no word has to show

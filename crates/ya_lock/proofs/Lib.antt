@@ -9,7 +9,10 @@ pub mod ConfirmSteps
 pub mod PassesInOrder
 pub mod TreeSize
 pub mod GuardSeats
+pub mod Slots
 pub mod RuleMeaning
+pub mod OnlyDueStep
+pub mod OtherKinds
 pub mod EntryAccesses
 pub mod EntrySteps
 pub mod PassageSteps

@@ -18,7 +18,7 @@ use Rattle.ya_lock.specs.declared.rule.View.{View}
 use Rattle.ya_lock.specs.declared.rule.View.TheVariants.{Unused, Making, Filling, HandingOut, Seated, Joining, Spent}
 use Rattle.ya_lock.specs.Rule.{making_index, row_length, GlobalView, ValueInSlot, ViewFits, Obeys, Rule, Slots}
 use Rattle.ya_core.specs.Worlds.{is_inside}
-use Rattle.ya_lock.specs.inside.StepEffects.{BeginsMaking, TakesSlot, GivesValue, HandsOutLast}
+use Rattle.ya_lock.specs.StepEffects.{BeginsMaking, TakesSlot, GivesValue, HandsOutLast}
 use Rattle.ya_core.proofs.Promised.{opens as opens_sound}
 use Rattle.ya_lock.proofs.WordsInRow.{words_zero, words_behind}
 use Rattle.ya_lock.proofs.Frames.{refits, looks, sees, Sits, sits_still, sits_else, sits_longer, set_at}
@@ -145,7 +145,7 @@ module _ {V : Type 0} (since : ℕ → V → V → Type 0) (since_same : (place 
                     (begun_by_swap s Making o.wide, ap some (sym p.0), (o.unmade z).0, (o.unmade z).1))
                     (at_end s.views Making view seat at)),
               ),
-              ((λ _. refl), refl),
+              ((λ _. refl), (λ other. absurd (other z)), refl),
             )
         | no other ↦
             let t : St = swapped s Unused in (
@@ -160,7 +160,7 @@ module _ {V : Type 0} (since : ℕ → V → V → Type 0) (since_same : (place 
                     (λ p. subst (λ (v : View V). ViewFits since levels t x seat v) p.1 tt)
                     (at_end s.views Unused view seat at)),
               ),
-              ((λ z. absurd (other z)), refl),
+              ((λ z. absurd (other z)), (λ _. refl), refl),
             )
       ]
 
@@ -309,6 +309,7 @@ module _ {V : Type 0} (since : ℕ → V → V → Type 0) (since_same : (place 
     f.2,
     f.3,
     f.4,
+    f.5,
   )
   handed_fits s t x id place number m free words homes seat (Joining p value other seen count) ne f = (
     subst (λ (r : List ℕ). slice_index r (making_index levels) ≢ 0) (sym words) f.0,
@@ -317,6 +318,7 @@ module _ {V : Type 0} (since : ℕ → V → V → Type 0) (since_same : (place 
     f.3,
     f.4,
     f.5,
+    f.6,
   )
   handed_fits s t x id place number m free words homes seat Spent ne f =
       subst (λ (r : List ℕ). slice_index r (making_index levels) ≢ 0) (sym words) f
@@ -401,7 +403,7 @@ module _ {V : Type 0} (since : ℕ → V → V → Type 0) (since_same : (place 
               (λ p. handed_fits s t x id place (length views) f.1 here.0 refl refl seat view p.0 (o.fits seat view p.1))
               (at_set s.views id seat (HandingOut (place + 1) value) view old))
               (λ p. subst (λ (v : View V). ViewFits since levels t y seat v) p.1
-              (f.0, seated_here x place (length views) ∙ ap some (sym p.0), o.absent place here.0, here.1, nothing_yet))
+              (f.0, seated_here x place (length views) ∙ ap some (sym p.0), o.absent place here.0, here.1, nothing_yet, f.2))
               (at_end views (Seated place Idle value 0) view seat there);
         },
       )
@@ -428,7 +430,7 @@ module _ {V : Type 0} (since : ℕ → V → V → Type 0) (since_same : (place 
           lies = o.lies;
           fits = λ seat view there. ⊎_elim
               (λ p. subst (λ (v : View V). ViewFits since levels t y seat v) p.1
-              (f.0, seated_here x place id ∙ ap some (sym p.0), o.absent place here.0, here.1, nothing_yet))
+              (f.0, seated_here x place id ∙ ap some (sym p.0), o.absent place here.0, here.1, nothing_yet, f.2))
               (λ p. handed_fits s t x id place id f.1 here.0 refl refl seat view p.0 (o.fits seat view p.1))
               (at_set s.views id seat w view there);
         },

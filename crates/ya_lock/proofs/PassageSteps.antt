@@ -12,8 +12,8 @@ use Rattle.ya_lock.specs.declared.rule.View.{View}
 use Rattle.ya_lock.specs.declared.rule.View.TheVariants.{Seated}
 use Rattle.ya_lock.specs.DueStep.{IsReady}
 use Rattle.ya_lock.specs.Rule.{count_after}
-use Rattle.ya_lock.specs.inside.StepEffects.{CarriesValue, ProcessSteps, HasMade}
-use Rattle.ya_lock.specs.inside.Lock.{SeatOf}
+use Rattle.ya_lock.specs.StepEffects.{CarriesValue, ProcessSteps}
+use Rattle.ya_lock.specs.inside.Lock.{HasMade, SeatOf}
 use Rattle.ya_lock.proofs.NewSteps.{one_value}
 
 module _ {V : Type 0} (since done : ℕ → V → V → Type 0) where

@@ -22,7 +22,9 @@ use Rattle.ya_lock.specs.declared.rule.View.{View}
 use Rattle.ya_lock.specs.declared.rule.View.TheVariants.{Seated}
 use Rattle.ya_lock.specs.Rule.{index_of, making_index, words_in, GlobalView, KnowsValue, ValueInSlot, ViewFits, Obeys, Rule, Slots, count_after}
 use Rattle.ya_core.specs.Worlds.{is_inside}
-use Rattle.ya_lock.specs.inside.StepEffects.{value_after, CarriesValue, ProcessSteps, HasMade}
+use Rattle.ya_lock.specs.inside.Lock.{HasMade}
+use Rattle.ya_lock.specs.StepEffects.{CarriesValue, ProcessSteps}
+use Rattle.ya_lock.specs.inside.Rule.{value_after}
 use Rattle.ya_lock.specs.DueStep.{IsReady, MovesValue}
 use Rattle.ya_core.proofs.Promised.{keeps as kept_by_step, finds, is_inside_is, excludes}
 use Rattle.ya_lock.proofs.WordsInRow.{index_below, word_in, word_set, word_set_other, word_kept}

@@ -1,5 +1,5 @@
 -- What follows from the rule.
-use Rattle.std.proofs.Common.{◌≡◌, ◌≢◌, ℕ, ◌≤◌, ◌⊎◌, inl, inr, Bool, true, false, List, [], ◌∷◌, sym, refl, ap, ◌∙◌, subst}
+use Rattle.std.proofs.Common.{◌≡◌, ◌≢◌, ℕ, ◌^◌, ◌<◌, ◌≤◌, ◌⊎◌, inl, inr, Bool, true, false, [], ◌∷◌, sym, refl, ap, ◌∙◌, subst}
 use Rattle.std.proofs.Common.{slice_index, Some}
 use Rattle.std.specs.Prelude as std
 use mathlib.Core.Option.{Option, none, some, some-injective, some-ne-none}
@@ -12,8 +12,9 @@ use Rattle.ya_lock.specs.declared.rule.View.TheVariants.{Unused, Making, Filling
 use Rattle.ya_lock.specs.Rule.{making_index, words_in, place_of_view, GlobalView, KnowsValue, ValueInSlot, ViewFits, Rule}
 use Rattle.ya_core.specs.Worlds.{is_inside}
 use Rattle.ya_lock.specs.LockState.{IsOf, IsFilling, IsMaking, HasProcess, IsAway, NoneInside, ShowsCore, GoesOn}
-use Rattle.ya_lock.specs.LockState.{SomeSeatGoesOn, OneSeatAPlace, OneInside, IsToMake, IsGiven, IsInSlot, IsFresh, IsMadeByOne}
+use Rattle.ya_lock.specs.LockState.{SomeSeatGoesOn, EachInTree, OneSeatAPlace, OneInside, IsToMake, IsGiven, IsInSlot, IsFresh, IsMadeByOne}
 use Rattle.ya_lock.proofs.ProcessSteps.{none_true}
+use Rattle.ya_lock.proofs.Slots.{home_is, home_not}
 
 module _ {V : Type 0} (since : ℕ → V → V → Type 0) (levels : ℕ) where
   -- a state of the table
@@ -25,6 +26,7 @@ module _ {V : Type 0} (since : ℕ → V → V → Type 0) (levels : ℕ) where
     sits : x.seat_of place ≡ some seat
     is : x.processes place ≡ process
     knows : KnowsValue since x.content place (is_inside process) value
+    below : place < 2 ^ levels
 
   -- by cases of the view
   shown_by : (s : St) (x : GlobalView V) (seat place : ℕ) (process : Process) (value : V) (view : View V)
@@ -39,6 +41,7 @@ module _ {V : Type 0} (since : ℕ → V → V → Type 0) (levels : ℕ) where
     knows = subst (λ (k : ℕ). KnowsValue since x.content k (is_inside process) value) e.0
         (subst (λ (z : Process). KnowsValue since x.content p (is_inside z) value) e.1
         (subst (λ (w : V). KnowsValue since x.content p (is_inside y) w) e.2 f.3));
+    below = subst (λ (k : ℕ). k < 2 ^ levels) e.0 f.5;
   }
   shown_by s x seat place process value (Joining p v other seen count) e f = record {
     sits = ap x.seat_of (sym e.0) ∙ f.1;
@@ -46,6 +49,7 @@ module _ {V : Type 0} (since : ℕ → V → V → Type 0) (levels : ℕ) where
     knows = subst (λ (k : ℕ). KnowsValue since x.content k (is_inside process) value) e.0
         (subst (λ (z : Process). KnowsValue since x.content p (is_inside z) value) e.1
         (subst (λ (w : V). KnowsValue since x.content p true w) e.2 f.3));
+    below = subst (λ (k : ℕ). k < 2 ^ levels) e.0 f.6;
   }
   shown_by s x seat place process value Spent e f = absurd e
 
@@ -107,6 +111,10 @@ module _ {V : Type 0} (since : ℕ → V → V → Type 0) (levels : ℕ) where
   one_seat s r one other place x y v w h k =
       some-injective one other (sym (shown s r one place x v h).sits ∙ (shown s r other place y w k).sits)
 
+  -- a place that has a process is one of the tree's
+  pub in_tree : (s : St) → Rule since levels s → EachInTree s levels
+  in_tree s r seat place process value h = (shown s r seat place process value h).below
+
   -- two views inside are those of one seat
   pub one_inside : 1 ≤ levels → (s : St) → Rule since levels s → OneInside s
   one_inside least s r one other p q v w h k =
@@ -152,21 +160,6 @@ module _ {V : Type 0} (since : ℕ → V → V → Type 0) (levels : ℕ) where
               (λ e. has_seat s r k (is_inside_is (r.0.processes k) e) away (r.0.seat_of k) refl)),
         )),
   )
-
-  -- what lies in the first slot
-  first_home : List (Option (std.Option V)) → Option (std.Option V)
-  first_home [] = none
-  first_home (h ∷ hs) = h
-
-  -- a slot that is home has one value
-  home_is : (a b : V) → ◌≡◌ {A = List (Option (std.Option V))} (some (Some a) ∷ []) (some (Some b) ∷ []) → a ≡ b
-  unfolding first_home
-  home_is a b e = let inner : Some a ≡ Some b = some-injective (Some a) (Some b) (ap first_home e) in cc
-
-  -- a slot that is out has none
-  home_not : (a : V) → ◌≡◌ {A = List (Option (std.Option V))} (none ∷ []) (some (Some a) ∷ []) → ⊥
-  unfolding first_home
-  home_not a e = some-ne-none (Some a) (sym (ap first_home e))
 
   -- what a place away, or one whose pass is still to be made, knows of the content
   known : (s : St) (r : Rule since levels s) (seat place : ℕ) (seen : V) → IsAway s seat place seen ⊎ IsToMake s seat place seen

@@ -52,6 +52,6 @@ module _ {V : Type 0} where
   abbrev pub EachMayStep : (since done : ℕ → V → V → Type 0) → ℕ → State (std.Option V) (View V) → Type 0
   EachMayStep since done levels s =
       (seat place : ℕ) (process : Process) (value : V) (count : ℕ) (slots : Slots V)
-      → get_elem? s.views seat ≡ some (Seated place process value count) → place < 2 ^ levels
+      → get_elem? s.views seat ≡ some (Seated place process value count)
       → IsReady done (is_inside process) place value slots
       → (t : State (std.Option V) (View V)) × TakesStep since levels seat place process value count slots s t

@@ -1,5 +1,5 @@
 -- What the rule says of the words, the lent value and the views of all seats, at every moment between two atomic steps.
-use Rattle.std.specs.Prelude.{◌≡◌, ◌≢◌, ◌≤◌, ℕ, ◌⊎◌, List, [], ◌∷◌, slice_index, Some, None}
+use Rattle.std.specs.Prelude.{◌≡◌, ◌≢◌, ◌^◌, ◌<◌, ◌≤◌, ℕ, ◌⊎◌, List, [], ◌∷◌, slice_index, Some, None}
 use Rattle.std.specs.Prelude as std
 use mathlib.Core.Option.{none, some}
 use lib.ListN.{get_elem?}
@@ -64,6 +64,11 @@ module _ {V : Type 0} where
         (seat place : ℕ) (process : Process) (value : V) → HasProcess seat place process value → process ≢ Idle
         → (other q : ℕ) × ((x : Process) × ((v : V) × HasProcess other q x v × (x ≢ Idle) × GoesOn levels q x))
 
+    -- a place that has a process is one of the tree's
+    abbrev pub EachInTree : ℕ → Type 0
+    EachInTree levels =
+        (seat place : ℕ) (process : Process) (value : V) → HasProcess seat place process value → place < 2 ^ levels
+
     -- two views of one place are those of one seat
     abbrev pub OneSeatAPlace : Type 0
     OneSeatAPlace =
@@ -117,6 +122,7 @@ pub record IsLockState {V : Type 0} (since : ℕ → V → V → Type 0) (levels
     (s : State (std.Option V) (View V)) : Type 0 where
   pub core : ShowsCore s levels
   pub progress : SomeSeatGoesOn s levels
+  pub in_tree : EachInTree s levels
   pub places : OneSeatAPlace s
   pub exclusion : OneInside s
   pub value : IsInSlot s

@@ -108,9 +108,10 @@ module _ {V : Type 0} (since : ℕ → V → V → Type 0) where
     ViewFits seat (Seated place process value count) =
         IsBegun × (x.seat_of place ≡ some seat) × (x.processes place ≡ process)
         × KnowsValue x.content place (is_inside process) value × (least_count levels process ≤ count)
+        × (place < 2 ^ levels)
     ViewFits seat (Joining place value other seen count) =
         IsBegun × (x.seat_of place ≡ some seat) × (x.processes place ≡ Inside) × KnowsValue x.content place true value
-        × KnowsValue x.content other false seen × (least_count levels Inside ≤ count)
+        × KnowsValue x.content other false seen × (least_count levels Inside ≤ count) × (place < 2 ^ levels)
     ViewFits seat Spent = IsBegun
 
     -- the global view is what the words, the value and the views show

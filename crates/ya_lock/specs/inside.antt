@@ -1,4 +1,3 @@
 -- What no public clause speaks of: the words of private contracts, of invariants and of proofs.
 pub mod Lock
-pub mod StepEffects
 pub mod Rule

@@ -23,8 +23,9 @@
 //! - `confirm` spends a pass under an open guard and says what came of the value that it has seen; `close` ends the
 //!   lock.
 //! - [`laws`] says what the rule of the lock's table means, at every moment between two atomic steps: the invariant of
-//!   the core, one seat inside at most, the value in its slot exactly where none is, once it was given; and which step
-//!   each seat of a process may take, and what becomes of the value by it.
+//!   the core, one seat inside at most, the value in its slot exactly where none is, once it was given; which step each
+//!   seat of a process may take, and what becomes of the value by it; and that every other kind of step leaves the words
+//!   of the tree and the processes as they are.
 //!
 //! `enter` alone may wait, and only `new` takes memory. That threads get in, and how soon, is only tested. What its
 //! contracts say, and the rule that ties each access to a step of the core, stand in `docs/LOCK.md`.

@@ -1,8 +1,8 @@
 //! What each step of a seat tells its thread. These types are for the proofs alone.
 ghost use Rattle.std.specs.Prelude.{◌≡◌};
 ghost use Rattle.ya_lock.specs.declared.rule.View.TheVariants.{Spent};
-ghost use Rattle.ya_lock.specs.inside.StepEffects.{BeginsMaking, TakesSlot, GivesValue, HandsOutLast, ProcessSteps, LearnsSince};
-ghost use Rattle.ya_lock.specs.inside.StepEffects.{handed_out, rest_to_hand_out, joined_view};
+ghost use Rattle.ya_lock.specs.StepEffects.{BeginsMaking, TakesSlot, GivesValue, HandsOutLast, ProcessSteps, LearnsSince};
+ghost use Rattle.ya_lock.specs.StepEffects.{handed_out, rest_to_hand_out, joined_view};
 
 use crate::kept::Kept;
 use crate::rule::View;

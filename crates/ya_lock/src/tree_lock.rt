@@ -61,7 +61,9 @@ impl<V: Kept + Drop, const L: u32> TreeLock<V, L> {
     }
 
     /// Waits until its place is alone inside, and gives the lent value. What the guard finds is what may have come, by
-    /// other places, of the value that the pass has seen. It makes at most seven remote accesses a level.
+    /// other places, of the value that the pass has seen. Its process makes at most seven remote accesses a level. The
+    /// code also loads the root's words C, at most ten times, and accesses a rival's bell at most twice a level, and its
+    /// own bell while it sleeps.
     #[inline(always)]
     pub fn enter<R: Wait>(&self, rt: &R, pass: Pass<V>) -> Guard<V>
         requires { pass.lock ≡ self.now }
@@ -76,7 +78,8 @@ impl<V: Kept + Drop, const L: u32> TreeLock<V, L> {
     }
 
     /// Gives the value back as it is now, and lets the next one in. The place may have changed it as `done` says. It
-    /// waits for nobody, and makes at most three remote accesses a level.
+    /// waits for nobody. Its process makes at most three remote accesses a level. The code also accesses a rival's bell at
+    /// most twice a level.
     #[inline(always)]
     pub fn leave(&self, guard: Guard<V>) -> Pass<V>
         requires lock { guard.lock ≡ self.now }

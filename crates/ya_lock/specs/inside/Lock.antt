@@ -58,6 +58,12 @@ pub record IsLockTable (levels : ℕ) (key : ℕ) (table : LockId) : Type 0 wher
   pub slots : table.slots ≡ 1
 
 module _ {V : Type 0} where
+  -- the view is that of the place's process which has seen the value, and which has made so many remote accesses since
+  -- its entry began; an idle one has made none of the next entry, and any number in its last passage
+  abbrev pub HasMade : ℕ → V → Process → ℕ → View V → Type 0
+  HasMade place value Idle remote view = (last : ℕ) × (view ≡ Seated place Idle value last) × (remote ≡ 0)
+  HasMade place value process remote view = view ≡ Seated place process value remote
+
   -- the seat of a pass: its process is idle, its last passage made so many remote accesses, and it has no slot
   pub record SeatIdle (lock : LockId) (place : ℕ) (seen : V) (remote : ℕ)
       (me : Me (std.Option V) (View V)) : Type 0 where

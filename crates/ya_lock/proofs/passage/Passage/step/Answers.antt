@@ -14,7 +14,8 @@ use Rattle.ya_lock.specs.declared.rule.View.{View}
 use Rattle.ya_lock.specs.Rule.{index_of, making_index, row_length, Rule}
 use Rattle.ya_lock.specs.Lock.{LockId}
 use Rattle.ya_lock.specs.inside.Lock.{IsLockTable, OnWay, SeatOf}
-use Rattle.ya_lock.specs.inside.StepEffects.{ProcessSteps, value_after}
+use Rattle.ya_lock.specs.StepEffects.{ProcessSteps}
+use Rattle.ya_lock.specs.inside.Rule.{value_after}
 use Rattle.ya_lock.proofs.WordsInRow.{making_small, index_below, index_is}
 use Rattle.ya_lock.proofs.ProcessSteps.{counted, allows}
 use Rattle.ya_lock.proofs.PassageSteps.{ready_by, stays, told_due}

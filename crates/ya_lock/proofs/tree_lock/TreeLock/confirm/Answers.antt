@@ -4,7 +4,7 @@ use Rattle.ya_core.specs.declared.process.Process.TheVariants.{Inside}
 use Rattle.ya_lock.specs.declared.rule.View.{View}
 use Rattle.ya_lock.specs.declared.rule.View.TheVariants.{Seated, Spent}
 use Rattle.ya_lock.specs.Rule.{Rule}
-use Rattle.ya_lock.specs.inside.StepEffects.{joined_view}
+use Rattle.ya_lock.specs.StepEffects.{joined_view}
 use Rattle.ya_lock.specs.Lock.{OpenGuard, IdlePass}
 use Rattle.ya_lock.proofs.ConfirmSteps.{joins, learns}
 use Rattle.ya_lock.proofs.tree_lock.TreeLock.confirm.Goals as goal

@@ -8,7 +8,7 @@ use Rattle.ya_lock.specs.Lock.{IdlePass}
 use Rattle.ya_lock.specs.declared.rule.View.{View}
 use Rattle.ya_lock.specs.declared.rule.View.TheVariants.{Seated}
 use Rattle.ya_lock.specs.Rule.{Rule}
-use Rattle.ya_lock.specs.inside.StepEffects.{handed_out, rest_to_hand_out, HandsOutLast}
+use Rattle.ya_lock.specs.StepEffects.{handed_out, rest_to_hand_out, HandsOutLast}
 use Rattle.ya_lock.proofs.NewSteps.{splits, ends}
 use Rattle.ya_lock.proofs.PassesInOrder.{one_more_pass}
 use Rattle.ya_lock.proofs.tree_lock.TreeLock.make_passes.Goals as goal

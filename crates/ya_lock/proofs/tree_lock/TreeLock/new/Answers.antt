@@ -4,7 +4,7 @@ use Rattle.ya_core.specs.ArbitrationTree.{count_of_words}
 use Rattle.ya_lock.specs.declared.rule.View.{View}
 use Rattle.ya_lock.specs.declared.rule.View.TheVariants.{Filling}
 use Rattle.ya_lock.specs.Rule.{making_index, Rule}
-use Rattle.ya_lock.specs.inside.StepEffects.{TakesSlot, GivesValue}
+use Rattle.ya_lock.specs.StepEffects.{TakesSlot, GivesValue}
 use Rattle.ya_lock.proofs.WordsInRow.{making_small, making_is}
 use Rattle.ya_lock.proofs.NewSteps.{takes_slot, gives_value}
 use Rattle.ya_lock.proofs.tree_lock.TreeLock.new.Goals as goal

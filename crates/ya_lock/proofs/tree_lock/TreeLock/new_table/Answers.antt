@@ -2,7 +2,7 @@ use Rattle.std.proofs.Common.{arith, ◌≡◌, ℕ, ◌+◌, ◌*◌, ◌^◌, 
 use Rattle.atomic_table.specs.Table.{opening, Arrives}
 use Rattle.ya_lock.specs.declared.rule.View.TheVariants.{Unused}
 use Rattle.ya_lock.specs.Rule.{making_index, Rule}
-use Rattle.ya_lock.specs.inside.StepEffects.{BeginsMaking}
+use Rattle.ya_lock.specs.StepEffects.{BeginsMaking}
 use Rattle.ya_lock.proofs.WordsInRow.{making_small}
 use Rattle.ya_lock.proofs.NewSteps.{opens, begins}
 use Rattle.ya_lock.proofs.tree_lock.TreeLock.new_table.Goals as goal

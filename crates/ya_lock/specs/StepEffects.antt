@@ -1,33 +1,19 @@
 -- What each atomic step of a seat tells its thread.
-use Rattle.std.specs.Prelude.{◌≡◌, ℕ, ◌+◌, Bool, true, false, List, [], ◌∷◌, Some, None}
+use Rattle.std.specs.Prelude.{◌≡◌, ◌≢◌, ℕ, ◌+◌, Bool, true, false, List, [], ◌∷◌, Some, None}
 use Rattle.std.specs.Prelude as std
 use Rattle.atomic_table.specs.Table.{Me}
-use Rattle.ya_core.specs.declared.word.Access.{Access}
-use Rattle.ya_core.specs.declared.word.Access.TheVariants.{Load, Store}
-use Rattle.ya_core.specs.declared.process.Process.{Process}
 use Rattle.ya_core.specs.declared.process.Process.TheVariants.{Idle, Inside}
 use Rattle.ya_core.specs.Steps.{access_of, next_of}
 use Rattle.ya_core.specs.WalkerModel.{MayBeTold}
 use Rattle.ya_lock.specs.declared.rule.View.{View}
-use Rattle.ya_lock.specs.declared.rule.View.TheVariants.{Making, Filling, HandingOut, Seated, Joining}
+use Rattle.ya_lock.specs.declared.rule.View.TheVariants.{Unused, Making, Filling, HandingOut, Seated, Joining}
 use Rattle.ya_core.specs.Worlds.{is_inside}
 use Rattle.ya_lock.specs.Rule.{Slots, count_after}
 
--- the number that an access leaves in its word, where it found this one
-abbrev pub value_after : Access → ℕ → ℕ
-value_after (Load word) found = found
-value_after (Store word value) found = value
-
 module _ {V : Type 0} where
-  -- the view is that of the place's process which has seen the value, and which has made so many remote accesses since
-  -- its entry began; an idle one has made none of the next entry, and any number in its last passage
-  abbrev pub HasMade : ℕ → V → Process → ℕ → View V → Type 0
-  HasMade place value Idle remote view = (last : ℕ) × (view ≡ Seated place Idle value last) × (remote ≡ 0)
-  HasMade place value process remote view = view ≡ Seated place process value remote
-
-  -- the swap that begins to make the passes: the seat is the maker where it found 0
+  -- the swap that begins to make the passes: the seat is the maker where it found 0, and else unused
   abbrev pub BeginsMaking : ℕ → Me (std.Option V) (View V) → Type 0
-  BeginsMaking found me = (found ≡ 0 → me ≡ (Making, [])) × (me.1 ≡ [])
+  BeginsMaking found me = (found ≡ 0 → me ≡ (Making, [])) × (found ≢ 0 → me ≡ (Unused, [])) × (me.1 ≡ [])
 
   -- the maker takes the empty slot
   abbrev pub TakesSlot : View V → Me (std.Option V) (View V) → Type 0
