@@ -2,16 +2,13 @@
 -- computed, but for the texts that are written for numbers, which have one spelling each.
 use Rattle.std.proofs.Common.{◌≡◌, ◌≢◌, ℕ, ◌+◌, ◌≤◌, ◌==◌, ◌&&◌, nat_le, Bool, true, false, if◌then◌else◌, Some, None, Ok, Err}
 use Rattle.std.proofs.Common.{List, [], ◌∷◌, ◌++◌, length, map, filter, take, drop, inl, inr, codes, refl, sym, ap, ◌∙◌, subst, arith, append-nil}
-use Rattle.std.specs.List.{All, list_any, list_all, flat_map, slice_get, Contains}
+use Rattle.std.specs.List.{All, list_any, list_all}
 use Rattle.std.proofs.lemmas.Bool.{and_parts, eqb-true, eqb-false, leb-true}
 use Rattle.std.proofs.lemmas.List.Elements.{All-nil, All-cons}
 use Rattle.std.specs.Fmt.{digits}
 use Rattle.rt_cidr.specs.Text.{address_text, prefix_text}
-use Rattle.ya_core.specs.declared.schedule.ReplayFault.{ReplayFault}
 use Rattle.ya_core.specs.declared.schedule.ReplayFault.TheVariants as replay
 use Rattle.ya_core.specs.Steps.{opening}
-use Rattle.ya_core.specs.Machines.{ReplaysTo}
-use Rattle.ya_core.specs.Worlds.{TellsInside}
 use Rattle.rt_rib.specs.declared.routes.Hop.TheVariants.{Discard}
 use Rattle.rt_rib.specs.declared.routes.Route.{Route}
 use Rattle.rt_rib.specs.declared.commands.Cmd.{Cmd}
@@ -20,8 +17,6 @@ use Rattle.rt_rib.specs.declared.commands.Reply.TheVariants.{Added, Exists, Full
 use Rattle.rt_rib.specs.declared.commands.Entry.{Entry}
 use Rattle.rt_rib.specs.Sequential.{reply_of, table_after, table_of_journal, IsAnswered, IsLawfulJournal}
 use Rattle.rt_rib.specs.LookUp.{look_up, look_up_all}
-use Rattle.rt_rib.specs.Table.{IsTable}
-use Rattle.rt_rib.specs.Laws.{is_own}
 use Rattle.table_examples.proofs.Rib.{entry, at_10_1_2_3, at_10_9_0_1, ten_1_16, ten_9_16, via_192_0_2, route_via}
 use Rattle.table_examples.proofs.Cidr.{ten_8}
 use Rattle.table_examples.proofs.Rib.{tutorial, the_journal_of_the_tutorial, the_table_of_the_tutorial}
@@ -30,51 +25,33 @@ use Rattle.rt_shared.specs.declared.outcome.Outcome.{Outcome}
 use Rattle.rt_shared.specs.declared.outcome.Outcome.TheVariants.{Did, Refused}
 use Rattle.rt_feed.specs.declared.parse.LineFault.TheVariants as fault
 use Rattle.rt_feed.specs.declared.versions.Version.TheVariants.{One}
-use Rattle.rt_feed.specs.declared.parse.LineFault.{LineFault}
-use Rattle.rt_feed.specs.declared.report.Line.{Line}
 use Rattle.rt_feed.specs.declared.report.Answer.{Answer}
 use Rattle.rt_feed.specs.declared.report.Answer.TheVariants as answer
 use Rattle.rt_feed.specs.Lines.{TellsTwo, CutsLine, skipped, faulty, asked, LineOutcome, Becomes, asked_of, report_lines}
-use Rattle.rt_feed.specs.Reports.{is_refusal, has_refusal, has_fault}
+use Rattle.rt_feed.specs.Reports.{has_refusal, has_fault}
 use Rattle.rt_feed.specs.Visits.{IsCut, concatenated}
 use Rattle.rt_feed.specs.Printed.{reply_text, answer_text, line_text, route_text, row_text, count_text, table_text, found_text, also_text, reason_text}
-use Rattle.rt_feed.specs.declared.faults.RunFault.{RunFault}
 use Rattle.rt_feed.specs.declared.faults.RunFault.TheVariants as run
 use Rattle.feed_examples.proofs.Feed.{at_192_0_2_1, asked_text, two_are_asked_and_a_line_is_faulty}
 use Rattle.feed_examples.proofs.Feed.{north, north_read, south, south_read, east, east_read, what_north_becomes, what_south_becomes, what_east_becomes}
-use Rattle.std.specs.Prelude.{◌↔◌, max, nat_lt, Option, count_by, fold}
-use Rattle.rt_feed.specs.Printed.{report_text}
-use Rattle.rt_cidr.specs.declared.address.Addr.{Addr}
-use Rattle.std.specs.Io.KnownBytes.{Appends}
-use Rattle.rt_cidr.specs.Output.{AppendsBeginning}
 use Rattle.rt_diff.specs.declared.comparison.Difference.{Difference}
-use Rattle.rt_diff.specs.Differences.{AreDifferences}
-use Rattle.rt_diff.specs.Answers.{by_own}
-use Rattle.rt_feed.specs.DifferenceText.{SideStylesContents, differences_as}
-use Rattle.rt_run.specs.declared.compared.DiffSummary.{DiffSummary}
-use Rattle.rt_run.specs.DiffText.{AskedDiff, new_told, differ_status, IsDiffText}
-use Rattle.rt_run.specs.SameDiff.{TellsUnions, DiffsUnions, DiffOnce}
+use Rattle.rt_feed.specs.DifferenceText.{SideStylesContents}
+use Rattle.rt_run.specs.DiffText.{AskedDiff, differ_status}
 use Rattle.rt_run.specs.declared.faults.AppFault.TheVariants.{Run, Replay, Write}
 use Rattle.rt_run.specs.AskedRun.{AskedRun}
 use Rattle.rt_run.specs.RunText.{Explains, ExplainsFrom, IsHistory, reports_of, reports_text, some_refused, status_where, reports_status, IsRunText, Leaves}
 use Rattle.rt_run.proofs.Lists.{cut-joined}
-use Rattle.ya_replay.specs.ReplayText.{inside_text, replay_text_of}
+use Rattle.ya_replay.specs.ReplayText.{inside_text}
 use Rattle.rt_run.specs.Replayed.{IsReplayText, LeavesReplay}
-use Rattle.rt_run.specs.declared.tallies.Tally.{Tally}
 use Rattle.rt_run.specs.declared.tallies.RunSummary.{RunSummary}
 use Rattle.rt_feed.specs.declared.styles.Form.TheVariants.{Numbers}
-use Rattle.rt_feed.specs.Styles.{StyleContents, label_of, row_as, rows_as, found_as, all_found_as}
+use Rattle.rt_feed.specs.Styles.{StyleContents, row_as, found_as, all_found_as}
 use Rattle.rt_feed.specs.Counts.{totals_as, count_as, counts_as}
-use Rattle.rt_run.specs.TableText.{answers_text, all_answers_text, routes_text, counts_text, was_full, was_existing, was_missing, fault_at, faults_of, tally_of}
-use Rattle.rt_run.specs.TableText.{has_refused, has_left_out, tallies_status, IsSummary, LeavesTable, IsShown, IsLookup}
-use Rattle.rt_run.specs.declared.shown.LookupSummary.{LookupSummary}
-use Rattle.rt_feed.specs.Addresses.{faulty_lines, SaysAddresses}
-use Rattle.rt_run.specs.SameTable.{table_alone, LeavesAlone, IsUnion, IsAnsweredAlone, AskTheSame, SayTheSame}
-use Rattle.rt_run.specs.SameTable.{LeavesUnion, AnswersAlone, HaveSameTallies, HaveOneUnion, EndsInUnion, EndInOneTable, ShowsUnion, ShowOneTable, LookUpOnce}
+use Rattle.rt_run.specs.TableText.{answers_text, all_answers_text, routes_text, counts_text, was_full, was_existing, was_missing, faults_of, tally_of}
+use Rattle.rt_run.specs.TableText.{has_refused, has_left_out, tallies_status, LeavesTable, IsShown, IsLookup}
+use Rattle.rt_run.specs.SameTable.{table_alone, LeavesAlone, IsUnion, IsAnsweredAlone}
 use Rattle.rt_diff.specs.declared.table_answers.By.{By}
-use Rattle.rt_rib.specs.declared.selection.Selection.{Selection}
 use Rattle.rt_rib.specs.declared.selection.Part.TheVariants as part
-use Rattle.rt_rib.specs.Selection.{selected}
 
 -- table_alone
 what_south_leaves : table_alone 65536 2 (asked_of south_read) ≡ route_via ten_8 2 30 (via_192_0_2 2) ∷ []
@@ -89,11 +66,6 @@ one_route_at_most : table_alone 1 2 ((Add ten_8 5 Discard, Refused) ∷ (Add ten
 unfolding table_alone table_after
 one_route_at_most = refl
 
-what_any_commands_leave :
-    (limit feed : ℕ) (commands : List (Cmd × Outcome)) → table_alone limit feed commands ≡ fold (λ table one. table_after limit table feed one.0) [] commands
-unfolding table_alone
-what_any_commands_leave limit feed commands = refl
-
 -- LeavesAlone
 a_route_of_south : LeavesAlone (north ∷ south ∷ east ∷ []) 65536 1 (route_via ten_8 2 30 (via_192_0_2 2))
 unfolding table_alone table_after
@@ -103,21 +75,10 @@ a_route_of_north : LeavesAlone (north ∷ south ∷ east ∷ []) 65536 0 (route_
 unfolding table_alone table_after
 a_route_of_north = (north, north_read, refl, what_north_becomes, (0, omega arith, refl))
 
-what_it_leaves :
-    (texts : List (List ℕ)) (limit k : ℕ) (r : Route) → LeavesAlone texts limit k r
-    → (text : List ℕ) × (lines : List LineOutcome) × (slice_get texts k ≡ Some text) × Becomes text lines []
-    × Contains (table_alone limit (k + 1) (asked_of lines)) r
-what_it_leaves texts limit k r h = h
-
 no_text_leaves_none : (k : ℕ) (r : Route) → ¬ LeavesAlone [] 65536 k r
 no_text_leaves_none k r (text, lines, at, becomes, has) = cc
 
 -- IsUnion
-the_table_of_what_texts_leave :
-    (texts : List (List ℕ)) (limit : ℕ) (union : List Route) → IsUnion texts limit union
-    ↔ (IsTable union × ((r : Route) → Contains union r ↔ ((k : ℕ) × LeavesAlone texts limit k r)))
-the_table_of_what_texts_leave texts limit union = (λ h. (h.table, h.contains), λ (table, contains). record { table = table; contains = contains })
-
 of_no_text : IsUnion [] 65536 []
 of_no_text = record {
   table = record { ordered = λ i j d below within. absurd (omega (arith, within)); single = λ i j d below within. absurd (omega (arith, within)) };
@@ -129,12 +90,6 @@ no_route_that_no_text_leaves r h =
     let leaves = (h.contains r).0 (0, omega arith, refl) in no_text_leaves_none leaves.0 r leaves.1
 
 -- IsAnsweredAlone
-from_what_its_earlier_commands_leave :
-    (limit feed : ℕ) (commands : List (Cmd × Outcome)) → IsAnsweredAlone limit feed commands
-    ↔ ((earlier later : List (Cmd × Outcome)) (cmd : Cmd) (outcome : Outcome) → commands ≡ earlier ++ (cmd, outcome) ∷ later → is_own cmd ≡ true
-    → outcome ≡ Did (reply_of limit (table_alone limit feed earlier) feed cmd))
-from_what_its_earlier_commands_leave limit feed commands = (λ h. h, λ h. h)
-
 as_if_there_were_no_other : IsAnsweredAlone 1 2 ((Add ten_8 5 Discard, Did Added) ∷ [])
 unfolding table_alone reply_of
 as_if_there_were_no_other [] later cmd outcome same own =
@@ -163,19 +118,11 @@ nor_its_withdrawal h =
 each_from_line_1 : reports_of ((skipped ∷ asked Dump Refused ∷ []) ∷ [] ∷ []) ≡ (record { number = 2; answer = answer.Refused } ∷ []) ∷ [] ∷ []
 each_from_line_1 = refl
 
-the_reports_of_any_texts : (outcomes : List (List LineOutcome)) → reports_of outcomes ≡ map (report_lines 1) outcomes
-the_reports_of_any_texts outcomes = refl
-
 -- reports_text
 the_second_is_of_feed_2 :
     reports_text 1 (reports_of ((asked Dump Refused ∷ []) ∷ (skipped ∷ asked Dump (Did (Dumped 0)) ∷ []) ∷ [])) ≡ codes "1:1 refused\n2:2 dumped 0\n"
 unfolding digits line_text answer_text reply_text
 the_second_is_of_feed_2 = refl
-
-from_any_feed_on :
-    (feed : ℕ) (report : List Line) (reports : List (List Line))
-    → reports_text feed (report ∷ reports) ≡ report_text feed report ++ reports_text (feed + 1) reports
-from_any_feed_on feed report reports = refl
 
 -- some_refused
 one_of_the_second_was : some_refused ((skipped ∷ []) ∷ (faulty fault.Hop ∷ asked Dump Refused ∷ []) ∷ []) ≡ true
@@ -219,10 +166,6 @@ only_a_feeds : routes_text plain (record { part = part.Exact ten_8; only_best = 
 unfolding digits address_text prefix_text row_text row_as route_text
 only_a_feeds = refl
 
-any_of_them : (style : StyleContents) (selection : Selection) (table : List Route) → routes_text style selection table
-    ≡ rows_as style.form (label_of style.labels) (selected selection table)
-any_of_them style selection table = refl
-
 -- counts_text
 all_in_numbers : counts_text plain (record { part = part.All; only_best = false; feed = None }) two_to_ten_8
     ≡ codes "routes 2 prefixes 1\nfeed 1 routes 1\nfeed 2 routes 1\nlength 8 routes 2\n"
@@ -234,21 +177,12 @@ only_the_best_in_numbers : counts_text plain (record { part = part.All; only_bes
 unfolding counts_as totals_as count_as digits
 only_the_best_in_numbers = refl
 
-any_of_them_in_numbers : (style : StyleContents) (selection : Selection) (table : List Route) → counts_text style selection table
-    ≡ counts_as style.form (label_of style.labels) (selected selection table)
-any_of_them_in_numbers style selection table = refl
-
 -- answers_text
 one_is_covered_and_one_is_not :
     answers_text plain (at_10_1_2_3 ∷ at_10_9_0_1 ∷ []) (route_via ten_1_16 1 10 Discard ∷ [])
     ≡ codes "10.1.2.3 route 10.1.0.0/16 feed 1 pref 10 via discard\n10.9.0.1 no route\n"
 unfolding digits address_text prefix_text look_up found_as found_text reply_text route_text
 one_is_covered_and_one_is_not = refl
-
-what_each_address_finds :
-    (style : StyleContents) (addresses : List Addr) (table : List Route)
-    → answers_text style addresses table ≡ flat_map (λ addr. found_as style.form (label_of style.labels) addr (look_up addr table)) addresses
-what_each_address_finds style addresses table = refl
 
 -- all_answers_text
 all_that_cover_each :
@@ -258,11 +192,6 @@ all_that_cover_each :
     ++ codes "10.9.0.1 also 10.0.0.0/8 feed 1 pref 50 via discard preference\n"
 unfolding digits address_text prefix_text look_up_all all_found_as found_text also_text reason_text reply_text route_text
 all_that_cover_each = refl
-
-all_that_each_address_finds :
-    (style : StyleContents) (addresses : List Addr) (table : List Route)
-    → all_answers_text style addresses table ≡ flat_map (λ addr. all_found_as style.form (label_of style.labels) addr (look_up_all addr table)) addresses
-all_that_each_address_finds style addresses table = refl
 
 -- an answer of each kind that a tally tells apart
 abbrev each_kind : List Answer
@@ -280,29 +209,12 @@ existing_alone = refl
 missing_alone : map was_missing each_kind ≡ false ∷ false ∷ true ∷ false ∷ false ∷ false ∷ []
 missing_alone = refl
 
--- fault_at
-a_fault_with_its_line :
-    (number : ℕ) (its : LineFault) → (fault_at number (answer.Fault its) ≡ Some (number, its)) × (fault_at number answer.Refused ≡ None)
-    × (fault_at number (answer.Did Full) ≡ None)
-a_fault_with_its_line number its = (refl, refl, refl)
-
 -- faults_of
 the_second_and_the_third_line :
     faults_of (report_lines 3 (asked Dump Refused ∷ faulty fault.Hop ∷ faulty fault.Text ∷ [])) ≡ (4, fault.Hop) ∷ (5, fault.Text) ∷ []
 the_second_and_the_third_line = refl
 
 -- tally_of
-what_a_tally_tells :
-    (report : List Line) → tally_of report
-    ≡ record {
-      faulty = faulty_lines (faults_of report);
-      full = count_by (λ (line : Line). was_full line.answer) report;
-      existing = count_by (λ (line : Line). was_existing line.answer) report;
-      missing = count_by (λ (line : Line). was_missing line.answer) report;
-      refused = count_by (λ (line : Line). is_refusal line.answer) report;
-    }
-what_a_tally_tells report = refl
-
 the_second_line_has_the_first_fault :
     (tally_of (report_lines 3 (asked Dump Refused ∷ faulty fault.Hop ∷ faulty fault.Text ∷ []))).faulty.first ≡ Some (4, fault.Hop)
 the_second_line_has_the_first_fault = refl
@@ -346,18 +258,8 @@ all_else_is_not : has_left_out (tally_of (report_lines 1 (skipped ∷ asked Dump
 all_else_is_not = refl
 
 -- tallies_status
-what_makes_the_status :
-    (tallies : List Tally) → tallies_status tallies ≡ status_where (list_any has_refused tallies) (list_any has_left_out tallies)
-what_makes_the_status tallies = refl
-
 an_add_over_the_limit_makes_it_2 : tallies_status (map tally_of (reports_of ((skipped ∷ []) ∷ (asked Dump (Did Full) ∷ []) ∷ []))) ≡ 2
 an_add_over_the_limit_makes_it_2 = refl
-
--- IsSummary
-what_a_summary_says :
-    (reports : List (List Line)) (summary : RunSummary) → IsSummary reports summary
-    ↔ ((summary.tallies.items ≡ map tally_of reports) × (summary.status ≡ tallies_status summary.tallies.items))
-what_a_summary_says reports summary = (λ h. (h.tallied, h.is_status), λ (tallied, is_status). record { tallied = tallied; is_status = is_status })
 
 -- a text of one line, and its entry
 abbrev text : List ℕ
@@ -460,14 +362,6 @@ cut_in_ones xs = record {
 }
 
 -- IsHistory
-what_a_history_is :
-    (texts : List (List ℕ)) (limit batch : ℕ) (journal : List Entry) (outcomes : List (List LineOutcome)) → IsHistory texts limit batch journal outcomes
-    ↔ (IsLawfulJournal limit journal × ExplainsFrom batch 1 journal texts outcomes × All (λ e. (1 ≤ e.feed) × (e.feed ≤ length texts)) journal)
-what_a_history_is texts limit batch journal outcomes = (
-  λ h. (h.lawful, h.explained, h.no_other),
-  λ (lawful, explained, no_other). record { lawful = lawful; explained = explained; no_other = no_other },
-)
-
 the_history_of_a_dump : IsHistory (text ∷ []) 1 1 (dumped ∷ []) (lines ∷ [])
 the_history_of_a_dump = record {
   lawful = lawful;
@@ -491,13 +385,6 @@ the_history_of_a_dump = record {
 }
 
 -- IsRunText
-what_the_text_of_a_run_is :
-    (texts : List (List ℕ)) (limit batch : ℕ) (bytes : List ℕ) (status : ℕ) (h : IsRunText texts limit batch bytes status)
-    → IsHistory texts limit batch h.journal h.outcomes
-    × (bytes ≡ reports_text 1 (reports_of h.outcomes) ++ table_text (table_of_journal limit h.journal))
-    × (status ≡ reports_status (reports_of h.outcomes))
-what_the_text_of_a_run_is texts limit batch bytes status h = (h.history, h.printed, h.is_status)
-
 the_run_of_a_dump : IsRunText (text ∷ []) 1 1 (codes "1:1 dumped 0\ntable 0\n") 0
 unfolding digits table_of_journal table_after reply_of line_text answer_text reply_text count_text
 the_run_of_a_dump = record {
@@ -578,17 +465,9 @@ not_in_fewer_pieces_than_hold_all : ¬ ((h : Explains 1 1 (dumped ∷ []) text l
 not_in_fewer_pieces_than_hold_all (h, none) =
     let all : [] ≡ asked_of lines = subst (λ pieces. concatenated pieces ≡ asked_of lines) none (joined_again 1 (asked_of lines) h.pieces h.cut) in cc
 
-what_explains_a_text :
-    (batch feed : ℕ) (journal : List Entry) (text : List ℕ) (lines : List LineOutcome) → (h : Explains batch feed journal text lines)
-    → Becomes text lines [] × IsCut batch (asked_of lines) h.pieces × Uncut feed (map (entries feed) (map visit_of h.pieces)) journal
-what_explains_a_text batch feed journal its_text its_lines h = (h.becomes, h.cut, h.uncut)
-
 -- ExplainsFrom
 each_by_its_feed : ExplainsFrom 1 1 tutorial (north ∷ south ∷ east ∷ []) (north_read ∷ (skipped ∷ south_read) ∷ (skipped ∷ east_read) ∷ [])
 each_by_its_feed = (the_lines_of_north, (the_lines_of_south, (the_lines_of_east, tt)))
-
-nothing_of_no_text : (batch feed : ℕ) (journal : List Entry) → ExplainsFrom batch feed journal [] []
-nothing_of_no_text batch feed journal = tt
 
 no_lines_of_no_text :
     (batch feed : ℕ) (journal : List Entry) (lines : List LineOutcome) (outcomes : List (List LineOutcome))
@@ -598,12 +477,6 @@ no_lines_of_no_text batch feed journal its_lines outcomes h = h
 no_text_left_out :
     (batch feed : ℕ) (journal : List Entry) (text : List ℕ) (texts : List (List ℕ)) → ¬ ExplainsFrom batch feed journal (text ∷ texts) []
 no_text_left_out batch feed journal its_text texts h = h
-
-a_text_and_those_behind_it :
-    (batch feed : ℕ) (journal : List Entry) (text : List ℕ) (texts : List (List ℕ)) (lines : List LineOutcome) (outcomes : List (List LineOutcome))
-    → ExplainsFrom batch feed journal (text ∷ texts) (lines ∷ outcomes)
-    ↔ (Explains batch feed journal text lines × ExplainsFrom batch (feed + 1) journal texts outcomes)
-a_text_and_those_behind_it batch feed journal text texts lines outcomes = (λ h. h, λ h. h)
 
 -- what the tutorial shows of its run
 abbrev the_tutorials_page : List ℕ
@@ -653,20 +526,8 @@ no_run_has_status_1 texts limit batch bytes h =
     none_is_1 (list_any has_refusal (reports_of h.outcomes)) (list_any has_fault (reports_of h.outcomes)) h.is_status
 
 -- Leaves
-what_a_run_leaves_in_its_writer :
-    {X : Type 0} (IsSuch : List ℕ → X → Type 0) (old new : Option (List ℕ)) (given : X) (refusal : RunFault)
-    → (Leaves IsSuch old new (Ok given) ↔ ((bytes : List ℕ) × IsSuch bytes given × Appends old new bytes))
-    × (Leaves IsSuch old new (Err (Run refusal)) ↔ ((refusal ≢ run.FeedCount) × (new ≡ old)))
-    × (Leaves IsSuch old new (Err Write) ↔ ((bytes : List ℕ) × (other : X) × IsSuch bytes other × AppendsBeginning old new bytes))
-what_a_run_leaves_in_its_writer IsSuch old new given refusal = ((λ h. h, λ h. h), (λ h. h, λ h. h), (λ h. h, λ h. h))
-
 behind_what_the_writer_had : Leaves (IsRunText (text ∷ []) 1 1) (Some (codes "x")) (Some (codes "x1:1 dumped 0\ntable 0\n")) (Ok 0)
 behind_what_the_writer_had = (codes "1:1 dumped 0\ntable 0\n", the_run_of_a_dump, refl)
-
-whatever_was_run :
-    (texts : List (List ℕ)) (limit batch : ℕ) (old bytes : List ℕ) (status : ℕ) → IsRunText texts limit batch bytes status
-    → Leaves (IsRunText texts limit batch) (Some old) (Some (old ++ bytes)) (Ok status)
-whatever_was_run texts limit batch old bytes status is = (bytes, is, refl)
 
 nothing_but_the_text_of_a_run :
     (texts : List (List ℕ)) (limit batch : ℕ) (new : List ℕ) (status : ℕ) → Leaves (IsRunText texts limit batch) (Some []) (Some new) (Ok status)
@@ -718,12 +579,6 @@ abbrev the_tutorials_run : AskedRun
 the_tutorials_run = record { texts = north ∷ south ∷ east ∷ []; limit = 65536; batch = 1 }
 
 -- LeavesTable
-what_a_run_leaves :
-    (request : AskedRun) (table : List Route) (summary : RunSummary) (h : LeavesTable request table summary)
-    → IsHistory request.texts request.limit request.batch h.journal h.outcomes × (table ≡ table_of_journal request.limit h.journal)
-    × IsSummary (reports_of h.outcomes) summary
-what_a_run_leaves request table summary h = (h.history, h.left, h.summed)
-
 what_the_tutorial_leaves :
     (summary : RunSummary) → summary.tallies.items ≡ map tally_of (reports_of the_tutorials_outcomes) → summary.status ≡ 0
     → LeavesTable the_tutorials_run (table_of_journal 65536 tutorial) summary
@@ -736,11 +591,6 @@ what_the_tutorial_leaves summary tallied status = record {
 }
 
 -- IsShown
-what_is_told_of_a_run :
-    (request : AskedRun) (text_of : List Route → List ℕ) (bytes : List ℕ) (summary : RunSummary) (h : IsShown request text_of bytes summary)
-    → LeavesTable request h.table summary × (bytes ≡ text_of h.table)
-what_is_told_of_a_run request text_of bytes summary h = (h.leaves, h.shown)
-
 what_is_told_of_the_tutorial :
     (text_of : List Route → List ℕ) (summary : RunSummary) → summary.tallies.items ≡ map tally_of (reports_of the_tutorials_outcomes)
     → summary.status ≡ 0 → IsShown the_tutorials_run text_of (text_of (table_of_journal 65536 tutorial)) summary
@@ -780,16 +630,6 @@ no_route_of_no_text summary h =
     let none : ◌≡◌ {A = List ℕ} (1 ∷ []) (0 ∷ []) = h.shown ∙ ap length_text (h.leaves.left ∙ ap (table_of_journal 1) no_entries) in cc
 
 -- IsLookup
-what_is_told_of_addresses :
-    (request : AskedRun) (named : List Addr) (said_by : List ℕ) (text_of : List Addr → List Route → List ℕ) (bytes : List ℕ) (given : LookupSummary)
-    → IsLookup request named said_by text_of bytes given
-    ↔ ((said : List Addr) × SaysAddresses said_by said given.faulty × IsShown request (text_of (named ++ said)) bytes given.run
-    × (given.status ≡ max (status_where false (nat_lt 0 given.faulty.count)) given.run.status))
-what_is_told_of_addresses request named said_by text_of bytes given = (
-  λ h. (h.said, h.says, h.shown, h.is_status),
-  λ (said, says, shown, is_status). record { said = said; says = says; shown = shown; is_status = is_status },
-)
-
 the_named_one_before_the_two_of_the_text :
     (summary : RunSummary) → summary.tallies.items ≡ map tally_of (reports_of the_tutorials_outcomes) → summary.status ≡ 0
     → IsLookup the_tutorials_run (at_10_9_0_1 ∷ []) asked_text (answers_text plain)
@@ -803,11 +643,6 @@ the_named_one_before_the_two_of_the_text summary tallied status = record {
 }
 
 -- Leaves
-whatever_was_told :
-    (request : AskedRun) (text_of : List Route → List ℕ) (old bytes : List ℕ) (summary : RunSummary)
-    → IsShown request text_of bytes summary → Leaves (IsShown request text_of) (Some old) (Some (old ++ bytes)) (Ok summary)
-whatever_was_told request text_of old bytes summary is = (bytes, is, refl)
-
 nothing_but_what_is_told :
     (request : AskedRun) (text_of : List Route → List ℕ) (new : List ℕ) (summary : RunSummary)
     → Leaves (IsShown request text_of) (Some []) (Some new) (Ok summary) → IsShown request text_of new summary
@@ -843,93 +678,12 @@ no_bytes_lost_where_the_table_could_not_be_written :
     ¬ Leaves (IsShown (one_by_one_of (text ∷ [])) table_text) (Some (codes "x")) (Some []) (Err Write)
 no_bytes_lost_where_the_table_could_not_be_written (bytes, summary, is, begins) = let lost : [] ≡ 120 ∷ take begins.count bytes = begins.appended in cc
 
--- LeavesUnion
-a_run_leaves_the_union :
-    LeavesUnion → (texts : List (List ℕ)) (limit batch : ℕ) (journal : List Entry) (outcomes : List (List LineOutcome))
-    → IsHistory texts limit batch journal outcomes → some_refused outcomes ≡ false → IsUnion texts limit (table_of_journal limit journal)
-a_run_leaves_the_union law = law
-
--- AnswersAlone
-its_replies_are_as_if_alone :
-    AnswersAlone → (texts : List (List ℕ)) (limit batch : ℕ) (journal : List Entry) (outcomes : List (List LineOutcome))
-    → IsHistory texts limit batch journal outcomes → some_refused outcomes ≡ false → (k : ℕ) (lines : List LineOutcome)
-    → slice_get outcomes k ≡ Some lines → IsAnsweredAlone limit (k + 1) (asked_of lines)
-its_replies_are_as_if_alone law = law
-
--- HaveSameTallies
-as_much_is_taken_of_the_same_texts :
-    HaveSameTallies → (texts : List (List ℕ)) (limit batch batch' : ℕ) (journal journal' : List Entry) (outcomes outcomes' : List (List LineOutcome))
-    → IsHistory texts limit batch journal outcomes → IsHistory texts limit batch' journal' outcomes' → some_refused outcomes ≡ false
-    → some_refused outcomes' ≡ false → map tally_of (reports_of outcomes) ≡ map tally_of (reports_of outcomes')
-as_much_is_taken_of_the_same_texts law = law
-
--- HaveOneUnion
-texts_have_one_union :
-    HaveOneUnion → (texts : List (List ℕ)) (limit : ℕ) (one other : List Route) → IsUnion texts limit one → IsUnion texts limit other → one ≡ other
-texts_have_one_union law = law
-
--- EndsInUnion
-a_run_ends_in_the_union :
-    EndsInUnion → (texts : List (List ℕ)) (limit batch : ℕ) (bytes : List ℕ) (status : ℕ) (run : IsRunText texts limit batch bytes status) → status ≢ 5
-    → (union : List Route) × IsUnion texts limit union × (bytes ≡ reports_text 1 (reports_of run.outcomes) ++ table_text union)
-a_run_ends_in_the_union law = law
-
--- EndInOneTable
-two_runs_end_in_one_table :
-    EndInOneTable → (texts : List (List ℕ)) (limit batch batch' : ℕ) (bytes bytes' : List ℕ) (status status' : ℕ)
-    (run : IsRunText texts limit batch bytes status) (run' : IsRunText texts limit batch' bytes' status') → status ≢ 5 → status' ≢ 5
-    → (status ≡ status') × (table : List Route) × (bytes ≡ reports_text 1 (reports_of run.outcomes) ++ table_text table)
-    × (bytes' ≡ reports_text 1 (reports_of run'.outcomes) ++ table_text table)
-two_runs_end_in_one_table law = law
-
--- AskTheSame
-the_same_texts_and_limit : (one other : AskedRun) → AskTheSame one other ↔ ((one.texts ≡ other.texts) × (one.limit ≡ other.limit))
-the_same_texts_and_limit one other = (λ h. h, λ h. h)
-
--- SayTheSame
-the_same_status_and_tallies : (one other : RunSummary) → SayTheSame one other ↔ ((one.status ≡ other.status) × (one.tallies.items ≡ other.tallies.items))
-the_same_status_and_tallies one other = (λ h. h, λ h. h)
-
--- ShowsUnion
-what_is_told_is_told_of_the_union :
-    ShowsUnion → (request : AskedRun) (text_of : List Route → List ℕ) (bytes : List ℕ) (summary : RunSummary)
-    → IsShown request text_of bytes summary → summary.status ≢ 5
-    → (union : List Route) × IsUnion request.texts request.limit union × (bytes ≡ text_of union)
-what_is_told_is_told_of_the_union law = law
-
--- ShowOneTable
-two_runs_show_one_table :
-    ShowOneTable → (request request' : AskedRun) (text_of : List Route → List ℕ) (bytes bytes' : List ℕ) (summary summary' : RunSummary)
-    → AskTheSame request request' → IsShown request text_of bytes summary → IsShown request' text_of bytes' summary' → summary.status ≢ 5
-    → summary'.status ≢ 5 → (bytes ≡ bytes') × SayTheSame summary summary'
-two_runs_show_one_table law = law
-
--- LookUpOnce
-two_look_ups_tell_the_same :
-    LookUpOnce → (request request' : AskedRun) (named : List Addr) (said_by : List ℕ) (text_of : List Addr → List Route → List ℕ) (bytes bytes' : List ℕ)
-    (given given' : LookupSummary) → AskTheSame request request' → IsLookup request named said_by text_of bytes given
-    → IsLookup request' named said_by text_of bytes' given' → given.run.status ≢ 5 → given'.run.status ≢ 5
-    → (bytes ≡ bytes') × (given.status ≡ given'.status) × (given.faulty ≡ given'.faulty) × SayTheSame given.run given'.run
-two_look_ups_tell_the_same law = law
-
 -- IsReplayText
 nothing_picked : IsReplayText 1 [] (codes "inside none\n")
 unfolding inside_text
 nothing_picked = record { steps = []; last = opening; taken = refl; inside = None; told = λ place. (λ same. cc, λ is. cc); printed = refl }
 
-the_run_who_is_inside_and_its_text :
-    (levels : ℕ) (picks text : List ℕ) (h : IsReplayText levels picks text)
-    → ReplaysTo levels opening picks h.steps h.last × TellsInside h.last h.inside × (text ≡ replay_text_of h.steps h.inside)
-the_run_who_is_inside_and_its_text levels picks text h = (h.taken, h.told, h.printed)
-
 -- LeavesReplay
-what_a_replay_leaves :
-    (levels : ℕ) (picks : List ℕ) (old new : Option (List ℕ)) (status : ℕ) (refusal : ReplayFault)
-    → (LeavesReplay levels picks old new (Ok status) ↔ ((status ≡ 0) × (text : List ℕ) × IsReplayText levels picks text × Appends old new text))
-    × (LeavesReplay levels picks old new (Err (Replay refusal)) ↔ (new ≡ old))
-    × (LeavesReplay levels picks old new (Err Write) ↔ ((text : List ℕ) × IsReplayText levels picks text × AppendsBeginning old new text))
-what_a_replay_leaves levels picks old new status refusal = ((λ h. h, λ h. h), (λ h. h, λ h. h), (λ h. h, λ h. h))
-
 its_text_and_status_0 : LeavesReplay 1 [] (Some []) (Some (codes "inside none\n")) (Ok 0)
 its_text_and_status_0 = (refl, codes "inside none\n", nothing_picked, refl)
 
@@ -959,35 +713,3 @@ some_range_or_none d = (refl, refl, refl)
 what_a_comparison_is_asked : (way : By) (numbers : List ℕ) (told : SideStylesContents) (asked : AskedDiff) → asked ≡ record { by = way; numbers = numbers; styles = told }
     → (asked.by ≡ way) × (asked.numbers ≡ numbers) × (asked.styles ≡ told)
 what_a_comparison_is_asked way numbers told terms is = (ap (λ (a : AskedDiff). a.by) is, ap (λ (a : AskedDiff). a.numbers) is, ap (λ (a : AskedDiff). a.styles) is)
-
--- new_told
-told_by_the_numbers_that_are_asked : (asked : AskedDiff) (routes : List Route) → new_told asked routes ≡ record { routes = routes; numbers = asked.numbers }
-told_by_the_numbers_that_are_asked terms routes = refl
-
--- IsDiffText
-what_two_runs_differ_in :
-    (asked : AskedDiff) (old new : AskedRun) (bytes : List ℕ) (given : DiffSummary) (h : IsDiffText asked old new bytes given)
-    → LeavesTable old h.old_table given.old × LeavesTable new h.new_table given.new × AreDifferences asked.by (by_own h.old_table) (new_told asked h.new_table) h.list
-    × (bytes ≡ differences_as asked.styles h.list) × (given.status ≡ max (differ_status h.list) (max given.old.status given.new.status))
-what_two_runs_differ_in terms old new bytes given h = (h.old_left, h.new_left, h.differences, h.printed, h.is_status)
-
--- TellsUnions
-what_two_unions_differ_in :
-    (asked : AskedDiff) (old new : AskedRun) (bytes : List ℕ) (h : TellsUnions asked old new bytes)
-    → IsUnion old.texts old.limit h.old_union × IsUnion new.texts new.limit h.new_union × AreDifferences asked.by (by_own h.old_union) (new_told asked h.new_union) h.list
-    × (bytes ≡ differences_as asked.styles h.list)
-what_two_unions_differ_in terms old new bytes h = (h.of_old, h.of_new, h.differences, h.printed)
-
--- DiffsUnions
-a_comparison_is_of_the_unions :
-    DiffsUnions → (asked : AskedDiff) (old new : AskedRun) (bytes : List ℕ) (given : DiffSummary) → IsDiffText asked old new bytes given
-    → given.old.status ≢ 5 → given.new.status ≢ 5 → TellsUnions asked old new bytes
-a_comparison_is_of_the_unions law = law
-
--- DiffOnce
-two_comparisons_differ_in_the_same :
-    DiffOnce → (asked : AskedDiff) (old old' new new' : AskedRun) (bytes bytes' : List ℕ) (given given' : DiffSummary) → AskTheSame old old' → AskTheSame new new'
-    → IsDiffText asked old new bytes given → IsDiffText asked old' new' bytes' given' → given.old.status ≢ 5 → given.new.status ≢ 5
-    → given'.old.status ≢ 5 → given'.new.status ≢ 5
-    → (bytes ≡ bytes') × (given.status ≡ given'.status) × SayTheSame given.old given'.old × SayTheSame given.new given'.new
-two_comparisons_differ_in_the_same law = law

@@ -1,41 +1,31 @@
 -- Examples by which the definitions of rt_shared are tested, each under a line with the definition's name. Both sides
 -- are computed.
-use Rattle.std.proofs.Common.{◌≡◌, ◌≢◌, ℕ, zero, suc, ◌+◌, ◌<◌, ◌≤◌, ◌⊎◌, inl, inr, ⊎_elim, Some, List, [], ◌∷◌, ◌++◌, refl, sym, ap, subst, arith}
+use Rattle.std.proofs.Common.{◌≡◌, ◌≢◌, ℕ, zero, suc, ◌+◌, ◌≤◌, ◌⊎◌, inl, inr, ⊎_elim, Some, List, [], ◌∷◌, ◌++◌, refl, sym, ap, subst, arith}
 use Rattle.std.specs.Prelude as std
-use Rattle.std.specs.Prelude.{◌↔◌, All, length, map, zip, slice_get, slice_index_or}
-use Rattle.std.specs.List.{flat_map}
 use mathlib.Core.Option.{Option, none, some, some-injective, some-ne-none}
 use Rattle.std.proofs.lemmas.List.Elements.{All-nil, All-cons}
 use Rattle.ya_core.specs.declared.process.Process.{Process}
 use Rattle.ya_core.specs.declared.process.Process.TheVariants.{Idle, Inside}
 use Rattle.ya_core.specs.ArbitrationTree.{node_of, side_of}
 use Rattle.ya_core.specs.Steps.{opening}
-use Rattle.ya_core.specs.Worlds.{Marked, World, Event, Steps, Appends, IsReached, IsInside, opening_world}
+use Rattle.ya_core.specs.Worlds.{World, Event, Steps, Appends, opening_world}
 use Rattle.lock_examples.proofs.Core.{follow, runs}
-use Rattle.ya_lock.specs.Lock.{LockId}
 use Rattle.ya_lock.specs.declared.rule.View.TheVariants.{HandingOut, Seated}
-use Rattle.ya_lock.specs.LockState.{IsOf, HasProcess, IsAway, IsToMake, IsGiven, NoneInside, OneInside}
+use Rattle.ya_lock.specs.LockState.{IsOf, HasProcess, IsToMake}
 use Rattle.rt_rib.specs.declared.routes.Hop.TheVariants.{Discard}
 use Rattle.rt_rib.specs.declared.routes.Route.{Route}
 use Rattle.rt_rib.specs.declared.commands.Cmd.TheVariants.{Add, Lookup, Dump, Purge}
 use Rattle.rt_rib.specs.declared.commands.Reply.TheVariants.{Added, Full, Found, Dumped, Purged}
-use Rattle.rt_rib.specs.declared.commands.Reply.{Reply}
 use Rattle.rt_rib.specs.declared.commands.Entry.{Entry}
-use Rattle.rt_rib.specs.declared.commands.Cmd.{Cmd}
-use Rattle.rt_rib.specs.Laws.{feed_entries, IsBestMatch}
-use Rattle.rt_cidr.specs.declared.address.Addr.{Addr}
 use Rattle.rt_rib.specs.LookUp.{look_up}
-use Rattle.rt_rib.specs.Sequential.{reply_of, table_after, table_of_journal, IsAnswered, IsLawfulJournal}
-use Rattle.rt_rib.specs.Book.{HoldsTable}
+use Rattle.rt_rib.specs.Sequential.{reply_of, table_after, table_of_journal, IsLawfulJournal}
 use Rattle.table_examples.proofs.Cidr.{ten_8}
 use Rattle.table_examples.proofs.Rib.{at_10_1_2_3, route_via, entry, empty_book, holds_no_route}
 use Rattle.rt_rib.proofs.Promised.{IsLawfulJournal-nil, IsLawfulJournal-push}
 use Rattle.rt_shared.specs.declared.lent.Lent.{Lent}
-use Rattle.rt_shared.specs.declared.outcome.Outcome.{Outcome}
 use Rattle.rt_shared.specs.declared.outcome.Outcome.TheVariants.{Did, Refused}
-use Rattle.rt_shared.specs.Visits.{AllBy, NoneBy, Since, Visit, reply_to, visit_of, entries, answered, MakesVisit, MakesVisitWith, Uncut}
-use Rattle.rt_shared.specs.Table.{SharedId, HeldPass, ArePassesOf, Settles, feed_of, HasSameBounds, GrowsByOthers, GrowsByFeed}
-use Rattle.rt_shared.specs.Laws.{SinceAgain, AnsweredInPieces, UncutAtFirst, UncutSince, UncutByVisit, EntriesOfVisits, EntriesSince, PassesKept}
+use Rattle.rt_shared.specs.Visits.{AllBy, NoneBy, Since, Visit, reply_to, visit_of, entries, answered, MakesVisit, Uncut}
+use Rattle.rt_shared.specs.Table.{SharedId, HeldPass, feed_of, HasSameBounds, GrowsByOthers, GrowsByFeed}
 use Rattle.rt_shared.specs.Headline.{Act, entry_of, journal_of, IsSequential, IsRunTo, NoTwoInside, HasAllMade, FindsBest}
 use Rattle.rt_shared.specs.Moments.{Moment, BookInSlot, IsAtRest, MeetsHeadline}
 
@@ -53,9 +43,6 @@ none_by_1 = All-cons (λ e. e.feed ≢ 1) (dump 2) [] (λ same. cc) (All-nil (λ
 one_by_1_is : ¬ NoneBy 1 (dump 2 ∷ dump 1 ∷ [])
 one_by_1_is h = h 1 (dump 1) (omega arith) refl
 
-what_none_of_it_by_a_feed_says : (feed : ℕ) (part : List Entry) → NoneBy feed part ↔ All (λ e. e.feed ≢ feed) part
-what_none_of_it_by_a_feed_says feed part = (λ h. h, λ h. h)
-
 -- AllBy
 both_by_1 : AllBy 1 (dump 1 ∷ purge 1 ∷ [])
 both_by_1 = All-cons (λ e. e.feed ≡ 1) (dump 1) (purge 1 ∷ []) refl (All-cons (λ e. e.feed ≡ 1) (purge 1) [] refl (All-nil (λ e. e.feed ≡ 1)))
@@ -63,17 +50,7 @@ both_by_1 = All-cons (λ e. e.feed ≡ 1) (dump 1) (purge 1 ∷ []) refl (All-co
 one_by_2_is_not : ¬ AllBy 1 (dump 1 ∷ dump 2 ∷ [])
 one_by_2_is_not h = let feed : 2 ≡ 1 = h 1 (dump 1) (omega arith) in omega (arith, feed)
 
-what_all_of_it_by_a_feed_says : (feed : ℕ) (part : List Entry) → AllBy feed part ↔ All (λ e. e.feed ≡ feed) part
-what_all_of_it_by_a_feed_says feed part = (λ h. h, λ h. h)
-
 -- Since
-what_has_come_since :
-    (feed : ℕ) (seen now : List Entry) → Since feed seen now ↔ ((others : List Entry) × (now ≡ seen ++ others) × NoneBy feed others)
-what_has_come_since feed seen now = (
-  λ h. (h.others, h.grown, h.by_others),
-  λ (others, grown, by_others). record { others = others; grown = grown; by_others = by_others },
-)
-
 others_have_come : Since 1 (dump 1 ∷ []) (dump 1 ∷ dump 2 ∷ [])
 others_have_come = record { others = dump 2 ∷ []; grown = refl; by_others = none_by_1 }
 
@@ -91,9 +68,6 @@ with_its_reply = refl
 none_where_it_was_refused : reply_to Dump Refused ≡ []
 none_where_it_was_refused = refl
 
-any_command_with_its_reply : (cmd : Cmd) (reply : Reply) → (reply_to cmd (Did reply) ≡ (cmd, reply) ∷ []) × (reply_to cmd Refused ≡ [])
-any_command_with_its_reply cmd reply = (refl, refl)
-
 -- visit_of
 what_was_refused_is_no_part_of_it : visit_of ((Dump, Did (Dumped 0)) ∷ (Purge, Refused) ∷ (Dump, Did (Dumped 1)) ∷ []) ≡ (Dump, Dumped 0) ∷ (Dump, Dumped 1) ∷ []
 what_was_refused_is_no_part_of_it = refl
@@ -102,16 +76,9 @@ what_was_refused_is_no_part_of_it = refl
 as_entries_of_feed_64 : entries 64 ((Dump, Dumped 0) ∷ (Purge, Purged 0) ∷ []) ≡ dump 64 ∷ purge 64 ∷ []
 as_entries_of_feed_64 = refl
 
-as_entries_of_any_feed : (feed : ℕ) (visit : Visit) → entries feed visit ≡ map (λ p. record { feed = feed; cmd = p.0; reply = p.1 }) visit
-as_entries_of_any_feed feed visit = refl
-
 -- answered
 what_was_refused_has_no_entry : answered 1 (Dump ∷ Purge ∷ Purge ∷ []) (Did (Dumped 0) ∷ Refused ∷ Did (Purged 0) ∷ []) ≡ dump 1 ∷ purge 1 ∷ []
 what_was_refused_has_no_entry = refl
-
-what_any_feed_was_answered :
-    (feed : ℕ) (cmds : List Cmd) (outcomes : List Outcome) → answered feed cmds outcomes ≡ entries feed (visit_of (zip cmds outcomes))
-what_any_feed_was_answered feed cmds outcomes = refl
 
 -- an entry of feed 2 stands between the two
 no_piece : (before rest : List Entry) → dump 1 ∷ dump 2 ∷ purge 1 ∷ [] ≡ before ++ (dump 1 ∷ purge 1 ∷ rest) → ¬ NoneBy 1 before
@@ -122,13 +89,6 @@ no_piece [] rest same free =
 no_piece (e ∷ before) rest same free = let first : e ≡ dump 1 = cc in free 0 e (omega arith) (ap (λ (one : Entry). one.feed) first)
 
 -- Uncut
-no_visit_or_one_before_others :
-    (feed : ℕ) (visit : List Entry) (visits : List (List Entry)) (journal : List Entry)
-    → (Uncut feed [] journal ↔ NoneBy feed journal)
-    × (Uncut feed (visit ∷ visits) journal ↔ ((before rest : List Entry) × (journal ≡ before ++ (visit ++ rest)) × NoneBy feed before
-    × AllBy feed visit × Uncut feed visits rest))
-no_visit_or_one_before_others feed visit visits journal = ((λ h. h, λ h. h), (λ h. h, λ h. h))
-
 in_one_piece : Uncut 1 ((dump 1 ∷ purge 1 ∷ []) ∷ []) (dump 2 ∷ dump 1 ∷ purge 1 ∷ dump 2 ∷ [])
 in_one_piece = (dump 2 ∷ [], dump 2 ∷ [], refl, none_by_1, both_by_1, none_by_1)
 
@@ -145,94 +105,17 @@ in_two_visits = (
 one_between : ¬ Uncut 1 ((dump 1 ∷ purge 1 ∷ []) ∷ []) (dump 1 ∷ dump 2 ∷ purge 1 ∷ [])
 one_between h = no_piece h.0 h.1 h.2 h.3
 
--- SharedId
-its_lock_its_limit_and_its_feeds : (lock : LockId) → (t : SharedId) × (t.lock ≡ lock) × (t.limit ≡ 5) × (t.feeds ≡ 2)
-its_lock_its_limit_and_its_feeds lock = (record { lock = lock; limit = 5; feeds = 2 }, refl, refl, refl)
-
 -- HeldPass
 its_table_its_feed_and_what_it_saw : (table : SharedId) → (p : HeldPass) × (p.table ≡ table) × (p.feed ≡ 2) × (p.seen ≡ dump 1 ∷ [])
 its_table_its_feed_and_what_it_saw table = (record { table = table; feed = 2; seen = dump 1 ∷ [] }, refl, refl, refl)
-
--- ArePassesOf
-one_for_each_feed_in_order :
-    (table : SharedId) (passes : List HeldPass) (are : ArePassesOf table passes)
-    → (length passes ≡ table.feeds) × All (λ p. p.table ≡ table) passes × ((i : ℕ) (p : HeldPass) → slice_get passes i ≡ Some p → p.feed ≡ i + 1)
-one_for_each_feed_in_order table passes are = (are.count, are.tables, are.feeds)
-
--- Settles
-a_settled_journal_has_what_each_pass_saw :
-    (table : SharedId) (passes : List HeldPass) (journal : List Entry) (settled : Settles table passes journal)
-    → IsLawfulJournal table.limit journal × All (λ e. (1 ≤ e.feed) × (e.feed ≤ table.feeds)) journal × All (λ p. Since p.feed p.seen journal) passes
-a_settled_journal_has_what_each_pass_saw table passes journal settled = (settled.lawful, settled.of_feeds, settled.since)
-
--- MakesVisit
-a_visit_adds_what_was_answered :
-    (limit feed : ℕ) (seen now : List Entry) (cmds : List Cmd) (outcomes : List Outcome) (visit : MakesVisit limit feed seen cmds outcomes now)
-    → Since feed seen visit.found × (length outcomes ≡ length cmds) × (now ≡ visit.found ++ answered feed cmds outcomes) × IsLawfulJournal limit now
-a_visit_adds_what_was_answered limit feed seen now cmds outcomes visit = (visit.since, visit.each, visit.added, visit.lawful)
-
--- MakesVisitWith
-its_outcomes_are_appended :
-    (limit feed : ℕ) (seen now : List Entry) (cmds : List Cmd) (before after : List Outcome)
-    (visit : MakesVisitWith limit feed seen cmds before after now)
-    → (after ≡ before ++ visit.outcomes) × MakesVisit limit feed seen cmds visit.outcomes now
-its_outcomes_are_appended limit feed seen now cmds before after visit = (visit.appended, visit.visit)
-
--- SinceAgain
-what_came_in_two_steps_came : SinceAgain → (feed : ℕ) (a b c : List Entry) → Since feed a b → Since feed b c → Since feed a c
-what_came_in_two_steps_came law = law
-
--- AnsweredInPieces
-answered_in_two_pieces :
-    AnsweredInPieces → (feed : ℕ) (xs ys : List Cmd) (os ps : List Outcome) → length os ≡ length xs
-    → (answered feed (xs ++ ys) (os ++ ps) ≡ answered feed xs os ++ answered feed ys ps) × AllBy feed (answered feed xs os)
-answered_in_two_pieces law = law
-
--- UncutAtFirst
-uncut_where_nothing_was_seen : UncutAtFirst → (feed : ℕ) → Uncut feed [] []
-uncut_where_nothing_was_seen law = law
-
--- UncutSince
-uncut_while_others_add : UncutSince → (feed : ℕ) (visits : List (List Entry)) (a b : List Entry) → Uncut feed visits a → Since feed a b → Uncut feed visits b
-uncut_while_others_add law = law
-
--- UncutByVisit
-uncut_with_a_visit_more :
-    UncutByVisit → (limit feed : ℕ) (visits : List (List Entry)) (seen now : List Entry) (cmds : List Cmd) (outcomes : List Outcome)
-    → Uncut feed visits seen → MakesVisit limit feed seen cmds outcomes now → Uncut feed (visits ++ answered feed cmds outcomes ∷ []) now
-uncut_with_a_visit_more law = law
-
--- EntriesOfVisits
-the_entries_of_a_feed_are_those_of_its_visits :
-    EntriesOfVisits → (feed : ℕ) (visits : List (List Entry)) (journal : List Entry) → Uncut feed visits journal
-    → feed_entries feed journal ≡ flat_map (λ visit. visit) visits
-the_entries_of_a_feed_are_those_of_its_visits law = law
-
--- EntriesSince
-nothing_of_its_own_has_come : EntriesSince → (feed : ℕ) (a b : List Entry) → Since feed a b → feed_entries feed b ≡ feed_entries feed a
-nothing_of_its_own_has_come law = law
-
--- PassesKept
-passes_of_the_same_table_and_feeds :
-    PassesKept → (table : SharedId) (old new : List HeldPass) → ArePassesOf table old → length new ≡ length old
-    → ((i : ℕ) (d : HeldPass) → i < length old
-    → ((slice_index_or new i d).table ≡ (slice_index_or old i d).table) × ((slice_index_or new i d).feed ≡ (slice_index_or old i d).feed))
-    → ArePassesOf table new
-passes_of_the_same_table_and_feeds law = law
 
 -- feed_of
 the_first_place_is_feed_1s : feed_of 0 ≡ 1
 the_first_place_is_feed_1s = refl
 
-the_feed_of_any_place : (place : ℕ) → feed_of place ≡ place + 1
-the_feed_of_any_place place = refl
-
 -- entry_of
 the_last_place_is_feed_64s : entry_of 63 (Dump, Dumped 0) ≡ dump 64
 the_last_place_is_feed_64s = refl
-
-what_a_place_did_as_an_entry : (place : ℕ) (act : Act) → entry_of place act ≡ record { feed = place + 1; cmd = act.0; reply = act.1 }
-what_a_place_did_as_an_entry place act = refl
 
 -- feed 1 puts a route in and feed 2 looks an address up, where both compete for the lock
 abbrev its_route : Route
@@ -254,11 +137,6 @@ unfolding node_of side_of
 an_add_and_then_a_look_up = refl
 
 -- IsSequential
-as_the_sequential_table_answers :
-    (limit : ℕ) (earlier : List (Marked Act)) (x : Marked Act)
-    → IsSequential limit earlier x ↔ IsAnswered limit (journal_of earlier) (entry_of x.0 x.1)
-as_the_sequential_table_answers limit earlier x = (λ h. h, λ h. h)
-
 an_empty_table_is_dumped_as_0 : IsSequential 1 [] (0, (Dump, Dumped 0))
 unfolding table_of_journal reply_of
 an_empty_table_is_dumped_as_0 = refl
@@ -268,11 +146,6 @@ unfolding table_of_journal reply_of
 not_as_1 h = cc
 
 -- IsRunTo
-some_events_lead_there :
-    (limit levels : ℕ) (world : World Act)
-    → IsRunTo limit levels world ↔ ((1 ≤ levels) × (events : List (Event Act)) × IsReached levels (IsSequential limit) events world)
-some_events_lead_there limit levels world = (λ h. h, λ h. h)
-
 a_run_in_which_both_are_answered : IsRunTo 1 1 after_both
 unfolding node_of side_of table_of_journal table_after reply_of look_up
 a_run_in_which_both_are_answered = (
@@ -301,10 +174,6 @@ a_run_of_two_levels : IsRunTo 1 2 (follow 2 (Steps 3 ∷ []) opening_world)
 a_run_of_two_levels = (omega arith, Steps 3 ∷ [], runs 2 (IsSequential 1) (Steps 3 ∷ []) opening_world refl tt)
 
 -- NoTwoInside
-whoever_is_inside_is_one :
-    (world : World Act) → NoTwoInside world ↔ ((p q : ℕ) → IsInside world.state p → IsInside world.state q → p ≡ q)
-whoever_is_inside_is_one world = (λ h. h, λ h. h)
-
 nobody_at_the_start : NoTwoInside opening_world
 nobody_at_the_start p q one other = cc
 
@@ -339,18 +208,7 @@ nothing_made_that_is_lost :
     ¬ HasAllMade (record { state = opening; content = []; copies = λ place. []; doing = λ place. []; made = λ place. (Dump, Dumped 0) ∷ [] })
 nothing_made_that_is_lost h = let entries = h 0 in cc
 
-each_feeds_entries_are_those_that_it_made :
-    (world : World Act) → HasAllMade world → (place : ℕ)
-    → feed_entries (feed_of place) (journal_of world.content) ≡ map (entry_of place) (world.made place)
-each_feeds_entries_are_those_that_it_made world h = h
-
 -- FindsBest
-what_each_look_up_found :
-    (limit : ℕ) (journal : List Entry) → FindsBest limit journal
-    ↔ ((feed : ℕ) (addr : Addr) (r : Route) (earlier later : List Entry)
-    → journal ≡ earlier ++ record { feed = feed; cmd = Lookup addr; reply = Found r } ∷ later → IsBestMatch addr (table_of_journal limit earlier) r)
-what_each_look_up_found limit journal = (λ h. h, λ h. h)
-
 no_look_up_no_wrong_one : FindsBest 1 (dump 1 ∷ [])
 no_look_up_no_wrong_one feed addr r [] later same =
     let first : dump 1 ≡ entry feed (Lookup addr) (Found r) = cc in
@@ -427,10 +285,6 @@ by_feed_2 = record { others = dump 2 ∷ []; grown = refl; by_others = none_by_1
 while_the_first_place_was_away : GrowsByOthers 0 new dumped
 while_the_first_place_was_away = record { same = the_journal_alone_has_changed; since = by_feed_2 }
 
-while_any_place_was_away :
-    (place : ℕ) (a b : Lent) → GrowsByOthers place a b ↔ (HasSameBounds a b × Since (feed_of place) a.book.journal b.book.journal)
-while_any_place_was_away place a b = (λ h. (h.same, h.since), λ (same, since). record { same = same; since = since })
-
 not_while_the_second_was : ¬ GrowsByOthers 1 new dumped
 not_while_the_second_was h = not_its_own 2 h.since
 
@@ -445,11 +299,6 @@ by_the_second_place = record {
   added = refl;
   by_feed = All-cons (λ e. e.feed ≡ 2) (dump 2) [] refl (All-nil (λ e. e.feed ≡ 2));
 }
-
-its_own_entries_at_the_end :
-    (place : ℕ) (a b : Lent) (grows : GrowsByFeed place a b)
-    → HasSameBounds a b × (b.book.journal ≡ a.book.journal ++ grows.own) × AllBy (feed_of place) grows.own
-its_own_entries_at_the_end place a b grows = (grows.same, grows.added, grows.by_feed)
 
 -- MakesVisit
 a_dump_by_itself : MakesVisit 1 2 [] (Dump ∷ []) (Did (Dumped 0) ∷ []) (dump 2 ∷ [])
@@ -473,9 +322,6 @@ abbrev half_made : List (Option (std.Option Lent)) → Lent → Moment
 half_made homes given = record { words = []; homes = homes; views = HandingOut 1 given ∷ Seated 0 Idle given 0 ∷ [] }
 
 -- BookInSlot
-what_lies_in_its_slot : (s : Moment) (lent : Lent) → BookInSlot s lent ↔ (s.homes ≡ some (Some lent) ∷ [])
-what_lies_in_its_slot s lent = (λ h. h, λ h. h)
-
 it_lies_there : BookInSlot at_rest dumped
 it_lies_there = refl
 
@@ -532,22 +378,7 @@ nor_behind_what_was_given h =
     let since = h.since 0 1 new (inr (1, refl, omega arith)) in
     not_its_own 2 (subst (λ (lent : Lent). Since 2 [] lent.book.journal) (sym same) since)
 
-the_trie_holds_what_the_journal_leaves : (s : Moment) (rest : IsAtRest s) → HoldsTable rest.lent.book
-the_trie_holds_what_the_journal_leaves s rest = rest.holds
-
-the_journal_is_lawful : (s : Moment) (rest : IsAtRest s) → IsLawfulJournal rest.lent.book.limit rest.lent.book.journal
-the_journal_is_lawful s rest = rest.lawful
-
-what_a_pass_away_has_seen :
-    (s : Moment) (rest : IsAtRest s) → BookInSlot s rest.lent
-    × ((seat place : ℕ) (seen : Lent) → IsAway s seat place seen ⊎ IsToMake s seat place seen
-    → Since (feed_of place) seen.book.journal rest.lent.book.journal)
-what_a_pass_away_has_seen s rest = (rest.in_slot, rest.since)
-
 -- MeetsHeadline
-what_a_moment_meets : (s : Moment) → MeetsHeadline s ↔ (OneInside s × (IsGiven s → NoneInside s → IsAtRest s))
-what_a_moment_meets s = (λ h. (h.exclusion, h.at_rest), λ (exclusion, at_rest). record { exclusion = exclusion; at_rest = at_rest })
-
 both_away : MeetsHeadline at_rest
 both_away = record {
   exclusion = λ one other p q v w a b. let idle = (seen_by (some (Some dumped) ∷ []) one p Inside v a).0 in cc;
