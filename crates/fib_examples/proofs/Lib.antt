@@ -1,2 +1,0 @@
-pub mod Fib
-pub mod Readers
