@@ -21,6 +21,7 @@ import time
 from checks import TOP, chosen, compiled, end, expect, run, run_case, text_of
 from common.built import LOGIC
 from common.crates import all_crates, below
+from common.prover import kit
 
 # The stand-in for `rt` tells where the toolchain lies, and which it is.
 RT = """#!/bin/sh
@@ -45,7 +46,10 @@ while [ $# -gt 0 ]; do
   shift
 done
 case $made in
-  *.rlib) mkdir -p "$made/interface/lang/src" && cat src/lib.rt >"$made/interface/lang/src/lib.rt" ;;
+  *.rlib)
+    sources=$made/interface/lang/src
+    mkdir -p "$sources" && cp src/lib.rt "$sources/lib.rt" && cp src/lib.rt "$sources/again.rt"
+    ;;
   *) cp "$ARCHIVE" "$made" ;;
 esac
 if [ "$crate" != "$SILENT" ]; then echo "logic=proved functions=1 sum=$LOGIC"; fi
@@ -217,8 +221,8 @@ def taken_back(copy):
     expect("the edit taken back", copy.built_by_call(), [])
 
 
-# Fails where a build leaves a file that `rt ci` refuses as one that no check reads, now or after it was killed: `what the
-# toolchain says of the tree ..`.
+# Fails where a build leaves a file or a link that `rt ci` refuses, while it works or afterwards: `what the toolchain says of
+# the tree ..`.
 # Fails where a build depends on what the gate leaves, or removes or changes it: `the gate's own files`.
 def beside_the_gate(copy):
     unread = copy.top / "out/old.rlib/interface/lang/src/lib.rt"
@@ -242,6 +246,8 @@ def beside_the_gate(copy):
         expect(f"the gate's own files after the {round} run",
                (kept.read_text(), [path.read_text() for path in judged.values()]),
                ("kept\n", [f"of the gate's {round} run"] * 2))
+    expect("a library is built", copy.start(by=copy.top / "bindings/build")[0], 0)
+    expect("what the toolchain says of the tree after bindings/build", refused_files(copy.top), None)
     copy.change("crates/rt_cidr/src/lib.rt")
     with begun_build(copy, "rt_trie"):
         expect("what the toolchain says of the tree during a build", refused_files(copy.top), None)
@@ -250,10 +256,9 @@ def beside_the_gate(copy):
 def refused_files(top):
     """What the toolchain's own check, which `rt ci` begins with, says that no crate's check reads; none where it has no
     fault. It is the check of this machine's toolchain, over that tree."""
-    rt = pathlib.Path(shutil.which("rt")).resolve()
     asked = f"""
 import os, sys
-sys.path.insert(0, {str(rt.parent)!r})
+sys.path.insert(0, {str(kit() / "bin")!r})
 import rtlib
 os.chdir({str(top)!r})
 crates = rtlib.crates_below(os.getcwd())
@@ -346,8 +351,8 @@ def what_is_missing(copy):
     status, out, err = copy.start("run")
     expect("a folder that can't be made: its line", (status, out, len(err.splitlines())), (126, "", 1))
     (copy.top / "out").unlink()
-    # A file may have 100 kB, so that one can't be written whole: as on a full disk.
-    (copy.top / "crates/rt_rib/src/lib.rt").write_text("// " + "x" * 150_000 + "\n")
+    # A file may have 100 kB, so that the library of rt_rib, two of whose files have 60 kB, can't be kept: as on a full disk.
+    (copy.top / "crates/rt_rib/src/lib.rt").write_text("// " + "x" * 60_000 + "\n")
     limited = ["bash", "-c", 'trap "" XFSZ; ulimit -f 100; exec "$0" "$@"', copy.top / "yarib", "run"]
     status, out, err = run(limited, env=copy.names(), stdin=subprocess.DEVNULL, cwd=copy.top)
     expect("a file that can't be written: its line", (status, out, "can't be built" in err.splitlines()[-1]),

@@ -224,7 +224,9 @@ def finish(copy, plan, job, at_work, whole):
     """Keeps what a job has built, and says that its crate is proved, or why not."""
     seconds = time.monotonic() - job.begun
     if job.process.returncode != 0 or not copy.made(job.crate).exists() or not says_proved(job):
-        say(f"{job.crate} is not proved; {STATE}/{job.crate}.log says why{of_disk(copy)}")
+        ended = job.process.returncode
+        killed = f": its prover was ended by signal {-ended}, most likely for want of memory" if ended < 0 else ""
+        say(f"{job.crate} is not proved{killed}; {STATE}/{job.crate}.log says why{of_disk(copy)}")
         return False
     copy.keep(job.crate)
     plan.left.remove(job.crate)

@@ -5,6 +5,7 @@ has the name that the sources give now. All lie in out/build. A library is a fol
 only among the files of a crate, so it is kept as one tar file."""
 import functools
 import hashlib
+import os
 
 from .crates import CRATES, TOP, is_program, is_static, needs
 
@@ -27,9 +28,12 @@ def sources_sum(crate, crates=CRATES):
     below = [sources_sum(one, crates) for one in own(crate)]
     made = hashlib.sha256(repr((LOGIC, crate, is_static(crate), needs()[crate], below)).encode())
     for part in PARTS:
-        for file in sorted(path for path in (crates / crate / part).rglob("*") if path.is_file()):
-            text = file.read_bytes()
-            made.update(repr((str(file.relative_to(crates)), len(text))).encode() + text)
+        walked = [(at, name) for at, _, names in os.walk(crates / crate / part) for name in names]
+        # Each start of ./yarib comes by here: paths as plain texts take half the time.
+        for file in sorted(path for path in (f"{at}/{name}" for at, name in walked) if os.path.isfile(path)):
+            with open(file, "rb") as opened:
+                text = opened.read()
+            made.update(repr((file.removeprefix(f"{crates}/"), len(text))).encode() + text)
     return made.hexdigest()[:32]
 
 
