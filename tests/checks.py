@@ -94,10 +94,12 @@ def compiled(folder, source, *options):
     return made
 
 
-def meeting(folder):
-    """The environment of a run whose feeds meet: each `add` is held up inside the lock until another feed waits there
-    (tests/waits.c), so that they alternate on a busy machine too."""
-    return os.environ | {"LD_PRELOAD": str(compiled(folder, "tests/waits.c", "-shared", "-fPIC")), "HOLD_UP": "1"}
+def is_unproved(case):
+    """Whether the program is that of `./test --quick`, with AddressSanitizer, before which nothing can be loaded, and which
+    wants /proc; says that the case is left out."""
+    if "YARIB_UNPROVED" in os.environ:
+        print(f"left out: {case}, which AddressSanitizer can't do", flush=True)
+    return "YARIB_UNPROVED" in os.environ
 
 
 def built_benches(*words):

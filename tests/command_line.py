@@ -213,13 +213,13 @@ def batches(yarib):
 
 
 def batch_seen(yarib, words, batch):
-    """The greatest number that divides each change between two dumps of a feed, in up to 40 runs beside one adding."""
+    """The greatest number that divides each change between two dumps of a feed, in up to 400 runs beside one adding."""
     count = batch * max(48, 16_384 // batch)
     pathlib.Path("adds.feed").write_text("".join(f"add 10.{k >> 8}.{k & 255}.0/24 1 192.0.2.1\n" for k in range(count)))
     pathlib.Path("dumps.feed").write_text("dump\n" * count)
     added = [f"1:{line} added" for line in range(1, count + 1)]
     divides = 0
-    for _ in range(40):
+    for _ in range(400):
         status, out, err = yarib("run", *words, "adds.feed", "dumps.feed")
         lines = out.splitlines()
         if (status, err, lines[:count]) != (0, "", added):
