@@ -96,9 +96,9 @@ LOCK = Page("STATEMENT-LOCK.md", "The lock", (
         ["rt_shared::laws::headline"]),
     Chapter("The running lock", (
         "The same of the running table, between any two atomic steps of its threads: no two are inside, and whenever "
-        "none is, the lent book lies in its slot, its trie is lawful and holds exactly the routes that its journal "
-        "leaves, the journal is lawful, and what each pass away has seen begins it, with no entry of that pass's feed "
-        "behind. That so no two guards exist: who has a guard or a pass has its seat, whose view nobody else can "
+        "the lent book lies in its slot, nobody is, its trie is lawful and holds exactly the routes that its journal "
+        "leaves, the journal is lawful, what a look-up found is the best route of the longest match, and what each "
+        "pass away has seen begins the journal, with no entry of that pass's feed behind. That so no two guards exist: who has a guard or a pass has its seat, whose view nobody else can "
         "change, and the view of a guard's seat says that its place is inside (`enter`), that of a pass's that it is "
         "idle (`leave`). The lock's rule allows one such view at most (`rule`). Each seat may take its process's step "
         "(`steps`). Whatever that leads to is the core's step, and every other kind of step changes no word of the "

@@ -11,7 +11,7 @@ use Rattle.ya_core.specs.Steps.{opening}
 use Rattle.ya_core.specs.Worlds.{World, Event, Steps, Appends, opening_world}
 use Rattle.lock_examples.proofs.Core.{follow, runs}
 use Rattle.ya_lock.specs.declared.rule.View.TheVariants.{HandingOut, Seated}
-use Rattle.ya_lock.specs.LockState.{IsOf, HasProcess, IsToMake}
+use Rattle.ya_lock.specs.LockState.{IsOf, HasProcess, IsToMake, NoneInside}
 use Rattle.rt_rib.specs.declared.routes.Hop.TheVariants.{Discard}
 use Rattle.rt_rib.specs.declared.routes.Route.{Route}
 use Rattle.rt_rib.specs.declared.commands.Cmd.TheVariants.{Add, Lookup, Dump, Purge}
@@ -350,42 +350,52 @@ seen_by homes (suc zero) place process seen has =
     )
 seen_by homes (suc (suc seat)) place process seen has = absurd (some-ne-none has.0 (sym has.1))
 
+nobody_is_inside : (homes : List (Option (std.Option Lent))) → NoneInside (moment homes)
+nobody_is_inside homes seat place value has = let idle = (seen_by homes seat place Inside value has).0 in cc
+
+-- FindsBest
+where_nothing_was_looked_up : FindsBest dumped.book.limit dumped.book.journal
+where_nothing_was_looked_up feed addr r [] later same =
+    let first : dump 2 ≡ entry feed (Lookup addr) (Found r) = cc in
+    let asked : Dump ≡ Lookup addr = ap (λ (e : Entry). e.cmd) first in cc
+where_nothing_was_looked_up feed addr r (e ∷ []) later same = cc
+where_nothing_was_looked_up feed addr r (e ∷ f ∷ earlier) later same = cc
+
 -- IsAtRest
-the_dump_was_seen_by_its_feed : IsAtRest at_rest
+the_dump_was_seen_by_its_feed : IsAtRest at_rest dumped
 the_dump_was_seen_by_its_feed = record {
-  lent = dumped;
-  in_slot = refl;
+  nobody = nobody_is_inside (some (Some dumped) ∷ []);
   holds = holds_no_route (dump 2 ∷ []) no_route_by_a_dump;
   lawful = lawful_dump;
+  best = where_nothing_was_looked_up;
   since = λ seat place seen known. ⊎_elim (λ away. (seen_by (some (Some dumped) ∷ []) seat place away.0 seen away.2).1)
       (λ made. absurd (none_to_make (some (Some dumped) ∷ []) seat place seen made)) known;
 }
 
-not_with_the_book_out : ¬ IsAtRest (moment (none ∷ []))
-not_with_the_book_out h = let in_slot = h.in_slot in cc
+not_where_one_is_inside : ¬ IsAtRest (record { words = []; homes = some (Some dumped) ∷ []; views = Seated 1 Inside dumped 3 ∷ [] }) dumped
+not_where_one_is_inside h = h.nobody 0 1 dumped (Seated 1 Inside dumped 3, refl, (refl, refl, refl))
 
 -- the book has an entry of feed 2, of which the pass of feed 2 knows nothing
-not_where_its_own_entry_is_unseen : ¬ IsAtRest (record { words = []; homes = some (Some dumped) ∷ []; views = Seated 1 Idle new 0 ∷ [] })
+not_where_its_own_entry_is_unseen : ¬ IsAtRest (record { words = []; homes = some (Some dumped) ∷ []; views = Seated 1 Idle new 0 ∷ [] }) dumped
 not_where_its_own_entry_is_unseen h =
-    let same : dumped ≡ h.lent = cc in
-    let since = h.since 0 1 new (inl (Idle, (λ inside. cc), (Seated 1 Idle new 0, refl, (refl, refl, refl)))) in
-    not_its_own 2 (subst (λ (lent : Lent). Since 2 [] lent.book.journal) (sym same) since)
+    not_its_own 2 (h.since 0 1 new (inl (Idle, (λ inside. cc), (Seated 1 Idle new 0, refl, (refl, refl, refl)))))
 
 -- nor an entry of feed 2 behind what was given while the pass of feed 2 is still to be made
-nor_behind_what_was_given : ¬ IsAtRest (half_made (some (Some dumped) ∷ []) new)
-nor_behind_what_was_given h =
-    let same : dumped ≡ h.lent = cc in
-    let since = h.since 0 1 new (inr (1, refl, omega arith)) in
-    not_its_own 2 (subst (λ (lent : Lent). Since 2 [] lent.book.journal) (sym same) since)
+nor_behind_what_was_given : ¬ IsAtRest (half_made (some (Some dumped) ∷ []) new) dumped
+nor_behind_what_was_given h = not_its_own 2 (h.since 0 1 new (inr (1, refl, omega arith)))
 
 -- MeetsHeadline
 both_away : MeetsHeadline at_rest
 both_away = record {
   exclusion = λ one other p q v w a b. let idle = (seen_by (some (Some dumped) ∷ []) one p Inside v a).0 in cc;
-  at_rest = λ given nobody. the_dump_was_seen_by_its_feed;
+  at_rest = λ lent at.
+      let same : dumped ≡ lent = cc in
+      subst (λ (l : Lent). IsAtRest at_rest l) same the_dump_was_seen_by_its_feed;
+  at_home = λ given nobody. (dumped, refl);
 }
 
 not_with_the_book_out_where_nobody_is_inside : ¬ MeetsHeadline (moment (none ∷ []))
 not_with_the_book_out_where_nobody_is_inside h =
-    not_with_the_book_out (h.at_rest (0, 0, (new, inl (Idle, (Seated 0 Idle new 0, refl, (refl, refl, refl)))))
-    (λ seat place value has. let idle = (seen_by (none ∷ []) seat place Inside value has).0 in cc))
+    let home = h.at_home (0, 0, (new, inl (Idle, (Seated 0 Idle new 0, refl, (refl, refl, refl)))))
+    (nobody_is_inside (none ∷ [])) in
+    let out = home.1 in cc

@@ -8,6 +8,7 @@ use Rattle.ya_lock.specs.LockState.{IsAway, IsToMake, IsGiven, NoneInside, OneIn
 use Rattle.rt_rib.specs.Book.{HoldsTable}
 use Rattle.rt_rib.specs.Sequential.{IsLawfulJournal}
 use Rattle.rt_shared.specs.declared.lent.Lent.{Lent}
+use Rattle.rt_shared.specs.Headline.{FindsBest}
 use Rattle.rt_shared.specs.Table.{feed_of}
 use Rattle.rt_shared.specs.Visits.{Since}
 
@@ -19,18 +20,20 @@ Moment = State (std.Option Lent) (View Lent)
 abbrev pub BookInSlot : Moment → Lent → Type 0
 BookInSlot s lent = s.homes ≡ some (Some lent) ∷ []
 
--- a book lies in its slot; its trie is lawful and holds exactly the routes left by its journal; the journal is lawful; and
--- what each pass away has seen begins the journal, with no entry of that pass's feed behind, as does what was given where a
--- pass is still to be made
-pub record IsAtRest (s : Moment) : Type 0 where
-  pub lent : Lent
-  pub in_slot : BookInSlot s lent
+-- nobody is inside; the book's trie is lawful and holds exactly the routes left by its journal; the journal is lawful; what
+-- a look-up found is the best feed's route of the longest matching prefix; and what each pass away has seen begins the
+-- journal, with no entry of that pass's feed behind, as does what was given where a pass is still to be made
+pub record IsAtRest (s : Moment) (lent : Lent) : Type 0 where
+  pub nobody : NoneInside s
   pub holds : HoldsTable lent.book
   pub lawful : IsLawfulJournal lent.book.limit lent.book.journal
+  pub best : FindsBest lent.book.limit lent.book.journal
   pub since : (seat place : ℕ) (seen : Lent) → IsAway s seat place seen ⊎ IsToMake s seat place seen
       → Since (feed_of place) seen.book.journal lent.book.journal
 
--- no two are inside; and once the book was given, whenever none is inside, by the views of all seats, it is at rest
+-- no two are inside; whenever a book lies in its slot, it is at rest; and so one does whenever none is inside, by the views
+-- of all seats, once it was given
 pub record MeetsHeadline (s : Moment) : Type 0 where
   pub exclusion : OneInside s
-  pub at_rest : IsGiven s → NoneInside s → IsAtRest s
+  pub at_rest : (lent : Lent) → BookInSlot s lent → IsAtRest s lent
+  pub at_home : IsGiven s → NoneInside s → (lent : Lent) × BookInSlot s lent

@@ -13,7 +13,7 @@ ghost use Rattle.rt_shared.specs.Laws.{SinceAgain, AnsweredInPieces, UncutAtFirs
 use crate::lent::Lent;
 use crate::sequential::SequentialTable;
 use rt_rib::laws::{lawful_by_entry, look_up_finds_best, table_by_entry};
-use ya_core::laws::{content, exclusion};
+use ya_core::laws::content;
 use ya_lock::laws::rule;
 
 /// The visits of a feed lie uncut in the journal that its pass has seen: none at first, one more after each call that
@@ -64,23 +64,26 @@ pub fn headline<const LIMIT: u32>()
     ensures table { (levels : ℕ) (world : World Act) → IsRunTo LIMIT levels world → IsTable (table_of_journal LIMIT (journal_of world.content)) }
     ensures best { (levels : ℕ) (world : World Act) → IsRunTo LIMIT levels world → FindsBest LIMIT (journal_of world.content) }
 {
-    exclusion();
     content::<SequentialTable<LIMIT>>();
     journal::<LIMIT>();
     table_by_entry();
     look_up_finds_best();
 }
 
-/// The same sentence of the running table, between any two atomic steps of its feeds. No two are inside. And whenever
-/// none is inside, by the views of all seats, once the book was given: it lies in its slot; its trie is lawful and holds
-/// exactly the routes left by its journal; the journal is lawful; and what each pass away has seen begins it, with no entry
-/// of that pass's feed behind, as does what was given where a pass is still to be made.
+/// The same sentence of the running table, between any two atomic steps of its feeds. No two are inside. Whenever the book
+/// lies in its slot, nobody is inside; its trie is lawful and holds exactly the routes left by its journal; the journal is
+/// lawful, so every reply is the sequential table's; what a look-up found is the best feed's route of the longest matching
+/// prefix; and what each pass away has seen begins the journal, with no entry of that pass's feed behind, as does what was
+/// given where a pass is still to be made. Once it was given, the book lies there whenever nobody is inside, by the views
+/// of all seats.
 ///
-/// Of these clauses `exclusion`, `in_slot` and `since` are the lock's, of such a moment alone; `holds` and `lawful` are true
-/// of every lent book, whose type keeps them.
+/// Of these clauses `exclusion`, `at_home`, `nobody` and `since` are the lock's, of such a moment alone; `holds`, `lawful`
+/// and `best` are true of every lent book, whose type keeps them.
 pub fn running<const L: u32>()
     requires { 1 ≤ L }
     ensures { (s : Moment) → Rule GrowsByOthers L s → MeetsHeadline s }
 {
     rule::<Lent, L>();
+    table_by_entry();
+    look_up_finds_best();
 }

@@ -1,12 +1,11 @@
 use Rattle.std.proofs.Common.{ap, ◌∙◌, map}
-use Rattle.ya_core.specs.Worlds.{places_of}
 use Rattle.rt_shared.specs.Headline.{entry_of, journal_of}
 use Rattle.rt_shared.proofs.RunJournals.{entries_same, finds_best}
 use Rattle.rt_shared.proofs.laws.headline.Goals as goal
 
 pub returns-clause-exclusion : goal.returns-clause-exclusion
 returns-clause-exclusion g c = λ levels world run.
-    c.exclusion.ensures levels (places_of run.1) world.state run.0 (c.content.ensures.state levels run.1 world (c.content.ensures.any levels run.1 world run.2))
+    c.content.ensures.exclusion levels run.1 world run.0 (c.content.ensures.any levels run.1 world run.2)
 
 pub returns-clause-made : goal.returns-clause-made
 returns-clause-made g c = λ levels world run place.
