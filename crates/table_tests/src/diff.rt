@@ -1,5 +1,4 @@
 mod borders;
-mod model;
 
 use rt_cidr::{Addr, Prefix};
 use rt_diff::*;

@@ -1,7 +1,6 @@
 mod lookups;
 mod memory;
 mod plain;
-mod random;
 mod refusals;
 mod sizes;
 
