@@ -35,7 +35,7 @@ const ROUTE: &str = "route";
 const COMPARED: &[&str] = &[HOP, ROUTE];
 
 /// What the words of a command line ask for.
-#[derive(Debug, Drop)]
+#[derive(Drop)]
 pub enum Request<'a> {
     /// To run feed files.
     Run(RunRequest<'a>),
@@ -50,7 +50,7 @@ pub enum Request<'a> {
 }
 
 /// Which feed files to run.
-#[derive(Debug, Drop)]
+#[derive(Drop)]
 pub struct RunRequest<'a> {
     /// How many routes a feed may have, 1 to [`MOST_ROUTES`].
     pub limit: u32,
@@ -64,7 +64,7 @@ pub struct RunRequest<'a> {
 }
 
 /// How routes are told.
-#[derive(Clone, Copy, Debug)]
+#[derive(Clone, Copy)]
 pub struct Telling {
     /// Whether a feed is told by its name, and not by its number.
     pub names: bool,
@@ -73,7 +73,7 @@ pub struct Telling {
 }
 
 /// Which addresses to look up, after which feed files.
-#[derive(Debug, Drop)]
+#[derive(Drop)]
 pub struct LookupRequest<'a> {
     /// The feed files.
     pub run: RunRequest<'a>,
@@ -88,7 +88,7 @@ pub struct LookupRequest<'a> {
 }
 
 /// Which routes to list, after which feed files.
-#[derive(Debug, Drop)]
+#[derive(Drop)]
 pub struct TableRequest<'a> {
     /// The feed files.
     pub run: RunRequest<'a>,
@@ -105,7 +105,7 @@ pub struct TableRequest<'a> {
 }
 
 /// A part of a table, each by the text of its prefix.
-#[derive(Clone, Copy, Debug)]
+#[derive(Clone, Copy)]
 pub enum AskedPart<'a> {
     /// The whole table.
     All,
@@ -118,7 +118,7 @@ pub enum AskedPart<'a> {
 }
 
 /// Which tables to compare.
-#[derive(Debug, Drop)]
+#[derive(Drop)]
 pub struct DiffRequest<'a> {
     /// The old feed files, and the limit and the batch of both runs.
     pub run: RunRequest<'a>,
@@ -131,7 +131,7 @@ pub struct DiffRequest<'a> {
 }
 
 /// What `diff` compares of two answers.
-#[derive(Clone, Copy, PartialEq, Eq, Debug)]
+#[derive(Clone, Copy)]
 pub enum ComparedBy {
     /// Where packets go.
     Hop,
@@ -140,7 +140,7 @@ pub enum ComparedBy {
 }
 
 /// Which schedule to show.
-#[derive(Debug, Drop)]
+#[derive(Drop)]
 pub struct ReplayRequest {
     /// How many levels the tree has.
     pub levels: u32,
@@ -149,7 +149,7 @@ pub struct ReplayRequest {
 }
 
 /// Why there is nothing to do.
-#[derive(Debug, Drop)]
+#[derive(Drop)]
 pub enum Refusal {
     /// Help or the version was asked for: its text.
     Shown(String),
@@ -282,16 +282,16 @@ const SUBCOMMANDS: &[Subcommand] = &[
 ];
 
 impl Subcommand {
-    /// A loop over the parameters has one early exit; a call for each would have as many as there are, and at each the
-    /// prover goes through all that is dropped.
+    /// Adds the parameters by one call: at each early exit the prover goes through all that is dropped.
     fn command<'a>(&self, alloc: Global) -> Result<Command<'a>, AllocError> {
-        let mut command = Command::new(alloc, self.name)
+        let parameters = self.parameters.iter();
+        let args = parameters
+            .map(|parameter| parameter.arg(alloc))
+            .collect(alloc)?;
+        Command::new(alloc, self.name)
             .about(self.about)
-            .after_help(self.notes);
-        for parameter in self.parameters {
-            command = command.arg(parameter.arg(alloc))?;
-        }
-        Ok(command)
+            .after_help(self.notes)
+            .args(args)
     }
 }
 
@@ -551,14 +551,11 @@ fn texts_of<'a>(
     alloc: Global,
     matches: &ArgMatches<'a>,
     name: &str,
-) -> Result<Vec<&'a str>, Refusal> {
-    let mut texts = Vec::new(alloc);
-    if let Some(given) = matches.get_strs(name) {
-        for text in given {
-            texts.push(*text)?;
-        }
+) -> Result<Vec<&'a str>, AllocError> {
+    match matches.get_strs(name) {
+        Some(given) => given.to_vec(alloc),
+        None => Ok(Vec::new(alloc)),
     }
-    Ok(texts)
 }
 
 /// The feed files, the limit and the batch, whose bounds `clap` has seen to.

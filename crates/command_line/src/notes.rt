@@ -19,7 +19,8 @@ Standard error tells of each file what was not taken, one line a kind:
 Exit status, the greatest that applies:
 "
             $first_statuses
-            "  4 unreadable file   5 memory refused   6 output not written
+            "  4 unreadable file   5 out of memory (`yarib: fault F3`)
+  6 output not written
 
 A feed has at most " most_routes " routes if --limit is left out. `run --help` has the
 commands of feed files and the faults.
@@ -50,7 +51,7 @@ Faults, the first that a line has:
 
 Exit status, the greatest that applies:
   0 done   2 faulty line   3 command line   4 unreadable file
-  5 memory refused   6 output not written
+  5 out of memory (`yarib: fault F3`)   6 output not written
 
 A feed has at most " usual_routes " routes if --limit is left out, and at most " most_routes " in
 any case. Each add beyond is answered full, with status 0: look for full in the
@@ -202,7 +203,7 @@ Marks:
 The last line is `inside p` and the place that is inside, or `inside none`.
 
 Exit status:
-  0 done   5 memory refused (P3)   6 output not written
+  0 done   5 out of memory (`yarib: fault P3`)   6 output not written
   3 command line, a pick that is no place (P1), levels not 1 to 6 (P2)
 
 Example:
