@@ -263,6 +263,8 @@ add 255.255.255.255/32 5 192.0.2.1
 }
 
 COMPARED = [
+    call("diff north.feed south.feed east.feed -- north.feed south.feed /dev/null",
+         "10.9.0.0-10.9.255.255 discard -> via 192.0.2.2\n", 1),
     call("diff north.feed east.feed -- north.feed south.feed east.feed", """\
 10.0.0.0-10.0.255.255 via 192.0.2.1 -> via 192.0.2.2
 10.2.0.0-10.8.255.255 via 192.0.2.1 -> via 192.0.2.2

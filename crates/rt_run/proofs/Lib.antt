@@ -8,6 +8,7 @@ pub mod CountedLines
 pub mod InTurn
 pub mod SeveralFeeds
 pub mod SameTables
+pub mod LeftOut
 pub mod SameLookups
 pub mod SameTallies
 pub mod SameDiffs

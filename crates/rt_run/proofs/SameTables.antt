@@ -98,7 +98,7 @@ entries_explained law batch feed journal text lines explains =
     law feed _ journal explains.uncut ∙ (entries-pieces feed explains.pieces ∙ ap (λ cmds. entries feed (visit_of cmds)) all)
 
 -- a command that has its reply
-abbrev did : Cmd × Reply → Cmd × Outcome
+abbrev pub did : Cmd × Reply → Cmd × Outcome
 did p = (p.0, outcome.Did p.1)
 
 -- what a feed's entries leave is what their commands leave
@@ -108,7 +108,7 @@ table-entries_from : (limit feed : ℕ) (table : List Route) (visit : Visit)
 table-entries_from limit feed table [] = refl
 table-entries_from limit feed table (p ∷ visit) = table-entries_from limit feed (table_after limit table feed p.0) visit
 
-table-entries : (limit feed : ℕ) (visit : Visit) → table_of_journal limit (entries feed visit) ≡ table_alone limit feed (map did visit)
+pub table-entries : (limit feed : ℕ) (visit : Visit) → table_of_journal limit (entries feed visit) ≡ table_alone limit feed (map did visit)
 unfolding table_of_journal table_alone
 table-entries limit feed visit = table-entries_from limit feed [] visit
 
@@ -341,7 +341,7 @@ has_text journal n feed all (e ∷ own) is =
     inr (subst (λ f. (1 ≤ f) × (f ≤ n)) (eqb-true e.feed feed mine) within)
 
 -- the empty list contains nothing
-nothing : (r : Route) → Contains [] r → ⊥
+pub nothing : (r : Route) → Contains [] r → ⊥
 nothing r c = let within = c.1 in omega arith
 
 -- a route of a feed is among the feed's routes

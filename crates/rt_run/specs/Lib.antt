@@ -1,6 +1,7 @@
 pub mod AskedRun
 pub mod RunText
 pub mod SameTable
+pub mod LeftOut
 pub mod TableText
 pub mod DiffText
 pub mod SameDiff

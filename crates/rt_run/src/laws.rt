@@ -1,6 +1,7 @@
 //! What holds of every run of feeds, however its threads ran. Each function is a theorem: calling it makes its clause
 //! known, and it does nothing.
 ghost use Rattle.rt_run.specs.SameDiff.{DiffsUnions, DiffOnce};
+ghost use Rattle.rt_run.specs.LeftOut.{LosesLeftOut};
 ghost use Rattle.rt_run.specs.SameTable.{LeavesUnion, AnswersAlone, HaveSameTallies, HaveOneUnion, EndsInUnion, EndInOneTable, ShowsUnion, ShowOneTable, LookUpOnce};
 
 use rt_diff::laws::one_list;
@@ -42,6 +43,14 @@ pub fn one_union()
     ensures { HaveOneUnion }
 {
     one_table_of_set();
+}
+
+/// If the texts of some feeds are empty in a second run, and its other texts are those of a first, its union is that of the first
+/// without the routes of these feeds.
+pub fn loses_left_out()
+    ensures { LosesLeftOut }
+{
+    feeds_stand_alone();
 }
 
 /// So where no command was refused for want of memory, a run writes its reports and the table of the union.

@@ -1,0 +1,126 @@
+-- Why the table of a run without some feeds is the table of the whole run without their routes.
+use Rattle.std.proofs.Common.{◌≡◌, ℕ, ◌+◌, inl, inr, true, false, Some, List, [], ◌∷◌, ◌++◌}
+use Rattle.std.proofs.Common.{length, map, get_or, refl, sym, ap, subst, ◌∙◌, arith, eqb-true}
+use Rattle.std.specs.List.{slice_get, Contains}
+use Rattle.std.specs.Bool.{◌==◌}
+use Rattle.std.proofs.lemmas.Bool.{cases_Bool, eq-eqb, cond-true}
+use Rattle.std.proofs.lemmas.List.Elements.{All-contains, filter_passes}
+use Rattle.std.proofs.lemmas.Option.{slice_get-get_or, slice_get_within, same_Some}
+use Rattle.rt_rib.specs.declared.routes.Route.{Route}
+use Rattle.rt_rib.specs.declared.commands.Cmd.{Cmd}
+use Rattle.rt_rib.specs.declared.commands.Cmd.TheVariants.{Dump}
+use Rattle.rt_rib.specs.declared.commands.Reply.TheVariants.{Added}
+use Rattle.rt_rib.specs.Sequential.{table_of_journal}
+use Rattle.rt_rib.specs.Laws.{FeedsStandAlone, feed_entries, feed_routes}
+use Rattle.rt_shared.specs.declared.outcome.Outcome.{Outcome}
+use Rattle.rt_shared.specs.Visits.{Visit, entries}
+use Rattle.std.specs.Prelude.{codes}
+use Rattle.rt_feed.specs.declared.versions.Version.{Version}
+use Rattle.rt_feed.specs.declared.versions.Version.TheVariants.{One, Two}
+use Rattle.rt_feed.specs.Lines.{LineOutcome, CutsLine, IsBody, LinesBecome, Becomes, heading, asked_of, lf}
+use Rattle.rt_run.specs.SameTable.{table_alone, LeavesAlone}
+use Rattle.rt_run.specs.LeftOut.{LosesLeftOut}
+use Rattle.rt_run.proofs.SameTables.{commands, alone-commands, did, table-entries, nothing}
+
+-- commands, each with some reply
+abbrev answered : List (Cmd × Outcome) → Visit
+answered [] = []
+answered (one ∷ all) = (one.0, Added) ∷ answered all
+
+same_commands : (all : List (Cmd × Outcome)) → commands (map did (answered all)) ≡ commands all
+same_commands [] = refl
+same_commands (one ∷ all) = ap (λ cmds. one.0 ∷ cmds) (same_commands all)
+
+-- a feed's entries are all its own
+own_entries : (feed : ℕ) (visit : Visit) → feed_entries feed (entries feed visit) ≡ entries feed visit
+own_entries feed [] = refl
+own_entries feed (p ∷ visit) =
+    cond-true (feed == feed) _ _ (eq-eqb feed feed refl) ∙ ap (λ es. record { feed = feed; cmd = p.0; reply = p.1 } ∷ es) (own_entries feed visit)
+
+-- so what a feed's commands leave by themselves are routes of that feed
+alone_own : FeedsStandAlone → (limit feed : ℕ) (all : List (Cmd × Outcome)) (r : Route) → Contains (table_alone limit feed all) r → r.feed ≡ feed
+alone_own alone limit feed all r c =
+    let visit = answered all in
+    let left : table_of_journal limit (entries feed visit) ≡ table_alone limit feed all =
+    table-entries limit feed visit ∙ alone-commands limit feed (map did visit) all (same_commands all) in
+    let own : feed_routes feed (table_of_journal limit (entries feed visit)) ≡ table_alone limit feed all =
+    (alone limit feed (entries feed visit) Dump).0 ∙ (ap (table_of_journal limit) (own_entries feed visit) ∙ left) in
+    let Mine : Route → Type 0 = λ s. (s.feed == feed) ≡ true in
+    eqb-true r.feed feed
+    (All-contains Mine (feed_routes feed (table_of_journal limit (entries feed visit))) r (filter_passes (λ s. s.feed == feed) _)
+    (subst (λ l. Contains l r) (sym own) c))
+
+-- an empty text has no line, and so no command
+not_empty : (front rest : List ℕ) → [] ≡ front ++ lf ∷ rest → ⊥
+not_empty [] rest e = absurd (cc)
+not_empty (byte ∷ front) rest e = absurd (cc)
+
+no_cut : (line rest : List ℕ) → CutsLine [] line rest → ⊥
+no_cut line rest cut = elim cut.ended [ inl more ↦ not_empty line rest more | inr whole ↦ whole.1 (sym whole.0) ]
+
+no_lines : (version : Version) (lines : List ℕ) (read : List LineOutcome)
+    → IsBody [] version lines → LinesBecome version lines read [] → heading version ++ read ≡ []
+no_lines One lines [] body become = refl
+no_lines One lines (one ∷ others) body become =
+    absurd (no_cut become.0 become.1 (subst (λ text. CutsLine text become.0 become.1) body.1 become.2))
+no_lines Two lines read body become = absurd (no_cut (codes "version 2") lines body)
+
+none_asked : (lines : List LineOutcome) → Becomes [] lines [] → asked_of lines ≡ []
+none_asked lines is = ap asked_of (is.joined ∙ no_lines is.version is.lines is.read is.body is.become)
+
+alone-none : (limit feed : ℕ) → table_alone limit feed [] ≡ []
+unfolding table_alone
+alone-none limit feed = refl
+
+-- lists that agree at a place have the same element there
+same_place : (xs ys : List (List ℕ)) (k : ℕ) (text : List ℕ) → length xs ≡ length ys → get_or xs k [] ≡ get_or ys k []
+    → slice_get xs k ≡ Some text → slice_get ys k ≡ Some text
+same_place xs ys k text same agree is =
+    let within = slice_get_within xs k text is in
+    slice_get-get_or ys k [] (omega (arith, within, same)) ∙ (ap Some (sym agree) ∙ (sym (slice_get-get_or xs k [] within) ∙ is))
+
+-- the text of a feed that is left out leaves no route
+leaves_none : (texts : List (List ℕ)) (limit k : ℕ) (r : Route) → get_or texts k [] ≡ [] → LeavesAlone texts limit k r → ⊥
+leaves_none texts limit k r empty (text, lines, is, becomes, has) =
+    let whole : text ≡ [] = same_Some _ _ (sym is ∙ slice_get-get_or texts k [] (slice_get_within texts k text is)) ∙ empty in
+    let none : asked_of lines ≡ [] = none_asked lines (subst (λ t. Becomes t lines []) whole becomes) in
+    nothing r (subst (λ l. Contains l r) (ap (table_alone limit (k + 1)) none ∙ alone-none limit (k + 1)) has)
+
+pub loses_left_out : FeedsStandAlone → LosesLeftOut
+loses_left_out alone is_left_out all texts limit union rest without of_all of_rest r = (
+  (λ c.
+      let leaves = (of_rest.contains r).0 c in
+      let k = leaves.0 in
+      let own : r.feed ≡ k + 1 = alone_own alone limit (k + 1) (asked_of leaves.1.1) r leaves.1.4 in
+      elim (cases_Bool (is_left_out (k + 1))) [
+        | inl out ↦ absurd (leaves_none texts limit k r (without.empty k out) leaves.1)
+        | inr kept ↦ (
+          (of_all.contains r).1 (
+            k,
+            (
+              leaves.1.0,
+              leaves.1.1,
+              same_place texts all k leaves.1.0 without.as_many (without.others k kept) leaves.1.2,
+              leaves.1.3,
+              leaves.1.4,
+            ),
+          ),
+          ap is_left_out own ∙ kept,
+        )
+      ]),
+  (λ both.
+      let leaves = (of_all.contains r).0 both.0 in
+      let k = leaves.0 in
+      let own : r.feed ≡ k + 1 = alone_own alone limit (k + 1) (asked_of leaves.1.1) r leaves.1.4 in
+      let kept : is_left_out (k + 1) ≡ false = ap is_left_out (sym own) ∙ both.1 in
+      (of_rest.contains r).1 (
+        k,
+        (
+          leaves.1.0,
+          leaves.1.1,
+          same_place all texts k leaves.1.0 (sym without.as_many) (sym (without.others k kept)) leaves.1.2,
+          leaves.1.3,
+          leaves.1.4,
+        ),
+      )),
+)
