@@ -1,5 +1,6 @@
 """Runs of which requests for memory are refused, one after another, and what is compared of what they print."""
 import collections
+import itertools
 import os
 import re
 
@@ -34,18 +35,18 @@ def agree(found, wanted, what):
         raise Wrong(f"{what}: {found!r} in place of {wanted!r}")
 
 
-def refuse_each(words, compare, refuse, rest, kinds):
-    """Refuses each request of a case in turn, with all later ones where `rest` says so; how many there are."""
+def refuse_each(words, compare, refuse, rest, kinds, numbers=itertools.count):
+    """Refuses the requests of these numbers of a case in turn, with all later ones where `rest` says so, until there is
+    none of a number; how many were refused."""
     ample = run_refused(words, refuse, 0)
-    at = 0
-    while at == 0 or ending.refused:
-        at += 1
+    for tried, at in enumerate(numbers(1)):
         ending = run_refused(words, refuse, at, rest)
         try:
             compare(ending, ample, kinds)
         except Wrong as wrong:
             raise Wrong(f"request {at} refused{' and all later ones' if rest else ''}: {wrong}\n{ending}") from wrong
-    return at - 1
+        if not ending.refused:
+            return tried
 
 
 def answered_addresses(out):
