@@ -1020,10 +1020,14 @@ def progress_of_long_runs(yarib):
     expect("a long replay", on_terminal(replay, go_on=unread), (0, Tree(6).text(picks), ""))
     expect("a fault of a replay", on_terminal([yarib, "replay", "--levels", "7"], is_short=True),
            (3, "", "yarib: fault P2\n"))
-    pathlib.Path("dumps.feed").write_text("dump\n" * 40_000)
-    busy = [yarib, "table", "--batch", "1", *["dumps.feed"] * 64]
+    # each purge goes over all routes of the first feed
+    rows = "".join(f"add 10.{place >> 8}.{place & 255}.0/24 1 192.0.2.1\n" for place in range(20_000))
+    pathlib.Path("rows.feed").write_text(f"version 2\n{rows}")
+    pathlib.Path("purges.feed").write_text("version 2\n" + "add 255.0.0.0/8 1 192.0.2.1\npurge\n" * 250)
+    busy = [yarib, "table", "--feed", "2", "rows.feed", *["purges.feed"] * 63]
     expect("64 busy feeds", on_terminal(busy, "yarib: feeds running: 64"), (0, "", ""))
-    both = [yarib, "diff", "--batch", "1", *["dumps.feed"] * 32, "--", *["dumps.feed"] * 32]
+    side = ["rows.feed", *["purges.feed"] * 31]
+    both = [yarib, "diff", *side, "--", *side]
     expect("32 busy feeds compared with 32", on_terminal(both, "yarib: feeds running: 64"), (0, "", ""))
 
 
