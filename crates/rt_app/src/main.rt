@@ -10,6 +10,7 @@
 mod program;
 
 use program::{Stop, run_words, run_words_beside};
+pub use rt_run::{AppFault, replay_text, run_texts};
 use std::alloc::Global;
 use std::io::{self, IsTerminal, Write};
 use std::process::ExitCode;
