@@ -19,20 +19,20 @@
  * Statuses. Every call except yarib_free returns an enum yarib_status. YARIB_DONE is 0. If a call returns another status,
  * the handles are unchanged and nothing was written.
  *
- * Ownership. Initialize a handle with YARIB_EMPTY, fill it with yarib_new or yarib_forward, and release it with yarib_free;
+ * Ownership. Initialize a handle with YARIB_EMPTY, fill it with yarib_new, yarib_forward or yarib_share, and release it with yarib_free;
  * a second yarib_free is harmless. Never copy a handle: both copies would own its contents. Passing a pointer to it is
  * fine. No call keeps a pointer to your arrays, strings or structs.
  *
- * Threads. Only one call at a time may use a handle, also for look-ups. Protect a handle that threads share with your own
- * lock. Any thread may call. Calls on different handles need no lock, even if the handles share a forwarding table
- * (yarib_share): threads that each have a handle on it can look up concurrently.
+ * Threads. At most one call at a time may use a handle: two look-ups at once are forbidden, too. Protect a handle that
+ * threads share with your own lock. A handle belongs to no thread. Calls on different handles need no lock, even if they are
+ * handles to one forwarding table (yarib_share); so threads with a handle each can look up in it concurrently.
  *
- * Pointers must not be null, even for arrays without elements. Arrays that a call reads must not overlap arrays that it
- * writes. If a call takes two handles, they must be different. Define YARIB_CHECK to have these rules tested by assert, as
- * far as they can be tested.
+ * Pointers must not be null, even for arrays without elements. No memory that a call writes may overlap other memory that is
+ * passed to it. If a call takes two handles, they must be different. Define YARIB_CHECK to have these rules tested by
+ * assert, as far as they can be tested.
  *
- * docs/LIBRARIES.md of the repository lists the promises under yarib_c; the code behind this header is proved to keep
- * them. Your obligations are the rules in this comment. Nothing can check that you keep them.
+ * docs/LIBRARIES.md of the repository lists the promises under yarib_c, and says which are proved of the code behind this
+ * header and which are tested. Your obligations are the rules in this comment; the proofs assume that you keep them.
  */
 #ifndef YARIB_H
 #define YARIB_H
@@ -167,8 +167,8 @@ typedef struct yarib_difference {
     yarib_route after;
 } yarib_difference;
 
-/* Creates an empty table in which each feed may have up to `limit` routes, 1 to 1,000,000. `kind` is an enum yarib_kind. Frees
- * the handle's previous contents.
+/* Creates an empty table in which each feed may have up to `limit` routes, 1 to 1,000,000. `kind` is an enum yarib_kind. If it
+ * succeeds, the handle's previous contents are freed.
  * Errors: YARIB_BAD_NUMBER, YARIB_NO_MEMORY. */
 uint32_t yarib_new(yarib *table, uint32_t limit, uint32_t kind);
 
@@ -176,7 +176,7 @@ uint32_t yarib_new(yarib *table, uint32_t limit, uint32_t kind);
 void yarib_free(yarib *table);
 
 /* Executes a command, writes its reply, and appends both to the journal if there is one. For a table without a journal, only an
- * add that inserts a route allocates.
+ * add that inserts a route can run out of memory.
  * Errors: YARIB_NOTHING, YARIB_BAD_NUMBER (the feed), YARIB_BAD_COMMAND, YARIB_NO_MEMORY, YARIB_WRONG_KIND. */
 uint32_t yarib_apply(yarib *table, const yarib_command *command, yarib_reply *reply);
 
@@ -185,7 +185,7 @@ uint32_t yarib_apply(yarib *table, const yarib_command *command, yarib_reply *re
  * Errors: YARIB_NOTHING, YARIB_BAD_SIZE (the sizes differ). */
 uint32_t yarib_apply_each(yarib *table, const yarib_command *commands, size_t size, yarib_reply *replies, size_t room);
 
-/* Reserves capacity for this many further journal entries, if there is a journal, so that they don't allocate later.
+/* Reserves capacity for this many further journal entries, if there is a journal, so that appending them doesn't allocate.
  * Errors: YARIB_NOTHING, YARIB_NO_MEMORY. */
 uint32_t yarib_reserve(yarib *table, size_t entries);
 
@@ -205,7 +205,7 @@ uint32_t yarib_look_up_all(yarib *table, uint32_t address, size_t skip, yarib_ro
  * Errors: YARIB_NOTHING, YARIB_NO_MEMORY, YARIB_WRONG_KIND. */
 uint32_t yarib_routes(yarib *table, size_t skip, yarib_route *routes, size_t room, size_t *total);
 
-/* Writes the routes in the same order from the position `from` on, up to `room` of them, and their number to `used`. `base`, `len`,
+/* Writes the routes at and after the position `from`, in the same order, up to `room` of them, and their number to `used`. `base`, `len`,
  * `pref` and `feed` of `from` are the position; a route there need not exist. If `pref` and `feed` are 0, the position is before all
  * routes to the prefix. To get the next page, pass the last route of this page with its `feed` increased by 1, even if the table has
  * changed. Doesn't allocate, and visits only what it writes.
@@ -227,20 +227,21 @@ uint32_t yarib_count(yarib *table, size_t *total);
  * Errors: YARIB_NOTHING, YARIB_WRONG_KIND (there is no journal). */
 uint32_t yarib_journal(yarib *table, size_t skip, yarib_entry *entries, size_t room, size_t *total);
 
-/* Finds the first range, from the address `from` on, for which two tables give different answers. Compares next hops if `by` is 0,
+/* Finds the first range, from the address `from` on, for which two tables give different answers; a range that contains `from`
+ * is reported from `from` on. Compares next hops if `by` is 0,
  * whole routes if it is 1. When comparing next hops, only `hop` and `via` of the answers are set; all else is 0. To continue, pass
- * the address after the range's last one, if there is one. The handles must be different.
+ * `last` + 1, unless `last` is 255.255.255.255. The handles must be different.
  * Errors: YARIB_NOTHING, YARIB_BAD_NUMBER (by), YARIB_NONE_LEFT (no further range), YARIB_WRONG_KIND. */
 uint32_t yarib_first_difference(yarib *old_table, yarib *new_table, uint32_t by, uint32_t from,
     yarib_difference *difference);
 
 /* Builds a forwarding table from the table's current answers. It takes 64 MiB or more, and a look-up takes two or three reads. Later
- * changes of the table don't change it. Frees the previous contents of `forwarding`.
+ * changes of the table don't change it. If it succeeds, the previous contents of `forwarding` are freed.
  * Errors: YARIB_NOTHING, YARIB_NO_MEMORY, YARIB_WRONG_KIND (the first handle doesn't hold a table). */
 uint32_t yarib_forward(yarib *table, yarib *forwarding);
 
-/* Makes `other` a second handle to the same forwarding table, for another thread. The table is freed with its last handle. Frees the
- * previous contents of `other`. The handles must be different.
+/* Makes `other` a second handle to the same forwarding table, for another thread. The table is freed with its last handle. If it
+ * succeeds, the previous contents of `other` are freed. The handles must be different.
  * Errors: YARIB_NOTHING, YARIB_NO_MEMORY, YARIB_WRONG_KIND (the first handle doesn't hold a forwarding table). */
 uint32_t yarib_share(yarib *forwarding, yarib *other);
 
@@ -253,8 +254,8 @@ uint32_t yarib_follow(yarib *table);
 
 /* Writes a size in bytes. For a forwarding table it is the table's memory, counted once for all its handles. For a table it is an
  * estimate: 48 for each node (at most two a prefix), 56 for each journal entry, and the size of an attached forwarding table. glibc
- * allocates at least this much, and, apart from 1 KiB, at most a quarter more, plus up to 96 for each route that isn't the first to
- * its prefix. A journal without reserved capacity takes up to twice as much.
+ * allocates at least this much, and at most 1.25 times as much, plus 1 KiB, plus 96 for each route after the first to its prefix. A
+ * journal without reserved capacity takes up to twice as much.
  * Errors: YARIB_NOTHING. */
 uint32_t yarib_memory(yarib *table, size_t *bytes);
 
