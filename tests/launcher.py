@@ -277,12 +277,18 @@ def begun_build(copy, crate):
     pid = pathlib.Path(f"{copy.notes}.pid")
     pid.unlink(missing_ok=True)
     how = {"env": copy.names() | {"HANGS": crate}, "stdin": subprocess.DEVNULL, "cwd": copy.top,
-           "stdout": subprocess.PIPE, "stderr": subprocess.PIPE, "start_new_session": True}
+           "stdout": subprocess.PIPE, "stderr": subprocess.PIPE, "start_new_session": True, "preexec_fn": heed_signals}
     with subprocess.Popen([copy.top / "yarib", "run"], **how) as call:
         wait_until(lambda: pid.exists() and pid.read_text().endswith("\n"))
         yield call, int(pid.read_text())
         if call.poll() is None:
             call.terminate()
+
+
+def heed_signals():
+    """Undoes that whoever started this script in the background had it ignore signals, which a shell can't."""
+    for number in (signal.SIGINT, signal.SIGHUP, signal.SIGQUIT):
+        signal.signal(number, signal.SIG_DFL)
 
 
 def wait_until(is_so):
