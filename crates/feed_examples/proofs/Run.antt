@@ -1,6 +1,6 @@
 -- Examples by which the definitions of rt_run are tested, each under a line with the definition's name. Both sides are
 -- computed, but for the texts that are written for numbers, which have one spelling each.
-use Rattle.std.proofs.Common.{◌≡◌, ◌≢◌, ℕ, ◌+◌, ◌≤◌, ◌==◌, ◌&&◌, nat_le, Bool, true, false, if◌then◌else◌, Some, None, Ok, Err}
+use Rattle.std.proofs.Common.{◌≡◌, ◌≢◌, ℕ, zero, suc, ◌+◌, ◌≤◌, ◌==◌, ◌&&◌, nat_le, max, Bool, true, false, if◌then◌else◌, Some, None, Ok, Err}
 use Rattle.std.proofs.Common.{List, [], ◌∷◌, ◌++◌, length, map, filter, take, drop, inl, inr, codes, refl, sym, ap, ◌∙◌, subst, arith, append-nil}
 use Rattle.std.specs.List.{All, list_any, list_all}
 use Rattle.std.proofs.lemmas.Bool.{and_parts, eqb-true, eqb-false, leb-true}
@@ -20,7 +20,7 @@ use Rattle.rt_rib.specs.LookUp.{look_up, look_up_all}
 use Rattle.table_examples.proofs.Rib.{entry, at_10_1_2_3, at_10_9_0_1, ten_1_16, ten_9_16, via_192_0_2, route_via}
 use Rattle.table_examples.proofs.Cidr.{ten_8}
 use Rattle.table_examples.proofs.Rib.{tutorial, the_journal_of_the_tutorial, the_table_of_the_tutorial}
-use Rattle.rt_shared.specs.Visits.{Uncut, visit_of, entries}
+use Rattle.rt_shared.specs.Visits.{Uncut, NoneBy, Since, visit_of, entries}
 use Rattle.rt_shared.specs.declared.outcome.Outcome.{Outcome}
 use Rattle.rt_shared.specs.declared.outcome.Outcome.TheVariants.{Did, Refused}
 use Rattle.rt_feed.specs.declared.parse.LineFault.TheVariants as fault
@@ -36,7 +36,13 @@ use Rattle.feed_examples.proofs.Feed.{at_192_0_2_1, asked_text, two_are_asked_an
 use Rattle.feed_examples.proofs.Feed.{north, north_read, south, south_read, east, east_read, what_north_becomes, what_south_becomes, what_east_becomes}
 use Rattle.rt_diff.specs.declared.comparison.Difference.{Difference}
 use Rattle.rt_feed.specs.DifferenceText.{SideStylesContents}
-use Rattle.rt_run.specs.DiffText.{AskedDiff, differ_status}
+use Rattle.rt_diff.specs.Answers.{by_own}
+use Rattle.rt_diff.specs.declared.table_answers.By.TheVariants as by
+use Rattle.table_examples.proofs.Diff.{a_table_and_itself_have_none}
+use Rattle.rt_run.specs.DiffText.{AskedDiff, differ_status, IsDiffText}
+use Rattle.rt_run.specs.declared.compared.DiffSummary.{DiffSummary}
+use Rattle.ya_lock.specs.Lock.{LockId}
+use Rattle.rt_shared.specs.Table.{SharedId, HeldPass, Settles}
 use Rattle.rt_run.specs.declared.faults.AppFault.TheVariants.{Run, Replay, Write}
 use Rattle.rt_run.specs.AskedRun.{AskedRun}
 use Rattle.rt_run.specs.RunText.{Explains, ExplainsFrom, IsHistory, reports_of, reports_text, some_refused, status_where, reports_status, IsRunText, Leaves}
@@ -713,3 +719,86 @@ some_range_or_none d = (refl, refl, refl)
 what_a_comparison_is_asked : (way : By) (numbers : List ℕ) (told : SideStylesContents) (asked : AskedDiff) → asked ≡ record { by = way; numbers = numbers; styles = told }
     → (asked.by ≡ way) × (asked.numbers ≡ numbers) × (asked.styles ≡ told)
 what_a_comparison_is_asked way numbers told terms is = (ap (λ (a : AskedDiff). a.by) is, ap (λ (a : AskedDiff). a.numbers) is, ap (λ (a : AskedDiff). a.styles) is)
+
+-- a comparison of whole routes, feeds told by their own numbers
+abbrev whole_routes : SideStylesContents → AskedDiff
+whole_routes styles = record { by = by.Route; numbers = []; styles = styles }
+
+-- IsDiffText
+nothing_is_written_of_a_run_and_itself :
+    (styles : SideStylesContents) (old new : RunSummary) → old.tallies.items ≡ map tally_of (reports_of the_tutorials_outcomes) → old.status ≡ 0
+    → new.tallies.items ≡ map tally_of (reports_of the_tutorials_outcomes) → new.status ≡ 0
+    → IsDiffText (whole_routes styles) the_tutorials_run the_tutorials_run [] (record { status = 0; old = old; new = new })
+nothing_is_written_of_a_run_and_itself styles old new old_tallied old_status new_tallied new_status = record {
+  old_table = table_of_journal 65536 tutorial;
+  new_table = table_of_journal 65536 tutorial;
+  old_left = what_the_tutorial_leaves old old_tallied old_status;
+  new_left = what_the_tutorial_leaves new new_tallied new_status;
+  list = [];
+  differences = a_table_and_itself_have_none (by_own (table_of_journal 65536 tutorial));
+  printed = refl;
+  is_status = rw old_status (rw new_status refl);
+}
+
+differ_is_0_or_1 : (list : List Difference) → differ_status list ≤ 1
+differ_is_0_or_1 [] = omega arith
+differ_is_0_or_1 (d ∷ list) = omega arith
+
+never_status_2_of_two_runs_without_faults :
+    (terms : AskedDiff) (old new : AskedRun) (bytes : List ℕ) (given : DiffSummary) → given.old.status ≡ 0 → given.new.status ≡ 0
+    → given.status ≡ 2 → ¬ IsDiffText terms old new bytes given
+never_status_2_of_two_runs_without_faults terms old new bytes given old_status new_status status is = by (differ_status is.list) (differ_is_0_or_1 is.list) told
+  where
+    told : 2 ≡ max (differ_status is.list) (max 0 0)
+    told = sym status ∙ is.is_status ∙ ap (λ n. max (differ_status is.list) (max n given.new.status)) old_status ∙ ap (λ n. max (differ_status is.list) (max 0 n)) new_status
+
+    by : (n : ℕ) → n ≤ 1 → 2 ≢ max n (max 0 0)
+    by zero small same = cc
+    by (suc zero) small same = cc
+    by (suc (suc n)) small same = absurd (omega (arith, small))
+
+-- entries of which none is this feed's, by their numbers
+none_of : (feed : ℕ) (entries : List Entry) → list_all (λ e. if e.feed == feed then false else true) entries ≡ true → NoneBy feed entries
+none_of feed [] all = All-nil (λ (e : Entry). e.feed ≢ feed)
+none_of feed (e ∷ entries) all =
+    let parts = and_parts (if e.feed == feed then false else true) (list_all (λ e. if e.feed == feed then false else true) entries) all in
+    All-cons (λ (e : Entry). e.feed ≢ feed) e entries (eqb-false e.feed feed (is_false (e.feed == feed) parts.0)) (none_of feed entries parts.1)
+  where
+    is_false : (b : Bool) → (if b then false else true) ≡ true → b ≡ false
+    is_false true none = cc
+    is_false false none = refl
+
+-- the tutorial's shared table, and a pass of one of its four feeds that has seen so many entries
+abbrev the_tutorials_table : LockId → SharedId
+the_tutorials_table lock = record { lock = lock; limit = 65536; feeds = 4 }
+
+abbrev pass_after : LockId → ℕ → ℕ → HeldPass
+pass_after lock feed count = record { table = the_tutorials_table lock; feed = feed; seen = take count tutorial }
+
+seen_by : (lock : LockId) (feed count : ℕ) → tutorial ≡ take count tutorial ++ drop count tutorial
+    → list_all (λ e. if e.feed == feed then false else true) (drop count tutorial) ≡ true → Since feed (pass_after lock feed count).seen tutorial
+seen_by lock feed count whole none = record { others = drop count tutorial; grown = whole; by_others = none_of feed (drop count tutorial) none }
+
+-- Settles
+the_passes_of_the_tutorial_settle :
+    (lock : LockId) → Settles (the_tutorials_table lock) (pass_after lock 1 3 ∷ pass_after lock 2 7 ∷ pass_after lock 3 11 ∷ pass_after lock 4 0 ∷ []) tutorial
+the_passes_of_the_tutorial_settle lock = record {
+  lawful = the_journal_of_the_tutorial;
+  of_feeds = by_range 4 tutorial refl;
+  since =
+      All-cons IsSince (pass_after lock 1 3) (pass_after lock 2 7 ∷ pass_after lock 3 11 ∷ pass_after lock 4 0 ∷ []) (seen_by lock 1 3 refl refl)
+      (All-cons IsSince (pass_after lock 2 7) (pass_after lock 3 11 ∷ pass_after lock 4 0 ∷ []) (seen_by lock 2 7 refl refl)
+      (All-cons IsSince (pass_after lock 3 11) (pass_after lock 4 0 ∷ []) (seen_by lock 3 11 refl refl)
+      (All-cons IsSince (pass_after lock 4 0) [] (seen_by lock 4 0 refl refl) (All-nil IsSince))));
+}
+  where
+    IsSince : HeldPass → Type 0
+    IsSince p = Since p.feed p.seen tutorial
+
+not_if_a_pass_has_missed_an_entry_of_its_feed :
+    (lock : LockId) (journal : List Entry) (e : Entry) → e.feed ≡ 1
+    → ¬ Settles (the_tutorials_table lock) (record { table = the_tutorials_table lock; feed = 1; seen = [] } ∷ []) (e ∷ journal)
+not_if_a_pass_has_missed_an_entry_of_its_feed lock journal e own h =
+    let since = h.since 0 (record { table = the_tutorials_table lock; feed = 1; seen = [] }) (omega arith) in
+    let same : since.others ≡ e ∷ journal = sym since.grown in
+    since.by_others 0 e (rw same (omega arith)) (rw same refl ∙ own)

@@ -133,7 +133,7 @@ by_what_and_both_tables : (one_and_none.by ≡ by.Hop) × (one_and_none.old_tabl
 by_what_and_both_tables = (refl, refl, refl)
 
 -- AreDifferences
-a_table_and_itself_have_none : (table : ToldTable) → AreDifferences by.Route table table []
+pub a_table_and_itself_have_none : (table : ToldTable) → AreDifferences by.Route table table []
 a_table_and_itself_have_none table = record {
   each = All-nil (IsDifference by.Route table table);
   all = λ addr fits unlike. absurd (unlike refl);
