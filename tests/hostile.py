@@ -119,8 +119,9 @@ def refused_commands(yarib):
 
 # Fails where a look-up of many addresses ends with F3 where the memory of a forwarding table is refused.
 def refused_forwarding(yarib):
-    """Look-ups of so many addresses that a forwarding table answers them, whose requests for memory are refused: of the
-    last ones, which are that table's and one for the output, only the output's keeps the answers from being printed."""
+    """Look-ups of so many addresses that a forwarding table answers them, whose requests for memory are refused. The last
+    ones are that table's, one for the tallies and one for the output: only the last two keep the answers from being
+    printed."""
     refuse = refuser(pathlib.Path.cwd())
     text, asked, answers = many_routes(FORWARDED[1])
     times = FORWARDED[0] // len(asked) + 1
@@ -132,10 +133,10 @@ def refused_forwarding(yarib):
         middle = (made + beyond) // 2
         made, beyond = (middle, beyond) if run_refused(words, refuse, middle).refused else (made, middle)
     whole = (0, "".join(answers) * times, "")
-    ends = [run_refused(words, refuse, made - back)[:3] for back in (0, 1, 2, 5, 10, 20)]
+    ends = [run_refused(words, refuse, made - back)[:3] for back in (0, 1, 2, 3, 6, 11, 21)]
     refused = (5, "", "yarib: fault F3\n")
     found = ["whole" if ended == whole else "refused" if ended == refused else "else" for ended in ends]
-    expect("look-ups where a forwarding table is refused", found, ["refused"] + ["whole"] * 5)
+    expect("look-ups where a forwarding table is refused", found, ["refused"] * 2 + ["whole"] * 5)
 
 
 # Files
