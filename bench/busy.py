@@ -1,11 +1,11 @@
 #!/usr/bin/env python3
-"""Times `yarib run` beside other work: with several files, with one file of the same lines, and the plain program, in
+"""Times `yarib run` on a busy machine: with several files, with one file of the same lines, and the plain program, in
 turn.
 
 Needs rustc. It starts twice as many busy processes as there are processors, in the ordinary scheduling class, and ends
-them by their ids. For each number of files and batch all run so many rounds in turn, with so many lines in all. Prints
-the middle time on the clock and of the processors, in milliseconds, the least and the greatest on the clock, and the
-ratios to one file and to the plain program; the last rows are of the quiet machine.
+them by their ids. For each number of files and batch size, all three run in turn for the given number of rounds, with
+the given number of lines in all. Prints the median wall-clock time and CPU time in milliseconds, the minimum and the
+maximum wall-clock time, and the ratios to one file and to the plain program. The last rows are of the quiet machine.
 """
 import os
 import pathlib
@@ -25,7 +25,7 @@ BUSY = "while True: pass"
 
 
 def start_others(count):
-    """So many processes that never rest."""
+    """This number of processes that never sleep."""
     return [subprocess.Popen([sys.executable, "-c", BUSY]) for _ in range(count)]
 
 
@@ -36,12 +36,12 @@ def end_others(others):
 
 
 def spread(times):
-    """The middle one, the least and the greatest, in milliseconds."""
+    """The median, the minimum and the maximum, in milliseconds."""
     return [round(pick(times) * 1e3, 1) for pick in (statistics.median, min, max)]
 
 
 def compare(cases, batch, rounds):
-    """Seconds on the clock and of the processors of each case and round: several files, one file, the plain program."""
+    """Seconds of wall-clock and CPU time of each case and round: several files, one file, the plain program."""
     yarib, peer, several, one = cases
     words = [yarib, "run", "--batch", str(batch)]
     runs = [[*words, *several], [*words, *one], [peer, *one]]
@@ -50,7 +50,7 @@ def compare(cases, batch, rounds):
 
 
 def row(folder, programs, files, batch, others, rounds, lines):
-    """Measures one case, prints its row and gives its measures."""
+    """Measures one case, prints its row and returns its measurements."""
     several, one = (sorted((folder / str(count)).iterdir()) for count in (files, 1))
     clock, processors = compare((*programs, several, one), batch, rounds)
     ours, alone, plain = (spread(times) for times in clock)
@@ -65,7 +65,7 @@ def row(folder, programs, files, batch, others, rounds, lines):
 
 
 def rows(folder, programs, others, rounds, lines):
-    """Each case beside so many busy processes."""
+    """Each case while this number of busy processes runs."""
     started = start_others(others)
     try:
         return [row(folder, programs, files, batch, others, rounds, lines) for files in FILES for batch in BATCHES]
@@ -83,8 +83,8 @@ def main():
             (folder / str(files)).mkdir()
             write(folder / str(files), lambda: deal(table, files))
         programs = (yarib, figures.built_peer(folder, "peer.rs"))
-        print("                      several files on the clock  one file    plain     ratios of the clock  of processors")
-        print("beside files batch    middle   least    most   middle   middle to one  to plain     to one")
+        print("                      several files, wall clock   one file    plain     wall-clock ratios    CPU ratio")
+        print("busy   files batch    median minimum maximum   median   median to one  to plain     to one")
         measured = [found for others in (2 * os.cpu_count(), 0)
                     for found in rows(folder, programs, others, rounds, len(table))]
     figures.keep("busy", rounds, measured)

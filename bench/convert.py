@@ -1,10 +1,10 @@
 #!/usr/bin/env python3
-"""Times the converters of examples/convert, and the scripts of examples/map, on tables that it makes.
+"""Times the converters of convert/, and the scripts of map/, on tables that it makes.
 
-Needs python3 alone. The inputs have so many prefixes with the lengths of a real table, and 100,000 different paths;
-each is read from a file so many rounds. With --peers there is one input, a dump of 20 peers with so many routes each,
-which for 1,000,000 is a file of 2 GB. Prints for each script the least time on the clock and of the processors (user
-and system), and the peak memory.
+Needs only python3. The inputs have the given number of prefixes with the lengths of a real table, and 100,000 different
+paths; each is read from a file in each round. With --peers there is a single input, a dump of 20 peers with the given
+number of routes each; for 1,000,000 it is a file of 2 GB. Prints for each script the minimum wall-clock time and CPU
+time (user and system), and the peak memory.
 """
 import argparse
 import json
@@ -18,13 +18,12 @@ from inputs import real_prefixes, write_apart
 from table_model import dotted
 from timed import passed
 
-EXAMPLES = figures.TOP / "examples"
 PEERS = 20
 PATHS = 100_000
 
 
 def prefixes(count):
-    """So many prefixes in rising order, as daemons and collectors list them."""
+    """`count` prefixes in rising order, as daemons and collectors list them."""
     return [f"{dotted(base)}/{length}" for base, length in sorted(real_prefixes(count, random.Random(1)))]
 
 
@@ -55,7 +54,7 @@ def updates(count):
 
 
 def of_bird(count):
-    """What `birdc show route` prints."""
+    """The output of `birdc show route`."""
     draw = random.Random(3)
     yield "BIRD 2.0.12 ready.\nTable master4:\n"
     for prefix in prefixes(count):
@@ -64,7 +63,7 @@ def of_bird(count):
 
 
 def of_bird_all(count):
-    """What `birdc show route all` prints of routes from BGP."""
+    """The output of `birdc show route all` for routes from BGP."""
     draw, some = random.Random(3), paths()
     yield "BIRD 2.0.12 ready.\nTable master4:\n"
     for prefix in prefixes(count):
@@ -91,14 +90,14 @@ def of_kernel(count):
 
 
 def of_table(count):
-    """What `yarib run` prints."""
+    """The output of `yarib run`."""
     yield f"table {count}\n"
     for prefix in prefixes(count):
         yield f"{prefix} feed 1 pref 1 via 192.0.2.1\n"
 
 
 def of_best_routes(count):
-    """What `yarib table --best` prints of 20 feeds and 40 next hops, of which some have far more routes than others."""
+    """The output of `yarib table --best` for 20 feeds and 40 next hops, some with far more routes than others."""
     draw, hops = random.Random(3), range(1, 41)
     for prefix in prefixes(count):
         hop, = draw.choices(hops, [1 / number for number in hops])
@@ -106,7 +105,7 @@ def of_best_routes(count):
 
 
 def of_comparison(count):
-    """What `yarib diff` prints: a /24 in each of so many parts of the address space."""
+    """The output of `yarib diff`: a /24 in each of `count` parts of the address space."""
     draw, hops = random.Random(3), [f"via 192.0.2.{number}" for number in range(1, 41)]
     for number in range(count):
         base, (old, new) = number * (1 << 32) // count & ~255, draw.sample(hops, 2)
@@ -130,7 +129,7 @@ OF_PEERS = (("bgpdump-to-feeds", f"{PEERS} peers", lambda count: dumped(count, P
 
 
 def measure(words, path):
-    """Seconds on the clock and of the processors, and peak bytes of a converter that reads that file."""
+    """Seconds of wall-clock and CPU time, and peak bytes of a converter that reads that file."""
     with open(path, "rb") as file:
         return passed(words, stdin=file, stdout=subprocess.DEVNULL)
 
@@ -145,7 +144,7 @@ def main():
         with tempfile.TemporaryDirectory() as made:
             path, folder = pathlib.Path(made) / "input", pathlib.Path(made) / "feeds"
             write_apart(path, lines(words.routes))
-            script = EXAMPLES / ("map" if name.endswith("map") else "convert") / name
+            script = figures.TOP / ("map" if name.endswith("map") else "convert") / name
             call = [script, *([folder] if name.endswith("feeds") else [])]
             rounds = [measure(call, path) for _ in range(words.rounds)]
             seconds, processors, peak = map(min, zip(*rounds))

@@ -1,12 +1,12 @@
 #!/usr/bin/env python3
-"""Compares what `yarib diff` prints with what a plain program does, and times it beside the loading of its files.
+"""Compares the output of `yarib diff` with that of a plain program, and its time with that of loading its files.
 
-Needs rustc. The old table has so many prefixes, of lengths as in a full table of the Internet; the new one is without
-some of them, has others beside, or has them by another hop, so many changes in all. Told is the time of `diff` beside
-that of two runs that look one address up, the old files' and the new ones': what a comparison takes beyond them, as a
-part of what they take, on the clock and of the processor; the least of five. In turn with these runs a program in plain
-Rust does the same (bench/diff_peer.rs), and where the system's python3 has py-radix (Debian's python3-radix) that is
-loaded with both tables and asked at each border.
+Needs rustc. The old table has the given number of prefixes, with lengths as in a full table of the Internet. The new
+one differs by the given number of changes: prefixes that are missing, new prefixes, and prefixes with another next hop.
+The loading time is that of two runs that look up one address, in the old files' table and in the new ones'. It prints
+the time that `diff` takes beyond these two runs, as a part of their time: wall-clock and CPU time, the minimum of five.
+In turn with these runs a program in plain Rust does the same (bench/diff_peer.rs). If the system's python3 has py-radix
+(Debian's python3-radix), it is loaded with both tables and looks up each boundary.
 """
 import pathlib
 import random
@@ -19,13 +19,13 @@ import figures
 import checks
 from table_model import dotted
 
-# How many of a hundred prefixes are of this length.
+# The number of prefixes of this length among a hundred.
 LENGTHS = [24] * 60 + [23] * 9 + [22] * 11 + [21] * 4 + [20] * 5 + [19] * 3 + [18] * 2 + [17] + [16] * 3 + [14, 12]
 ROUNDS = 5
 
 
 def drawn(count):
-    """So many prefixes, each with a hop: `{(base, length): hop}`."""
+    """`count` prefixes, each with a next hop: `{(base, length): hop}`."""
     draw = random.Random(7)
     table = {}
     while len(table) < count:
@@ -35,7 +35,7 @@ def drawn(count):
 
 
 def changed(table, changes):
-    """The table after so many changes: some prefixes gone, some new, some by another hop."""
+    """The table after `changes` changes: some prefixes gone, some new, some with another next hop."""
     draw = random.Random(8)
     after = dict(table)
     for number, prefix in enumerate(draw.sample(sorted(table), changes)):
@@ -54,7 +54,8 @@ def write(path, table):
                             for (base, length), hop in table.items()))
 
 
-# Asks py-radix at each border of both tables; prints the seconds of loading and of asking, and how many answers differ.
+# Looks up each boundary of both tables in py-radix; prints the seconds of loading and of look-ups, and how many answers
+# differ.
 RADIX = """
 import sys, time
 import radix
@@ -82,17 +83,17 @@ print(asked - start, time.monotonic() - asked, differ)
 
 
 def tell_radix(old, new):
-    """Tells what py-radix takes, where it is there."""
+    """Prints the times of py-radix, if it is installed."""
     asked = subprocess.run(["/usr/bin/python3", "-c", RADIX, old, new], capture_output=True, text=True)
     if asked.returncode != 0:
-        print("py-radix: not there")
+        print("py-radix: not installed")
         return
     loading, asking, differ = asked.stdout.split()
-    print(f"py-radix  loading {float(loading):.3f} s, asking at each border {float(asking):.3f} s: {differ} answers differ")
+    print(f"py-radix  loading {float(loading):.3f} s, looking up each boundary {float(asking):.3f} s: {differ} answers differ")
 
 
 def timed(words):
-    """The seconds of a call on the clock and of the processor, and what it ended with."""
+    """The seconds of wall-clock and CPU time of a call, and how it ended."""
     before, start = resource.getrusage(resource.RUSAGE_CHILDREN), time.monotonic()
     ended = subprocess.run(words, capture_output=True, text=True)
     clock, after = time.monotonic() - start, resource.getrusage(resource.RUSAGE_CHILDREN)

@@ -1,7 +1,7 @@
-//! The same comparison in plain Rust, std alone: what the benchmark compares `yarib diff` with. Its arguments are an old feed
-//! file and a new one, of `add` lines alone; it sorts each table's prefixes, goes over both in order with a stack of the
-//! prefixes that are open, and prints the ranges of addresses that are answered otherwise. On standard error it tells the
-//! nanoseconds that reading and sorting took, and those of comparing and printing.
+//! The same comparison in plain Rust with only std: the baseline for `yarib diff`. Its arguments are an old feed file
+//! and a new one, with only `add` lines. It sorts each table's prefixes, goes over both in order with a stack of the
+//! open prefixes, and prints the ranges of addresses with different answers. On standard error it prints the
+//! nanoseconds of reading and sorting, and those of comparing and printing.
 use std::io::{self, Write};
 use std::net::Ipv4Addr;
 use std::time::Instant;
@@ -42,7 +42,7 @@ fn table(name: &str) -> io::Result<Vec<Route>> {
 /// From an address on, this next hop, or none.
 type Piece = (u32, Option<u32>);
 
-/// From which address on the table has which next hop.
+/// The addresses from which on the table has another next hop, each with that next hop.
 fn pieces(routes: &[Route]) -> Vec<Piece> {
     let mut pieces = vec![(0, None)];
     let mut open: Vec<&Route> = Vec::new();
@@ -69,7 +69,7 @@ fn said(hop: Option<u32>) -> String {
     hop.map_or("no route".to_string(), |hop| format!("via {}", Ipv4Addr::from(hop)))
 }
 
-/// Writes the ranges that the two answer otherwise.
+/// Writes the ranges for which the two answers differ.
 fn compare(old: &[Piece], new: &[Piece], out: &mut impl Write) -> io::Result<()> {
     let (mut at_old, mut at_new) = (0, 0);
     let mut begun = (0, old[0].1, new[0].1);

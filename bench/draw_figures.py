@@ -13,13 +13,13 @@ import figures
 
 FOLDER = figures.TOP / "docs/pictures"
 INK, QUIET, BLUE, GREEN, ORANGE = "#222", "#777", "#1f5fa8", "#1a7f37", "#b3541e"
-# Of a panel, in a picture of so many.
+# The width of a panel, by the number of panels in a figure.
 WIDTHS = {1: 560, 2: 300, 3: 260, 4: 230}
 HEIGHT, LEFT, TOP, GAP = 220, 70, 70, 70
 
 
 def top_of(most):
-    """The least of 1, 2, 2.5, 4, 5, 8 and 10 times a power of ten that isn't below it, and in how many parts."""
+    """The lowest of 1, 2, 2.5, 4, 5, 8 and 10 times a power of ten that isn't below `most`, and its number of parts."""
     power = 1.0
     while power * 10 < most:
         power *= 10
@@ -122,8 +122,8 @@ PROGRAM = [("plain Rust", ORANGE, True), ("yarib, batch 1", QUIET, False), ("bat
 
 
 def program_lines(rows, number, measure):
-    """The lines of the program's kinds: microseconds a line of text, by this number. The plain program takes one
-    command at a time; of its three times the least is shown."""
+    """The lines of the program's kinds: microseconds for each line of text, by this number. The plain program executes
+    one command at a time; the minimum of its three times is used."""
     numbers = sorted({row[number] for row in rows})
     of = {(row[number], row["batch"]): [time * 1000 / row["lines"] for time in row[measure]] for row in rows}
     plain = [(each, min(of[each, batch][1] for batch in (1, 16, 256))) for each in numbers]
@@ -132,7 +132,7 @@ def program_lines(rows, number, measure):
 
 def time_by_prefixes():
     kept = figures.kept("sizes")
-    panels = [("on the clock", program_lines(kept["rows"], "prefixes", "clock"))]
+    panels = [("wall-clock time", program_lines(kept["rows"], "prefixes", "clock"))]
     return charts("One file, a table that changes", "µs a line", "prefixes", PROGRAM, panels, kept)
 
 
@@ -144,7 +144,7 @@ def time_by_feeds():
          program_lines([row for row in kept["rows"] if row["on"] == some], "files", "clock"))
         for some in on
     ]
-    return charts("Feeds that announce the same 20,000 prefixes, on the clock", "µs a line", "feeds", PROGRAM,
+    return charts("Feeds that announce the same 20,000 prefixes", "µs a line, wall-clock time", "feeds", PROGRAM,
                   panels, kept)
 
 
@@ -153,10 +153,11 @@ def time_beside_others():
     kinds = [("plain Rust", ORANGE, True), ("yarib, batch 1", QUIET, False), ("batch 256", BLUE, False)]
     panels = [(title, busy_lines([row for row in kept["rows"] if bool(row["others"]) == busy]))
               for title, busy in BESIDE]
-    return charts("The same lines in one file and in several, on the clock", "µs a line", "files", kinds, panels, kept)
+    head = "The same lines in one file and in several"
+    return charts(head, "µs a line, wall-clock time", "files", kinds, panels, kept)
 
 
-BESIDE = (("nothing else on the machine", False), ("beside busy processes", True))
+BESIDE = (("nothing else on the machine", False), ("with busy processes", True))
 
 
 def busy_lines(rows):
@@ -177,7 +178,7 @@ def lock_by_threads():
     kinds = [("yarib's lock", BLUE, False), ("the same in C", ORANGE, True), ("std's mutex", QUIET, False)]
     panels = [
         (title, [[(row["threads"], row[measure][kind]) for row in rows] for kind in range(3)])
-        for title, measure in (("on the clock", "clock"), ("of the processors", "processors"))
+        for title, measure in (("wall-clock time", "clock"), ("processor time", "processors"))
     ]
     return charts("A passage of six levels, one increment inside", "ns", "threads", kinds, panels, kept)
 
@@ -192,7 +193,7 @@ def trie_by_size():
                  for kind in (0, 1)])
         for call, title in calls
     ]
-    return charts("The trie", "ns a call, on the clock", "prefixes", kinds, panels, kept)
+    return charts("The trie", "ns a call, wall-clock time", "prefixes", kinds, panels, kept)
 
 
 def main():
@@ -204,7 +205,7 @@ def main():
         elif not path.exists() or path.read_text() != drawn:
             stale.append(path.name)
     if stale:
-        sys.exit(f"bench/draw_figures.py: no longer true, draw them again: {', '.join(stale)}")
+        sys.exit(f"bench/draw_figures.py: out of date, run bench/draw_figures.py: {', '.join(stale)}")
 
 
 main()

@@ -1,14 +1,15 @@
 #!/usr/bin/env python3
-"""Times a forwarding table beside the same one in plain C and Rust and the book that it is made of, and beside DPDK's
-rte_lpm, py-radix and Net::Patricia where they are, over the same prefixes and addresses.
+"""Times a forwarding table, the same one in plain C and Rust, and the book from which it is made, over the same
+prefixes and addresses. DPDK's rte_lpm, py-radix and Net::Patricia are timed too if they are installed.
 
-Needs rt, gcc and rustc. The program bench/benches, bench/fib_peer.c, bench/fib_peer.rs and the others run in turn, so
-many rounds over each number of prefixes (500,000 and 1,000,000 if left out) of a real table's lengths. Each is asked
-for a million addresses, random ones, each of which lies in any of the prefixes, and local ones, in a thousand of these.
-A row has a call, and for each who makes it the least of the times: nanoseconds of processor time for one prefix or
-address, of `renew` for one call on the clock, right after the book's own; and megabytes of memory. `reader` is what one
-of two threads takes on the clock that ask for 256 addresses at once, alone and beside a writer that follows a thousand
-commands a second and publishes ten tables a second. Libraries of others run in the first round alone.
+Needs rt, gcc and rustc. The program bench/benches, bench/fib_peer.c, bench/fib_peer.rs and the others run in turn, in
+each round and for each number of prefixes (default: 500,000 and 1,000,000) of a real table's lengths. Each looks up a
+million addresses of two kinds: random ones, each in any of the prefixes, and local ones, in a thousand of these. A row
+has a call, and for each program the minimum of its times: nanoseconds of CPU time for one prefix or address; and
+megabytes of memory. For `renew` it is the wall-clock time of one call, right after the book's own. `reader` is the
+wall-clock time of one of two threads that look up 256 addresses at once. It is measured without a writer, and with one
+that follows a thousand commands a second and publishes ten tables a second. Other libraries run only in the first
+round.
 """
 import pathlib
 import subprocess
@@ -36,7 +37,7 @@ def told(words):
 
 
 def rattle_rows(benches, prefixes):
-    """The rows of the forwarding table and of its book, by who and what, and the sums of what look-ups find."""
+    """The rows of the forwarding table and of its book, by program and call, and the sums of what look-ups find."""
     said = told([benches, "fib", str(prefixes), str(ASKED)])
     found = {("Rattle", "new"): said["new"] / prefixes, ("book", "new"): said["load"] / prefixes}
     found["Rattle", "memory"] = said["memory"] / 1e6
@@ -44,7 +45,7 @@ def rattle_rows(benches, prefixes):
         found["Rattle", f"renew_{length}"] = said[f"renew_{length}"]
     for kind in KINDS:
         if not said[f"{kind}_same"]:
-            sys.exit("bench/fib.py: ways of asking find something else")
+            sys.exit("bench/fib.py: the ways of looking up find different routes")
         for call in ("look_up", "look_up_each"):
             found["Rattle", f"{call} {kind}"] = said[f"{kind}_{call}"] / ASKED
             found["book", f"{call} {kind}"] = said[f"{kind}_book_{call}"] / ASKED
@@ -52,7 +53,7 @@ def rattle_rows(benches, prefixes):
 
 
 def reader_rows(benches, prefixes):
-    """What one of the readers takes for an address, alone and beside the writer."""
+    """The time of one of the readers for an address, without and with the writer."""
     found = {}
     for kind, commands in (("alone", 0), ("beside", COMMANDS)):
         said = told([benches, "readers", *map(str, (prefixes, READERS, TURNS, commands))])
@@ -63,7 +64,7 @@ def reader_rows(benches, prefixes):
 
 
 def peer_rows(who, program, inputs, prefixes):
-    """The same of a peer, which is run over each kind of addresses."""
+    """The same of a baseline program, which is run over each kind of addresses."""
     found, sums = {}, []
     for kind, words in inputs.items():
         said = told([program, words])
@@ -74,7 +75,7 @@ def peer_rows(who, program, inputs, prefixes):
 
 
 def other_rows(folders, lpm, pairs, asked):
-    """The rows of libraries of others, where they are."""
+    """The rows of other libraries, if they are installed."""
     found = {}
     for kind, folder in folders.items():
         rows = {"rte_lpm": printed([lpm, folder / "input"])} if lpm else {}
@@ -94,7 +95,7 @@ def other_rows(folders, lpm, pairs, asked):
 
 
 def compare(folder, programs, prefixes, rounds):
-    """Runs all in turn over so many prefixes, and gives a row for each call, from their least times."""
+    """Runs all in turn with this number of prefixes, and returns a row for each call, with their minimum times."""
     pairs, random = drawn(prefixes, ASKED)
     asked = {"random": random, "local": drawn(prefixes, ASKED, PLACES)[1]}
     folders = {kind: folder / kind for kind in KINDS}
@@ -107,7 +108,7 @@ def compare(folder, programs, prefixes, rounds):
         for who in ("C", "Rust"):
             rows, others = peer_rows(who, programs[who], inputs, prefixes)
             if others != sums:
-                sys.exit(f"bench/fib.py: {who} finds something else")
+                sys.exit(f"bench/fib.py: {who} finds different routes")
             some |= rows
         some |= reader_rows(programs["Rattle"], prefixes)
         found.append(some if found else some | other_rows(folders, programs["rte_lpm"], pairs, asked))
@@ -124,7 +125,7 @@ def show(row):
 
 
 def built(folder):
-    """The programs, by who asks; of rte_lpm none where it isn't."""
+    """The programs by name; without rte_lpm if it isn't installed."""
     subprocess.run(["gcc", "-O2", "-o", folder / "c", checks.TOP / "bench/fib_peer.c"], check=True)
     rust = figures.built_peer(folder, "fib_peer.rs")
     return {"Rattle": checks.built_benches("fib", "2000"), "C": folder / "c", "Rust": rust,

@@ -1,7 +1,7 @@
-/* A forwarding table in plain C: the entries, blocks and answers that rt_fib has, made over the prefixes of a file of 32-bit numbers and
- * asked for its addresses. The file says how many there are of each, then base and length of each prefix, then the addresses
- * (bench/library.py writes it). It prints names and nanoseconds of processor time for all calls together, the bytes of the
- * table, and the sum of the preferences that look-ups find. */
+/* A forwarding table in plain C with the same entries, blocks and answers as rt_fib. It is made from the prefixes of a
+   file of 32-bit numbers and looks up the file's addresses. The file has the number of each, then base and length of
+   each prefix, then the addresses (bench/library.py writes it). The program prints names and nanoseconds of CPU time
+   for all calls together, the bytes of the table, and the sum of the preferences that look-ups find. */
 #define _POSIX_C_SOURCE 200809L
 #include <stdint.h>
 #include <stdio.h>
@@ -11,7 +11,7 @@
 enum { ENTRIES = 1 << 24, AT_ONCE = 16, CHUNK = 256 };
 #define LONG 0x80000000u
 
-/* As many bytes as an answer of rt_fib. */
+/* The same size in bytes as an answer of rt_fib. */
 struct answer {
     uint32_t is_found, base, len, feed, pref, is_via, via;
 };
@@ -34,7 +34,7 @@ static uint64_t nanoseconds(void)
     return (uint64_t)now.tv_sec * 1000000000 + (uint64_t)now.tv_nsec;
 }
 
-/* The block of the entry, which is made where it has none. */
+/* The block of the entry; it is made if the entry has none. */
 static uint32_t *block_at(uint32_t entry)
 {
     if (entries[entry] < LONG) {
@@ -88,7 +88,7 @@ static uint64_t look_up(const uint32_t *asked, uint32_t count)
     return sum;
 }
 
-/* The answers to so many addresses, with several reads under way at once. */
+/* The answers to `count` addresses, with several reads in progress at once. */
 static __attribute__((noinline)) void look_up_some(const uint32_t *asked, uint32_t count, struct answer *found)
 {
     for (uint32_t start = 0; start < count; start += AT_ONCE) {

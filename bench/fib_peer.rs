@@ -94,7 +94,7 @@ impl Table {
         self.answer_by(self.entries[(address >> 8) as usize], address)
     }
 
-    /// The answers to so many addresses, with several reads under way at once.
+    /// The answers to these addresses, with several reads in progress at once.
     #[inline(never)]
     fn look_up_each(&self, asked: &[u32], answers: &mut [Option<Route>]) {
         for (asked, answers) in asked.chunks(AT_ONCE).zip(answers.chunks_mut(AT_ONCE)) {

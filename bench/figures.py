@@ -1,11 +1,11 @@
-"""Where the benches keep what they measured: `bench/figures/NAME.json` has the machine, the day, and a row for each
+"""The directory of the benchmarks' results: `bench/figures/NAME.json` has the machine, the day, and a row for each
 case.
 
 A bench that is called with `--store` writes its file there. `bench/tables.py` makes the tables of docs/PERFORMANCE.md out
 of these files, and `bench/draw_figures.py` the pictures. It measures in the ordinary scheduling class, and doesn't
 begin to measure for a file while the machine has other work: half a processor's or more. It measures with the memory
 that ./yarib and what is installed start the program with, or, with `--default-memory`, with the C library's own; the
-plain programs have the same. What benches build besides the program is built here too."""
+plain programs have the same. Other programs of the benchmarks are built here too."""
 import argparse
 import datetime
 import json
@@ -19,25 +19,25 @@ import time
 
 sys.path.append(str(pathlib.Path(__file__).resolve().parents[1] / "tools"))
 from common.crates import TOP
-# What judges the program knows how it is built and how the launchers start it.
+# The module that tests the program knows how it is built and how the launchers start it.
 import checks
 
 FOLDER = TOP / "bench" / "figures"
-# What tables and pictures say of the memory that was measured; of counts, and where only one thread uses any, nothing
-# is kept.
+# How tables and figures name the memory settings of a measurement. None is for counts, and if only one thread
+# allocates.
 MEMORY = {"launcher": "; launcher's memory", "default": "; default memory", None: ""}
-# What the command line says, and the machine's clock and the time that its host kept from it when the measuring began.
+# The arguments, and when the measurement began: the machine's clock and the time that its host had withheld from it.
 asked, began = argparse.Namespace(store=False, default_memory=False), None
 
 
 def reader(about, **numbers):
-    """What reads a bench's command line: these numbers in order, each with what it is if left out, and flags."""
+    """The parser of a benchmark's arguments: these numbers in order, each with its default, and flags."""
     found = argparse.ArgumentParser(description=about, formatter_class=argparse.RawDescriptionHelpFormatter)
     found.add_argument("--store", action="store_true",
-                       help="keep the figures in bench/figures/; the machine has to be quiet")
-    found.add_argument("--default-memory", action="store_true", help="measure with the C library's own memory")
+                       help="keep the results in bench/figures/; needs a quiet machine")
+    found.add_argument("--default-memory", action="store_true", help="measure with the C library's default memory settings")
     for name, default in numbers.items():
-        found.add_argument(name, nargs="?", type=int, default=default, help=f"{default} if left out")
+        found.add_argument(name, nargs="?", type=int, default=default, help=f"default: {default}")
     return found
 
 
@@ -51,30 +51,31 @@ def begun(words):
     global asked, began
     asked = words
     if asked.store and (others := working_processors()) > 0.5:
-        sys.exit(f"{sys.argv[0]}: {others:.1f} processors work for others; figures are kept of a quiet machine alone")
+        sys.exit(f"{sys.argv[0]}: {others:.1f} processors are busy with other work; try again on a quiet machine")
     for name, value in checks.LAUNCHED.items():
         os.environ.pop(name, None)
         if memory() == "launcher":
             os.environ[name] = value
-    print(f"memory: {'as the launcher sets it' if memory() == 'launcher' else 'as the C library has it'}", flush=True)
+    settings = "the launcher's settings" if memory() == "launcher" else "the C library's default"
+    print(f"memory: {settings}", flush=True)
     began = time.monotonic(), stolen_seconds()
     return asked
 
 
 def built_peer(folder, source):
-    """The path of a program in plain Rust, of which bench/ has the source, built in the folder."""
+    """The path of a program in plain Rust, built in the directory from its source in bench/."""
     subprocess.run(["rustc", "--edition", "2024", "-C", "opt-level=3", "-o", folder / "peer", TOP / "bench" / source],
                    check=True)
     return folder / "peer"
 
 
 def memory():
-    """Whose setting of memory is measured: the launcher's, or the default of the C library."""
+    """The memory settings that are measured: the launcher's, or the default of the C library."""
     return "default" if asked.default_memory else "launcher"
 
 
 def working_processors():
-    """How many processors' time the machine's work takes, by the kernel's counts over a second."""
+    """The number of processors that the machine's work uses, by the kernel's counts over a second."""
     before = working_seconds()
     time.sleep(1)
     return working_seconds() - before
@@ -92,7 +93,7 @@ def stolen_seconds():
 
 
 def stolen():
-    """How many processors' time the host gave to others while it was measured, on the average."""
+    """The average number of processors that the host withheld during the measurement."""
     clock, before = began
     return round((stolen_seconds() - before) / (time.monotonic() - clock), 2)
 
@@ -107,7 +108,7 @@ def machine():
 
 
 def keep(name, rounds, rows):
-    """Writes the file of this name where the command line has `--store`. A row is a dict: what was measured, and each
+    """Writes the file of this name if `--store` is given. A row is a dict: what was measured, and each
     measure as a list, the proved program's first."""
     if not asked.store:
         return
@@ -124,5 +125,5 @@ def keep(name, rounds, rows):
 
 
 def kept(name):
-    """What stands in the file of this name."""
+    """The contents of the file with this name."""
     return json.loads((FOLDER / f"{name}.json").read_text())

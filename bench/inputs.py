@@ -1,4 +1,4 @@
-"""The inputs of runs that the benches make: feeds of one prefix, of a table's prefixes and of a table that changes."""
+"""The inputs of the benchmarks' runs: feeds of one prefix, of a table's prefixes and of a table that changes."""
 import hashlib
 import os
 import random
@@ -9,7 +9,7 @@ from table_model import dotted
 
 
 def one_prefix(count):
-    """The same prefix added over and over, and as many look-ups of it."""
+    """The same prefix added over and over, and the same number of look-ups of it."""
     return ["add 10.0.0.0/8 100 192.0.2.1"] * count + ["lookup 10.1.2.3"] * count
 
 
@@ -37,7 +37,7 @@ def look_ups(count, prefixes, draw):
 
 
 def real_table(count, rising):
-    """A table's prefixes, in random or in rising order, and then look-ups of which most hit."""
+    """A table's prefixes, in random or in rising order, and then look-ups; most of them find a route."""
     draw = random.Random(1)
     prefixes = real_prefixes(count, draw)
     if rising:
@@ -65,7 +65,8 @@ def changing_table(count):
 
 
 def deal(lines, count):
-    """The lines dealt to so many files: those that speak of one prefix to one file, the look-ups in turn."""
+    """The lines divided among `count` files: all lines about a prefix go to the same file, the look-ups to each file in
+    turn."""
     files = [[] for _ in range(count)]
     for number, line in enumerate(lines):
         word, subject = line.split()[:2]
@@ -85,7 +86,7 @@ def apart(make):
         make()
         os._exit(0)
     if os.waitpid(child, 0)[1] != 0:
-        sys.exit(f"{sys.argv[0]}: an input could not be written")
+        sys.exit(f"{sys.argv[0]}: cannot write an input")
 
 
 def write_apart(path, pieces):
@@ -106,6 +107,6 @@ def write(folder, files):
 
 
 def count_lines(paths):
-    """How many lines the files have. What reads them is a process of its own, for the same reason."""
+    """The number of lines of the files. A separate process counts them, for the same reason."""
     counted = subprocess.run(["wc", "-l", *paths], check=True, capture_output=True, text=True).stdout
     return sum(int(row.split()[0]) for row in counted.splitlines()[: len(paths)])

@@ -1,9 +1,10 @@
 #!/usr/bin/env python3
-"""Counts where the instructions of `yarib run` go, which other work on the machine doesn't change.
+"""Counts the instructions of each part of `yarib run`, which other work on the machine doesn't change.
 
 Needs valgrind. Two texts of one file are run in batches of 256: additions and look-ups of one prefix, and a table of
-70,000 prefixes with the lengths of a real one. Prints the instructions a line of each part, told by the functions that
-the compiler kept: what it put into its caller counts there, as reading ahead does in asking.
+70,000 prefixes with the lengths of a real one. Prints each part's instructions for each line. A part is identified by
+the functions that the compiler kept: an inlined function counts for its caller, as reading ahead does for executing
+commands.
 """
 import pathlib
 import re
@@ -14,7 +15,7 @@ import figures
 import checks
 from inputs import one_prefix, real_table
 
-# The first that is found in a function's name tells its part.
+# The first pattern found in a function's name determines its part.
 PARTS = [
     ("cutting at the ends of lines and at spaces", r"^rt_feed::lines|^memchr"),
     ("reading prefixes, numbers and addresses", r"^rt_feed::(parse|versions)|^rt_cidr::(address::read|prefix)"),

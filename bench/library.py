@@ -1,12 +1,13 @@
 #!/usr/bin/env python3
-"""Times the libraries for C, Rust and Python beside the same calls in Rattle, and beside py-radix, Net::Patricia and
-DPDK's rte_lpm where they are, over the same prefixes and addresses.
+"""Times the libraries for C, Rust and Python and the same calls in Rattle, over the same prefixes and addresses.
+py-radix, Net::Patricia and DPDK's rte_lpm are timed too if they are installed.
 
-Needs rt, gcc, cargo and what bindings/build needs. All run in turn, so many rounds (3 if left out) over so many
-prefixes (500,000) of a real table's lengths, asked for addresses each of which lies in one of them; bench/benches
-draws the same, and is left out where it times no forwarding table. A row has a call, and for each who makes it the
-least nanoseconds of processor time for one prefix or address. `apply_journaled` is of a table with a journal, `forward`
-makes a forwarding table, and the number behind a look-up says how many one call asks for.
+Needs rt, gcc, cargo and what bindings/build needs. All run in turn, for the given number of rounds (default: 3), over
+the given number of prefixes (500,000) of a real table's lengths, and look up addresses that each lie in one of them.
+The program bench/benches draws the same, and is left out if it doesn't time a forwarding table. A row has a call, and
+for each program the minimum nanoseconds of CPU time for one prefix or address. `apply_journaled` is of a table with a
+journal, `forward` makes a forwarding table, and the number at the end of a look-up's name says how many addresses one
+call looks up.
 """
 import array
 import os
@@ -53,7 +54,7 @@ def rattle_rows(benches, prefixes):
 
 
 def built(folder):
-    """The programs of one round, by who asks: those in C and Rust, and in C over rte_lpm where it is."""
+    """The programs of one round, by name: those in C and Rust, and in C over rte_lpm if it is installed."""
     subprocess.run([BINDINGS / "build"], check=True)
     library, program = BINDINGS / "out/libyarib.a", ["gcc", "-O2", "-o"]
     subprocess.run([*program, folder / "c", "-I", BINDINGS / "c", checks.TOP / "bench/library.c", library], check=True)
@@ -70,7 +71,7 @@ def built(folder):
 
 
 def measured(folder, programs, benches, pairs, asked):
-    """The rows of one round, by who asks and what."""
+    """The rows of one round, by program and call."""
     import yarib
     found = {(who, name): value for who, words in programs.items() for name, value in printed(words)}
     if benches:
@@ -93,13 +94,13 @@ def main():
     with tempfile.TemporaryDirectory() as name:
         folder = pathlib.Path(name)
         write_input(folder, pairs, asked)
-        times_it = (checks.TOP / "bench/benches/src/fib.rt").exists()
+        times_it = (checks.TOP / "bench/benches/src/fib.rt.in").exists()
         programs, benches = built(folder), checks.built_benches("fib", "2000") if times_it else None
         rounds = [measured(folder, programs, benches, pairs, asked) for _ in range(words.rounds)]
     least = {key: min(one[key] for one in rounds) for key in rounds[0]}
     absent = [who for who in WHO if all(key[0] != who for key in least)]
     if absent:
-        print(f"left out, since not here: {', '.join(absent)}", flush=True)
+        print(f"left out, not installed: {', '.join(absent)}", flush=True)
     rows = [{"call": call} | {who: least[who, call] for who in WHO if (who, call) in least} for call in CALLS]
     print(f"{'':16}" + "".join(f"{who:>14}" for who in WHO))
     for row in rows:

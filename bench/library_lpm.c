@@ -1,5 +1,6 @@
-/* Times DPDK's rte_lpm over the prefixes and addresses of a file of 32-bit numbers, as bench/library.c does the library for C: a number
- * of 24 bits for each prefix in place of a route. It prints names and nanoseconds of processor time, each for one prefix or address. */
+/* Times DPDK's rte_lpm over the prefixes and addresses of a file of 32-bit numbers, as bench/library.c does the library
+ for C: a number * of 24 bits for each prefix instead of a route. It prints names and nanoseconds of processor time,
+ each for one prefix or address. */
 #define _POSIX_C_SOURCE 200809L
 #include <rte_eal.h>
 #include <rte_lpm.h>

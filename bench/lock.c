@@ -1,7 +1,7 @@
-// The lock's algorithm in plain C: the same words, steps and order, each access sequentially consistent, the same spinning
-// between two loads of a spin word, the same bells, by which places sleep that wait for long, and the same naps at the door.
-// Its arguments are the passages in all, the levels and the threads; it times them as the lock's benchmark does, in one line on
-// standard error.
+// The lock's algorithm in plain C: the same words, steps and order, each access sequentially consistent. It also has
+// the same spinning between two loads of a spin word, the same bells for places that sleep during long waits, and the
+// same naps at the door. Its arguments are the passages in all, the levels and the threads; it times them as the lock's
+// benchmark does, in one line on standard error.
 #define _GNU_SOURCE
 #include <linux/futex.h>
 #include <pthread.h>
@@ -54,7 +54,7 @@ static word *t_word(struct tree *t, int h, uint64_t node) { return at(t, 2 * (t-
 
 static word *p_word(struct tree *t, int h, uint64_t place) { return at(t, 3 * (t->places - 1) + (h - 1) * t->places + place); }
 
-// A place's bell lies behind the tree and the making word of the lock, which this one has no use for.
+// A place's bell comes after the tree and after the lock's making word, which this lock doesn't use.
 static word *bell_word(struct tree *t, uint64_t place) { return at(t, 3 * (t->places - 1) + t->levels * t->places + 1 + place); }
 
 // As crossbeam's Backoff spins: twice as long each time, up to 64 pauses.
@@ -62,7 +62,7 @@ static void back_off(unsigned step) {
     for (unsigned i = 0; i < 1u << (step < 6 ? step : 6); i++) __builtin_ia32_pause();
 }
 
-// Waits until the spin word is at least so much: for a while by looking again and again, and then asleep.
+// Waits until the spin word is at least this value: for a while by loading it again and again, and then asleep.
 static void wait_for(struct tree *t, uint64_t place, word *spin, uint64_t least) {
     word *bell = bell_word(t, place);
     for (unsigned step = 0; atomic_load(spin) < least; step++) {
@@ -120,7 +120,7 @@ static int is_taken(struct tree *t) {
     return atomic_load(c_word(t, t->levels, 0, 0)) != 0 || atomic_load(c_word(t, t->levels, 0, 1)) != 0;
 }
 
-// Whether somebody is at the root at one of the next few looks.
+// Returns true if somebody is at the root at one of the next few looks.
 static int is_taken_again(struct tree *t) {
     for (unsigned look = 0; look < LOOKS; look++) {
         if (is_taken(t)) return 1;
@@ -129,9 +129,10 @@ static int is_taken_again(struct tree *t) {
     return 0;
 }
 
-// Naps where somebody is at the root, as at so many entries before this one in a row, or as after the place's last nap. What
-// the place then remembers: how many entries in a row found somebody, or from there on how many since its nap found nobody.
-static unsigned come_to_door(struct tree *t, uint64_t place, unsigned crowded) {
+// Naps if somebody is at the root, as at CROWDED entries before this one in a row, or as after the place's last nap.
+// Returns what the place remembers then: how many entries in a row found somebody or, from CROWDED on, how many since
+// its nap found nobody.
+static unsigned throttle_if_contended(struct tree *t, uint64_t place, unsigned crowded) {
     if (!is_taken(t)) return crowded >= CROWDED && crowded < CROWDED + FORGOTTEN ? crowded + 1 : 0;
     if (crowded < CROWDED) return crowded + 1;
     uint64_t nap = SHARE * 1000ull << t->levels;
@@ -150,7 +151,7 @@ static void *run(void *arg) {
     struct tree *t = j->tree;
     unsigned crowded = 0;
     for (uint64_t i = 0; i < j->times; i++) {
-        crowded = come_to_door(t, j->place, crowded);
+        crowded = throttle_if_contended(t, j->place, crowded);
         for (int h = 1; h <= t->levels; h++) enter_level(t, h, j->place);
         t->count++;
         for (int h = t->levels; h >= 1; h--) leave_level(t, h, j->place);

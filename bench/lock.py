@@ -1,10 +1,10 @@
 #!/usr/bin/env python3
 """Times passages of the lock, of the same algorithm in C and of std's mutex, in turn.
 
-Needs rt, gcc and pthreads. Each case runs the program bench/benches, bench/lock.c and the mutex one after another, so
-many rounds, each with so many passages. For each case the time of a passage is printed, in nanoseconds, and its ratio
-to C: on the clock, and of the processors (user and system). It is the least of one thread, and of several the middle
-one.
+Needs rt, gcc and pthreads. Each case runs the program bench/benches, bench/lock.c and the mutex one after another, in
+each round, with the given number of passages. For each case the time of a passage is printed, in nanoseconds, and its
+ratio to C: wall-clock time, and CPU time (user and system). It is the minimum for one thread, and the median for
+several.
 """
 import pathlib
 import statistics
@@ -21,12 +21,12 @@ TOGETHER = [(1, 2), *((levels, threads) for levels in range(2, 7) for threads in
 
 
 def build(folder):
-    """The words that call both programs; the one in C is built in the folder."""
+    """The commands of both programs; the one in C is built in the directory."""
     return [checks.built_benches("lock", "3000"), "lock"], [checks.compiled(folder, "bench/lock.c", "-pthread")]
 
 
 def timed(program, passages, levels, threads):
-    """Nanoseconds a passage on the clock, and of the processors."""
+    """Nanoseconds of wall-clock and CPU time for each passage."""
     words = [*program, *map(str, (passages, levels, threads))]
     _, used, run = taken(words, stderr=subprocess.PIPE, text=True)
     row = run.stderr.read().split()
@@ -37,8 +37,8 @@ def timed(program, passages, levels, threads):
 
 
 def times(rounds, passages, programs, levels, threads):
-    """Both times for the lock, C and the mutex: the least of one thread, whom other work can only slow down, and the
-    middle one of several, who are fastest when they happen to come one after another."""
+    """Both times for the lock, C and the mutex. For one thread it is the minimum, since other work can only slow it
+    down. For several it is the median, since they are fastest when they happen to come one after another."""
     tree, plain = programs
     cases = [(tree, levels), (plain, levels), (tree, 0)]
     runs = [[timed(program, passages, height, threads) for program, height in cases] for _ in range(rounds)]
@@ -52,7 +52,7 @@ def main():
     rows = []
     with tempfile.TemporaryDirectory() as folder:
         programs = build(pathlib.Path(folder))
-        print("               on the clock                       of the processors")
+        print("               wall clock                         CPU")
         print("levels threads     lock        C    mutex lock/C     lock        C    mutex lock/C")
         for levels, threads in ALONE + TOGETHER:
             clock, processors = times(rounds, passages, programs, levels, threads)

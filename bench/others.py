@@ -1,5 +1,5 @@
-"""What benches of look-ups share: prefixes of a real table's lengths, addresses in them, and libraries of others that
-are asked the same: py-radix, Net::Patricia and DPDK's rte_lpm, where they are."""
+"""Shared by the benchmarks of look-ups: prefixes of a real table's lengths, addresses in them, and other libraries that
+look up the same addresses. These are py-radix, Net::Patricia and DPDK's rte_lpm, if they are installed."""
 import array
 import shutil
 import subprocess
@@ -9,7 +9,7 @@ import time
 import checks
 from table_model import dotted
 
-# What the benches in Rattle draw: a length by a number below 1000.
+# The lengths that the benchmarks in Rattle draw: a length by a number below 1000.
 LENGTHS = ((600, 24), (720, 22), (820, 23), (870, 21), (915, 20), (945, 19), (970, 16), (980, 18), (985, 17), (995, 28),
            (1000, 12))
 PATRICIA = """
@@ -33,7 +33,7 @@ def draws(seed):
 
 
 def drawn(prefixes, addresses, among=None):
-    """Prefixes as pairs, and addresses in so many of them or in all, as bench/benches draws them."""
+    """Prefixes as pairs, and addresses in `among` equally spaced of them or in all, as bench/benches draws them."""
     draw, pairs, asked = draws(1), [], []
     for _ in range(prefixes):
         lot = next(draw) % 1000
@@ -47,7 +47,7 @@ def drawn(prefixes, addresses, among=None):
 
 
 def each(name, count, call):
-    """A row of what one call took."""
+    """A row with the time of one call."""
     began = time.process_time()
     call()
     return name, (time.process_time() - began) / count * 1e9
@@ -70,13 +70,13 @@ def printed(words):
 
 
 def has_patricia():
-    """Whether perl has Net::Patricia."""
+    """Returns True if perl has Net::Patricia."""
     words = ["perl", "-MNet::Patricia", "-e", "1"]
     return shutil.which("perl") and subprocess.run(words, stderr=subprocess.DEVNULL).returncode == 0
 
 
 def patricia_rows(folder):
-    """Its rows, by the input that was written into the folder."""
+    """Its rows, for the input in the directory."""
     return printed(["perl", "-e", PATRICIA, folder / "input"])
 
 
@@ -87,7 +87,7 @@ def write_input(folder, pairs, asked):
 
 
 def built_lpm(folder):
-    """The program that asks rte_lpm, built in the folder, or none where DPDK isn't."""
+    """The program that calls rte_lpm, built in the directory, or None if DPDK isn't installed."""
     if not shutil.which("pkg-config") or subprocess.run(["pkg-config", "--exists", "libdpdk"]).returncode != 0:
         return None
     flags = subprocess.run(["pkg-config", "--cflags", "--libs", "libdpdk"], check=True, capture_output=True,

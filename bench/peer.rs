@@ -1,6 +1,6 @@
-//! The same program in plain Rust, std alone: what the benchmark compares `yarib run` with.
-//! One thread takes the files in turn, each as a feed; a trie of boxes holds the offers of each prefix, a list the journal;
-//! parsing without a crate, output in one large write.
+//! The same program in plain Rust with only std: the baseline for `yarib run`. One thread reads the files in turn, each
+//! as a feed. A trie of boxes holds the routes of each prefix, and a list holds the journal. It parses without a crate,
+//! and writes its output with one large write.
 use std::io::Write;
 use std::{env, fs, io, mem};
 
@@ -101,7 +101,7 @@ fn find(mut link: &mut Option<Box<Node>>, p: Prefix) -> Option<&mut Offers> {
     None
 }
 
-/// Where the offers of the prefix stand, after a node was made for them if there was none.
+/// The routes of the prefix; inserts an empty node for it if there was none.
 fn place(mut link: &mut Option<Box<Node>>, p: Prefix) -> &mut Offers {
     loop {
         let here = link.as_ref().map(|node| node.prefix);

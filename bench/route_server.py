@@ -1,11 +1,11 @@
 #!/usr/bin/env python3
-"""Times `yarib run` under a route server's load beside the same program in plain Rust.
+"""Times `yarib run` and the same program in plain Rust with a route server's load.
 
-Needs rustc. Each of 1, 4, 16 and 64 files announces the same prefixes in an order and with preferences of its own, then
-withdraws a tenth and replaces a tenth of them; the last file takes back all it has by `purge`. Both programs run in
-turn, so many rounds, on one processor, on two and on all, in batches of 256, and on all in single commands; with
---batches of 20,000 prefixes, in batches of 1, 16 and 256 everywhere. Prints for each the least time on the clock and of
-the processors (user and system) and the peak memory, with the ratios, and fails where the outputs differ: no answer
+Needs rustc. Each of 1, 4, 16 and 64 files announces the same prefixes with its own order and preferences, then
+withdraws a tenth and replaces a tenth of them; the last file removes all its routes with `purge`. Both programs run in
+turn in each round, on one processor, on two and on all, in batches of 256, and on all in single commands. With
+--batches they run on 20,000 prefixes, in batches of 1, 16 and 256 everywhere. Prints for each the minimum wall-clock
+time and CPU time (user and system) and the peak memory, with the ratios, and fails if the outputs differ: no answer
 here depends on how the threads ran.
 """
 import os
@@ -24,7 +24,7 @@ FILES = (1, 4, 16, 64)
 
 
 def feed(number, count, prefixes):
-    """The lines of one of so many feeds: what it announces, takes back, and changes."""
+    """The lines of the feed with this number: its announcements, withdrawals and changes."""
     draw = random.Random(number)
     announced = draw.sample(prefixes, len(prefixes))
     tenth = len(announced) // 10
@@ -44,7 +44,7 @@ def feeds(count, prefixes):
 
 
 def compare(paths, processors, batch, programs, rounds):
-    """Runs both programs on the files in turn, on these processors alone, prints one row and gives its measures."""
+    """Runs both programs on the files in turn, only on these processors, prints a row and returns its measurements."""
     yarib, peer = programs
     every = os.sched_getaffinity(0)
     os.sched_setaffinity(0, processors)
@@ -61,7 +61,8 @@ def compare(paths, processors, batch, programs, rounds):
 
 
 def compare_files(folder, count, batches, on_all, programs, rounds):
-    """A row for each number of files, of processors, and batch: of these batches, and on all processors of those."""
+    """A row for each number of files, of processors, and batch size: these batch sizes, and all of them on all
+    processors."""
     every = sorted(os.sched_getaffinity(0))
     rows = []
     for files in FILES:

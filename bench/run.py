@@ -1,11 +1,11 @@
 #!/usr/bin/env python3
-"""Times `yarib run` beside the same program in plain Rust, on inputs that it makes.
+"""Times `yarib run` and the same program in plain Rust, on inputs that it makes.
 
-Needs rustc. Both programs run in turn, so many rounds over each input; the big ones have so many prefixes with the
-lengths of a real table. With --sizes one table that changes is run alone, at 10,000 to 1,000,000 prefixes. The plain
-program has one thread and takes the files in turn. Prints for each input the least time on the clock, the least time of
-the processors (user and system) and the peak memory of both, with the ratios, and fails where their outputs differ:
-whole for one file, the table for several, whose look-ups depend on how the threads ran.
+Needs rustc. Both programs run in turn in each round over each input; the big ones have the given number of prefixes
+with the lengths of a real table. With --sizes only one table that changes is run, at 10,000 to 1,000,000 prefixes. The
+plain program has one thread and reads the files in turn. Prints for each input the minimum wall-clock time, the minimum
+CPU time (user and system) and the peak memory of both, with the ratios. It fails if their outputs differ: for one file
+the whole output is compared, for several the table, since their look-ups depend on how the threads ran.
 """
 import pathlib
 import sys
@@ -20,7 +20,7 @@ SIZES = (10_000, 30_000, 100_000, 300_000, 1_000_000)
 
 
 def compare(name, paths, batch, programs, rounds):
-    """Runs both programs on the files in turn, prints one row and gives its measures."""
+    """Runs both programs on the files in turn, prints one row and returns its measurements."""
     yarib, peer = programs
     runs = []
     for _ in range(rounds):

@@ -1,10 +1,11 @@
 #!/usr/bin/env python3
-"""Times commands of the shared table of 64 feeds beside those of a book under std's mutex, in turn.
+"""Times commands of the shared table of 64 feeds and of a book under std's mutex, in turn.
 
-Needs rt. Each case runs the program bench/benches for the table and for the mutex one after the other, so many rounds,
-each with so many commands in all. For each case the nanoseconds of a command are printed, on the clock and of the
-processors (user and system), and their ratios to the mutex: the least of one thread, whom other work can only slow
-down, and the middle one of several, of which single rounds differ much. The last rows are of two processors alone.
+Needs rt. Each case runs the program bench/benches for the table and for the mutex one after the other, in each round,
+with the given number of commands in all. For each case the nanoseconds of a command are printed, wall-clock time and
+CPU time (user and system), and their ratios to the mutex. For one thread they are the minimum, since other work can
+only slow it down; for several they are the median, since single rounds differ much. The last rows are for two
+processors only.
 """
 import os
 import statistics
@@ -20,7 +21,7 @@ ON_TWO = [(threads, batch) for threads in (2, 64) for batch in (1, 256)]
 
 
 def timed(program, commands, is_table, threads, batch, processors):
-    """Nanoseconds a command on the clock, and of the processors."""
+    """Nanoseconds of wall-clock and CPU time for each command."""
     words = [program, "shared"] + [str(number) for number in (commands, is_table, threads, batch)]
     how = {"stderr": subprocess.PIPE, "text": True, "preexec_fn": lambda: os.sched_setaffinity(0, processors)}
     _, used, run = taken(words, **how)
@@ -32,7 +33,7 @@ def timed(program, commands, is_table, threads, batch, processors):
 
 
 def compare(program, rounds, commands, threads, batch, processors):
-    """Prints one row, and gives its measures."""
+    """Prints one row, and returns its measurements."""
     runs = [[timed(program, commands, is_table, threads, batch, processors) for is_table in (1, 0)]
             for _ in range(rounds)]
     pick = min if threads == 1 else statistics.median
@@ -51,7 +52,7 @@ def main():
     program = checks.built_benches("shared", "20000")
     every = os.sched_getaffinity(0)
     two = set(sorted(every)[:2])
-    print("                            on the clock              of the processors")
+    print("                            wall clock                CPU")
     print("processors threads batch     table    mutex  ratio     table    mutex  ratio")
     cases = [(*case, every) for case in CASES] + [(*case, two) for case in ON_TWO]
     figures.keep("shared", rounds, [compare(program, rounds, commands, *case) for case in cases])

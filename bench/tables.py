@@ -1,12 +1,12 @@
 #!/usr/bin/env python3
-"""The tables of docs/PERFORMANCE.md, out of what the benches kept in bench/figures/.
+"""The tables of docs/PERFORMANCE.md, from the results that the benchmarks kept in bench/figures/.
 
   bench/tables.py --write   # writes them into the page, each between its two marks
-  bench/tables.py --check   # ends with status 1 where one says something else
+  bench/tables.py --check   # ends with status 1 if a table differs
 
-A table stands between `<!-- figures: NAME -->` and `<!-- end -->`, where bench/figures/NAME.json is what a bench kept. Of a long
-one the page shows the rows at both ends and some between, the worst among them, and of the processors' time how it compares. What
-a row that nothing is compared with has to tell is told below the table."""
+A table is between `<!-- figures: NAME -->` and `<!-- end -->`, and bench/figures/NAME.json has the results of its
+benchmark. For a long table the page shows the rows at both ends and some between, the worst among them, and the ratios
+of CPU times. Results with nothing to compare with are listed below the table."""
 import re
 import sys
 import textwrap
@@ -38,13 +38,13 @@ def program(row):
 
 
 def lock(row):
-    """The lock, C and the mutex on the clock, and the lock's ratios to C there and of the processors' time."""
+    """The wall-clock times of the lock, C and the mutex, and the lock's ratios to C in wall-clock and CPU time."""
     clock, processors = row["clock"], row["processors"]
     return [row["levels"], row["threads"], *map(number, clock), ratio(*clock[:2]), ratio(*processors[:2])]
 
 
 def shared(row):
-    """The table and the mutex on the clock, and the ratios there and of the processors' time."""
+    """The wall-clock times of the table and the mutex, and the ratios of wall-clock and CPU times."""
     cells = [row["on"], row["threads"], row["batch"], *map(number, row["clock"])]
     return cells + [ratio(*row["clock"]), ratio(*row["processors"])]
 
@@ -60,7 +60,7 @@ CALLERS = ("Rattle", "C", "Rust", "Python", "py-radix", "Net::Patricia", "rte_lp
 
 
 def library(row):
-    """What a call takes by each who makes it, and C's ratio to Rattle."""
+    """The cost of a call for each program, and C's ratio to Rattle."""
     to_rattle = ratio(row["C"], row["Rattle"]) if "C" in row and "Rattle" in row else ""
     cells = [number(row[who]) if who in row else "" for who in CALLERS]
     return [f"`{row['call']}`", *cells[:2], to_rattle, *cells[2:]]
@@ -72,19 +72,19 @@ def callers(row):
 
 
 def library_below(rows):
-    """What calls take that only one of all makes."""
+    """The costs of calls that only one of the programs has."""
     alone = [f"`{row['call']}` {who} {number(row[who])}" for row in rows for who in callers(row)[:1] if len(callers(row)) == 1]
     return f"{', '.join(alone)}. "
 
 
 def fib_call(row):
-    """The call, and of which addresses or beside whom."""
+    """The call, and which addresses it looks up or what runs at the same time."""
     call, *about = row["call"].split()
     return " ".join([f"`{call}`", *about])
 
 
 def fib(row):
-    """What a call takes, and its ratio to the same in C and in Rust; then the book and others."""
+    """The cost of a call, and its ratio to the same in C and in Rust; then the book and other libraries."""
     cells = [fib_call(row), number(row["Rattle"])]
     for who in ("C", "Rust"):
         cells += [number(row[who]), ratio(row["Rattle"], row[who])] if who in row else ["", ""]
@@ -92,19 +92,19 @@ def fib(row):
 
 
 def fib_below(rows):
-    """Of how many prefixes the rows are, and what calls take that nobody else has."""
+    """The number of prefixes of the rows, and the costs of calls that no other program has."""
     alone = [f"{fib_call(row)} {number(row['Rattle'])}" for row in rows if not is_compared(row)]
     return f"{rows[0]['prefixes']:,} prefixes. {', '.join(alone)}. "
 
 
 def is_compared(row):
-    """Whether somebody else has the call."""
+    """Returns True if another program has the call."""
     return any(who in row for who in ("book", *CALLERS[1:]))
 
 
 TABLES = {
     "busy": (
-        ["Beside", "Files", "Batch", "Clock", "Range", "To one file", "To plain", "Processors to one file"],
+        ["Busy processes", "Files", "Batch", "Clock", "Range", "To one file", "To plain", "Processors to one file"],
         busy,
     ),
     "run": (["Input", "Batch", *TO_PLAIN], lambda row: [row["input"], row["batch"], *program(row)]),
@@ -134,10 +134,10 @@ TABLES = {
     ),
 }
 
-# What the line below a table begins with, by all rows.
+# The beginning of the line below a table, from all rows.
 BELOW = {"fib": fib_below, "library": library_below}
 
-# Of a long table, which rows the page shows.
+# For a long table, which rows the page shows.
 SHOWN = {
     "busy": lambda row: row["files"] in (2, 64),
     "fib": is_compared,
@@ -151,7 +151,7 @@ SHOWN = {
 
 
 def table(name, head):
-    """The table of this name, with the day below it, and the machine where the page's head names another."""
+    """The table of this name, with the day below it, and the machine if the page's head names another."""
     if not (figures.FOLDER / f"{name}.json").exists():
         return "Not measured yet.\n"
     heads, cells = TABLES[name]
@@ -168,7 +168,8 @@ def table(name, head):
 
 
 def stolen(kept):
-    """What the host of a virtual machine kept from it meanwhile, where it was a tenth of a processor or more."""
+    """How much of the processors the host of a virtual machine withheld meanwhile, if it was a tenth of a processor or
+    more."""
     share = kept.get("stolen", 0)
     return f"; its host kept {share:.1f} processors from it meanwhile" if share >= 0.1 else ""
 
@@ -182,7 +183,7 @@ def main():
     if "--write" in sys.argv:
         PAGE.write_text(written)
     elif written != page:
-        sys.exit("bench/tables.py: docs/PERFORMANCE.md says something else than bench/figures/; bench/tables.py --write mends it")
+        sys.exit("bench/tables.py: docs/PERFORMANCE.md differs from bench/figures/: run bench/tables.py --write")
 
 
 main()

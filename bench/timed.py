@@ -1,4 +1,4 @@
-"""What one run of a program takes, and what a run of the proved program takes beside one of the plain one."""
+"""The time and memory of one run of a program, and those of the proved program compared with the plain one's."""
 import hashlib
 import os
 import subprocess
@@ -8,14 +8,14 @@ import time
 
 
 def digest(output, whole):
-    """The digest of an output, or of its table alone."""
+    """The digest of an output, or only of its table."""
     text = output.read()
     start = 0 if whole else text.rindex(b"\ntable ")
     return hashlib.sha256(text[start:]).digest()
 
 
 def taken(words, **how):
-    """Seconds on the clock, what the kernel counted, and the ended process of one run."""
+    """Seconds of wall-clock time, the kernel's counts, and the ended process of one run."""
     start = time.perf_counter()
     child = subprocess.Popen(words, **how)
     _, status, usage = os.wait4(child.pid, 0)
@@ -25,7 +25,7 @@ def taken(words, **how):
 
 
 def passed(words, **how):
-    """Seconds on the clock and of the processors, and peak bytes of one run, which has to end with status 0."""
+    """Seconds of wall-clock and CPU time, and peak bytes of one run, which has to end with status 0."""
     seconds, usage, child = taken(words, stderr=subprocess.PIPE, **how)
     with child.stderr as said:
         if child.returncode != 0:
@@ -42,7 +42,7 @@ def measure(words, whole):
 
 
 def measured(runs):
-    """The least of each measure of both programs: milliseconds on the clock and of the processors, and megabytes."""
+    """The minimum of each measurement of both programs: milliseconds of wall-clock and CPU time, and megabytes."""
     measures = {}
     for title, field, scale in (("clock", 0, 1e3), ("processors", 1, 1e3), ("memory", 2, 1e-6)):
         measures[title] = [round(min(run[program][field] for run in runs) * scale, 1) for program in (0, 1)]

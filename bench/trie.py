@@ -1,12 +1,12 @@
 #!/usr/bin/env python3
-"""Times the trie beside one in plain Rust, over the same prefixes, in one run.
+"""Times the trie and one in plain Rust, over the same prefixes, in one run.
 
-Needs rt and rustc. The program bench/benches and bench/trie_peer.rs run in turn, so many rounds over each number of
-prefixes (3,000, 30,000 and 500,000 if left out; a small number is run more often). The table has a row for each call,
-with the least of the times in nanoseconds and the ratio: on the clock, and of the processor, for the user and the
-system. `together` is a look-up where 64 are asked for at once, beside the plain trie's single one; `retain` is a walk
-that takes out one of a thousand, for each prefix. Then how many nodes the trie has, and how many bytes a prefix the
-plain one asked for.
+Needs rt and rustc. The program bench/benches and bench/trie_peer.rs run in turn, in each round and for each number of
+prefixes (default: 3,000, 30,000 and 500,000; a small number is run more often). The table has a row for each call, with
+the minimum of the times in nanoseconds and the ratio: wall-clock time, and CPU time for the user and the system.
+`together` is a look-up of 64 addresses at once, compared with the plain trie's look-up of a single one; `retain` is a
+walk that removes one of a thousand, for each prefix. Then it prints the trie's number of nodes, and how many bytes for
+each prefix the plain one allocated.
 """
 import pathlib
 import subprocess
@@ -27,14 +27,15 @@ def timed(program, prefixes):
 
 
 def compare(programs, prefixes, rounds):
-    """Runs both in turn over so many prefixes, prints a row for each call, of its least times, and gives the rows."""
+    """Runs both in turn with this number of prefixes, prints a row for each call with its minimum times, and returns
+    the rows."""
     runs = [[timed(program, prefixes) for program in programs] for _ in range(rounds)]
     proved, plain = runs[0]
     for agreed in ("prefixes", "found", "kept", "left"):
         if proved[agreed] != plain[agreed]:
             sys.exit(f"bench/trie.py: the programs disagree on {agreed}")
     if proved["same"] != proved["found"]:
-        sys.exit("bench/trie.py: look-ups together find something else")
+        sys.exit("bench/trie.py: look-ups of several addresses find different values")
     rows = []
     for call, beside in (
         ("insert", "insert"),

@@ -1,4 +1,5 @@
-// The trie in plain Rust, with boxes and std alone, for the times beside it: one kind of node, links of an optional box.
+// The trie in plain Rust, with boxes and only std, as the baseline for its times: one kind of node, links of an
+// optional box.
 use std::alloc::{GlobalAlloc, Layout, System};
 use std::sync::atomic::{AtomicUsize, Ordering};
 use std::time::Instant;
@@ -211,7 +212,7 @@ impl Stopwatch {
     fn start() -> Stopwatch {
         Stopwatch { used: cpu(), start: Instant::now() }
     }
-    /// Nanoseconds for each call, on the clock and of the processor.
+    /// Nanoseconds of wall-clock and CPU time for each call.
     fn per_call(&self, calls: u32) -> (u128, u128) {
         let clock = self.start.elapsed().as_nanos();
         (clock / calls as u128, (cpu() - self.used) / calls as u128)

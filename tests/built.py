@@ -1,8 +1,9 @@
 #!/usr/bin/env python3
-"""Calls tools/build with the real prover, on a repository with one crate of one file: what it says is built was proved.
+"""Calls tools/build with the real prover on a repository with a single crate of one file: what counts as built was
+proved.
 
-tests/built.py [CASE..], or --list for the names of the cases. Needs the toolchain, gcc and python3, and about half a minute
-of processor time. tests/launcher.py tries everything else of tools/build with a stand-in for the prover.
+tests/built.py [CASE..], or --list for the names of the cases. Needs the toolchain, gcc and python3, and about half a
+minute of processor time. tests/launcher.py tests everything else of tools/build with a stub of the prover.
 """
 import os
 import pathlib
@@ -57,8 +58,9 @@ class Repository:
         return status, out.strip()
 
 
-# Fails where a source that is saved while its crate is proved counts as proved: `the text saved meanwhile`.
-# Fails where what was built of another text is taken, or is gone when the text is back: `the text taken back`.
+# Catches a build that counts a source as proved that is saved while its crate is proved: `the text saved meanwhile`.
+# Catches a build that uses what was built of another text, or loses it before the text is restored: `the text taken
+# back`.
 def saved_meanwhile(new):
     one = new()
     build, _ = one.begin()
@@ -77,7 +79,7 @@ def saved_meanwhile(new):
     expect("the text taken back", one.ready(), (0, made.strip()))
 
 
-# Fails where what a killed prover leaves counts as built: `a killed prover`.
+# Catches a build that counts as built what a killed prover leaves: `a killed prover`.
 def killed(new):
     one = new()
     build, prover = one.begin()

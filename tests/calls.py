@@ -1,8 +1,8 @@
-"""Calls of the program by their words, and how each has to end: status, standard output and standard error, to the
+"""Calls of the program by their arguments, and how each has to end: status, standard output and standard error, to the
 byte.
 
-tests/command_line.py makes them, where their files stand. What the pages show of look-ups, lists and comparisons has to
-be one of these calls (tools/check).
+tests/command_line.py makes them, in a directory with their files. Each look-up, list and comparison that the pages show
+has to be one of these calls (tools/check).
 """
 import collections
 import pathlib
@@ -11,7 +11,7 @@ from table_model import E3
 
 EXAMPLES = pathlib.Path(__file__).resolve().parent.parent / "examples"
 
-# The words without the program's name; the status, standard output and standard error.
+# The arguments without the program's name; the status, standard output and standard error.
 Call = collections.namedtuple("Call", "words ending")
 
 
@@ -126,7 +126,7 @@ length 16 routes 2
 {"address":"10.200.0.1","route":{"prefix":"10.0.0.0/8","feed":2,"file":"south.feed","pref":30,"via":"192.0.2.2"}}
 {"address":"11.0.0.1","route":null}
 """),
-    # All that covers each, with the step at which it was left behind the first.
+    # All routes that cover each address, with the reason why each lost to the first.
     call("lookup --all --addresses packets.txt north.feed south.feed east.feed", """\
 10.1.2.3 route 10.1.0.0/16 feed 1 pref 10 via 192.0.2.1
 10.1.2.3 also 10.0.0.0/8 feed 2 pref 30 via 192.0.2.2 shorter
@@ -150,8 +150,8 @@ length 16 routes 2
 10.0.0.3 route 10.0.0.0/8 feed 1 pref 30 via 192.0.2.8
 """, 2, """\
 yarib: odd.txt: faulty lines: 2, the first is line 2: E3: the field is no prefix or address (the CR of CRLF is part of it)
-yarib: again.feed: adds of a prefix already there: 1
-yarib: again.feed: replaces and withdraws of a prefix not there: 2
+yarib: again.feed: duplicate adds: 1
+yarib: again.feed: replaces and withdraws without a route: 2
 """),
     call("table north.feed south.feed east.feed", """\
 10.0.0.0/8 feed 2 pref 30 via 192.0.2.2
@@ -164,7 +164,7 @@ yarib: again.feed: replaces and withdraws of a prefix not there: 2
 10.1.0.0/16 feed 1 pref 10 via 192.0.2.1
 10.9.0.0/16 feed 3 pref 10 via discard
 """),
-    # Of a part the whole table's rows, in its order.
+    # With a filter, the matching rows of the whole table, in its order.
     call("table --covering 10.1.2.0/24 north.feed south.feed east.feed", """\
 10.0.0.0/8 feed 2 pref 30 via 192.0.2.2
 10.0.0.0/8 feed 1 pref 50 via 192.0.2.1
@@ -174,7 +174,7 @@ yarib: again.feed: replaces and withdraws of a prefix not there: 2
          "10.1.0.0/16 feed 1 pref 10 via 192.0.2.1\n"),
     call("table --within 255.255.255.255/32 zero.feed", "255.255.255.255/32 feed 1 pref 4294967295 via 192.0.2.6\n"),
     call("table --exact 10.1.2.0/24 north.feed south.feed east.feed", ""),
-    # Those of the command line in order, and then those of the file; one that is asked twice is answered twice.
+    # The addresses of the command line in order, and then those of the file; an address given twice is answered twice.
     call("lookup --address 10.9.0.1 --addresses packets.txt --address 10.1.2.3 --address 10.9.0.1 north.feed", """\
 10.9.0.1 route 10.0.0.0/8 feed 1 pref 50 via 192.0.2.1
 10.1.2.3 route 10.1.0.0/16 feed 1 pref 10 via 192.0.2.1
@@ -184,10 +184,13 @@ yarib: again.feed: replaces and withdraws of a prefix not there: 2
 10.9.0.1 route 10.0.0.0/8 feed 1 pref 50 via 192.0.2.1
 11.0.0.1 no route
 """),
-    # What a feed does behind its own look-up is done before the answer.
+    # A feed that is left out has no routes, and the others keep their numbers.
+    call("lookup --without east --address 10.9.0.1 north.feed south.feed east.feed",
+         "10.9.0.1 route 10.0.0.0/8 feed 2 pref 30 via 192.0.2.2\n"),
+    # The commands of a feed after its own look-up are executed before the answer.
     call("lookup --address 10.1.2.3 --batch 1 late.feed north.feed",
          "10.1.2.3 route 10.1.2.0/24 feed 1 pref 1 via 192.0.2.7\n"),
-    # Of equal preferences that of the first file.
+    # If preferences are equal, the route of the first file wins.
     call("lookup --address 10.0.0.1 --limit 1 equal.feed south.feed",
          "10.0.0.1 route 10.0.0.0/8 feed 1 pref 30 via 192.0.2.5\n", 2, "yarib: south.feed: adds over the limit: 1\n"),
     call("table --best equal.feed south.feed equal.feed", "10.0.0.0/8 feed 1 pref 30 via 192.0.2.5\n"),
@@ -197,7 +200,7 @@ yarib: again.feed: replaces and withdraws of a prefix not there: 2
 0.0.0.0 route 0.0.0.0/0 feed 1 pref 0 via 192.0.2.6
 255.255.255.254 route 0.0.0.0/0 feed 1 pref 0 via 192.0.2.6
 """),
-    # Each file has a line for each kind of what was not taken.
+    # Each file has a line for each kind of rejected input.
     call("table --limit 1 west.feed north.feed", """\
 10.0.0.0/8 feed 1 pref 40 via 192.0.2.4
 10.0.0.0/8 feed 2 pref 50 via 192.0.2.1
@@ -206,26 +209,26 @@ yarib: west.feed: faulty lines: 2, the first is line 2: E5: a bit past the prefi
 yarib: west.feed: adds over the limit: 1
 yarib: north.feed: adds over the limit: 1
 """),
-    # What was found otherwise is told, and is no fault.
+    # Commands that found another state than they expected are reported, and aren't faults.
     call("table again.feed equal.feed again.feed", """\
 10.0.0.0/8 feed 1 pref 30 via 192.0.2.8
 10.0.0.0/8 feed 2 pref 30 via 192.0.2.5
 10.0.0.0/8 feed 3 pref 30 via 192.0.2.8
 """, err="""\
-yarib: again.feed: adds of a prefix already there: 1
-yarib: again.feed: replaces and withdraws of a prefix not there: 2
-yarib: again.feed: adds of a prefix already there: 1
-yarib: again.feed: replaces and withdraws of a prefix not there: 2
+yarib: again.feed: duplicate adds: 1
+yarib: again.feed: replaces and withdraws without a route: 2
+yarib: again.feed: duplicate adds: 1
+yarib: again.feed: replaces and withdraws without a route: 2
 """),
     call("lookup --addresses odd.txt again.feed", """\
 10.0.0.1 route 10.0.0.0/8 feed 1 pref 30 via 192.0.2.8
 10.0.0.3 route 10.0.0.0/8 feed 1 pref 30 via 192.0.2.8
 """, 2, """\
 yarib: odd.txt: faulty lines: 2, the first is line 2: E3: the field is no prefix or address (the CR of CRLF is part of it)
-yarib: again.feed: adds of a prefix already there: 1
-yarib: again.feed: replaces and withdraws of a prefix not there: 2
+yarib: again.feed: duplicate adds: 1
+yarib: again.feed: replaces and withdraws without a route: 2
 """),
-    # A faulty line is no address and has no answer.
+    # An invalid line is not an address and has no answer.
     call("lookup --addresses odd.txt equal.feed", """\
 10.0.0.1 route 10.0.0.0/8 feed 1 pref 30 via 192.0.2.5
 10.0.0.3 route 10.0.0.0/8 feed 1 pref 30 via 192.0.2.5
@@ -235,7 +238,7 @@ yarib: again.feed: replaces and withdraws of a prefix not there: 2
     call("lookup --addresses no.txt equal.feed", ""),
     call("lookup --address 10.0.0.1 none.feed", "10.0.0.1 no route\n"),
     call("table none.feed", ""),
-    call("lookup equal.feed", "", 3, "yarib: no address is asked for: give --address or --addresses\n"),
+    call("lookup equal.feed", "", 3, "yarib: no address given: use --address or --addresses\n"),
     call("lookup --address 10.0.0.1 --address 10.0.0.256 nosuchfile", "", 3, "yarib: not an address: 10.0.0.256\n"),
     call("lookup --address 10.0.0.1 equal.feed nosuchfile", "", 4, "yarib: cannot read nosuchfile\n"),
     call("lookup --addresses nosuchtext equal.feed", "", 4, "yarib: cannot read nosuchtext\n"),
@@ -263,6 +266,10 @@ add 255.255.255.255/32 5 192.0.2.1
 }
 
 COMPARED = [
+    call("diff --new-without east north.feed south.feed east.feed -- north.feed south.feed east.feed",
+         "10.9.0.0-10.9.255.255 discard -> via 192.0.2.2\n", 1),
+    call("diff --new-without east north.feed east.feed -- north.feed east.feed",
+         "10.9.0.0-10.9.255.255 discard -> via 192.0.2.1\n", 1),
     call("diff north.feed south.feed east.feed -- north.feed south.feed /dev/null",
          "10.9.0.0-10.9.255.255 discard -> via 192.0.2.2\n", 1),
     call("diff north.feed east.feed -- north.feed south.feed east.feed", """\

@@ -1,5 +1,5 @@
-"""What the scripts share that judge the program: their command line and their cases, a call, and what is noted where
-something else was found."""
+"""Shared by the scripts that test the program: their arguments and their cases, a call, and the record of
+differences."""
 import argparse
 import hashlib
 import inspect
@@ -16,7 +16,7 @@ sys.path.append(str(pathlib.Path(__file__).resolve().parents[1] / "tools"))
 from common.crates import TOP, cache
 from common.workspaces import lay_out, renew
 
-# What the launchers set before the program starts, as ./yarib's own line says it: one arena of large pages.
+# The setting that the launchers make before the program starts, as in ./yarib's own line: one arena of large pages.
 LAUNCHED = {"GLIBC_TUNABLES": re.search(r'^export GLIBC_TUNABLES="(.*?)\$', (TOP / "yarib").read_text(), re.M)[1]}
 
 failures = []  # of each the case's name and what was wrong
@@ -24,7 +24,8 @@ of_thread = threading.local()  # `case` is the name of the case that runs on it
 
 
 class Program:
-    """A program that is called with words: `program("run", "one.feed")`. In a list of words it is its own path."""
+    """A program that is called with arguments: `program("run", "one.feed")`. In a list of arguments it is its own
+    path."""
 
     def __init__(self, path):
         self.path = pathlib.Path(path)
@@ -53,7 +54,7 @@ def like(cases):
 
 
 def chosen(about, cases, takes=("program",), flags=()):
-    """A script's command line: the built programs that it takes, and which of its cases, by name, are to be run."""
+    """A script's arguments: the built programs that it needs, and the names of the cases to run."""
     reader = argparse.ArgumentParser(description=about, formatter_class=argparse.RawDescriptionHelpFormatter)
     for name in takes:
         reader.add_argument(name, nargs="?", type=program, help="a built program, which is else built first")
@@ -76,7 +77,7 @@ def chosen(about, cases, takes=("program",), flags=()):
 
 
 def built_file(crate):
-    """What tools/build makes of a crate, which is built first if it is stale."""
+    """The file that tools/build makes of a crate; it is built first if it is stale."""
     ended = subprocess.run([TOP / "tools/build", crate], check=True, stdout=subprocess.PIPE, text=True)
     return pathlib.Path(ended.stdout.strip())
 
@@ -87,16 +88,25 @@ def built():
 
 
 def compiled(folder, source, *options):
-    """What gcc makes of a source in C, of this repository, in the folder: a program, or with -shared what is loaded
-    before one."""
+    """Compiles a source in C of this repository with gcc, into the directory: a program, or with -shared a library that
+    is loaded before one."""
     made = folder / pathlib.Path(source).stem
     subprocess.run(["gcc", "-O2", *options, "-o", made, TOP / source], check=True)
     return made
 
 
+def library_stub(archive):
+    """Makes an archive that replaces the one that the prover makes of crates/yarib_c: each of its calls returns 1."""
+    calls = re.findall(r"^\w+ proved_(yarib_\w+)\(", (TOP / "bindings/c/handles.c").read_text(), re.M)
+    source, compiled_to = archive.with_suffix(".c"), archive.with_suffix(".o")
+    source.write_text("".join(f"int {name}(void) {{ return 1; }}\n" for name in calls))
+    subprocess.run(["gcc", "-fPIC", "-c", source, "-o", compiled_to], check=True)
+    subprocess.run(["ar", "cr", archive, compiled_to], check=True)
+
+
 def is_unproved(case):
-    """Whether the program is that of `./test --quick`, with AddressSanitizer, before which nothing can be loaded, and which
-    wants /proc; says that the case is left out."""
+    """Returns True if the program is that of `./test --quick`, and prints that the case is left out. That program has
+    AddressSanitizer; nothing can be loaded before it, and it needs /proc."""
     if "YARIB_UNPROVED" in os.environ:
         print(f"left out: {case}, which AddressSanitizer can't do", flush=True)
     return "YARIB_UNPROVED" in os.environ
@@ -134,7 +144,7 @@ def close_all():
 
 
 def text_of(written):
-    """What was written, as text; bytes that are none stand as such."""
+    """The bytes as text; invalid UTF-8 is escaped."""
     return (written or b"").decode(errors="backslashreplace")
 
 
@@ -144,7 +154,7 @@ def note(what):
 
 
 def expect(what, found, wanted):
-    """Notes where something else was found."""
+    """Records a difference from what is expected."""
     if found != wanted:
         note(what)
         print(f"WRONG {what}: {found!r} in place of {wanted!r}", flush=True)
@@ -160,7 +170,7 @@ def compare(what, ended, status, out, err=""):
 
 
 def run_case(case, *given):
-    """Runs a case, and says how it ended; where it can't go on, that is noted."""
+    """Runs a case and prints how it ended; an exception is noted as a failure."""
     of_thread.case = case.__name__
     try:
         case(*given)
@@ -172,7 +182,7 @@ def run_case(case, *given):
 
 
 def run_each(cases, *given, files={}):
-    """Runs each case in a folder of its own, in which these files stand."""
+    """Runs each case in a directory of its own that contains these files."""
     for case in cases:
         with tempfile.TemporaryDirectory() as folder:
             os.chdir(folder)
@@ -183,6 +193,6 @@ def run_each(cases, *given, files={}):
 
 
 def end():
-    """Ends with a fault where something else was found, and names the cases."""
+    """Exits with an error that names the cases if some comparison failed."""
     cases = ", ".join(dict.fromkeys(name for name, _ in failures))
     sys.exit(f"{len(failures)} wrong, of {cases}" if failures else 0)

@@ -1,13 +1,13 @@
 #!/usr/bin/env python3
-"""Calls the program by its words, and compares the status and both outputs of each call with what they have to be.
+"""Calls the program with arguments, and compares the status and both outputs of each call with what is expected.
 
 tests/command_line.py [PROGRAM [CASE..]], or --list for the names of the cases. Linux, python3.
 
-Outputs of the program's own are compared whole, to the byte; tests/calls.py has those that stand by themselves. Of a
-text of the library that reads the command line, no more is wanted than that it is a fault that names the word; the help
-pages are compared with those of tests/help. A replay is compared with a model of the tree, written from
-docs/FORMATS.md. How many commands are asked at once is seen by another feed: its `dump`s change only where a batch of
-the one and a batch of the other end. In each case's folder stand row.feed, empty.feed and faulty.feed.
+The program's own outputs are compared whole, to the byte; calls that need no preparation are in tests/calls.py. A
+message of the library that parses the command line only has to be an error that names the argument. The help pages are
+compared with tests/help. A replay is compared with a model of the tree, written from docs/FORMATS.md. Another feed that
+takes turns with the first one observes the number of commands in a batch: its `dump`s change only where a batch of each
+feed ends. Each case's directory contains row.feed, empty.feed and faulty.feed.
 """
 import collections
 import ipaddress
@@ -26,7 +26,8 @@ import time
 import tty
 
 import calls
-from checks import TOP, Program, chosen, close_all, compare, end, expect, run_each
+from checks import TOP, Program, chosen, close_all, compare, end, expect, is_unproved, run_each
+from schedules import in_turns, loaded
 from table_model import E1, E3, E8, Table, differences_text, dotted
 from texts import ROW, ROW_OUT
 
@@ -49,34 +50,34 @@ def misused(what, found, *parts):
            (3, "", True, ""))
 
 
-# Calls that stand by themselves
+# Calls that need no preparation
 
 
 def make(yarib, texts, listed):
-    """Makes each call where these files stand, by the program's name, and compares how it ends."""
+    """Calls the program by its name, in a directory with these files, and compares how each call ends."""
     for name, text in texts.items():
         pathlib.Path(name).write_text(text)
     for words, ending in listed:
         expect(" ".join(words), yarib(*words), ending)
 
 
-# Fails where each file is taken for one for which memory was refused, or for a misuse.
-# Fails where a folder is taken for an empty file: `run .`.
-# Fails where `--levels 255` is refused on the command line, instead of with P2: `replay --levels 255 0`.
+# Catches a program that reports out of memory, or a usage error, for every file.
+# Catches a program that reads a directory as an empty file: `run .`.
+# Catches a command line that rejects `--levels 255` itself, instead of P2: `replay --levels 255 0`.
 def runs(yarib):
     make(yarib, calls.RUN_FILES, calls.RUNS)
 
 
-# Fails where `lookup_texts`, `lookup_all_texts` or `table_texts` always returns F3 or `Write`, or a faulty line of a
-# text of addresses is answered.
-# Fails where the addresses come in another order than the command line's and then the file's: `lookup --address
+# Catches `lookup_texts`, `lookup_all_texts` or `table_texts` always returning F3 or `Write`, and answers to invalid
+# lines of an address file.
+# Catches answers in another order than the command line's addresses and then the file's: `lookup --address
 # 255.255.255.255 --address 0.0.0.0 --address 255.255.255.254 zero.feed`.
 def what_the_table_says(yarib):
     make(yarib, calls.SHOWN_FILES, calls.SHOWN)
 
 
-# Fails where `diff_texts` always returns F3 or `Write`.
-# Fails where what was not taken of the new files is not told: `diff ends.feed -- faulty.feed`.
+# Catches `diff_texts` always returning F3 or `Write`.
+# Catches a program that doesn't report rejected input of the new files: `diff ends.feed -- faulty.feed`.
 def what_two_tables_answer_otherwise(yarib):
     make(yarib, calls.COMPARED_FILES, calls.COMPARED)
 
@@ -84,7 +85,7 @@ def what_two_tables_answer_otherwise(yarib):
 # Files
 
 
-# Fails where three files are run in another order: `the files ['one.feed', 'two.feed', 'three.feed']`.
+# Catches a program that runs three files in another order: `the files ['one.feed', 'two.feed', 'three.feed']`.
 def file_order(yarib):
     for name, hop in (("one", 1), ("two", 2), ("three", 3)):
         pathlib.Path(f"{name}.feed").write_text(f"add 10.{hop}.0.0/16 7 192.0.2.{hop}\n")
@@ -95,8 +96,8 @@ def file_order(yarib):
                (0, "1:1 added\n2:1 added\n3:1 added\n" + table(*routes), ""))
 
 
-# Fails where 64 files are too many: `64 files`.
-# Fails where the files are read before they are counted: `65 files, the first missing`.
+# Catches a program that rejects 64 files: `64 files`.
+# Catches a program that reads the files before it counts them: `65 files, the first missing`.
 def many_files(yarib):
     names = []
     for feed in range(1, 66):
@@ -111,7 +112,7 @@ def many_files(yarib):
     expect("65 files, the first missing", yarib("run", "missing", *names[:64]), too_many)
 
 
-# Fails where the last file is named, not the first that can't be read: `two missing files`.
+# Catches a program that names the last unreadable file instead of the first: `two missing files`.
 def unreadable(yarib):
     os.mkdir("folder")
     cannot = lambda name: (4, "", f"yarib: cannot read {name}\n")
@@ -128,7 +129,7 @@ def unreadable(yarib):
     expect("missing behind --", yarib("run", "--", "--limit"), cannot("--limit"))
 
 
-# Fails where a name of 300 bytes can't be read: the file.
+# Catches a program that can't read a file with a name of 300 bytes: the file.
 def names(yarib):
     long = "d" * 150 + "/" + "f" * 149
     os.mkdir("d" * 150)
@@ -173,7 +174,8 @@ def texts(yarib):
 # Numbers
 
 
-# Fails where `--limit 0` or `1000001`, `--batch 0` or `1025` is taken, or `--limit 2` is 3: the option and its number.
+# Catches a program that accepts `--limit 0` or `1000001`, `--batch 0` or `1025`, or uses 3 for `--limit 2`: the option
+# and its number.
 def limits(yarib):
     lines = [f"add 10.{k}.0.0/16 1 192.0.2.1\n" for k in range(1, 5)]
     pathlib.Path("four.feed").write_text("".join(lines))
@@ -200,10 +202,11 @@ def limits(yarib):
     misused("--limit before run", yarib("--limit", "1", "run", "row.feed"), "--limit")
 
 
-# Fails where 32 commands are asked for `--batch 64`, or 512 for `--batch 1024`: `32 in place of 64`, `512 in place of
-# 1024`.
+# Catches a run that executes 32 commands at once for `--batch 64`, or 512 for `--batch 1024`: `32 in place of 64`.
 def batches(yarib):
-    """Each batch has an effect of its own: the dumps of a second feed change at its multiples alone, and to those."""
+    """Each batch has one effect: the dumps of another feed change only at multiples of its size, and only to multiples."""
+    if is_unproved("batches"):
+        return
     expect("--batch 1000", batch_seen(yarib, ["--batch", "1000"], 1000), 1000)
     for batch in (1, 2, 64, 1024):
         expect(f"--batch {batch}", batch_seen(yarib, ["--batch", str(batch)], batch), batch)
@@ -213,27 +216,22 @@ def batches(yarib):
 
 
 def batch_seen(yarib, words, batch):
-    """The greatest number that divides each change between two dumps of a feed, in up to 400 runs beside one adding."""
-    count = batch * max(48, 16_384 // batch)
-    pathlib.Path("adds.feed").write_text("".join(f"add 10.{k >> 8}.{k & 255}.0/24 1 192.0.2.1\n" for k in range(count)))
+    """Returns the greatest number that divides the result of each dump and each position where the result changes; the feed
+    of dumps takes turns with a feed that adds."""
+    count = 16 * batch
     pathlib.Path("dumps.feed").write_text("dump\n" * count)
-    added = [f"1:{line} added" for line in range(1, count + 1)]
-    divides = 0
-    for _ in range(400):
-        status, out, err = yarib("run", *words, "adds.feed", "dumps.feed")
-        lines = out.splitlines()
-        if (status, err, lines[:count]) != (0, "", added):
-            return "a route was not added"
-        dumped = [int(line.rpartition(" ")[2]) for line in lines[count : 2 * count]]
-        for at in range(1, count):
-            if dumped[at - 1] != dumped[at]:
-                divides = math.gcd(divides, at, dumped[at - 1], dumped[at])
-        if divides and divides <= batch:
-            break
-    return divides
+    pathlib.Path("adds.feed").write_text("".join(f"add 10.{k >> 8}.{k & 255}.0/24 1 192.0.2.1\n" for k in range(count)))
+    status, out, err = in_turns(yarib, *words, "dumps.feed", "adds.feed")
+    lines = out.splitlines()
+    added = [f"2:{line} added" for line in range(1, count + 1)]
+    if (status, err, lines[count : 2 * count]) != (0, "", added):
+        return f"a route was not added: status {status}, {err!r}"
+    dumped = [int(line.rpartition(" ")[2]) for line in lines[:count]]
+    changes = [at for at in range(1, count) if dumped[at - 1] != dumped[at]]
+    return math.gcd(*dumped, *changes) if changes else "the feeds took no turns"
 
 
-# Fails where `--by` may be given twice: `--by twice`.
+# Catches a command line that accepts `--by` twice: `--by twice`.
 def twice(yarib):
     for first, second in (("1", "2"), ("2", "2")):
         for name in ("--limit", "--batch"):
@@ -249,7 +247,8 @@ def twice(yarib):
 
 
 class Tree:
-    """All places of a tree of so many levels. Each takes one atomic step at a time, by the rows of docs/LOCK.md."""
+    """All places of a tree with this number of levels. Each does one atomic step at a time, by the rows of
+    docs/LOCK.md."""
 
     def __init__(self, levels):
         self.levels, self.words, self.inside = levels, {}, None
@@ -328,7 +327,7 @@ class Tree:
         return "".join(lines) + f"inside {'none' if self.inside is None else f'p{self.inside}'}\n"
 
 
-# Fails where the last of 13 picks is left out, or P3 is answered to 1,000 picks or to six levels: the replay.
+# Catches a replay without the last of 13 picks, or P3 for 1,000 picks or for six levels: the replay.
 def replays(yarib):
     def compare(levels, picks, *shown):
         words = list(shown or map(str, picks))
@@ -367,10 +366,10 @@ def replays(yarib):
     misused("the pick -1 without --", yarib("replay", "--levels", "1", "-1"), "'-1'")
 
 
-# Help, version and what is no command
+# Help, version, and invalid commands
 
 
-# Fails where a line of a help page is missing or says another thing: the page.
+# Catches a missing or different line of a help page: the page.
 def pages(yarib):
     page = lambda name: (TOP / "tests" / "help" / f"{name}.txt").read_text()
     for words in (["--help"], ["-h"], ["help"]):
@@ -383,7 +382,8 @@ def pages(yarib):
         expect(f"{words}", yarib(*words), (0, "yarib 0.1.0\n", ""))
     expect("the version that ./yarib prints without a program", stored("version"), "yarib 0.1.0\n")
     expect("no word", yarib(), (3, "", page("yarib")))
-    # What ./yarib says of such words without a program: all but a hint at a similar word, and where it belongs.
+    # The output of ./yarib for such arguments without a built program, except a hint at a similar argument and at where
+    # it belongs.
     for name, listed in (("no-subcommand", ("walk", "RUN", "runs", "row.feed", "-", "a b", "help.")),
                          ("no-option", ("--frob", "--limit", "--limits", "--help-me", "--versions", "--run"))):
         for words in [[one, *more] for one in listed for more in ([], ["run", "row.feed"], ["--help"])]:
@@ -398,9 +398,9 @@ def pages(yarib):
         misused(f"{words}", yarib(*words), part)
 
 
-# Fails where the help's replay shows another value.
+# Catches a help page whose replay shows another value.
 def examples_of_the_help(yarib):
-    """Each call that a help page shows prints what stands below it there."""
+    """Each call that a help page shows prints the text below it on that page."""
     new = ROW + "add 10.1.0.0/16 100 192.0.2.2\n"
     texts, listed = {"one.feed": ROW, "two.feed": "add 10.0.0.0/8 50 192.0.2.2\n", "new.feed": new}, []
     for name in ("lookup", "table", "run", "replay", "diff"):
@@ -411,21 +411,22 @@ def examples_of_the_help(yarib):
     make(yarib, texts, listed)
 
 
-# What the help says of a fault, and a line that has it; and of a status, and a call that ends with it.
+# The help's text for an error, and a line that has it; the help's text for a status, and a call that ends with it.
 FAULTS = [
-    ("E1 no command", "frob"), ("E2 number of fields", "dump x"), ("E3 prefix or address", "lookup 256.0.0.1"),
-    ("E3 prefix or address", "withdraw 10.0.0/8"), ("E4 prefix length", "withdraw 10.0.0.0/33"),
-    ("E5 bits past the length", "withdraw 10.0.0.1/8"), ("E6 preference", "add 10.0.0.0/8 4294967296 192.0.2.1"),
-    ("E7 next hop", "add 10.0.0.0/8 1 192.0.2.256"), ("E7 next hop", "add 10.0.0.0/8 1 discard"),
-    ("E8 over 128 bytes", "#" * 129),
+    ("E1 unknown command", "frob"), ("E2 wrong number of fields", "dump x"),
+    ("E3 invalid prefix or address", "lookup 256.0.0.1"), ("E3 invalid prefix or address", "withdraw 10.0.0/8"),
+    ("E4 prefix length over 32", "withdraw 10.0.0.0/33"), ("E5 bit set past the length", "withdraw 10.0.0.1/8"),
+    ("E6 invalid preference", "add 10.0.0.0/8 4294967296 192.0.2.1"),
+    ("E7 invalid next hop", "add 10.0.0.0/8 1 192.0.2.256"), ("E7 invalid next hop", "add 10.0.0.0/8 1 discard"),
+    ("E8 line over 128 bytes", "#" * 129),
 ]
 STATUSES = [
-    ("0 done", ["row.feed"]), ("2 faulty line", ["faulty.feed"]), ("3 command line", ["--frob"]),
+    ("0 done", ["row.feed"]), ("2 invalid line", ["faulty.feed"]), ("3 invalid command line", ["--frob"]),
     ("4 unreadable file", ["missing"]), ("6 output not written", ["row.feed"]),
 ]
 
 
-# Fails where a fault has another meaning in the help: `the help says E6 preference`.
+# Catches a help page that gives an error code another meaning: `the help says E6 invalid preference`.
 def help_is_true(yarib):
     help_text = yarib("run", "--help")[1]
     for said, line in FAULTS:
@@ -445,11 +446,11 @@ def help_is_true(yarib):
     expect("version 2", yarib("run", "text.feed"), (0, out, ""))
 
 
-# What the finished table says
+# Querying the final table
 
 
 def finished_tables(yarib):
-    """Look-ups and lists of random feeds, beside the model; the same with any batch, and the files' faults told."""
+    """Look-ups and lists of random feeds, compared with the model; with every batch size the output is the same."""
     choice = random.Random(27)
     model, names = Table(1_000_000), []
     for feed in range(1, 7):
@@ -481,8 +482,9 @@ def finished_tables(yarib):
     compare("addresses from a pipe", ended, 0, "".join(answers))
 
 
-# Fails where the prefix itself is left out, one beside it or a shorter one is told, a branch beside it is told, or the
-# last block of all addresses is left out: `--within`; where the feed is asked before the best: `--best --feed`.
+# Catches `--within` without the prefix itself, with a neighbouring or a shorter prefix or a neighbouring branch, or
+# without the last block of all addresses: `--within`.
+# Catches a filter by feed that is applied before `--best`: `--best --feed`.
 def parts_of_tables(yarib):
     """The rows of each part of random tables, with any batch: those of the whole list, in its order, whose prefix meets
     the option's words."""
@@ -508,10 +510,18 @@ def parts_of_tables(yarib):
                         part = "".join(row + "\n" for row, network in zip(rows, networks) if meets(network, prefix))
                         words = [option, str(prefix), *best, *feed, "--batch", choice.choice(("1", "256"))]
                         compare(f"{words} of {count}", yarib("table", *words, *names), 0, part)
+                        if prefix.prefixlen == 32:
+                            words[1] = str(prefix.network_address)
+                            compare(f"{words} of {count}: an address alone", yarib("table", *words, *names), 0, part)
     for option in holds:
-        for word in ("10.0.0.0", "10.0.0.1/8", "10.0.0.0/33", "256.0.0.0/8", "", "x"):
+        for word in ("10.0.0", "10.0.0.0/33", "10.0.0.1/33", "10.0.0.0/08", "10.0.0.0/", "256.0.0.0/8", "256.0.0.0", "", "x"):
             ended = yarib("table", f"{option}={word}", "missing")
             expect(f"{option} {word!r}", ended, (3, "", f"yarib: not a prefix: {word}\n"))
+        for word, meant in (("10.1.2.3/24", "10.1.2.0/24"), ("10.0.0.1/8", "10.0.0.0/8"), ("255.255.255.255/31", "255.255.255.254/31"),
+                            ("0.0.0.1/0", "0.0.0.0/0"), ("128.0.0.0/0", "0.0.0.0/0")):
+            ended = yarib("table", f"{option}={word}", "missing")
+            wanted = f"yarib: not a prefix: {word}: host bits are set; did you mean {meant}?\n"
+            expect(f"{option} {word!r}", ended, (3, "", wanted))
         misused(f"{option} twice", yarib("table", option, "10.0.0.0/8", option, "10.0.0.0/8", "row.feed"), option)
         misused(f"{option} of a look-up", yarib("lookup", option, "10.0.0.0/8", "--address", "10.0.0.1", "row.feed"),
                 option)
@@ -520,12 +530,120 @@ def parts_of_tables(yarib):
             for given in ([option, "10.0.0.0/8", *words], [*words, option, "10.0.0.0/8"]):
                 expect(f"{given}", yarib("table", *given, "row.feed"),
                        (3, "", "yarib: only one of --within, --covering and --exact may be given\n"))
-    for word in ("0", "65", "x"):
-        misused(f"--feed {word}", yarib("table", "--feed", word, "row.feed"), "--feed")
+
+
+# Catches a program that opens the file of a feed that is left out, that renumbers the other feeds, or that leaves out
+# another feed as well: `['table'] without [4]`.
+# Catches a program that ignores all but the first `--without`, or all but the last: `['table'] without [2, 3]`.
+# Catches a program that ignores all but the first `--feed`, or all but the last: `of [1, 4] only`.
+def left_out(yarib):
+    """Queries without some feeds, by number or name: what they print, report and return is that of the same query in which
+    the files of these feeds are empty."""
+    choice = random.Random(70)
+    names = [f"left{feed}.feed" for feed in range(1, 5)]
+    pathlib.Path("empty").mkdir()
+    for name in names:
+        lines = [f"add {dotted(cut(choice.choice((10 << 24, (10 << 24) + 256)), length))}/{length} {choice.randrange(3)} 192.0.2.{choice.randrange(4)}"
+                 for length in choice.sample(range(33), 12)]
+        pathlib.Path(name).write_text("".join(line + "\n" for line in [*lines, "frob"]))
+        (pathlib.Path("empty") / name).write_text("")
+    addresses = [word for address in ("10.0.0.0", "10.0.1.0", "10.255.0.1", "11.0.0.1")
+                 for word in ("--address", address)]
+    queries = [["lookup", *addresses], ["lookup", "--all", *addresses], ["lookup", "--names", *addresses],
+               ["lookup", "--json", "--names", *addresses], ["table"], ["table", "--best"], ["table", "--count"],
+               ["table", "--json", "--within", "10.0.0.0/9"]]
+
+    def named(feed):
+        return str(feed) if choice.randrange(2) else f"left{feed}"
+
+    def placed(out, folder):
+        return [f"{folder}/{name}" if feed in out else name for feed, name in enumerate(names, 1)]
+
+    def options(word, feeds):
+        return [part for feed in feeds for part in (word, named(feed))]
+
+    for _ in range(12):
+        out = choice.sample(range(1, 5), choice.randrange(5))
+        kept = [feed for feed in range(1, 5) if feed not in out]
+        for query in queries:
+            wanted = yarib(*query, *placed(out, "empty"))
+            expect(f"{query} without {out}", yarib(*query, *options("--without", out), *placed(out, "missing")), wanted)
+            if query[0] == "lookup" and kept:
+                ended = yarib(*query, *options("--feed", kept), *placed(out, "missing"))
+                expect(f"{query} without {out}: of {kept} only", ended, wanted)
+                most = choice.sample(range(1, 5), 2)
+                rest = [feed for feed in range(1, 5) if feed in most and feed in kept]
+                gone = [feed for feed in range(1, 5) if feed not in rest]
+                ended = yarib(*query, *options("--feed", most), *options("--without", out), *placed(gone, "missing"))
+                expect(f"{query} without {out}: of {most} only", ended, yarib(*query, *placed(gone, "empty")))
+        for more in ([], ["--by", "route"], ["--names", "--by", "route"], ["--json"]):
+            lost = choice.sample(range(1, 5), choice.randrange(4))
+            stay = [feed for feed in range(1, 5) if feed not in lost]
+            wanted = yarib("diff", *more, *placed(out, "empty"), "--", *placed(lost, "empty"))
+            for new in (options("--new-without", lost), options("--new-feed", stay)):
+                ended = yarib("diff", *more, *options("--old-without", out), *new, *placed(out, "missing"), "--",
+                              *placed(lost, "missing"))
+                expect(f"diff {more} without {out} and {lost}", ended, wanted)
+            wanted = yarib("diff", *more, *placed(lost, "empty"), "--", *names)
+            ended = yarib("diff", *more, *options("--old-feed", stay), *placed(lost, "missing"), "--", *names)
+            expect(f"diff {more} without {lost} on the old side", ended, wanted)
+
+
+# Catches a program that replaces the best route of a prefix by that of a selected feed: `['--best'] of feeds [1]`.
+# Catches a program that ignores all but the first `--feed`, or all but the last: `[] of feeds [4, 2]`.
+def routes_of_feeds(yarib):
+    """`table --feed` selects routes of the whole table, and with --best routes that are the best of all feeds."""
+    choice = random.Random(71)
+    names = [f"of{feed}.feed" for feed in range(1, 5)]
+    for name in names:
+        lines = [f"add 10.{place}.0.0/16 {choice.randrange(4)} 192.0.2.1" for place in choice.sample(range(20), 12)]
+        pathlib.Path(name).write_text("".join(line + "\n" for line in [*lines, "frob"]))
+    for best in ([], ["--best"]):
+        status, rows, err = yarib("table", *best, *names)
+        for feeds in ([1], [4, 2], [3, 3], [1, 2, 3, 4]):
+            wanted = [row for row in rows.splitlines(keepends=True) if int(row.split()[2]) in feeds]
+            for by in (str, lambda feed: f"of{feed}"):
+                words = [word for feed in feeds for word in ("--feed", by(feed))]
+                expect(f"{best} of feeds {feeds}", yarib("table", *best, *words, *names), (status, "".join(wanted), err))
+                expect(f"the number {best} of feeds {feeds}", yarib("table", "--count", *best, *words, *names),
+                       (status, counts_text(wanted), err))
+
+
+# Catches a program that answers a number beyond the files by nothing: `table --feed 3`.
+# Catches a program that takes the first of two feeds with the same name, or the number instead of the name: `same of
+# ['a/same.feed', 'b/same.feed']`, `2 of ['2.feed', 'other.feed']`.
+def unknown_feeds(yarib):
+    """A feed that is unknown or ambiguous is an error, and no file is read."""
+    missing = ["missing/same.feed", "missing/other.feed"]
+    queries = [("lookup", "--feed", ["--address", "10.0.0.1"]), ("lookup", "--without", ["--address", "10.0.0.1"]),
+               ("table", "--feed", []), ("table", "--without", [])]
+    for command, option, words in queries:
+        for word in ("3", "0", "65", "-1", "4294967297", "sam", "same.feed", "missing/same", "SAME", "", " 1"):
+            ended = yarib(command, f"{option}={word}", *words, *missing)
+            expect(f"{command} {option} {word}", ended, (3, "", f"yarib: no feed has this number or name: {word}\n"))
+            ended = yarib(command, f"{option}=other", f"{option}={word}", *words, *missing)
+            expect(f"{command} {option} other and {word}", ended,
+                   (3, "", f"yarib: no feed has this number or name: {word}\n"))
+        for word, files in (("same", ["a/same.feed", "b/same.feed"]), ("same", ["same", "other", "same.feed"]),
+                            ("2", ["2.feed", "other.feed"]), ("1", ["other.feed", "1"])):
+            expect(f"{command} {option} {word} of {files}", yarib(command, option, word, *words, *files),
+                   (3, "", f"yarib: more than one feed has this number or name: {word}\n"))
+    for option in ("--old-feed", "--old-without", "--new-feed", "--new-without"):
+        side = ["one.feed", "same.feed"] if "old" in option else ["one.feed", "row.feed", "same.feed"]
+        for word in (str(len(side) + 1), "row" if "old" in option else "two"):
+            ended = yarib("diff", option, word, "one.feed", "same.feed", "--", "one.feed", "row.feed", "same.feed")
+            expect(f"diff {option} {word}", ended, (3, "", f"yarib: no feed has this number or name: {word}\n"))
+    for word in ("1", "01", "row"):
+        compare(f"the one feed as {word}", yarib("table", "--feed", word, "row.feed"), 0, route(1))
+    compare("a number that is the same feed's name", yarib("table", "--without", "2", "row.feed", "missing/2.feed"), 0, route(1))
+    compare("a number as a name", yarib("table", "--without", "65001", "row.feed", "missing/65001.feed"), 0, route(1))
+    compare("all feeds left out", yarib("table", "--without", "1", "--without", "2", *missing), 0, "")
+    misused("--without of a run", yarib("run", "--without", "1", "row.feed"), "--without")
+    expect("65 files", yarib("table", "--without", "1", *["missing"] * 65), (3, "", "yarib: more than 64 files\n"))
 
 
 def counts_text(rows):
-    """What `--count` prints of these rows of a table, whose feeds are told by number or by name."""
+    """What `--count` prints for these rows of a table, whose feeds are given by number or by name."""
     words = [row.split() for row in rows]
     lines = [f"routes {len(words)} prefixes {len({word[0] for word in words})}"]
     of_feeds = collections.Counter(word[2] for word in words)
@@ -536,7 +654,7 @@ def counts_text(rows):
 
 
 def counted(line, path_of):
-    """The object that `--count --json` prints for a line of `--count`; this gives a feed's path."""
+    """The object that `--count --json` prints for a line of `--count`; `path_of` returns a feed's path."""
     words = line.split()
     said = {key: int(value) for key, value in zip(words[::2], words[1::2])}
     if "feed" in said:
@@ -544,10 +662,11 @@ def counted(line, path_of):
     return said
 
 
-# Fails where a length, a feed or the last of either is forgotten, or routes are counted as prefixes: `--count of 300`.
+# Catches a count without some length or feed, or without the last of either, or with routes for prefixes: `--count of
+# 300`.
 def counted_tables(yarib):
-    """How many routes are in each part of random tables, beside the rows that the same command prints; and all feeds
-    and lengths."""
+    """The number of routes in each part of random tables, compared with the rows that the same command prints without
+    `--count`; and counts of all feeds and lengths."""
     choice = random.Random(62)
     for count in (0, 1, 12, 300):
         _, names = random_table(choice, f"counted{count}_", count)
@@ -578,14 +697,14 @@ def counted_tables(yarib):
 
 
 def cut(number, length):
-    """The number without its bits past so many."""
+    """The number without its bits past the length."""
     return number >> 32 - length << 32 - length
 
 
-# Fails where nothing is told of the feed files beside a faulty address: `faults of all files`.
-# Fails where a faulty address leaves status 0: `faulty addresses`.
+# Catches a program that reports an invalid address but not the feed files: `faults of all files`.
+# Catches status 0 for an invalid address: `faulty addresses`.
 def not_taken(yarib):
-    """What standard error tells of each file, and the status."""
+    """The report on standard error for each file, and the status."""
     more = "frob\nadd 11.0.0.0/8 1 192.0.2.1\nadd 12.0.0.0/8 1 192.0.2.1\nlookup 1\n"
     pathlib.Path("three.feed").write_text(ROW + more)
     pathlib.Path("asked.txt").write_text("10.0.0.1\n" + "#" * 129 + "\nx\n10.0.0.2\n")
@@ -604,16 +723,17 @@ def not_taken(yarib):
     expect("faults of all files", yarib("lookup", *one, *by_file, "three.feed"), (2, both, asked + faulty + over))
 
 
-# Fails where `--addresses -` is taken for an empty text: `- is no standard input of addresses`.
-# Fails where `--addresses` is taken twice: `--addresses twice`.
-# Fails where the text of addresses is read before the feed files: `a feed file is named before the text of addresses`.
+# Catches a program that reads an empty address file for `--addresses -`: `- is no standard input of addresses`.
+# Catches a command line that accepts `--addresses` twice: `--addresses twice`.
+# Catches a program that reads the address file before the feed files: `a feed file is named before the text of
+# addresses`.
 def not_asked(yarib):
-    """Look-ups and lists whose words or files are none."""
+    """Look-ups and lists with invalid arguments or missing files."""
     for word in ("10.0.0.256", "", "10.0.0.1/32", "10.0.0.01", " 10.0.0.1", "x"):
         ended = yarib("lookup", "--address", "10.0.0.1", f"--address={word}", "missing")
         expect(f"the address {word!r}", ended, (3, "", f"yarib: not an address: {word}\n"))
     expect("no address", yarib("lookup", "row.feed"),
-           (3, "", "yarib: no address is asked for: give --address or --addresses\n"))
+           (3, "", "yarib: no address given: use --address or --addresses\n"))
     for command in (["lookup", "--address", "10.0.0.1"], ["table"]):
         expect(f"{command} of a missing file", yarib(*command, "row.feed", "missing"),
                (4, "", "yarib: cannot read missing\n"))
@@ -641,13 +761,13 @@ def not_asked(yarib):
     misused("--best of a run", yarib("run", "--best", "row.feed"), "--best")
 
 
-# What two tables answer otherwise
+# Comparing two tables
 
 
-# Fails where a border at the last address of a prefix is forgotten, ranges are split or merged wrongly, or routes are
-# compared where hops were asked: `by hop 0`.
+# Catches a comparison that misses a boundary at the last address of a prefix, splits or merges ranges wrongly, or
+# compares routes instead of next hops: `by hop 0`.
 def compared_tables(yarib):
-    """Ranges of random feeds, beside all borders asked one by one; what is misused, and what is told of both sides."""
+    """Ranges of random feeds, compared with look-ups at every boundary; usage errors, and the reports on both sides."""
     choice = random.Random(40)
     for number in range(20):
         (old, old_names), (new, new_names) = (random_table(choice, side, number) for side in ("old", "new"))
@@ -670,7 +790,7 @@ def compared_tables(yarib):
 
 
 def answer_object(text, path_of):
-    """The JSON value that tells this text of an answer; this gives a feed's path."""
+    """The JSON value of an answer with this text; `path_of` returns a feed's path."""
     words = text.split()
     if text == "no route":
         return None
@@ -681,9 +801,9 @@ def answer_object(text, path_of):
     return {"prefix": words[0], "feed": feed, "file": path_of(feed), "pref": int(words[4]), **way}
 
 
-# Fails where old and new are exchanged, or a range's last address is another: `as JSON by`.
+# Catches a comparison that swaps old and new, or prints another last address of a range: `as JSON by`.
 def compared_as_json(yarib):
-    """Each range is one object, which says what the same command's line says, and of a feed its file on that side."""
+    """Each range is one object with the contents of the same command's line, and for a feed its file on that side."""
     choice = random.Random(63)
     for number in (1, 4, 9):
         (_, old), (_, new) = (random_table(choice, side, number) for side in ("old", "new"))
@@ -708,10 +828,10 @@ def compared_as_json(yarib):
     expect("65 new files, as JSON", ended, (3, "", "yarib: more than 64 files\n"))
 
 
-# Fails where feeds are paired by their numbers and not by their names: `a file that one side lacks`.
+# Catches a comparison that pairs feeds by number instead of name: `a file that one side lacks`.
 def compared_by_name(yarib):
-    """Ranges of random feeds, whose files stand in another order on the other side, or lack there: feeds of one name
-    are one."""
+    """Ranges of random feeds whose files have another order on the other side, or are missing there: feeds with the
+    same name are the same feed."""
     choice = random.Random(64)
     for side in ("older", "newer"):
         pathlib.Path(side).mkdir(exist_ok=True)
@@ -748,15 +868,16 @@ def compared_by_name(yarib):
                 "via": "192.0.2.3"})])
     for side in (["older/one.feed", "newer/one.feed", "--", "row.feed"],
                  ["row.feed", "--", "older/one.feed", "newer/one.feed"]):
-        err = "yarib: one name for two feeds: older/one.feed, newer/one.feed\n"
+        err = ("yarib: two feeds with the same name (rename a file, or leave out --names): "
+               "older/one.feed, newer/one.feed\n")
         compare(f"one name twice in {side}", yarib("diff", "--names", *side), 3, "", err)
     pathlib.Path("a b.feed").write_text(ROW)
     compare("no name", yarib("diff", "--names", "row.feed", "--", "a b.feed"), 3, "",
-            "yarib: no name for a feed: a b.feed\n")
+            "yarib: no valid feed name (rename the file, or leave out --names): a b.feed\n")
 
 
 def random_feeds(choice, folder, names, count):
-    """Random feeds of these names, in a folder, of up to so many routes: their table, and their files."""
+    """Random feeds with these names, in a directory, each with at most `count` routes: their table and their files."""
     model, paths = Table(1_000_000), [f"{folder}/{name}.feed" for name in names]
     for feed, path in enumerate(paths, 1):
         lines = []
@@ -770,7 +891,7 @@ def random_feeds(choice, folder, names, count):
 
 
 def random_table(choice, side, count):
-    """Two random feeds of up to so many routes: their table, and the names of their files."""
+    """Two random feeds with at most `count` routes each: their table and the names of their files."""
     model, names = Table(1_000_000), [f"{side}{feed}.feed" for feed in (1, 2)]
     for feed, name in enumerate(names, 1):
         text = ""
@@ -784,11 +905,11 @@ def random_table(choice, side, count):
     return model, names
 
 
-# Fails where the new files are read first: `both are missing`.
-# Fails where the new files are told of first: `what was not taken of the old files comes first`.
+# Catches a program that reads the new files first: `both are missing`.
+# Catches a program that reports the new files first: `what was not taken of the old files comes first`.
 def old_first(yarib):
     pathlib.Path("gone.feed").write_text("withdraw 10.0.0.0/8\n")
-    told = ["yarib: gone.feed: replaces and withdraws of a prefix not there: 1\n",
+    told = ["yarib: gone.feed: replaces and withdraws without a route: 1\n",
             f"yarib: faulty.feed: faulty lines: 1, the first is line 1: {E1}\n"]
     for sides, lines in ((("gone", "faulty"), told), (("faulty", "gone"), told[::-1])):
         old, new = (f"{side}.feed" for side in sides)
@@ -799,14 +920,14 @@ def old_first(yarib):
            (4, "", "yarib: cannot read nor\n"))
 
 
-# Fails where nothing is told from the third file on, of a file that is named twice, or of it the second time: `a third
-# file and one that is named again`.
-# Fails where only the last part of a name is told: `all kinds of one file`.
-# Fails where an `add` of a prefix already there is told as one over the limit: `an add of what is there`.
-# Fails where what was not taken is counted to 255, 1,000 or 65,535: `tens of thousands of each kind`.
-# Fails where `table` gives status 0 where there were only `add`s over the limit: `adds over the limit alone`.
+# Catches a program that reports nothing from the third file on, of a file given twice, or of its second mention: `a
+# third file and one that is named again`.
+# Catches a program that prints only the last component of a path: `all kinds of one file`.
+# Catches a program that reports a duplicate `add` as one over the limit: `an add of what is there`.
+# Catches counts of rejected input that stop at 255, 1,000 or 65,535: `tens of thousands of each kind`.
+# Catches status 0 of `table` if there were only `add`s over the limit: `adds over the limit alone`.
 def files_told(yarib):
-    """Each file is told of, by the whole of its name and as often as it is named."""
+    """Each file is reported, by the whole of its name and each time it is given."""
     os.makedirs("a folder/deep", exist_ok=True)
     long = "a folder/deep/kinds.feed"
     pathlib.Path(long).write_text("# note\n\n" + ROW + ROW + "replace 11.0.0.0/8 1 192.0.2.1\nwithdraw 12.0.0.0/8\n"
@@ -814,10 +935,10 @@ def files_told(yarib):
     pathlib.Path("again.feed").write_text(ROW + ROW)
     pathlib.Path("gone.feed").write_text("withdraw 10.0.0.0/8\n")
     kinds = "".join(f"yarib: {long}: {what}\n" for what in (
-        f"faulty lines: 2, the first is line 9: {E1}", "adds over the limit: 1", "adds of a prefix already there: 1",
-        "replaces and withdraws of a prefix not there: 3"))
-    again = "yarib: again.feed: adds of a prefix already there: 1\n"
-    gone = "yarib: gone.feed: replaces and withdraws of a prefix not there: 1\n"
+        f"faulty lines: 2, the first is line 9: {E1}", "adds over the limit: 1", "duplicate adds: 1",
+        "replaces and withdraws without a route: 3"))
+    again = "yarib: again.feed: duplicate adds: 1\n"
+    gone = "yarib: gone.feed: replaces and withdraws without a route: 1\n"
     table = lambda *names: yarib("table", "--best", "--limit", "1", *names)
     expect("all kinds of one file", table(long), (2, route(1), kinds))
     expect("an add of what is there", table("again.feed"), (0, route(1), again))
@@ -833,19 +954,19 @@ def files_told(yarib):
     pathlib.Path("many.feed").write_text(ROW + "".join(line * count for line, count in counts.items()))
     told = "".join(f"yarib: many.feed: {what}\n" for what in (
         f"faulty lines: 70001, the first is line 2: {E1}", "adds over the limit: 70002",
-        "adds of a prefix already there: 70003", "replaces and withdraws of a prefix not there: 70004"))
+        "duplicate adds: 70003", "replaces and withdraws without a route: 70004"))
     expect("tens of thousands of each kind", table("many.feed"), (2, route(1), told))
 
 
-# Fails where the first faulty address is numbered without the lines that are skipped, or only 64 KB of the text are
-# read: `a long text of addresses`.
-# Fails where faulty addresses are counted to 255 or 65,535: `256 faulty addresses`, `70001 faulty addresses`.
-# Fails where F3 is given to more than 1,000 or 4,096 `--address`es: `--address 1001 times`, `--address 30000 times`.
-# Fails where F3 is given to more than 2,000 addresses, or status 6 to more than 2,000 answers: `20,000 addresses`.
-# Fails where something is told of what was not taken though the output could not be written: `nothing is told where the
-# output is full`.
+# Catches a number of the first invalid address that doesn't count skipped lines, or a program that reads only 64 KB of
+# the file: `a long text of addresses`.
+# Catches counts of invalid addresses that stop at 255 or 65,535: `256 faulty addresses`, `70001 faulty addresses`.
+# Catches F3 for more than 1,000 or 4,096 `--address`es: `--address 1001 times`, `--address 30000 times`.
+# Catches F3 for more than 2,000 addresses, or status 6 for more than 2,000 answers: `20,000 addresses`.
+# Catches a report on rejected input if the output could not be written: `nothing is told where the output is full`.
 def addresses_told(yarib):
-    """The first faulty address is told by its number among all lines, of a text longer than any buffer too."""
+    """The first invalid address is reported by its number among all lines, even if the file is longer than any
+    buffer."""
     skipped = "# note\n\n" * 3_000
     pathlib.Path("asked.txt").write_text(skipped + "10.0.0.1\n" + skipped * 2 + "frob\n10.0.0.1\nfrob\n")
     line = 3 * 6_000 + 2
@@ -870,8 +991,8 @@ def addresses_told(yarib):
         expect(f"nothing is told where the output is full: {words}", ended, CANNOT_WRITE)
 
 
-# Fails where status 0 is given though help or version can't be written: `['--help'] to a closed output`.
-# Fails where status 0 is given to an output that takes nothing: the status is not 6.
+# Catches status 0 if help or version can't be written: `['--help'] to a closed output`.
+# Catches status 0 for an output that accepts nothing: the status is not 6.
 def closed_outputs(yarib):
     tried = (
         ["lookup", "--help"], ["table", "--help"], ["lookup", "--address", "10.0.0.1", "row.feed"],
@@ -886,7 +1007,7 @@ def closed_outputs(yarib):
             expect(f"{words} to a full output", yarib(*words, stdout=full), CANNOT_WRITE)
         expect(f"{words} where nothing is open",
                yarib(*words, stdout=None, stderr=None, preexec_fn=close_all), (6, "", ""))
-    # What has nothing for standard output doesn't meet it.
+    # A call without output to standard output isn't affected.
     for words, wanted in (
         (["table", "empty.feed"], (0, "", "")),
         (["run", "missing"], (4, "", "yarib: cannot read missing\n")),
@@ -901,9 +1022,9 @@ ERASED = "\r" + " " * 32 + "\r"
 
 
 def on_terminal(words, told=None, go_on=lambda: None, out_too=False, is_short=False):
-    """Status, standard output, and what a terminal as standard error is sent beside the line; it may be standard output
-    too. Where the run is held up, the line has to say what is `told` before `go_on` is called, and may else say
-    `OTHERS`; of a short run only where the machine has made it take a second."""
+    """Returns the status, standard output, and what a terminal as standard error receives besides the progress line;
+    the terminal may be standard output too. If the run is held up, the line has to say `told` before `go_on` is called,
+    and may also say `OTHERS`. In a short run there may be a line only if the run took over a second."""
     began = time.monotonic()
     screen, terminal = pty.openpty()
     tty.setraw(terminal)
@@ -931,7 +1052,8 @@ OTHERS = {
 
 
 def sent_to(screen):
-    """What the terminal is sent and wasn't read yet; nothing once nobody can write to it, or for two minutes."""
+    """What the terminal has received and wasn't read yet; empty if nobody can write to it any more, or after two
+    minutes."""
     try:
         return os.read(screen, 65_536) if select.select([screen], [], [], 120)[0] else b""
     except OSError:
@@ -944,11 +1066,11 @@ def seconds_on_terminal(words):
     return time.monotonic() - began
 
 
-# Fails where a call on a terminal lasts as long as the line's next second: `some call on a terminal is over in half a
-# second`.
-# Fails where status 1 is 0 on a terminal: `a difference on a terminal`.
-# Fails where a run of less than a second says something, or one that isn't on a terminal; where the line isn't erased
-# before another text and at the end; where nothing is said after a second.
+# Catches a call on a terminal that lasts until the progress line's next second: `some call on a terminal is over in
+# half a second`.
+# Catches status 0 instead of 1 on a terminal: `a difference on a terminal`.
+# Catches a progress line in a run of less than a second, or in one that isn't on a terminal.
+# Catches a progress line that isn't erased before another text and at the end, or isn't written after a second.
 def progress(yarib):
     os.mkfifo("slow.feed")
     goes_on = lambda text: lambda: pathlib.Path("slow.feed").write_text(text)
@@ -976,37 +1098,35 @@ def progress(yarib):
     expect("a slow file, no terminal", child.communicate(timeout=120), (ROW_OUT, ""))
 
 
-# Fails where the line is written each 200 ms, or every other second: `the second line comes after ..`.
+# Catches a line that is written each 200 ms, or every other second: `second 1`.
 def line_each_second(yarib):
-    """A held up run says a second time after two seconds how far it has come; later beside other work, but not each time."""
+    """A delayed run prints its progress each second. This script ends each wait of the program, which then prints its length."""
     os.mkfifo("slow.feed")
-    seconds = []
-    while not seconds or not 2 <= seconds[-1] < 2.9 and len(seconds) < 8:
-        seconds.append(seconds_to_second_line(yarib))
-    expect(f"the second line comes after {seconds} seconds", min(seconds) >= 2 and min(seconds) < 2.9, True)
-
-
-def seconds_to_second_line(program):
-    began, told = time.monotonic(), b"yarib: files read: 0 of 1"
     screen, terminal = pty.openpty()
     tty.setraw(terminal)
-    child = subprocess.Popen([program, "run", "slow.feed"], stdout=subprocess.DEVNULL, stderr=terminal)
+    waits, ticks = os.pipe()
+    child = subprocess.Popen([yarib, "run", "slow.feed"], stdout=subprocess.DEVNULL, stderr=terminal,
+                             env=loaded(TICKS_IN=waits), pass_fds=[waits])
     os.close(terminal)
-    sent = b""
-    while sent.count(told) < 2 and (piece := sent_to(screen)):
-        sent += piece
-    seconds = time.monotonic() - began
-    pathlib.Path("slow.feed").write_text(ROW)
-    expect("a run that told twice how far it has come", child.wait(timeout=120), 0)
+    os.close(waits)
+    with open("slow.feed", "w") as feed:  # the program has opened it for reading
+        for second in range(1, 6):
+            line, sent = b"yarib: files read: 0 of 1", b""
+            os.write(ticks, b"t")
+            while not sent.endswith(line) and (piece := sent_to(screen)):
+                sent += piece
+            expect(f"second {second}", sent.decode(), f"[1000 ms]{ERASED if second > 1 else ''}{line.decode()}")
+        os.close(ticks)
+        feed.write(ROW)
+    expect("a run that printed its progress", child.wait(timeout=120), 0)
     os.close(screen)
-    return round(seconds, 1)
 
 
-# Fails where the line tells only of the old feeds of a comparison: `32 busy feeds compared with 32`.
-# Fails where something else is said than how far a run has come, or where what was said before isn't erased.
-# Fails where something is said before a run has begun: `a long replay`.
-# Fails where the line is written on a terminal that has output already: `a long output on a terminal alone`.
-# Fails where the line is written again after it was erased for good.
+# Catches a progress line that only counts the old feeds of a comparison: `32 busy feeds compared with 32`.
+# Catches another text than the run's progress, or a previous one that isn't erased.
+# Catches a progress line before a run has begun: `a long replay`.
+# Catches a progress line on a terminal that has output already: `a long output on a terminal alone`.
+# Catches a progress line that is written again after its final erasure.
 def progress_of_long_runs(yarib):
     """Runs that work for over a second, or whose output isn't read for so long: that holds them up."""
     unread = lambda: time.sleep(1.5)
@@ -1033,7 +1153,8 @@ def progress_of_long_runs(yarib):
 
 CASES = (
     runs, what_the_table_says, what_two_tables_answer_otherwise, file_order, many_files, unreadable, names,
-    texts, limits, batches, twice, replays, finished_tables, parts_of_tables, counted_tables, compared_tables,
+    texts, limits, batches, twice, replays, finished_tables, parts_of_tables, left_out, routes_of_feeds,
+    unknown_feeds, counted_tables, compared_tables,
     compared_as_json, compared_by_name, old_first, not_taken, not_asked, files_told, addresses_told, pages,
     examples_of_the_help, help_is_true, closed_outputs, progress, line_each_second, progress_of_long_runs,
 )
@@ -1042,7 +1163,7 @@ CASES = (
 def main():
     words = chosen(__doc__, CASES)
     with tempfile.TemporaryDirectory() as apart:
-        # The help says by which name the program was called.
+        # The help prints the name by which the program was called.
         yarib = Program(pathlib.Path(apart) / "yarib")
         yarib.path.symlink_to(words.program)
         run_each(words.cases, yarib, files={"row.feed": ROW, "empty.feed": "", "faulty.feed": "frob\n"})

@@ -1,12 +1,14 @@
 #!/usr/bin/env python3
-"""What a run costs: how its feeds wait for one another, and its processor time beside a peer's in the same run.
+"""The costs of a run: how its feeds wait for each other, and its processor time compared with a baseline in the same
+run.
 
 tests/costs.py [PROGRAM [CASE..]], or --list for the names of the cases. Needs gcc and glibc.
 
-No clause says how long anything takes. Waits are counted (tests/waits.c), which other work on the machine changes
-little. Processor time has a peer in the same run, which other work makes as much dearer: passages of a mutex in C, or
-what the same call has used before its first output. Each bound is one and a half to three times what was found, and
-holds for the best of some rounds, which a wrong body passes in none. With --tell it prints what it finds.
+No clause says how long anything takes. Waits are counted (tests/waits.c); other work on the machine changes these
+counts little. Processor time is compared with a baseline in the same run, which other work slows down by the same
+factor: passages of a mutex in C, or what the same call has used before its first output. Each bound is one and a half
+to three times the measured value, and holds for the best of some rounds; a mutant stays below it in none. With --tell
+it prints what it measures.
 """
 import pathlib
 import random
@@ -22,7 +24,7 @@ WORDS = 1000
 
 
 class Waits(NamedTuple):
-    """The waits of one word, a place's bell: short ones at the door, longer ones in the lock, and how often it rang."""
+    """The waits of a word, a place's bell: short ones at the door, longer ones in the lock, and how often it rang."""
 
     naps: int
     sleeps: int
@@ -30,7 +32,7 @@ class Waits(NamedTuple):
 
 
 class Ended(NamedTuple):
-    """The waits of each place that waited at all, in the order of the places, and nanoseconds of the processor."""
+    """The waits of each place that waited at all, in the order of the places, and nanoseconds of CPU time."""
 
     waits: list
     before_output: int
@@ -38,7 +40,7 @@ class Ended(NamedTuple):
 
 
 class Called:
-    """Calls of the program, with what counts its waits; what is found may be told."""
+    """Calls of the program with a counter of its waits. If `tells`, the results are printed."""
 
     def __init__(self, yarib, folder, tells):
         self.yarib, self.tells = yarib, tells
@@ -58,7 +60,7 @@ class Called:
         return Ended([Waits(*row[1:]) for row in rows], first, last - first)
 
     def dumps(self, files, lines):
-        """A run of so many files of so many `dump`s each, one command at a time."""
+        """A run of `files` files with `lines` `dump`s each, one command at a time."""
         pathlib.Path("dumps.feed").write_text("dump\n" * lines)
         return self.call("run", "--batch", "1", *["dumps.feed"] * files)
 
@@ -74,22 +76,22 @@ class Called:
 # Waits
 
 
-# Fails where a place naps where nobody is: `one file waits for nobody`.
+# Catches a place that naps although nobody else is there: `one file waits for nobody`.
 def one_file(called):
     expect("one file waits for nobody", called.dumps(1, 100_000).waits, [])
 
 
-# Fails where a place naps inside, or at each entry: `at most one of 20 entries of 8 files naps`.
+# Catches a place that naps inside, or at each entry: `at most one of 20 entries of 8 files naps`.
 def crowd(called):
-    """Eight files that ask all the time. Who has napped finds the door free for as long as others nap."""
+    """Eight files that enter all the time. After a nap a file finds the door free for as long as others nap."""
     naps = min(sum(place.naps for place in called.dumps(8, 4_000).waits) for _ in range(3))
     called.tell("naps of 32,000 entries of 8 files", naps)
     expect(f"at most one of 20 entries of 8 files naps: {naps} of 32,000", naps <= 32_000 / 20, True)
 
 
-# Fails where no place ever naps, or a place looks only at one side of the root: `file 1 naps`, `file 2 naps`.
+# Catches a lock whose places never nap, or look only at one side of the root: `file 1 naps`, `file 2 naps`.
 def door(called):
-    """Each of two files naps at some time where it meets the other one again and again."""
+    """Each of two files naps at some time if it meets the other one again and again."""
     write_meeting(dumps=1_000_000, seldom=0)
     for file, names in ((1, ["dumps.feed", "adds.feed"]), (2, ["adds.feed", "dumps.feed"])):
         naps, rounds = 0, 0
@@ -99,7 +101,7 @@ def door(called):
         expect(f"file {file} naps", naps > 0, True)
 
 
-# Fails where a place never forgets a crowd: `file 1 has forgotten the crowd`.
+# Catches a place that never forgets contention: `file 1 has forgotten the crowd`.
 def forgotten(called):
     """A file that has met the other one 20 times in a row meets it now and then, and doesn't nap for that."""
     write_meeting(dumps=3_000_000, seldom=70)
@@ -114,15 +116,15 @@ def forgotten(called):
 
 
 def write_meeting(dumps, seldom):
-    """A long file of `dump`s, and one of `add`s: 20 in a row and then, so seldom that the other one has asked over a
-    thousand times in between, some more."""
+    """A long file of `dump`s, and one of `add`s. The `add`s are 20 in a row and then some more, so rarely that the
+    other file executes over a thousand commands in between."""
     adds = [f"add 10.{at >> 8}.{at & 255}.0/24 1 192.0.2.1\n" for at in range(20 + seldom)]
     pathlib.Path("dumps.feed").write_text("dump\n" * dumps)
     pathlib.Path("adds.feed").write_text("".join(adds[:20]) + "".join("#\n" * 100_000 + add for add in adds[20:]))
 
 
 def met(called, file, *names, **more):
-    """The waits of one of two files, where each `add` is held up inside until the other file waits."""
+    """The waits of one of two files, with each `add` held up inside until the other file waits."""
     waits = called.call("run", "--batch", "1", *names, HOLD_UP="1", **more).waits
     return waits[file - 1] if len(waits) == 2 else Waits(0, 0, 0)
 
@@ -130,7 +132,7 @@ def met(called, file, *names, **more):
 # Processor time
 
 
-# Fails where each entry takes microseconds more, asleep or not: `a passage alone, to one of a mutex`.
+# Catches an entry that takes microseconds more, asleep or not: `a passage alone, to one of a mutex`.
 def passage_alone(called):
     """The passages of one file are what its commands one at a time take beyond the same in batches of 1,024."""
     lines, passages, batches = 200_000, [], []
@@ -145,9 +147,9 @@ def passage_alone(called):
     called.at_most("a line in a batch, to a passage of a mutex", min(batches), 25)
 
 
-# Fails where the cursors of a comparison begin anew at each answer: `the answers of a comparison, to its runs`.
+# Catches a comparison whose cursors start again at each answer: `the answers of a comparison, to its runs`.
 def outputs(called):
-    """What a call takes from its first output on, to what it takes before: the runs of its files."""
+    """The time that a call takes from its first output on, divided by the time before: the runs of its files."""
     choice = random.Random(56)
     low = [dotted(at << 9) for at in range(3_000)]
     high = [dotted(0x0100_0000 + (place << 8)) for place in choice.sample(range(1 << 20), 100_000)]
@@ -167,11 +169,11 @@ def outputs(called):
         called.at_most(what, min(one.of_output / one.before_output for one in ended), bound)
 
 
-# Fails where a forwarding table is built for one address, or anew for each of a few: `1 addresses, to a list of one prefix`,
-# `1000 addresses, to a list of one prefix`.
+# Catches a program that builds a forwarding table for a single address, or builds one again for each of a few: `1
+# addresses, to a list of one prefix`, `1000 addresses, to a list of one prefix`.
 def few_addresses(called):
-    """What look-ups of few addresses in few routes take, the run included, to a list of one prefix: no forwarding table, which
-    takes as long as many such runs."""
+    """The time of look-ups of few addresses in few routes, with the run, divided by the time of listing a single
+    prefix. There is no forwarding table; building one takes as long as many such runs."""
     pathlib.Path("few.feed").write_text("".join(f"add {dotted(at << 12)}/24 1 192.0.2.1\n" for at in range(1_000)))
     taken = lambda *words: min(sum(called.call(*words, "few.feed")[1:]) for _ in range(5))
     listed = taken("table", "--exact", "0.0.0.0/24")

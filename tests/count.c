@@ -1,6 +1,6 @@
-/* Counts requests for memory. Loaded before a program by LD_PRELOAD, it keeps in the file of descriptor COUNT_IN how many
-   requests there were (malloc, calloc, realloc and the aligned ones), how many blocks and bytes of them are held, how many
-   writes to standard output there were, and how many requests before each of those. It rests on names of glibc. */
+/* Counts memory requests. Loaded before a program by LD_PRELOAD, it keeps four counts in the file of descriptor
+   COUNT_IN: the requests (malloc, calloc, realloc and the aligned ones), their blocks and bytes that are still held,
+   the writes to standard output, and the requests before each write. It depends on names of glibc. */
 #define _GNU_SOURCE
 #include <dlfcn.h>
 #include <errno.h>

@@ -1,13 +1,13 @@
 #!/usr/bin/env python3
-"""Runs the program in hostile surroundings: little memory, files that are none, outputs that take nothing.
+"""Runs the program in hostile surroundings: little memory, paths that aren't files, outputs that accept nothing.
 
 tests/hostile.py [PROGRAM [CASE..]], or --list for the names of the cases. Linux, python3, gcc and glibc.
 
-Little memory: the program is run under rising limits of its address space, with the memory that the C library gives by
-itself, and as the launchers set it. It must end as with ample memory, or with status 5 and nothing on standard output,
-or with status 5 and what the model prints without the commands that it says were refused; never by a signal. Limits
-under which it can't be loaded at all are left out. Then each request of a look-up and of a list is refused in turn, as
-refused_growth.py does it for all kinds of runs, and requests of a forwarding table.
+Little memory: the program is run under rising limits of its address space, with the C library's default memory settings
+and with the launchers'. Each run must end in one of three ways: as with ample memory; with status 5 and nothing on
+standard output; or with status 5 and the model's output without the commands reported as refused. It must never end by
+a signal. Limits under which it can't be loaded at all are left out. Then each request of a look-up and of a list is
+refused in turn, as refused_growth.py does it for all kinds of runs, and requests of a forwarding table.
 """
 import os
 import pathlib
@@ -25,8 +25,8 @@ from texts import AGAIN, FORWARDED, ROW, ROW_OUT, many_routes, own_text, written
 
 
 def limited(words, size, memory):
-    """A call with at most so many bytes of address space, with this setting of memory, or None where the program can't
-    be loaded into them."""
+    """A call with at most `size` bytes of address space and these memory settings, or None if the program can't be
+    loaded into them."""
 
     def limit():
         resource.setrlimit(resource.RLIMIT_AS, (size, size))
@@ -43,11 +43,11 @@ def limited(words, size, memory):
 
 
 def judge(what, ended, ample, texts, words):
-    """Compares a run under a limit with the one that had all it wanted, or, of refused commands, with the model."""
+    """Compares a run under a limit with the run with ample memory or, if commands were refused, with the model."""
     if ended == ample:
         return "as with ample memory"
     status, out, err = ended
-    if status == 5 and re.search(r"^yarib: .*: commands refused for want of memory: [1-9]", err, re.MULTILINE):
+    if status == 5 and re.search(r"^yarib: .*: commands failed, out of memory: [1-9]", err, re.MULTILINE):
         asked = [word for before, word in zip(words, words[1:]) if before == "--address"]
         expect(f"{what}: the addresses", answered_addresses(out), asked)
         return "with commands refused"
@@ -95,9 +95,9 @@ def rising_limits(name, words, texts, step, part, memory):
     print(f"{name} under rising limits: {ended}", flush=True)
 
 
-# Fails where status 2 stands in place of 5, or another text tells of refused commands: `['lookup', '--address'] in two
-# files`, `['table'] in two files`.
-# Fails where status 2 stands in place of 5 only beside a faulty address: `['lookup', '--addresses'] in two files`.
+# Catches status 2 instead of 5, or another message for refused commands: `['lookup', '--address'] in two files`,
+# `['table'] in two files`.
+# Catches status 2 instead of 5 only if there is also a faulty address: `['lookup', '--addresses'] in two files`.
 def refused_commands(yarib):
     """Each request for memory of a look-up and of a list is refused in turn, those for its commands among them."""
     refuse = refuser(pathlib.Path.cwd())
@@ -117,11 +117,11 @@ def refused_commands(yarib):
         expect(f"{name}: what was refused", kinds, {"lookup or table", "a command of a look-up or list"})
 
 
-# Fails where a look-up of many addresses ends with F3 where the memory of a forwarding table is refused.
+# Catches F3 for a look-up of many addresses if the allocation of a forwarding table fails.
 def refused_forwarding(yarib):
-    """Look-ups of so many addresses that a forwarding table answers them, whose requests for memory are refused. The last
-    ones are that table's, one for the tallies and one for the output: only the last two keep the answers from being
-    printed."""
+    """Look-ups of enough addresses that a forwarding table answers them, with refused memory requests. The last
+    requests are that table's, one for the tallies and one for the output: only the last two prevent the answers from
+    being printed."""
     refuse = refuser(pathlib.Path.cwd())
     text, asked, answers = many_routes(FORWARDED[1])
     times = FORWARDED[0] // len(asked) + 1
@@ -167,10 +167,9 @@ def files(yarib):
         expect("a file without leave", yarib("run", locked), unreadable(locked))
 
 
-# Fails where `lookup` or `table` answers F3 to more than 6 texts, or the seventh file of `table` can't be read: `the
-# table of 7 files`.
-# Fails where F3 is answered to more than 33 texts, or 64 files are too many for `lookup`: `addresses from a pipe and 64
+# Catches F3 of `lookup` or `table` for more than 6 texts, or a seventh file that `table` can't read: `the table of 7
 # files`.
+# Catches F3 for more than 33 texts, or a `lookup` that rejects 64 files: `addresses from a pipe and 64 files`.
 def one_file_over_and_over(yarib):
     row = pathlib.Path("row.feed").resolve()
     row.write_text(ROW)
@@ -251,7 +250,7 @@ def outputs(yarib):
 
 
 def reader_leaves(yarib, large):
-    """The reader of the output takes a beginning and goes away."""
+    """The reader of the output reads its beginning and closes it."""
     child = subprocess.Popen([yarib, "run", large], stdout=subprocess.PIPE, stderr=subprocess.PIPE)
     expect("the beginning that the reader has", child.stdout.read(10), b"1:1 added\n")
     child.stdout.close()
@@ -260,7 +259,7 @@ def reader_leaves(yarib, large):
 
 
 def disc_fills(yarib, large, folder):
-    """The file that the output goes to may not grow beyond some size: what stands there is a beginning."""
+    """The output's file may not grow beyond some size: the file's contents are a prefix of the output."""
 
     def limit():
         signal.signal(signal.SIGXFSZ, signal.SIG_IGN)

@@ -1,11 +1,12 @@
 #!/usr/bin/env python3
-"""Has `yarib` run very long texts and full Internet tables to their end, and prints what a line, a byte or a route takes.
+"""Runs `yarib` on very long texts and full Internet tables, and prints the time and memory for each line, byte or
+route.
 
-tests/large.py [PROGRAM [CASE..]], or --list for the names of the cases. Takes some minutes, and up to 8 GB of memory:
-texts of 1 to 10 million lines, lines of 100 MB to 1 GB, and the tables of 1, 8 and 32 peers with 1,050,000 routes each,
-which examples/convert/bgpdump-to-feeds makes out of a dump. Each best route is compared with what BGP's rules choose, and
-the answers to 20,000 addresses with a plain longest match. It is called as the benches are, with --store and
---default-memory.
+tests/large.py [PROGRAM [CASE..]], or --list for the names of the cases. Takes some minutes, and up to 8 GB of memory.
+It runs texts of 1 to 10 million lines, lines of 100 MB to 1 GB, and the tables of 1, 8 and 32 peers with 1,050,000
+routes each. The script convert/bgpdump-to-feeds makes these tables from a dump. Each best route is compared with the
+choice by BGP's rules, and the answers to 20,000 addresses with a plain longest match. It is called like the benchmarks,
+with --store and --default-memory.
 """
 import itertools
 import os
@@ -22,7 +23,7 @@ from texts import AGAIN
 from timed import taken
 
 ROWS = []
-CONVERTER = figures.TOP / "examples/convert/bgpdump-to-feeds"
+CONVERTER = figures.TOP / "convert/bgpdump-to-feeds"
 PEERS, ROUTES, ADDRESSES = (1, 8, 32), 1_050_000, 20_000
 DUMPED = "TABLE_DUMP2|1|B|127.0.0.{0}|{0}|{1}|{2}|IGP|192.0.2.{0}|0|0||NAG||\n"
 PATHS = [" ".join(["1"] * length) for length in range(1, 6)]
@@ -75,12 +76,12 @@ def dump(prefixes, peers):
 
 
 def best_peer(place, peers):
-    """The peer with the shortest path, and of several the one with the least address."""
+    """The peer with the shortest path, or of several such peers the one with the lowest address."""
     return min(range(1, peers + 1), key=lambda peer: (length_of(place, peer), peer))
 
 
 def converted(prefixes, peers):
-    """The feeds of so many peers, which the converter has to deal if they have too many routes."""
+    """The feeds of `peers` peers, which the converter has to divide if they have too many routes."""
     folder = pathlib.Path(f"{peers}-peers")
     with subprocess.Popen([CONVERTER, folder], stdin=subprocess.PIPE, stderr=subprocess.PIPE, text=True) as converter:
         with converter.stdin as given:

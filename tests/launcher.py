@@ -1,11 +1,11 @@
 #!/usr/bin/env python3
-"""Starts ./yarib in copies of the repository where a stand-in for the toolchain builds it, and asks bash for
-completions.
+"""Starts ./yarib in copies of the repository that are built by a stub of the toolchain, and requests completions
+from bash.
 
-tests/launcher.py [CASE..], or --list for the names of the cases. Needs bash, gcc and python3, and proves nothing: the
-stand-in for the prover notes when it begins and ends with which crate, and what it builds is tests/started.c, which tells
-how it was started. So this takes seconds, and says nothing of proofs. One case asks the toolchain on PATH which files of
-a tree `rt ci` would refuse.
+tests/launcher.py [CASE..], or --list for the names of the cases. Needs bash, gcc and python3, and proves nothing. The
+stub of the prover records when it begins and ends each crate. What it builds is tests/started.c, which prints how it
+was started. So this takes seconds, and says nothing of proofs. One case runs the toolchain on PATH to find which files
+of a tree `rt ci` would refuse.
 """
 import concurrent.futures
 import contextlib
@@ -18,17 +18,18 @@ import subprocess
 import tempfile
 import time
 
-from checks import TOP, chosen, compiled, end, expect, run, run_case, text_of
+from checks import TOP, chosen, compiled, end, expect, library_stub, run, run_case, text_of
 from common.built import LOGIC
 from common.crates import all_crates, below
 from common.prover import kit
 
-# The stand-in for `rt` tells where the toolchain lies, and which it is.
+# The stub of `rt` prints the toolchain's path and version.
 RT = """#!/bin/sh
 case $1 in doc) echo "$KIT/page.md" ;; version) echo "stand-in-$VERSION logic $LOGIC" ;; *) exit 2 ;; esac
 """
-# That for the prover notes the beginning and the end of each call in $NOTES, in whose order they happened, and its words.
-# A library is a folder of sources, as the prover makes it, and is not there where a crate above it is proved without it.
+# The stub of the prover records the beginning and the end of each call in $NOTES, in their order, and its
+# arguments. As the prover does, it makes a library as a directory of sources, and it fails if it needs a library that
+# doesn't exist.
 PROVER = """#!/bin/sh
 crate=$(basename "$PWD")
 echo "begin $crate" >>"$NOTES"
@@ -55,18 +56,18 @@ esac
 if [ "$crate" != "$SILENT" ]; then echo "logic=proved functions=1 sum=$LOGIC"; fi
 echo "end $crate" >>"$NOTES"
 """
-# That for the linker puts the program where the words want it.
+# The stub of the linker writes the program to the path after -o.
 LINKER = """#!/bin/sh
 while [ "$1" != -o ]; do shift; done
 if [ "$LINKER_FAILS" ]; then echo half >"$2"; exit 1; fi
 cp "$STARTED" "$2"
 """
-# What the launcher sets of glibc's memory.
+# The settings that the launcher makes for glibc's memory.
 TUNABLES = "glibc.malloc.arena_max=1:glibc.malloc.hugetlb=1"
 
 
 class Copy:
-    """The launcher in a folder with the crates' list and a few files of each crate, all older than any build."""
+    """The launcher in a directory with the crates' list and a few files of each crate, all older than any build."""
 
     def __init__(self, made, tools, name):
         self.top, self.notes, self.tools = made / name, made / f"{name}.notes", tools
@@ -79,7 +80,8 @@ class Copy:
                 path.parent.mkdir(parents=True)
                 path.write_text("//\n")
         common = [f"tools/common/{name}.py" for name in ("built", "building", "crates", "prover")]
-        for name in ("yarib", "crates.txt", "tools/build", *common, "bindings/build", "bindings/c/yarib.map"):
+        for name in ("yarib", "crates.txt", "tools/build", *common, "bindings/build", "bindings/c/yarib.map",
+                     "bindings/c/yarib.h", "bindings/c/handles.c"):
             (self.top / name).parent.mkdir(parents=True, exist_ok=True)
             shutil.copy(TOP / name, self.top / name)
         for path in self.top.rglob("*"):
@@ -91,28 +93,28 @@ class Copy:
         """The environment of a call."""
         none = dict.fromkeys(("FAILS", "CHANGES", "HANGS", "DIES", "SILENT", "LINKER_FAILS"), "")
         return none | {"PATH": str(self.tools / path), "NOTES": self.notes, "STARTED": self.tools / "started",
-                       "ARCHIVE": self.tools / "kit/c/liblibc_c.a", "TOP": self.top, "VERSION": "1",
+                       "ARCHIVE": self.tools / "kit/c/stub.a", "TOP": self.top, "VERSION": "1",
                        "KIT": self.tools / "kit", "LOGIC": LOGIC, "TMPDIR": self.folder}
 
     def start(self, *words, path="with", by=None, **more):
-        """How a call ends: its status, what the program that it started tells, and standard error."""
+        """How a call ends: its status, what the started program prints, and standard error."""
         how = {"env": self.names(path) | more.pop("names", {}), "stdin": subprocess.DEVNULL, "cwd": self.top} | more
         status, out, err = run([by or self.top / "yarib", *words], **how)
         return status, out, err
 
     def built(self):
-        """What the stand-in has noted since it was last asked."""
+        """What the stub has recorded since the previous call of this function."""
         noted = self.notes.read_text().split("\n")[:-1]
         self.notes.write_text("")
         return noted
 
     def built_by_call(self):
-        """What the stand-in notes of a call, which has to start the program."""
+        """What the stub records during a call, which has to start the program."""
         expect("the program is started", self.start("run", "x")[:2], (0, told(["run", "x"], self.top)))
         return self.built()
 
     def product(self, crate):
-        """What is built of a crate lies here: the only file of its name, which has a sum behind it."""
+        """The path of a crate's built file: the only one named after the crate, followed by a sum."""
         [made] = (self.top / "out/build").glob(f"{crate}-*")
         return made
 
@@ -124,22 +126,23 @@ class Copy:
 
 
 def told(words, folder, tunables=TUNABLES, given=""):
-    """What the program tells that was started with these words in this folder."""
+    """What the program prints if it was started with these arguments in this directory."""
     return "\0".join([str(len(words) + 1), "yarib", *words, str(folder), tunables, given])
 
 
 def with_own(tunables):
-    """The launcher's tunables with those of a user behind them, where they win."""
+    """The launcher's tunables followed by a user's, which take precedence."""
     return ":".join(filter(None, (TUNABLES, tunables)))
 
 
-# Each of these has a copy of its own, and they run at the same time.
+# Each of these has its own copy, and they run at the same time.
 
 
-# Fails where words beyond the third are lost, where they are split or joined, or where the status is lost: `the words`,
+# Catches a launcher that drops arguments after the third, splits or joins arguments, or drops the status: `the words`,
 # `the status`.
-# Fails where the program is started in the repository's folder, or by another name: `from elsewhere`, `the words []`.
-# Fails where a user's own tunables are lost: `a user's own tunables`.
+# Catches a launcher that starts the program in the repository's directory, or by another name: `from elsewhere`, `the
+# words []`.
+# Catches a launcher that drops a user's own tunables: `a user's own tunables`.
 def what_it_is_given(copy):
     copy.start("run")
     for words in (
@@ -164,14 +167,14 @@ def what_it_is_given(copy):
            len([note for note in copy.built() if note == "begin rt_app"]), 1)
 
 
-# Fails where a changed file of `specs/` has nothing proved anew, or a crate that stands on it is left as it was: `built where
-# crates/rt_trie/specs/S.antt is another`.
-# Fails where the sum leaves out the end of a long file, the names of files or a crate's line of crates.txt: `built where ..
-# ends differently`, `.. has another name`, `.. names another crate`.
-# Fails where an edit that the prover has to refuse, or a crate on which the program doesn't stand, has something built anew:
+# Catches a build that proves nothing again for a changed file of `specs/`, or leaves out a dependent crate:
+# `built where crates/rt_trie/specs/S.antt is another`.
+# Catches a sum without the end of a long file, the names of files or a crate's line of crates.txt: `built where .. ends
+# differently`, `.. has another name`, `.. names another crate`.
+# Catches a build for a changed edit that the prover must refuse, or for a crate on which the program doesn't depend:
 # `not built where crates/walkthrough/src/lib.rt is another`.
-# Fails where a library that another toolchain built is taken: `built where the toolchain is another`.
-# Fails where a library that is gone is built again alone: `built where a library is gone`.
+# Catches a build that uses a library of another toolchain: `built where the toolchain is another`.
+# Catches a build that makes only the missing library again: `built where a library is gone`.
 def what_is_built_anew(copy):
     whole = below(["rt_app"])
     above = lambda crate: {one for one in whole if crate in below([one])}
@@ -206,7 +209,7 @@ def what_is_built_anew(copy):
     expect("built where the toolchain is another", begun(copy.built()), whole)
 
 
-# Fails where the program of an edit that was taken back is started, or anything below crates/ counts as built: `the edit
+# Catches a launcher that starts the program of a reverted edit, or counts anything below crates/ as built: `the edit
 # taken back`.
 def taken_back(copy):
     copy.start("run")
@@ -221,9 +224,9 @@ def taken_back(copy):
     expect("the edit taken back", copy.built_by_call(), [])
 
 
-# Fails where a build leaves a file or a link that `rt ci` refuses, while it works or afterwards: `what the toolchain says of
-# the tree ..`.
-# Fails where a build depends on what the gate leaves, or removes or changes it: `the gate's own files`.
+# Catches a build that leaves a file or a link that `rt ci` refuses, during the build or afterwards: `what the toolchain
+# says of the tree ..`.
+# Catches a build that depends on the gate's files, or removes or changes them: `the gate's own files`.
 def beside_the_gate(copy):
     unread = copy.top / "out/old.rlib/interface/lang/src/lib.rt"
     unread.parent.mkdir(parents=True)
@@ -254,8 +257,8 @@ def beside_the_gate(copy):
 
 
 def refused_files(top):
-    """What the toolchain's own check, which `rt ci` begins with, says that no crate's check reads; none where it has no
-    fault. It is the check of this machine's toolchain, over that tree."""
+    """The file that no crate's check reads, by the toolchain's own check, with which `rt ci` begins; None if there is
+    no such file. It is the check of this machine's toolchain, over that tree."""
     asked = f"""
 import os, sys
 sys.path.insert(0, {str(kit() / "bin")!r})
@@ -273,7 +276,7 @@ for name in sorted(os.listdir()):
 
 @contextlib.contextmanager
 def begun_build(copy, crate):
-    """A call of ./yarib whose prover is at work on a crate, without an end."""
+    """A call of ./yarib whose prover is working on a crate and doesn't end."""
     pid = pathlib.Path(f"{copy.notes}.pid")
     pid.unlink(missing_ok=True)
     how = {"env": copy.names() | {"HANGS": crate}, "stdin": subprocess.DEVNULL, "cwd": copy.top,
@@ -301,15 +304,16 @@ def wait_until(is_so):
 
 
 def is_alive(pid):
-    """Whether a process is at work; one that has ended may not have been waited for."""
+    """Returns True if a process is running; a process that has ended may not have been waited for."""
     try:
         return pathlib.Path(f"/proc/{pid}/stat").read_text().rpartition(")")[2].split()[0] != "Z"
     except FileNotFoundError:
         return False
 
 
-# Fails where a signal leaves a prover at work, something of a build in the folder for temporary files, or a lock: `what is
-# left ..`, `built after ..`; where an ended build has another status: `a build that .. ends`.
+# Catches a signal after which a prover goes on, or a temporary file of the build or a lock remains: `what is left ..`,
+# `built after ..`.
+# Catches another status of an ended build: `a build that .. ends`.
 def interrupted(copy):
     for number in (signal.SIGTERM, signal.SIGINT, signal.SIGHUP, signal.SIGKILL):
         copy.change("crates/rt_trie/src/lib.rt")
@@ -343,8 +347,8 @@ def command(pid):
     return pathlib.Path(f"/proc/{pid}/cmdline").read_bytes()
 
 
-# Fails where a folder that can't be written, a full disk, a toolchain of another logic or a missing python3 is not told of
-# in a line, or something counts as built then: `.. : its line`, `built after ..`.
+# Catches a launcher that doesn't report in a single line a directory that can't be written, a full disk, a toolchain of
+# another logic, or a missing python3; or after which something counts as built: `.. : its line`, `built after ..`.
 def what_is_missing(copy):
     status, out, err = copy.start("run", names={"LOGIC": "another"})
     expect("a toolchain of another logic: its line", (status, out, len(err.splitlines()), LOGIC in err), (127, "", 1, True))
@@ -368,7 +372,7 @@ def what_is_missing(copy):
     expect("built after it", "rt_app" in begun(copy.built_by_call()), True)
 
 
-# Fails where the prover has other words than these, such as ones that leave out its checks: `the words for the prover`.
+# Catches other arguments for the prover than these, such as ones that disable its checks: `the words for the prover`.
 def words_for_the_prover(copy):
     copy.start("run")
     known = {"--jobs", "--crate-name", "--extern", "-L", "--antt-project", "--logic-built", "--links", "--statements", "-o",
@@ -386,8 +390,8 @@ def begun(notes):
     return {note.split()[1] for note in notes if note.startswith("begin")}
 
 
-# Fails where a crate is proved before one that it needs: `rt_trie begins when rt_cidr has ended`.
-# Fails where a crate that the program needs isn't proved, or another one is: `what is proved`.
+# Catches a build that proves a crate before one that it needs: `rt_trie begins when rt_cidr has ended`.
+# Catches a build that doesn't prove a crate that the program needs, or proves another one: `what is proved`.
 def in_order(copy):
     status, _, err = copy.start("run")
     noted = copy.built()
@@ -399,7 +403,7 @@ def in_order(copy):
         expect(f"{crate} is told of", bool(re.search(rf"\b{crate}\b", err)), True)
 
 
-# Fails where nothing keeps two builds apart: `three calls at once build once`, `two builds at once prove each crate once`.
+# Catches builds without mutual exclusion: `three calls at once build once`, `two builds at once prove each crate once`.
 def one_at_a_time(copy):
     with concurrent.futures.ThreadPoolExecutor(3) as pool:
         ended = list(pool.map(copy.start, ("run", "table", "diff")))
@@ -412,10 +416,10 @@ def one_at_a_time(copy):
     expect("two builds at once prove each crate once", (builds, copy.built().count("begin rt_trie")), ([0, 0], 1))
 
 
-# Fails where the program of the last build is started though the build failed, or the failure is told by no status: `..
-# fails`.
-# Fails where what a killed prover, a failing linker or a prover without checks left counts as built: `a prover is killed`,
-# `the linker fails`, `a prover says of nothing that it is proved`.
+# Catches a launcher that starts the program of the last build after a failed one, or doesn't report the failure by its
+# status: `.. fails`.
+# Catches a build that counts as built what a killed prover, a failing linker or a prover without checks left: `a prover
+# is killed`, `the linker fails`, `a prover says of nothing that it is proved`.
 def failed_builds(copy):
     copy.start("run")
     for crate in ("ya_core", "rt_run", "rt_app"):
@@ -436,8 +440,9 @@ def failed_builds(copy):
         expect(f"{how}: built after it", begun(copy.built_by_call()), {"rt_app"})
 
 
-# Fails where an archive is taken by its age, or one that doesn't belong to the sources of all crates below: `a library where
-# .. is another`; where a failed build ends well, or another library is in its place afterwards: `a library where .. fails`.
+# Catches a build that chooses an archive by its age, or one that doesn't belong to the sources of all crates below: `a
+# library where .. is another`.
+# Catches a failed build with status 0, or one that replaces the library: `a library where .. fails`.
 def libraries(copy):
     build = lambda **names: copy.start(by=copy.top / "bindings/build", names=names)
     made = [copy.top / "bindings/out" / name for name in ("libyarib.a", "libyarib.so.0", "libyarib.so")]
@@ -457,7 +462,7 @@ def libraries(copy):
                (0, {one for one in below(["yarib_c"]) if crate in below([one])}))
 
 
-# Fails where the lock of a build is kept while the program runs: `built while the program runs`.
+# Catches a launcher that keeps the build's lock while the program runs: `built while the program runs`.
 def beside_a_run(copy):
     copy.start("run")
     how = {"env": copy.names(), "stdin": subprocess.PIPE, "stdout": subprocess.PIPE, "cwd": copy.top}
@@ -470,7 +475,7 @@ def beside_a_run(copy):
             expect("it still runs", running.communicate()[0].decode(), told(["run"], copy.top))
 
 
-# Fails where a source that was changed during the build counts as built: `a source was changed while ..`.
+# Catches a build that counts a source as built that was changed meanwhile: `a source was changed while ..`.
 def changed_meanwhile(copy):
     for crate in ("rt_diff", "rt_app"):
         copy.change("crates/rt_cidr/src/lib.rt")
@@ -480,8 +485,9 @@ def changed_meanwhile(copy):
     expect("nothing was changed since", copy.built_by_call(), [])
 
 
-# Fails where help, the version or a word that is no command has a program built, or another text or status; where they
-# still come from the texts once there is a program.
+# Catches a launcher that builds a program for help, the version or an invalid command, or that prints another text or
+# status for them.
+# Catches a launcher that still prints the stored texts once there is a program.
 def without_a_program(copy):
     page = lambda name: (TOP / "tests/help" / name).read_text()
     known = [([name, flag], 0, f"{name}.txt") for name in ("run", "lookup", "table", "diff", "replay")
@@ -503,8 +509,9 @@ def without_a_program(copy):
         expect(f"with a program {words}", copy.start(*words), (0, told(words, copy.top), ""))
 
 
-# Fails where the toolchain is asked for though nothing is to be built, or its want has another status: `without rt`.
-# Fails where something is built or removed in a folder that isn't the repository: `a folder without sources`.
+# Catches a launcher that needs the toolchain though nothing is to be built, or has another status if it is missing:
+# `without rt`.
+# Catches a build or a removal in a directory that isn't the repository: `a folder without sources`.
 def nothing_to_build_with(copy):
     status, out, err = copy.start("run", path="without")
     expect("without rt", (status, out, "PATH" in err and "rt" in err), (127, "", True))
@@ -523,7 +530,7 @@ def nothing_to_build_with(copy):
 
 
 def offered(*words):
-    """What the completion offers for the last of the words, and whether it may be a file."""
+    """The completions for the last argument, and whether it may be a file."""
     script = (
         'source completions/yarib.bash; compopt() { echo "files"; }; COMP_WORDS=("$@"); COMP_CWORD=$(($# - 1)); _yarib; '
         'printf "%s\\n" "${COMPREPLY[@]}"'
@@ -534,8 +541,7 @@ def offered(*words):
     return "files" if "files" in lines else sorted(lines)
 
 
-# Fails where a wrong word stands in the completions, or one of the help is missing: `--limit of run`, `the options of
-# run`.
+# Catches completions with an invalid word, or without one of the help: `--limit of run`, `the options of run`.
 def completions(copy):
     page = lambda name: (TOP / "tests/help" / f"{name}.txt").read_text()
     commands = re.findall(r"^  (\w+)  ", page("yarib").partition("Options:")[0], re.M)
@@ -546,7 +552,7 @@ def completions(copy):
     expect("behind help", offered("help", ""), sorted(set(commands) - {"help"}))
     for name in sorted(set(commands) - {"help"}):
         text = page(name)
-        listed = re.findall(r"^ +(?:-\w, )?(--\w+)(?: <(\w+)>)? .*?(?:\[possible values: (.*)\])?$", text, re.M)
+        listed = re.findall(r"^ +(?:-\w, )?(--[\w-]+)(?: <(\w+)>)? .*?(?:\[possible values: (.*)\])?$", text, re.M)
         expect(f"the options of {name}", offered(name, "-"), sorted(option for option, _, _ in listed))
         for option, value, values in listed:
             expect(f"{option} of {name}", option in offered(name, option[:3]), True)
@@ -562,8 +568,8 @@ def completions(copy):
 
 
 def put_tools(folder):
-    """A folder with all commands on PATH but the toolchain's, one with the stand-in beside, and the program that it
-    builds."""
+    """Two directories, one with all commands on PATH except the toolchain's and one that also has the stub; and the
+    program that the stub builds."""
     for name in ("without", "with"):
         (folder / name).mkdir(parents=True)
     for path in filter(None, os.get_exec_path()):
@@ -578,6 +584,7 @@ def put_tools(folder):
     compiled(folder, "tests/started.c")
     # In place of the kit's heap and of the archive that the prover makes.
     (folder / "kit/c").mkdir()
+    library_stub(folder / "kit/c/stub.a")
     subprocess.run(["gcc", "-fPIC", "-c", "-o", folder / "heap.pic.o", TOP / "tests/started.c"], check=True)
     subprocess.run(["ar", "cr", folder / "kit/c/liblibc_c.a", folder / "heap.pic.o"], check=True)
 

@@ -1,11 +1,12 @@
 #!/usr/bin/env python3
-"""Refuses requests for memory of the program, a few for each case, and compares what comes out with a plain model.
+"""Refuses memory requests of the program, a few for each case, and compares the output with a plain model.
 
 tests/refused_few.py [PROGRAM [CASE..]], or --list for the names of the cases. Needs gcc and glibc; takes seconds.
 
-Each case is run with its 1st, 2nd, 3rd, 4th, 6th, 9th, .. request refused, a replay with each, alone and with all later
-ones, until no request of that number comes. A run requests memory in TreeLock::new, in SharedRib (new, apply or by the
-batch apply_batch, routes), in run_feed and in run_texts. tests/refused_growth.py refuses each request, of more cases.
+Each case is run with its 1st, 2nd, 3rd, 4th, 6th, 9th, .. request refused, a replay with each, until no request of that
+number comes. Each is refused first by itself, then with all later ones. A run requests memory in TreeLock::new, in
+SharedRib (new, apply or with batches apply_batch, routes), in run_feed and in run_texts. tests/refused_growth.py
+refuses each request, of more cases.
 """
 import itertools
 import pathlib
@@ -18,7 +19,7 @@ from texts import own_text, written
 
 
 class Few(Case):
-    """A call of the program of which requests of a few numbers are refused."""
+    """A call of the program with a few refused requests, by number."""
 
     def __init__(self, name, words, compare, numbers):
         super().__init__(name, words, compare)

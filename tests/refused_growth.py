@@ -1,15 +1,15 @@
 #!/usr/bin/env python3
-"""Refuses each request for memory in turn, and compares what comes out with a plain model.
+"""Fails each memory request in turn, and compares the output with a plain model.
 
 tests/refused_growth.py [PROGRAM BENCHES [CASE..]], or --list for the names of the cases. BENCHES is a built
-bench/benches. Needs gcc and glibc, and rt where something is to be built; takes some minutes once all is built.
+bench/benches. Needs gcc and glibc, and rt if something is to be built; takes some minutes once all is built.
 
-Each case is run with its first request refused, then with its second, and so on until a run meets no refusal; and once
-more so that all requests after the refused one are refused as well. The cases are those of
-bench/benches/src/growth.rt.in (the lock, the shared table, feeds on gates) and runs and replays of the program. After each run the answers, the
-journal, the routes and what was printed are compared whole with a model that leaves out what was refused, and no run
-may end by a signal. All cases together must have met each kind of refusal. The requests are refused before the C
-library sees them, so what the launchers set changes nothing here, and all is run once.
+Each case is run with its first request refused, then with its second, and so on until a run meets no refusal. It is run
+once more with all requests after the refused one refused as well. The cases are those of bench/benches/src/growth.rt.in
+(the lock, the shared table, feeds on gates), and runs and replays of the program. After each run the answers, the
+journal, the routes and the output are compared whole with a model that leaves out what was refused. No run may end by a
+signal. All cases together must have met each kind of refusal. The requests are refused before the C library sees them.
+So the launchers' settings change nothing here, and each case is run once.
 """
 import collections
 import pathlib
@@ -24,14 +24,14 @@ from texts import own_text, written
 
 
 def plain(text):
-    """Prefixes, addresses and hops as a feed's text has them, in place of how the crate's program prints them."""
+    """The text with prefixes, addresses and hops as in a feed, instead of how the crate's program prints them."""
     text = re.sub(r"Prefix \{ base: (\d+), len: (\d+) \}", lambda m: f"{dotted(int(m[1]))}/{m[2]}", text)
     text = re.sub(r"(?:Via\()?Addr\((\d+)\)\)?(?=[ ,)]|$)", lambda m: dotted(int(m[1])), text)
     return text.replace("Discard", "discard")
 
 
 def words_of(command):
-    """The words of a feed's line that a command of the crate's program stands for."""
+    """The words of the feed line for a command printed by the crate's program."""
     name, _, rest = plain(command).partition(" ")
     return [name.lower()] + re.findall(r": ([^ ,]+)", rest)
 
@@ -64,14 +64,14 @@ def check_lock(lines, ample, kinds):
 
 
 def asked_in(lines):
-    """What the lines of the table's case ask, without the answers."""
+    """The commands in the lines of the table's case, without the answers."""
     asked = [re.sub(r"^(routes|left) .*| (?:Ok|Err)\(.*", r"\1", line) for line in lines]
     return [line for line in asked if not line.startswith(("journal", "table"))]
 
 
 class Asked:
-    """What feeds asked of one table, by the lines that tell of it: the table, the journal that it has to have, and the
-    outcomes that were told with the last batch."""
+    """The commands of feeds on a table, from the lines that report them: the table, the expected journal, and the
+    outcomes reported with the last batch."""
 
     def __init__(self, kinds):
         self.table, self.journal, self.told, self.kinds = Table(2), [], [], kinds
@@ -81,7 +81,7 @@ class Asked:
         self.journal.append((feed, command, reply))
 
     def read_batch(self, feed, outcomes):
-        """The outcomes of a batch, behind those that were told before."""
+        """Reads the outcomes of a batch, which follow the outcomes reported before."""
         agree(outcomes[: len(self.told)], self.told, "what was told before a batch")
         new = outcomes[len(self.told) :]
         agree(len(new), 3, "the outcomes of a batch")
@@ -116,7 +116,7 @@ class Asked:
             agree(routes_of(line), self.table.listed(), "what is left")
 
 
-# What is refused where a line says no more.
+# The refused call, if a line says nothing else.
 REFUSED = {"routes refused": "SharedRib::routes", "room Err(Refused)": "Book::reserve", "left refused": "Book::routes"}
 
 
@@ -144,7 +144,7 @@ def outcomes_of(text):
     return re.findall(r"Refused|Did\((?:[^()]|\((?:[^()]|\([^()]*\))*\))*\)", text)
 
 
-# Of each text the commands, by the lines that they stand on, and the faulty lines.
+# For each text: the commands by line number, and the faulty lines.
 FEEDS = [
     ({2: "dump", 5: "add 10.0.0.0/8 5 discard", 7: "purge", 8: "lookup 1.2.3.4"}, {3: "Command"}),
     ({1: "lookup 10.0.0.1", 2: "add 10.0.0.0/8 5 192.0.2.2", 4: "dump"}, {3: "PrefixLength"}),
@@ -153,7 +153,7 @@ FEEDS = [
 
 
 def check_feed(feed, lines, kinds):
-    """What one feed was answered, and what its gate was asked. Gives whether it has no report."""
+    """Checks a feed's answers and the commands that its gate got. Returns True if the feed has no report."""
     commands, faults = FEEDS[feed - 1]
     asked = [" ".join(words_of(line.split(" ", 3)[3])) for line in lines if line.split()[2] == "asked"]
     told = [line for line in lines if line.split()[2] != "asked"]
@@ -206,8 +206,8 @@ def check_feeds(lines, ample, kinds):
 
 
 def check_crate(check):
-    """What the crate's program prints, by the check of its case; it may want memory for its words, and then prints
-    nothing."""
+    """Checks what the crate's program prints with the check of its case. If the allocation of its arguments fails, the
+    program prints nothing."""
 
     def compare(ending, ample, kinds):
         if ending.refused and ending.status == 1 and ending.out == "":
@@ -221,7 +221,7 @@ def check_crate(check):
 
 
 def check_run(texts):
-    """A run of the program over these texts, no one of which can tell what another feed did."""
+    """A run of the program over these texts. The replies to a text don't depend on the other feeds."""
     faulty = 2 if any("frob" in text for text in texts) else 0
 
     def compare(ending, ample, kinds):
@@ -262,11 +262,11 @@ def check_refused_words(ending, ample, kinds):
 
 
 class Called(collections.namedtuple("Called", "yarib benches refuse kinds")):
-    """The program, the crate's program, what refuses, and the kinds of refusal that were met."""
+    """The program, the crate's program, the library that refuses, and the kinds of refusal so far."""
 
 
 class Case:
-    """A call whose requests are refused: what makes its words and the files in them, and what compares its endings."""
+    """A call with refused requests: functions that make its arguments and files, and that compare how it ends."""
 
     def __init__(self, name, words, compare):
         self.__name__, self.words, self.compare = name.replace(" ", "_"), words, compare
@@ -286,7 +286,7 @@ def of_benches(name, word, check):
 
 
 def of_yarib(name, words, compare):
-    """A case of the program, whose words are made where its files may be."""
+    """A case of the program; its arguments are made in a directory for its files."""
     return Case(name, lambda called: [called.yarib, *words()], compare)
 
 
@@ -298,7 +298,7 @@ def asked():
 
 
 def cases_of(name, texts):
-    """The cases of runs over these texts, and of what is asked of their table."""
+    """The cases of runs over these texts, and of queries of their table."""
     own = lambda: written("own", texts)
     for batch in ("1", "3"):
         words = lambda batch=batch: ["run", "--batch", batch, *own()]

@@ -1,4 +1,4 @@
-"""Runs of which requests for memory are refused, one after another, and what is compared of what they print."""
+"""Runs with refused memory requests, each request in turn, and comparisons of their output."""
 import collections
 import itertools
 import os
@@ -6,17 +6,17 @@ import re
 
 from checks import compiled, run
 
-# What a run ended with, and whether a request of it was refused.
+# The end of a run, and whether one of its requests was refused.
 Ending = collections.namedtuple("Ending", "status out err refused")
 
 
 def refuser(folder):
-    """The path of what refuses."""
+    """The path of the library that refuses requests."""
     return compiled(folder, "tests/refuse.c", "-shared", "-fPIC")
 
 
 def run_refused(words, refuse, at, rest=False):
-    """One run in which the request of this number is refused, and all later ones where `rest` says so."""
+    """A run in which the request with this number is refused and, if `rest`, all later ones."""
     heard, told = os.pipe()
     asked = {"LD_PRELOAD": str(refuse), "REFUSE_AT": str(at), "REFUSE_REST": str(int(rest)), "REFUSE_TELL": str(told)}
     ended = run(words, env=asked, pass_fds=[told])
@@ -27,7 +27,7 @@ def run_refused(words, refuse, at, rest=False):
 
 
 class Wrong(Exception):
-    """What a run printed is not what the model explains."""
+    """A run printed something that the model doesn't explain."""
 
 
 def agree(found, wanted, what):
@@ -36,8 +36,8 @@ def agree(found, wanted, what):
 
 
 def refuse_each(words, compare, refuse, rest, kinds, numbers=itertools.count):
-    """Refuses the requests of these numbers of a case in turn, with all later ones where `rest` says so, until there is
-    none of a number; how many were refused."""
+    """Refuses the requests with these numbers in turn (and if `rest`, all later ones), until a run has no request with
+    the number. Returns how many were refused."""
     ample = run_refused(words, refuse, 0)
     for tried, at in enumerate(numbers(1)):
         ending = run_refused(words, refuse, at, rest)
@@ -56,7 +56,8 @@ def answered_addresses(out):
 
 
 def check_shown(ending, ample, kinds):
-    """A look-up or list of the table: all is as it was, or nothing is printed or told, or commands were refused."""
+    """A look-up or list of the table: the output is unchanged, or nothing is printed or reported, or commands were
+    refused."""
     if (ending.status, ending.out, ending.err) == (5, "", "yarib: fault F3\n"):
         kinds.add("lookup or table")
         return
@@ -64,6 +65,6 @@ def check_shown(ending, ample, kinds):
         agree(ending[:3], ample[:3], "all of it")
         return
     agree(answered_addresses(ending.out), answered_addresses(ample.out), "the addresses that are answered")
-    told = re.search(r"^yarib: .*: commands refused for want of memory: [1-9]\d*$", ending.err, re.M)
+    told = re.search(r"^yarib: .*: commands failed, out of memory: [1-9]\d*$", ending.err, re.M)
     agree(told is not None, True, "that refused commands are told")
     kinds.add("a command of a look-up or list")

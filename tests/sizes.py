@@ -3,14 +3,20 @@
 
 tests/sizes.py [PROGRAM [CASE..]], or --list for the names of the cases. Linux, python3, 2 GB of memory.
 
-That a call which wants memory gets it where there is some, no clause can say. So: a million routes of one feed and more
-than a million lines, entries and answers; each number of files from 1 to 64, with as many offers of one prefix; feeds
-with other texts of their own; batches about the sizes at which lists grow; the greatest numbers and the last address.
-`lookup` and `table` are called on each number of files, on 300,000 routes and with 100,000 addresses, and `lookup` on
-both sides of the numbers from which on a forwarding table answers. Each option that changes what is printed is given
-at, just above and far above these sizes. All is run with memory as the launchers set it. What
-has 64 threads, which by the C library's default share several arenas, and what fills large pages is about that memory,
-and is run once more by that default (`OF_MEMORY`). The others are about numbers in the code, and are run once.
+No clause can say that an allocation succeeds if there is memory. So this tests:
+
+  - a million routes of one feed, and more than a million lines, entries and answers;
+  - each number of files from 1 to 64, with one route of each to the same prefix;
+  - feeds that each have different text;
+  - batches about the sizes at which lists grow;
+  - the highest numbers and the last address.
+
+`lookup` and `table` are called on each number of files, on 300,000 routes and with 100,000 addresses. `lookup` is also
+called with just fewer and just more addresses and routes than a forwarding table needs to answer. Each option that
+changes the output is given at, just above and far above these sizes. All cases run with the memory settings of the
+launchers. With the C library's default, 64 threads share several arenas. This matters in cases with 64 threads and in
+cases that fill large pages. These (`OF_MEMORY`) are run once more with that default. The others are about numbers in
+the code, and are run once.
 """
 import ipaddress
 import os
@@ -24,7 +30,7 @@ from texts import FORWARDED, many_routes
 MOST = 1_000_000
 
 
-# Fails where a journal of 1,000,000 entries or more never grows: `a million routes`, `1:1048578 refused`.
+# Catches a journal of 1,000,000 entries or more that never grows: `a million routes`, `1:1048578 refused`.
 def million(yarib):
     """A feed that fills its limit with single addresses in no order, the last one among them, and goes on."""
     bases = [0xFFFF_FFFF - at * 2_654_435_761 % 2**32 for at in range(MOST)]
@@ -60,7 +66,7 @@ def million(yarib):
 
 
 def of_one_feed(count):
-    """A text of so many lines: routes that nest, in both kinds of hop, and what is asked of them."""
+    """A text with this number of lines: nested routes, with both kinds of next hop, and commands that query them."""
     lines = ["version 2"]
     for at in range(count):
         base = dotted(0x0A00_0000 + (at * 40_503 % 65_536 << 8))
@@ -71,7 +77,7 @@ def of_one_feed(count):
     return "".join(line + "\n" for line in lines)
 
 
-# Fails where 8, 257 or 513 commands at once are refused, or the 8th of a batch: `in batches of 8`.
+# Catches a program that refuses 8, 257 or 513 commands at once, or the 8th of a batch: `in batches of 8`.
 def batches(yarib):
     text = of_one_feed(2_100)
     out = run_text([text], set())
@@ -79,7 +85,7 @@ def batches(yarib):
     about_powers = [power + more for power in (16, 32, 64, 128, 256, 512) for more in (-1, 0, 1)]
     for batch in [*range(1, 10), *about_powers, 700, 1023, 1024]:
         compare(f"in batches of {batch}", yarib("run", "--batch", str(batch), "batch.feed"), 0, out)
-    # A batch of just so many commands, and one of a command less and more than the text has.
+    # A batch of exactly this many commands, and batches of one command less and one more than the text has.
     for count in [*range(1, 10), 255, 256, 257, 1023, 1024]:
         pathlib.Path("count.feed").write_text("dump\n" * count)
         out = "".join(f"1:{line} dumped 0\n" for line in range(1, count + 1)) + "table 0\n"
@@ -88,7 +94,7 @@ def batches(yarib):
                     yarib("run", "--batch", str(batch), "count.feed"), 0, out)
 
 
-# Fails where a `purge` of more than 1,024 routes is refused where the journal has no room: `a purge of 65536`.
+# Catches a `purge` of more than 1,024 routes that is refused if the journal has no room: `a purge of 65536`.
 def purges(yarib):
     for count in (1, 1_023, 1_024, 1_025, 5_000, 65_536):
         adds = [f"add 10.{at >> 8}.{at & 255}.0/24 1 192.0.2.1\n" for at in range(count)]
@@ -98,13 +104,13 @@ def purges(yarib):
         compare(f"a purge of {count}", yarib("run", "--batch", "64", "purge.feed"), 0, out)
 
 
-# Fails where F3 is answered to 40 texts, or the ninth or the 64th offer of a prefix is refused: `40 feeds in batches of
-# 1`, `9 feeds in batches of 1`, `64 feeds in batches of 1`.
-# Fails where an `add` of preference 2^32 - 1 or of 255.255.255.255/32 is refused: `1 feeds in batches of 1`, `1:3
+# Catches F3 for 40 texts, or a refusal of the ninth or the 64th route to a prefix: `40 feeds in batches of 1`, `9 feeds
+# in batches of 1`, `64 feeds in batches of 1`.
+# Catches a refusal of an `add` of preference 2^32 - 1 or of 255.255.255.255/32: `1 feeds in batches of 1`, `1:3
 # refused`.
-# Fails where a `dump` of feed 64 is refused where the journal has no room: `feed 64 alone asks`, `64:1 refused`.
+# Catches a refusal of a `dump` of feed 64 if the journal has no room: `feed 64 alone asks`, `64:1 refused`.
 def feeds(yarib):
-    """From 1 to 64 feeds: each offers one prefix and the last address, and has routes of its own."""
+    """From 1 to 64 feeds: each has a route to the same prefix and one to the last address, and other routes."""
     texts = []
     for feed in range(1, 65):
         texts.append(f"""version 2
@@ -136,8 +142,8 @@ add {feed + 10}.128.0.0/9 0 discard
 
 
 def shown(yarib, texts, names):
-    """What `lookup`, `table` and `diff` print and tell of these files; each has a line that isn't taken, in turn of
-    another kind."""
+    """What `lookup`, `table` and `diff` print and report for these files. Each file has a line that is rejected, each
+    time of another kind."""
     turns = ("frob", "add 10.0.0.0/8 1 192.0.2.1", "withdraw 9.0.0.0/8", "add 99.0.0.0/8 1 192.0.2.1")
     texts = [text + turns[feed % 4] + "\n" for feed, text in enumerate(texts)]
     names = [f"shown-{name}" for name in names]
@@ -158,9 +164,9 @@ def shown(yarib, texts, names):
     compare(f"{len(names)} files compared with themselves", ended, status, "", told + told)
 
 
-# Fails where F3 is answered above 200,000 routes, a limit over 65,536 is refused, or a journal of 200,000 entries or
-# more never grows: `300,000 routes of three feeds`.
-# Fails where `lookup` and `table` answer F3 above 65,536 routes: `the table of 300,000 routes`, `100,000 addresses`.
+# Catches F3 above 200,000 routes, a refusal of a limit over 65,536, or a journal of 200,000 entries or more that never
+# grows: `300,000 routes of three feeds`.
+# Catches F3 of `lookup` and `table` above 65,536 routes: `the table of 300,000 routes`, `100,000 addresses`.
 def many_offers(yarib):
     """300,000 routes of three feeds, the same prefixes for each."""
     bases = [dotted(0x0100_0000 + (at * 40_503 % 100_000 << 8)) for at in range(100_000)]
@@ -186,10 +192,10 @@ def many_offers(yarib):
             yarib("lookup", "--all", "--addresses", "asked.txt", *words), 0, answers)
 
 
-# Fails where a feed of `run` may have another number of routes if no limit is given, or `--limit 1000000` isn't taken.
-# Fails where that limit is 65,535 if none is given: `a run of a full feed and 1 more`.
+# Catches another default limit for a feed of `run`, or a rejection of `--limit 1000000`.
+# Catches a default limit of 65,535: `a run of a full feed and 1 more`.
 def at_limit(yarib):
-    """As many routes as a feed of `run` may have if no limit is given, and one more, which the other commands take."""
+    """As many routes as a feed of `run` may have by default, and one more, which the other commands accept."""
     routes = [f"10.{at >> 8}.{at & 255}.0/24" for at in range(65_536)]
     listed = [f"{prefix} feed 1 pref 1 via 192.0.2.1\n" for prefix in [*routes, "11.0.0.0/24"]]
     pathlib.Path("full.feed").write_text("".join(f"add {row.split()[0]} 1 192.0.2.1\n" for row in listed))
@@ -204,10 +210,10 @@ def at_limit(yarib):
     compare("a run of 65,537 routes", yarib(*batched, "--limit", "1000000"), 0, whole)
 
 
-# Fails where a feed of `lookup`, `table` or `diff` may have 65,536 routes if no limit is given, or 999,999: `the table of
-# 1000000 routes`, `a look-up in 1000000 routes`, `1000000 routes compared with none`.
+# Catches a default limit of 65,536 or 999,999 for a feed of `lookup`, `table` or `diff`: `the table of 1000000 routes`,
+# `a look-up in 1000000 routes`, `1000000 routes compared with none`.
 def at_greatest_limit(yarib):
-    """A million routes of a feed, as many as `lookup`, `table` and `diff` take without --limit, and one more."""
+    """A million routes of a feed, as many as `lookup`, `table` and `diff` accept without --limit, and one more."""
     places = [dotted(0x0A00_0000 + 64 * at) for at in range(MOST + 1)]
     pathlib.Path("none.feed").write_text("")
     pathlib.Path("full.feed").write_text("".join(f"add {place}/32 1 192.0.2.1\n" for place in places[:MOST]))
@@ -223,15 +229,14 @@ def at_greatest_limit(yarib):
         compare(f"{count} routes compared with none", yarib("diff", "none.feed", "--", name), max(status, 1), ranges, err)
 
 
-# Fails where F3 is answered where over 128 routes cover an address, or over 2,000: `addresses that 64 to 2112 routes
-# cover`.
+# Catches F3 if over 128 routes, or over 2,000, cover an address: `addresses that 64 to 2112 routes cover`.
 def covered(yarib):
-    """All prefixes of one address from 64 feeds, the most that can cover it, and numbers about powers of two."""
-    # So many feeds have the prefix of each length: 64, 127, 128, 129, 193, 255, 256, 257, then 64 more at each.
+    """All prefixes of an address from 64 feeds, the maximum that can cover it, and numbers about powers of two."""
+    # How many feeds have the prefix of each length: 64, 127, 128, 129, 193, 255, 256, 257, then 64 more at each.
     offers = [64, 63, 1, 1, 64, 62, 1, 1] + [64] * 25
     base = 0b1010_1010_1010_1010_1010_1010_1010_1010
     prefix = lambda length: f"{dotted(base >> 32 - length << 32 - length)}/{length}"
-    # Each address leaves the others' way behind another bit.
+    # Each address leaves the others' path after another bit.
     asked = [dotted(base ^ (1 << 31 - length if length < 32 else 0)) for length in range(33)]
     for name, counts in (("some", offers), ("all", [64] * 33)):
         add = lambda feed, length: f"add {prefix(length)} {feed} 192.0.2.{feed}\n"
@@ -251,8 +256,8 @@ def covered(yarib):
 
 
 def rows_by_options(places, name):
-    """How `table`, `lookup` and `diff` print the route of each place, a single address, of the first file, which has this name:
-    each with options, and their outputs."""
+    """The output of `table`, `lookup` and `diff` for the route of each place, a single address, of the first file,
+    which has this name: calls with options, and their outputs."""
     row = '"feed":1,{}"file":"{}.feed","pref":1,"via":"192.0.2.1"}}'
     hop, route = "via 192.0.2.1", "{0}/32 feed {1} pref 1 via 192.0.2.1"
     said = '{{"prefix":"{0}/32",' + row.format("", name).replace("}", "}}")
@@ -274,7 +279,7 @@ def rows_by_options(places, name):
     return [[(options, print_each(form)) for options, form in forms] for forms in (tables, answers, ranges)]
 
 
-# Fails where F3 is answered to --within or --feed of over 2,000 rows, or to JSON of over 5,000: `['--feed', '1'] of 2001 rows`,
+# Catches F3 for --within or --feed with over 2,000 rows, or for JSON with over 5,000: `['--feed', '1'] of 2001 rows`,
 # `['--json'] of 5001 rows`.
 def options(yarib):
     """Each option that changes what is printed, at, just above and far above the sizes of the other cases."""
@@ -296,8 +301,7 @@ def options(yarib):
             compare(f"--count {words} of {count} rows", yarib("table", "--count", *words, *files), 0, counts)
 
 
-# Fails where F3 is answered to --names of over 40 files, or of a name of over 200 bytes: `--names of 41 files`, `a name of 201
-# bytes`.
+# Catches F3 for --names of over 40 files, or of a name of over 200 bytes: `--names of 41 files`, `a name of 201 bytes`.
 def names(yarib):
     """Feeds by name and as JSON: from 1 to 64 files, and names up to the longest of a file."""
     files = [f"file{feed}.feed" for feed in range(1, 65)]
@@ -323,10 +327,10 @@ def names(yarib):
             compare(f"a name of {size} bytes", ended, 0, f"10.0.0.0/8 feed {name} pref 1 via 192.0.2.1\n")
 
 
-# Fails where F3 is answered to a comparison of more than 8,192 or 262,144 nodes, or after 1,000 ranges: `8193 routes
-# that differ`, `300000 routes that differ`, `1001 routes that differ`.
+# Catches F3 for a comparison of more than 8,192 or 262,144 nodes, or after 1,000 ranges: `8193 routes that differ`,
+# `300000 routes that differ`, `1001 routes that differ`.
 def compared(yarib):
-    """Single addresses, no two of them neighbours, all of which differ or none, or the last alone."""
+    """Single addresses, no two of them adjacent. All of them differ, or none, or only the last."""
     for count in (1, 999, 1_000, 1_001, 8_192, 8_193, 65_536, 300_000):
         places = [dotted(0x0A00_0000 + 2 * at) for at in range(count)]
         for side in (1, 2):
@@ -341,7 +345,7 @@ def compared(yarib):
         compare(f"{count} routes of which one differs", yarib(*words, "last.feed", "--", "side1.feed"), 1, out)
 
 
-# Fails where F3 is answered to more than 100,000 or 1,000,000 addresses: `100001 addresses`, `1000001 addresses`.
+# Catches F3 for more than 100,000 or 1,000,000 addresses: `100001 addresses`, `1000001 addresses`.
 def addresses(yarib):
     pathlib.Path("row.feed").write_text("add 10.0.0.0/8 1 192.0.2.1\n")
     answer = "10.0.0.1 route 10.0.0.0/8 feed 1 pref 1 via 192.0.2.1\n"
@@ -352,9 +356,9 @@ def addresses(yarib):
             compare(f"{count} addresses {words}", ended, 0, answer * count)
 
 
-# Fails where F3 is answered to as many addresses as a forwarding table answers.
+# Catches F3 for as many addresses as a forwarding table answers.
 def forwarded(yarib):
-    """Look-ups on both sides of the numbers from which on a forwarding table answers them, and far beyond."""
+    """Look-ups on both sides of the numbers from which on a forwarding table answers them, and far above."""
     addresses, routes, a_route = FORWARDED
     cases = [(addresses - 1, routes), (addresses, routes), (addresses + 1, routes), (addresses, routes - 1)]
     cases += [(addresses, addresses // a_route + more) for more in (-1, 0, 1)] + [(2_500_000, routes),
@@ -369,9 +373,9 @@ def forwarded(yarib):
         compare(f"{count} addresses in {size} routes", ended, 0, out)
 
 
-# Fails where F3 is answered to more than 1,000,000 routes in all: `the table of 1000001 routes in all`.
+# Catches F3 for more than 1,000,000 routes in all: `the table of 1000001 routes in all`.
 def in_all(yarib):
-    """More routes than one feed may have: a few more in every command, and far more where little is printed."""
+    """More routes than one feed may have: a few more in every command, and far more if little is printed."""
     places = [f"10.{at >> 8}.{at & 255}.0/24" for at in range(65_536)]
     adds = [f"add {place} 1 192.0.2.1\n" for place in places]
     left = MOST + 1 - 15 * 65_536  # what the sixteenth feed has
@@ -393,9 +397,9 @@ def in_all(yarib):
     compare("16 feeds compared with 16", yarib("diff", *names, "--", *names), 0, "")
 
 
-# Fails where a part is cut out of a copy of the whole table: `--within a /16: bytes more than a look-up`.
+# Catches a filter that copies the whole table: `--within a /16: bytes more than a look-up`.
 def part_of_a_million(yarib):
-    """Of a million routes those in a /16, and their number: beyond loading they take no memory but for the rows."""
+    """The routes of a million that are in a /16, and their number: after loading, only the rows allocate memory."""
     row = lambda at: f"{dotted(0x0A00_0000 + 64 * at)}/32 feed 1 pref 1 via 192.0.2.1\n"
     pathlib.Path("million.feed").write_text("".join(f"add {row(at).split()[0]} 1 192.0.2.1\n" for at in range(MOST)))
     few = "".join(map(row, range(1024, 2048)))

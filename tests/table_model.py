@@ -70,12 +70,12 @@ class Table:
         return [route for length in range(32, -1, -1) for route in self.of_prefix(cut(length))]
 
     def best(self, addr):
-        """What a look-up says of the address."""
+        """The answer of a look-up for the address."""
         found = self.covering(addr)
         return f"route {shown(found[0])}" if found else "no route"
 
     def all(self, addr):
-        """The lines of all that covers the address, the best first, with the step at which each was left behind it."""
+        """The lines of all routes that cover the address, the best first, the others with the reason why each lost."""
         first, *others = self.covering(addr) or [None]
         if first is None:
             return [f"{addr} no route\n"]
@@ -97,8 +97,8 @@ def shown(route):
 
 
 def differences_text(old, new, by, names=({}, {})):
-    """What a comparison of two tables prints: from each border of their prefixes to the next both say one thing. In
-    place of a feed's number stands its name, where its side has names."""
+    """What a comparison of two tables prints: between adjacent boundaries of their prefixes, both tables give a single
+    answer. A feed's number is replaced by its name if its side has names."""
 
     def said(table, border, named):
         best = table.covering(dotted(border))[:1]
@@ -137,28 +137,28 @@ def ran(texts, refused, limit=65_536):
 
 
 def table_text(rows):
-    """What a run prints of the table that it leaves, which has these rows."""
+    """The output of a run for the final table, which has these rows."""
     return "".join(line + "\n" for line in [f"table {len(rows)}", *rows])
 
 
 def run_text(texts, refused):
-    """What a run of these texts prints if these lines, by feed and number, are refused."""
+    """The output of a run of these texts if these lines, by feed and number, are refused."""
     printed, table = ran(texts, refused)
     return "".join(line + "\n" for line in printed) + table_text(table.listed())
 
 
-# What standard error says of faults.
+# The messages of errors on standard error.
 E1 = "E1: the first field is no command of this version"
 E3 = "E3: the field is no prefix or address (the CR of CRLF is part of it)"
 E8 = "E8: the line has over 128 bytes"
 NOT_TAKEN = {
-    "full": "adds over the limit", "exists": "adds of a prefix already there",
-    "missing": "replaces and withdraws of a prefix not there", "refused": "commands refused for want of memory",
+    "full": "adds over the limit", "exists": "duplicate adds",
+    "missing": "replaces and withdraws without a route", "refused": "commands failed, out of memory",
 }
 
 
 def told_text(texts, names, limit=65_536):
-    """What `lookup` and `table` tell of these texts, of which no line is refused, whose faulty lines are E1."""
+    """What `lookup` and `table` report for these texts. No line of them is refused, and their faulty lines are E1."""
     printed, _ = ran(texts, set(), limit)
     told = ""
     for feed, name in enumerate(names, 1):
@@ -173,7 +173,7 @@ def told_text(texts, names, limit=65_536):
 
 
 def answers_text(texts, addresses, limit=65_536):
-    """What a look-up of these addresses prints of these texts."""
+    """The output of a look-up of these addresses for these texts."""
     _, table = ran(texts, set(), limit)
     return "".join(f"{addr} {table.best(addr)}\n" for addr in addresses)
 

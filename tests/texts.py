@@ -1,4 +1,4 @@
-"""Texts of feeds that several scripts run, and what comes of them."""
+"""Texts of feeds that several scripts run, and their outputs."""
 import pathlib
 
 from table_model import dotted
@@ -9,8 +9,8 @@ ROW_OUT = "1:1 added\ntable 1\n10.0.0.0/8 feed 1 pref 100 via 192.0.2.1\n"
 # Lines that leave the table as it was.
 AGAIN = "add 10.0.0.0/8 100 192.0.2.1\nlookup 10.1.2.3\nwithdraw 10.0.0.0/8\ndump\n"
 
-# From so many addresses, routes and addresses a route on a forwarding table answers (MANY_ADDRESSES, MANY_ROUTES and
-# ADDRESSES_A_ROUTE of rt_run/src/forwarding.rt).
+# The numbers of addresses, of routes and of addresses for each route from which on a forwarding table answers
+# (MANY_ADDRESSES, MANY_ROUTES and ADDRESSES_A_ROUTE of rt_run/src/forwarding.rt).
 FORWARDED = 1 << 19, 1 << 14, 3
 
 
@@ -37,7 +37,7 @@ def written(name, texts):
 
 
 def many_routes(count):
-    """A feed of so many routes, addresses in and between them, and what a look-up of each prints."""
+    """A feed of `count` routes, addresses in and between them, and what a look-up of each prints."""
     lines, asked, answers = ["version 2\n", "add 8.0.0.0/5 9 discard\n"], [], []
 
     def ask(addr, answer):

@@ -1,11 +1,11 @@
-/* Counts waits. Loaded before a program by LD_PRELOAD, it keeps in the file of descriptor COUNT_IN for each word on which the
-   program's threads wait how often they waited there for less than a second, how often for as long as it takes, and how
-   often one was woken: naps at the lock's door, sleep at a bell, and its ringing. Before these it keeps the nanoseconds that
-   the program's threads had worked at the first write to standard output, and at the end of the last. With HOLD_UP=1 a
-   request for memory waits, once there are threads, until another thread sleeps, or 20 ms: a route that is added asks inside
-   the lock, so all others who come then meet it there. With HOLD_WAKES=1 a thread wakes nobody before its own next wait,
-   request for memory or end: so two who wait for one another meet at each entry, on however few processors. It rests on
-   the program's calls of glibc, and on names of glibc. */
+/* Counts waits. Loaded before a program by LD_PRELOAD, it keeps three counts in the file of descriptor COUNT_IN for
+   each word on which the program's threads wait: how often they waited there for less than a second, how often without
+   a limit, and how often one was woken. These are naps at the lock's door, sleep at a bell, and its ringing. Before
+   these it keeps the nanoseconds that the program's threads had worked at the first write to standard output, and at
+   the end of the last. With HOLD_UP=1 a memory request waits, once there are threads, until another thread sleeps, or
+   20 ms: adding a route allocates inside the lock, so all others who come then meet it there. With HOLD_WAKES=1 a
+   thread wakes nobody before its own next wait, memory request or end. So two threads that wait for each other meet at
+   each entry, even on a single processor. It depends on the program's calls of glibc, and on names of glibc. */
 #define _GNU_SOURCE
 #include <dlfcn.h>
 #include <linux/futex.h>
@@ -40,7 +40,7 @@ static int (*real_join)(pthread_t, void **);
 static int holds_up, holds_wakes;
 static atomic_int has_threads, sleepers;
 
-/* The call by which a thread is still to wake another one; of number 0 there is none. */
+/* The call with which a thread is still to wake another one; if its number is 0 there is none. */
 static _Thread_local long held[7];
 
 /* A thread's function with its argument. */
@@ -71,7 +71,7 @@ static struct word *word_at(long place) {
   abort();
 }
 
-/* Counts the call, and tells whether its thread will sleep. */
+/* Counts the call. Returns true if its thread will sleep. */
 static int count(long place, int command, const struct timespec *limit) {
   if (command == FUTEX_WAKE) word_at(place)->wakes++;
   if (command != FUTEX_WAIT && command != FUTEX_WAIT_BITSET) return 0;

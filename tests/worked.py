@@ -1,11 +1,11 @@
-"""Worked runs, line beside line, and replays, whole: what the program writes for each."""
+"""Worked runs, line by line, and whole replays: what the program writes for each."""
 from typing import NamedTuple
 
 from table_model import table_text
 
 
 class Worked(NamedTuple):
-    """A feed's lines, each with its answer, or None where it has none; and the rows of the table that they leave."""
+    """A feed's lines, each with its answer, or None if it has none; and the rows of the table that they leave."""
 
     name: str
     lines: list
@@ -27,11 +27,11 @@ class Worked(NamedTuple):
 
 
 def report(feed, answers):
-    """What a run prints of a feed whose lines have these answers."""
+    """The output of a run for a feed whose lines have these answers."""
     return "".join(f"{feed}:{number} {answer}\n" for number, answer in enumerate(answers, 1) if answer)
 
 
-# Six commands, which every batch size cuts in another way.
+# Six commands; every batch size splits them differently.
 SIX = Worked(
     "six commands",
     [
@@ -127,6 +127,16 @@ WORKED = [
             ("lookup 10.255.255.255", "route 10.0.0.0/8 feed 1 pref 9 via 192.0.2.2"),
         ],
         ["10.0.0.0/8 feed 1 pref 9 via 192.0.2.2"],
+    ),
+    Worked(
+        "the tutorial's change",
+        [
+            ("# Changes its route, and counts the routes of all feeds.", None),
+            ("add 10.0.0.0/8 50 192.0.2.1", "added"),
+            ("replace 10.0.0.0/8 20 192.0.2.9", "replaced"),
+            ("dump", "dumped 1"),
+        ],
+        ["10.0.0.0/8 feed 1 pref 20 via 192.0.2.9"],
     ),
     Worked(
         "an aggregate whose addresses lead nowhere, but for one part of it; a purge takes out all that the feed has",

@@ -5,9 +5,9 @@
 
 static const char *text_of(uint32_t address)
 {
-    static char text[16];
-    size_t used;
-    yarib_address_print(address, text, 15, &used);
+    static char text[YARIB_MAX_ADDRESS_TEXT + 1];
+    size_t used = 0;
+    if (yarib_address_print(address, text, YARIB_MAX_ADDRESS_TEXT, &used) != YARIB_DONE) return "";
     text[used] = '\0';
     return text;
 }
@@ -46,9 +46,9 @@ int main(void)
     if (yarib_apply_each(&before, commands, 2, replies, 2) || yarib_apply_each(&after, commands, 2, replies, 2)) return 1;
     if (yarib_apply(&after, &withdrawal, &reply) || reply.code != YARIB_WITHDRAWN) return 1;
 
-    yarib_look_up(&before, &address, 1, &answer, 1);
+    if (yarib_look_up_one(&before, address, &answer)) return 1;
     show("10.1.2.3 before", &answer);
-    yarib_look_up(&after, &address, 1, &answer, 1);
+    if (yarib_look_up_one(&after, address, &answer)) return 1;
     show("10.1.2.3 after", &answer);
     if (yarib_first_difference(&before, &after, 0, 0, &range) == YARIB_DONE) {
         printf("from %s", text_of(range.first));

@@ -35,7 +35,7 @@ static size_t count_of(yarib *table)
 /* A handle that holds nothing answers each call so. */
 static void nothing(yarib *empty)
 {
-    uint32_t address = 1;
+    uint32_t address = 1, hop = 9;
     yarib other = YARIB_EMPTY;
     yarib_route route;
     yarib_entry entry;
@@ -49,6 +49,8 @@ static void nothing(yarib *empty)
     CHECK(yarib_apply_each(empty, &add_eight, 1, &reply, 1) == YARIB_NOTHING && is_marked(&reply, sizeof reply));
     CHECK(yarib_reserve(empty, 1) == YARIB_NOTHING);
     CHECK(yarib_look_up(empty, &address, 1, &route, 1) == YARIB_NOTHING && is_marked(&route, sizeof route));
+    CHECK(yarib_look_up_one(empty, 1, &route) == YARIB_NOTHING && is_marked(&route, sizeof route));
+    CHECK(yarib_hops(empty, &address, 1, 2, 3, &hop, 1) == YARIB_NOTHING && hop == 9);
     CHECK(yarib_look_up_all(empty, 1, 0, &route, 1, &total) == YARIB_NOTHING && is_marked(&route, sizeof route));
     CHECK(yarib_routes(empty, 0, &route, 1, &total) == YARIB_NOTHING && is_marked(&route, sizeof route));
     CHECK(yarib_routes_from(empty, &start, &route, 1, &total) == YARIB_NOTHING && is_marked(&route, sizeof route));
@@ -58,8 +60,7 @@ static void nothing(yarib *empty)
     CHECK(yarib_first_difference(empty, &other, 0, 0, &range) == YARIB_NOTHING);
     CHECK(yarib_forward(empty, &other) == YARIB_NOTHING && yarib_share(empty, &other) == YARIB_NOTHING);
     CHECK(yarib_memory(empty, &total) == YARIB_NOTHING && is_marked(&total, sizeof total));
-    yarib_free(empty);
-    yarib_free(empty);
+    CHECK(yarib_free(empty) == YARIB_DONE && yarib_free(empty) == YARIB_DONE);
 }
 
 /* Numbers and commands that there are not. */
@@ -109,7 +110,7 @@ static void kinds(void)
     yarib_route route, routes[2];
     yarib_entry entry;
     yarib_difference range;
-    uint32_t address = add_eight.base;
+    uint32_t address = add_eight.base, hops[2] = {9, 9};
     size_t total;
     CHECK(yarib_new(&table, 9, YARIB_JOURNALED) == YARIB_DONE && yarib_apply(&table, &add_eight, &reply) == YARIB_DONE);
     CHECK(yarib_reserve(&table, 1000) == YARIB_DONE && yarib_reserve(&table, (size_t)-1) == YARIB_NO_MEMORY);
@@ -134,6 +135,8 @@ static void kinds(void)
     yarib_free(&table);
     CHECK(yarib_look_up(&other, &address, 1, &route, 1) == YARIB_DONE && route.via == 7 && route.len == 8);
     CHECK(yarib_look_up(&other, &address, 1, routes, 2) == YARIB_BAD_SIZE);
+    CHECK(yarib_hops(&other, &address, 1, 2, 3, hops, 2) == YARIB_BAD_SIZE && hops[0] == 9);
+    CHECK(yarib_hops(&other, &address, 1, 2, 3, hops, 1) == YARIB_DONE && hops[0] == 7 && hops[1] == 9);
     yarib_free(&forwarding);
     CHECK(yarib_look_up(&other, &address, 1, &route, 1) == YARIB_DONE && route.feed == 1);
     CHECK(yarib_new(&other, 1, YARIB_PLAIN) == YARIB_DONE && yarib_look_up(&other, &address, 1, &route, 1) == YARIB_DONE);
@@ -347,6 +350,23 @@ static void texts(void)
     CHECK(yarib_address_print(address, text, 15, &used) == YARIB_DONE && used == 15 && memcmp(text, "255.255.255.255", 15) == 0);
 }
 
+/* Names, and what a handle is assigned. */
+static void names(void)
+{
+    yarib handle;
+    handle = YARIB_EMPTY;
+    CHECK(handle.inside == NULL && yarib_free(&handle) == YARIB_DONE);
+    CHECK(strcmp(yarib_version(), YARIB_VERSION) == 0);
+    yarib table = YARIB_EMPTY, other = YARIB_EMPTY;
+    CHECK(yarib_new(&table, 1, YARIB_PLAIN) == YARIB_DONE && yarib_fib_new(&table, &handle) == YARIB_DONE);
+    CHECK(yarib_fib_clone(&handle, &other) == YARIB_DONE && yarib_fib_attach(&table) == YARIB_DONE);
+    CHECK(yarib_fib_clone(&table, &other) == YARIB_WRONG_KIND && yarib_fib_attach(&other) == YARIB_WRONG_KIND);
+    CHECK(yarib_free(&table) == YARIB_DONE && yarib_free(&handle) == YARIB_DONE && yarib_free(&other) == YARIB_DONE);
+    CHECK(strcmp(yarib_status_text(YARIB_DONE), "done") == 0 && strcmp(yarib_status_text(YARIB_BUSY), "busy") == 0);
+    CHECK(strcmp(yarib_status_text(YARIB_WRONG_KIND), "wrong kind") == 0);
+    CHECK(strcmp(yarib_status_text((enum yarib_status)12), "unknown status") == 0);
+}
+
 int main(void)
 {
     yarib empty = YARIB_EMPTY;
@@ -358,5 +378,6 @@ int main(void)
     followed();
     differences();
     texts();
+    names();
     return 0;
 }

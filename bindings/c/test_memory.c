@@ -1,4 +1,4 @@
-/* What yarib_memory tells is near what the C library's allocator gives. Beside some 1 KiB for each handle, a table takes no less,
+/* What yarib_memory tells is near what the C library's allocator gives. Beside 1.25 KiB for each handle, a table takes no less,
  * and no more than a quarter over it and 96 bytes for each further route to one prefix; a journal, which grows by doubling, at most
  * twice; a forwarding table no more than a hundredth over it. */
 #define _GNU_SOURCE
@@ -18,7 +18,7 @@ static size_t given(void)
     return now.uordblks + now.hblkhd;
 }
 
-enum { HANDLE = 1100 };
+enum { HANDLE = 1280 };
 
 static size_t told(yarib *table)
 {

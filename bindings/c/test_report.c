@@ -86,24 +86,29 @@ static int is_same(const yarib_route *one, const yarib_route *other)
 static void ask(const yarib_route *routes, size_t size)
 {
     uint32_t asked[ASKED];
+    uint32_t hops[ASKED], forwarded_hops[ASKED];
     yarib_route answers[ASKED], forwarded[ASKED], shared[ASKED], all[64 * 33];
     yarib forwarding = YARIB_EMPTY, other = YARIB_EMPTY;
     for (uint32_t k = 0; k < ASKED; k++) asked[k] = k % 3 && size ? routes[k * 7 % size].base + k : k * 4294967u;
     CHECK(yarib_look_up(&table, asked, ASKED, answers, ASKED) == YARIB_DONE);
     CHECK(yarib_forward(&table, &forwarding) == YARIB_DONE && yarib_share(&forwarding, &other) == YARIB_DONE);
     CHECK(yarib_look_up(&forwarding, asked, ASKED, forwarded, ASKED) == YARIB_DONE);
+    CHECK(yarib_hops(&forwarding, asked, ASKED, 0, 1, forwarded_hops, ASKED) == YARIB_DONE);
+    CHECK(yarib_hops(&table, asked, ASKED, 0, 1, hops, ASKED) == YARIB_DONE);
     yarib_free(&forwarding);
     CHECK(yarib_look_up(&other, asked, ASKED, shared, ASKED) == YARIB_DONE);
     yarib_free(&other);
     for (uint32_t k = 0; k < ASKED; k++) {
         yarib_command command = {.operation = YARIB_LOOKUP, .feed = 1, .base = asked[k]};
-        yarib_route none = {.hop = YARIB_NO_ROUTE}, found;
+        yarib_route none = {.hop = YARIB_NO_ROUTE}, found, one;
         yarib_reply reply;
         size_t total;
         CHECK(yarib_apply(&table, &command, &reply) == YARIB_DONE);
         CHECK(yarib_look_up_all(&table, asked[k], 0, all, 64 * 33, &total) == YARIB_DONE);
         found = reply.code == YARIB_FOUND ? reply.route : none;
         CHECK(is_same(&found, &answers[k]) && is_same(&found, &forwarded[k]) && is_same(&found, &shared[k]));
+        CHECK(yarib_look_up_one(&table, asked[k], &one) == YARIB_DONE && is_same(&found, &one));
+        CHECK(hops[k] == (found.hop == YARIB_VIA ? found.via : found.hop == YARIB_DISCARD) && forwarded_hops[k] == hops[k]);
         CHECK(total == 0 ? found.hop == YARIB_NO_ROUTE : is_same(&found, &all[0]));
     }
 }

@@ -7,32 +7,35 @@
  *     yarib_command add = {.operation = YARIB_ADD, .feed = 1, .base = 0x0a000000, .len = 8, .pref = 10,
  *                          .hop = YARIB_VIA, .via = 0xc0000201};
  *     yarib_reply reply;
- *     yarib_apply(&table, &add, &reply);               // reply.code is YARIB_ADDED
- *     uint32_t address = 0x0a010203;
+ *     if (yarib_apply(&table, &add, &reply) != YARIB_DONE) return 1;                // reply.code is YARIB_ADDED
  *     yarib_route answer;
- *     yarib_look_up(&table, &address, 1, &answer, 1);  // answer is that route
+ *     if (yarib_look_up_one(&table, 0x0a010203, &answer) != YARIB_DONE) return 1;   // answer is that route
  *     yarib_free(&table);
  *
  * Numbers. An address is a uint32_t in host byte order; 10.0.0.0 is 0x0a000000. Feeds are 1 to 64. The lowest preference
  * number is preferred; between equal preferences, the lowest feed. Sizes count elements, not bytes.
  *
- * Statuses. Every call except yarib_free returns an enum yarib_status. YARIB_DONE is 0. If a call returns another status,
- * the handles are unchanged and nothing was written.
+ * Statuses. Every call returns an enum yarib_status, except yarib_version and yarib_status_text, which return strings. YARIB_DONE
+ * is 0. If a call returns another status, the handles are unchanged and nothing was written. If several statuses apply, the call
+ * returns the first of them in this order: YARIB_BUSY (any call with a handle), then the call's Errors as they are listed, from left
+ * to right.
  *
- * Ownership. Initialize a handle with YARIB_EMPTY, fill it with yarib_new, yarib_forward or yarib_share, and release it with yarib_free;
+ * Ownership. Initialize a handle with YARIB_EMPTY, fill it with yarib_new, yarib_fib_new or yarib_fib_clone, and release it with yarib_free;
  * a second yarib_free is harmless. Never copy a handle: both copies would own its contents. Passing a pointer to it is
  * fine. No call keeps a pointer to your arrays, strings or structs.
  *
- * Threads. At most one call at a time may use a handle: two look-ups at once are forbidden, too. Protect a handle that
- * threads share with your own lock. A handle belongs to no thread. Calls on different handles need no lock, even if they are
- * handles to one forwarding table (yarib_share); so threads with a handle each can look up in it concurrently.
+ * Threads. A call that takes a handle as const yarib * reads it; any number of these may use a handle at the same time. All other
+ * calls change it, and run by themselves: a change during any other call on the handle, and any call during a change, returns
+ * YARIB_BUSY and does nothing. Nothing waits, and no call can damage what a handle holds. So call again later; or protect the handle
+ * with a read-write lock of your own, and no call is ever busy. While it runs, a reading call may count itself in the handle, so
+ * don't declare a handle const. After a fork, a handle that another thread was using stays busy in the child.
  *
  * Pointers must not be null, even for arrays without elements. No memory that a call writes may overlap other memory that is
  * passed to it. If a call takes two handles, they must be different. Define YARIB_CHECK to have these rules tested by
  * assert, as far as they can be tested.
  *
- * docs/LIBRARIES.md of the repository lists the promises under yarib_c, and says which are proved of the code behind this
- * header and which are tested. Your obligations are the rules in this comment; the proofs assume that you keep them.
+ * docs/LIBRARIES.md of the repository lists the promises under yarib_c, and says which are proved of the library's code and
+ * which are tested. Your obligations are the rules in this comment; the proofs assume that you keep them.
  */
 #ifndef YARIB_H
 #define YARIB_H
@@ -45,15 +48,30 @@ extern "C" {
 #endif
 
 #define YARIB_VERSION_MAJOR 0
-#define YARIB_VERSION_MINOR 1
-#define YARIB_VERSION "0.1"
+#define YARIB_VERSION_MINOR 2
+#define YARIB_VERSION "0.2"
 
-/* A handle to a table, a table with a journal, or a forwarding table. C code must not read or write its contents. */
+/* A handle to a table or to a forwarding table. C code must not read or write its contents. In this header a table is a routing
+ * table, with or without a journal, and never a forwarding table. But if the errors of a call don't include YARIB_WRONG_KIND, its
+ * parameter `table` may also be a handle to a forwarding table. */
 typedef struct yarib {
     void *inside;
 } yarib;
 
-#define YARIB_EMPTY {NULL}
+/* An empty handle, for initialization and assignment. Don't assign it to a handle that holds something, since its contents would
+ * leak: call yarib_free. A static handle is empty without it. */
+#ifdef __cplusplus
+#define YARIB_EMPTY (yarib())
+#else
+#define YARIB_EMPTY ((yarib){NULL})
+#endif
+
+/* The limits. */
+#define YARIB_MAX_FEED 64
+#define YARIB_MAX_LIMIT 1000000
+#define YARIB_MAX_PREFIX_LENGTH 32
+#define YARIB_MAX_PREFIX_TEXT 18
+#define YARIB_MAX_ADDRESS_TEXT 15
 
 /* The result of a call. */
 enum yarib_status {
@@ -63,15 +81,29 @@ enum yarib_status {
     YARIB_BAD_COMMAND = 3,  /* the command is invalid: its operation, next hop or prefix */
     YARIB_NO_MEMORY = 4,    /* out of memory */
     YARIB_BAD_SIZE = 5,     /* two arrays differ in size, or the buffer is too small */
-    YARIB_NONE_LEFT = 6,    /* there is no difference from this address on */
+    YARIB_NONE_LEFT = 6,    /* the tables' answers are the same from this address on */
     YARIB_BAD_TEXT = 7,     /* the form of the text is invalid */
     YARIB_BAD_LENGTH = 8,   /* a prefix length is over 32 */
     YARIB_BAD_BITS = 9,     /* a bit of the address past the length is set */
-    YARIB_WRONG_KIND = 10   /* the handle holds something that doesn't support this call */
+    YARIB_WRONG_KIND = 10,  /* the handle holds something that doesn't support this call */
+    YARIB_BUSY = 11         /* another call uses the handle */
 };
 
-/* The kind of table that yarib_new creates: without a journal (memory is bounded by the routes), or with a journal that keeps
- * every answered command, 56 bytes each. */
+/* The compiler warns of a call whose status isn't used. */
+#ifdef __GNUC__
+#define YARIB_STATUS __attribute__((warn_unused_result)) enum yarib_status
+#else
+#define YARIB_STATUS enum yarib_status
+#endif
+
+/* Returns the version of the library, such as "0.2"; YARIB_VERSION is the version of this header. */
+const char *yarib_version(void);
+
+/* Returns the name of a status, such as "no memory", or "unknown status". */
+const char *yarib_status_text(enum yarib_status status);
+
+/* The kind of table that yarib_new creates. Without a journal its memory is bounded by its routes. A journal keeps every answered
+ * command with its reply, 56 bytes each, until the table is freed: choose it to explain each answer later. */
 enum yarib_kind { YARIB_PLAIN = 0, YARIB_JOURNALED = 1 };
 
 enum yarib_operation {
@@ -103,7 +135,7 @@ enum yarib_code {
     YARIB_PURGED      /* `count` routes were removed */
 };
 
-/* A route. If hop is YARIB_NO_ROUTE there is no route, and all other fields are 0. */
+/* A route. If hop is YARIB_NO_ROUTE, it holds no route, and all other fields are 0. */
 typedef struct yarib_route {
     uint32_t base;
     uint32_t pref;
@@ -167,117 +199,140 @@ typedef struct yarib_difference {
     yarib_route after;
 } yarib_difference;
 
-/* Creates an empty table in which each feed may have up to `limit` routes, 1 to 1,000,000. `kind` is an enum yarib_kind. If it
- * succeeds, the handle's previous contents are freed.
+/* Creates an empty table that allows each feed up to `limit` routes. `limit` is 1 to YARIB_MAX_LIMIT, `kind` an enum yarib_kind.
+ * If it succeeds, the handle's previous contents are freed.
  * Errors: YARIB_BAD_NUMBER, YARIB_NO_MEMORY. */
-uint32_t yarib_new(yarib *table, uint32_t limit, uint32_t kind);
+YARIB_STATUS yarib_new(yarib *table, uint32_t limit, uint32_t kind);
 
-/* Frees the contents of the handle, which is empty then. */
-void yarib_free(yarib *table);
+/* Frees the contents of the handle, which is empty then. Returns YARIB_DONE or YARIB_BUSY. */
+enum yarib_status yarib_free(yarib *table);
 
 /* Executes a command, writes its reply, and appends both to the journal if there is one. For a table without a journal, only an
  * add that inserts a route can run out of memory.
- * Errors: YARIB_NOTHING, YARIB_BAD_NUMBER (the feed), YARIB_BAD_COMMAND, YARIB_NO_MEMORY, YARIB_WRONG_KIND. */
-uint32_t yarib_apply(yarib *table, const yarib_command *command, yarib_reply *reply);
+ * Errors: YARIB_NOTHING, YARIB_BAD_NUMBER (the feed), YARIB_BAD_COMMAND, YARIB_WRONG_KIND, YARIB_NO_MEMORY. */
+YARIB_STATUS yarib_apply(yarib *table, const yarib_command *command, yarib_reply *reply);
 
 /* Executes the commands in order and writes each reply at the command's index. If a command fails, its reply has the code
- * YARIB_UNANSWERED and, as `count`, the status that yarib_apply would have returned; the remaining commands are executed.
- * Errors: YARIB_NOTHING, YARIB_BAD_SIZE (the sizes differ). */
-uint32_t yarib_apply_each(yarib *table, const yarib_command *commands, size_t size, yarib_reply *replies, size_t room);
+ * YARIB_UNANSWERED and, as `count`, the status that yarib_apply would have returned; the remaining commands are executed. On a
+ * forwarding table every command fails in this way, and the call returns YARIB_DONE.
+ * Errors: YARIB_BAD_SIZE (the sizes differ), YARIB_NOTHING. */
+YARIB_STATUS yarib_apply_each(yarib *table, const yarib_command *commands, size_t size, yarib_reply *replies, size_t room);
 
-/* Reserves capacity for this many further journal entries, if there is a journal, so that appending them doesn't allocate.
+/* Reserves capacity for this many further journal entries, so that appending them doesn't allocate. For a table without a journal,
+ * and for a forwarding table, does nothing and returns YARIB_DONE.
  * Errors: YARIB_NOTHING, YARIB_NO_MEMORY. */
-uint32_t yarib_reserve(yarib *table, size_t entries);
+YARIB_STATUS yarib_reserve(yarib *table, size_t entries);
 
 /* Writes for each address the best route of the longest prefix that covers it. For a table, 32 or more addresses in one call
  * take less time than one call each.
- * Errors: YARIB_NOTHING, YARIB_BAD_SIZE (the sizes differ). */
-uint32_t yarib_look_up(yarib *table, const uint32_t *addresses, size_t size, yarib_route *answers, size_t room);
+ * Errors: YARIB_BAD_SIZE (the sizes differ), YARIB_NOTHING. */
+YARIB_STATUS yarib_look_up(const yarib *table, const uint32_t *addresses, size_t size, yarib_route *answers, size_t room);
+
+/* Writes the best route of the longest prefix that covers the address. Faster than an array of one.
+ * Errors: YARIB_NOTHING. */
+YARIB_STATUS yarib_look_up_one(const yarib *table, uint32_t address, yarib_route *answer);
+
+/* Writes for each address the router of its best route: `via`, or `discard` if packets are discarded, or `no_route` if no prefix covers
+ * the address. Choose two numbers that no route has as `via`. For a forwarding table this is the fastest look-up of many.
+ * Errors: YARIB_BAD_SIZE (the sizes differ), YARIB_NOTHING. */
+YARIB_STATUS yarib_hops(const yarib *table, const uint32_t *addresses, size_t size, uint32_t no_route, uint32_t discard,
+    uint32_t *hops, size_t room);
 
 /* Writes the routes whose prefix covers the address, the best first: those from the index `skip` on, up to `room` of them.
  * Writes their number, skipped ones included, to `total`.
- * Errors: YARIB_NOTHING, YARIB_NO_MEMORY, YARIB_WRONG_KIND. */
-uint32_t yarib_look_up_all(yarib *table, uint32_t address, size_t skip, yarib_route *routes, size_t room,
+ * Errors: YARIB_NOTHING, YARIB_WRONG_KIND, YARIB_NO_MEMORY. */
+YARIB_STATUS yarib_look_up_all(const yarib *table, uint32_t address, size_t skip, yarib_route *routes, size_t room,
     size_t *total);
 
 /* Writes the routes sorted by base, length, preference and feed: those from the index `skip` on, up to `room` of them. Writes the
  * number of all routes to `total`. Allocates memory for all routes.
- * Errors: YARIB_NOTHING, YARIB_NO_MEMORY, YARIB_WRONG_KIND. */
-uint32_t yarib_routes(yarib *table, size_t skip, yarib_route *routes, size_t room, size_t *total);
+ * Errors: YARIB_NOTHING, YARIB_WRONG_KIND, YARIB_NO_MEMORY. */
+YARIB_STATUS yarib_routes(const yarib *table, size_t skip, yarib_route *routes, size_t room, size_t *total);
 
 /* Writes the routes at and after the position `from`, in the same order, up to `room` of them, and their number to `used`. `base`, `len`,
  * `pref` and `feed` of `from` are the position; a route there need not exist. If `pref` and `feed` are 0, the position is before all
- * routes to the prefix. To get the next page, pass the last route of this page with its `feed` increased by 1, even if the table has
- * changed. Doesn't allocate, and visits only what it writes.
+ * routes to the prefix; if all fields are 0, it is before all routes. To get the next page, pass a copy of the last route of this page
+ * with `feed` increased by 1, even if the table has changed. If `used` is less than `room`, no routes follow. Doesn't allocate, and
+ * visits only what it writes.
  * Errors: YARIB_NOTHING, YARIB_BAD_LENGTH, YARIB_BAD_BITS, YARIB_WRONG_KIND. */
-uint32_t yarib_routes_from(yarib *table, const yarib_route *from, yarib_route *routes, size_t room, size_t *used);
+YARIB_STATUS yarib_routes_from(const yarib *table, const yarib_route *from, yarib_route *routes, size_t room, size_t *used);
 
 /* Writes the selected routes in the same order: those from the index `skip` on, up to `room` of them. Writes the number of all
  * selected routes to `total`. Visits only their part of the table, and allocates memory for them.
- * Errors: YARIB_NOTHING, YARIB_BAD_NUMBER (part, feed or only_best), YARIB_BAD_LENGTH, YARIB_BAD_BITS, YARIB_NO_MEMORY,
- * YARIB_WRONG_KIND. */
-uint32_t yarib_select(yarib *table, const yarib_selection *asked, size_t skip, yarib_route *routes, size_t room,
+ * Errors: YARIB_NOTHING, YARIB_BAD_NUMBER (part, feed or only_best), YARIB_BAD_LENGTH, YARIB_BAD_BITS, YARIB_WRONG_KIND,
+ * YARIB_NO_MEMORY. */
+YARIB_STATUS yarib_select(const yarib *table, const yarib_selection *asked, size_t skip, yarib_route *routes, size_t room,
     size_t *total);
 
 /* Writes the number of routes to `total`.
  * Errors: YARIB_NOTHING, YARIB_WRONG_KIND. */
-uint32_t yarib_count(yarib *table, size_t *total);
+YARIB_STATUS yarib_count(const yarib *table, size_t *total);
 
 /* Writes the entries of the journal from the index `skip` on, up to `room` of them, and the number of all entries to `total`.
- * Errors: YARIB_NOTHING, YARIB_WRONG_KIND (there is no journal). */
-uint32_t yarib_journal(yarib *table, size_t skip, yarib_entry *entries, size_t room, size_t *total);
+ * Errors: YARIB_NOTHING, YARIB_WRONG_KIND (the handle doesn't hold a table with a journal). */
+YARIB_STATUS yarib_journal(const yarib *table, size_t skip, yarib_entry *entries, size_t room, size_t *total);
 
-/* Finds the first range, from the address `from` on, for which two tables give different answers; a range that contains `from`
- * is reported from `from` on. Compares next hops if `by` is 0,
- * whole routes if it is 1. When comparing next hops, only `hop` and `via` of the answers are set; all else is 0. To continue, pass
- * `last` + 1, unless `last` is 255.255.255.255. The handles must be different.
- * Errors: YARIB_NOTHING, YARIB_BAD_NUMBER (by), YARIB_NONE_LEFT (no further range), YARIB_WRONG_KIND. */
-uint32_t yarib_first_difference(yarib *old_table, yarib *new_table, uint32_t by, uint32_t from,
+/* Finds the first range at or after the address `from` where the two tables' answers differ; a range that contains `from` is
+ * reported from `from` on. Compares next hops if `by` is 0, whole routes if it is 1. When comparing next hops, only `hop` and `via`
+ * of the answers are set; all else is 0. To continue, pass `last` + 1, unless `last` is 255.255.255.255. The handles must be
+ * different.
+ * Errors: YARIB_NOTHING (either handle), YARIB_BAD_NUMBER (by), YARIB_WRONG_KIND (either handle), YARIB_NONE_LEFT (no further
+ * range). */
+YARIB_STATUS yarib_first_difference(const yarib *old_table, const yarib *new_table, uint32_t by, uint32_t from,
     yarib_difference *difference);
 
 /* Builds a forwarding table from the table's current answers. It takes 64 MiB or more, and a look-up takes two or three reads. Later
- * changes of the table don't change it. If it succeeds, the previous contents of `forwarding` are freed.
- * Errors: YARIB_NOTHING, YARIB_NO_MEMORY, YARIB_WRONG_KIND (the first handle doesn't hold a table). */
-uint32_t yarib_forward(yarib *table, yarib *forwarding);
+ * changes of the table don't change it. Its handle is for yarib_look_up, yarib_look_up_one, yarib_hops, yarib_fib_clone, yarib_memory
+ * and yarib_free; yarib_apply_each and yarib_reserve do nothing to it. If yarib_fib_new succeeds, the previous contents of
+ * `forwarding` are freed.
+ * Errors: YARIB_NOTHING, YARIB_WRONG_KIND (the first handle doesn't hold a table), YARIB_NO_MEMORY. */
+YARIB_STATUS yarib_fib_new(const yarib *table, yarib *forwarding);
 
-/* Makes `other` a second handle to the same forwarding table, for another thread. The table is freed with its last handle. If it
- * succeeds, the previous contents of `other` are freed. The handles must be different.
- * Errors: YARIB_NOTHING, YARIB_NO_MEMORY, YARIB_WRONG_KIND (the first handle doesn't hold a forwarding table). */
-uint32_t yarib_share(yarib *forwarding, yarib *other);
+/* Makes `other` a second handle to the same forwarding table, so that two owners can each free their own; for look-ups on several
+ * threads one handle is enough. The forwarding table is freed with its last handle. If it succeeds, the previous contents of `other`
+ * are freed. The handles must be different.
+ * Errors: YARIB_NOTHING, YARIB_WRONG_KIND (the first handle doesn't hold a forwarding table), YARIB_NO_MEMORY. */
+YARIB_STATUS yarib_fib_clone(const yarib *forwarding, yarib *other);
 
-/* Attaches a forwarding table to a table without a journal, if none is attached yet. From then on every command updates it, and
- * look-ups use it. A command takes a little more time; a purge, which rebuilds it, and a change of a prefix of length 8 or less take
- * some milliseconds more. If a command finds no memory for the update, the command is still answered, the forwarding table is
- * freed, and look-ups use the table until this is called again.
- * Errors: YARIB_NOTHING, YARIB_NO_MEMORY, YARIB_WRONG_KIND (the handle doesn't hold a table without a journal). */
-uint32_t yarib_follow(yarib *table);
+/* Builds a forwarding table and attaches it to `table`, a table without a journal; does nothing if one is attached. From then on
+ * every command updates it, and look-ups use it. A command takes a little more time; a purge, which rebuilds it, and a change of a
+ * prefix of length 8 or less take some milliseconds more. If a command finds no memory for the update, the command is still answered,
+ * the forwarding table is freed (no status says so, but yarib_memory is lower by its size), and look-ups use the table until this is
+ * called again.
+ * Errors: YARIB_NOTHING, YARIB_WRONG_KIND (the handle doesn't hold a table without a journal), YARIB_NO_MEMORY. */
+YARIB_STATUS yarib_fib_attach(yarib *table);
 
-/* Writes a size in bytes. For a forwarding table it is the table's memory, counted once for all its handles. For a table it is an
- * estimate: 48 for each node (at most two a prefix), 56 for each journal entry, and the size of an attached forwarding table. glibc
- * allocates at least this much, and at most 1.25 times as much, plus 1 KiB, plus 96 for each route after the first to its prefix. A
- * journal without reserved capacity takes up to twice as much.
+/* The names that these three calls had in version 0.1. */
+YARIB_STATUS yarib_forward(const yarib *table, yarib *forwarding);
+YARIB_STATUS yarib_share(const yarib *forwarding, yarib *other);
+YARIB_STATUS yarib_follow(yarib *table);
+
+/* Writes a size in bytes. For a forwarding table it is the memory of the forwarding table; each of its handles reports the whole
+ * size. For a table it is an estimate: 48 for each node (at most two a prefix), 56 for each journal entry, and the size of an attached
+ * forwarding table. The C library (glibc) allocates at least this much. For a table without a journal it allocates at most 1.25 times
+ * as much, plus 1.25 KiB, plus 96 for each further route to the same prefix. For a table with a journal whose capacity was never
+ * reserved, it allocates at most twice as much, plus the same amounts. Reserved capacity that no entry uses yet isn't counted.
  * Errors: YARIB_NOTHING. */
-uint32_t yarib_memory(yarib *table, size_t *bytes);
+YARIB_STATUS yarib_memory(const yarib *table, size_t *bytes);
 
 /* Parses a prefix such as 10.0.0.0/8, without leading zeros and without a bit set past the length. The text needs no terminating null.
- * Errors, in this order: YARIB_BAD_TEXT, YARIB_BAD_LENGTH, YARIB_BAD_BITS. */
-uint32_t yarib_prefix_parse(const char *text, size_t size, yarib_prefix *prefix);
+ * Errors: YARIB_BAD_TEXT, YARIB_BAD_LENGTH, YARIB_BAD_BITS. */
+YARIB_STATUS yarib_prefix_parse(const char *text, size_t size, yarib_prefix *prefix);
 
-/* Writes a prefix as text, without a terminating null, and its length, at most 18, to `used`.
- * Errors: YARIB_BAD_SIZE, YARIB_BAD_LENGTH, YARIB_BAD_BITS. */
-uint32_t yarib_prefix_print(const yarib_prefix *prefix, char *text, size_t room, size_t *used);
+/* Writes a prefix as text, without a terminating null, and its length, at most YARIB_MAX_PREFIX_TEXT, to `used`.
+ * Errors: YARIB_BAD_LENGTH, YARIB_BAD_BITS, YARIB_BAD_SIZE. */
+YARIB_STATUS yarib_prefix_print(const yarib_prefix *prefix, char *text, size_t room, size_t *used);
 
 /* Parses an address such as 10.0.0.1. The text needs no terminating null.
  * Errors: YARIB_BAD_TEXT. */
-uint32_t yarib_address_parse(const char *text, size_t size, uint32_t *address);
+YARIB_STATUS yarib_address_parse(const char *text, size_t size, uint32_t *address);
 
-/* Writes an address as text, without a terminating null, and its length, at most 15, to `used`.
+/* Writes an address as text, without a terminating null, and its length, at most YARIB_MAX_ADDRESS_TEXT, to `used`.
  * Errors: YARIB_BAD_SIZE. */
-uint32_t yarib_address_print(uint32_t address, char *text, size_t room, size_t *used);
+YARIB_STATUS yarib_address_print(uint32_t address, char *text, size_t room, size_t *used);
 
-
-/* If YARIB_CHECK is defined, each call first tests its caller's obligations: no null pointers, no overlapping arrays, and two
- * different handles. */
+/* If YARIB_CHECK is defined, each call first tests some of its caller's obligations: no null pointers, two different handles, and no
+ * overlap of the commands, addresses, position or selection that it reads with the results that it writes. */
 #ifdef YARIB_CHECK
 #include <assert.h>
 
@@ -288,21 +343,21 @@ static inline int yarib_are_apart(const void *one, size_t size, const void *othe
     return size == 0 || other_size == 0 || first + size <= second || second + other_size <= first;
 }
 
-static inline uint32_t yarib_new_checked(yarib *table, uint32_t limit, uint32_t kind)
+static inline YARIB_STATUS yarib_new_checked(yarib *table, uint32_t limit, uint32_t kind)
 {
     assert(table != NULL);
     return yarib_new(table, limit, kind);
 }
 #define yarib_new yarib_new_checked
 
-static inline void yarib_free_checked(yarib *table)
+static inline enum yarib_status yarib_free_checked(yarib *table)
 {
     assert(table != NULL);
-    yarib_free(table);
+    return yarib_free(table);
 }
 #define yarib_free yarib_free_checked
 
-static inline uint32_t yarib_apply_checked(yarib *table, const yarib_command *command, yarib_reply *reply)
+static inline YARIB_STATUS yarib_apply_checked(yarib *table, const yarib_command *command, yarib_reply *reply)
 {
     assert(table != NULL && command != NULL && reply != NULL);
     assert(yarib_are_apart(command, sizeof *command, reply, sizeof *reply));
@@ -310,7 +365,7 @@ static inline uint32_t yarib_apply_checked(yarib *table, const yarib_command *co
 }
 #define yarib_apply yarib_apply_checked
 
-static inline uint32_t yarib_apply_each_checked(yarib *table, const yarib_command *commands, size_t size,
+static inline YARIB_STATUS yarib_apply_each_checked(yarib *table, const yarib_command *commands, size_t size,
     yarib_reply *replies, size_t room)
 {
     assert(table != NULL && commands != NULL && replies != NULL);
@@ -319,14 +374,14 @@ static inline uint32_t yarib_apply_each_checked(yarib *table, const yarib_comman
 }
 #define yarib_apply_each yarib_apply_each_checked
 
-static inline uint32_t yarib_reserve_checked(yarib *table, size_t entries)
+static inline YARIB_STATUS yarib_reserve_checked(yarib *table, size_t entries)
 {
     assert(table != NULL);
     return yarib_reserve(table, entries);
 }
 #define yarib_reserve yarib_reserve_checked
 
-static inline uint32_t yarib_look_up_checked(yarib *table, const uint32_t *addresses, size_t size,
+static inline YARIB_STATUS yarib_look_up_checked(const yarib *table, const uint32_t *addresses, size_t size,
     yarib_route *answers, size_t room)
 {
     assert(table != NULL && addresses != NULL && answers != NULL);
@@ -335,7 +390,23 @@ static inline uint32_t yarib_look_up_checked(yarib *table, const uint32_t *addre
 }
 #define yarib_look_up yarib_look_up_checked
 
-static inline uint32_t yarib_look_up_all_checked(yarib *table, uint32_t address, size_t skip,
+static inline YARIB_STATUS yarib_look_up_one_checked(const yarib *table, uint32_t address, yarib_route *answer)
+{
+    assert(table != NULL && answer != NULL);
+    return yarib_look_up_one(table, address, answer);
+}
+#define yarib_look_up_one yarib_look_up_one_checked
+
+static inline YARIB_STATUS yarib_hops_checked(const yarib *table, const uint32_t *addresses, size_t size, uint32_t no_route,
+    uint32_t discard, uint32_t *hops, size_t room)
+{
+    assert(table != NULL && addresses != NULL && hops != NULL);
+    assert(yarib_are_apart(addresses, size * sizeof *addresses, hops, room * sizeof *hops));
+    return yarib_hops(table, addresses, size, no_route, discard, hops, room);
+}
+#define yarib_hops yarib_hops_checked
+
+static inline YARIB_STATUS yarib_look_up_all_checked(const yarib *table, uint32_t address, size_t skip,
     yarib_route *routes, size_t room, size_t *total)
 {
     assert(table != NULL && routes != NULL && total != NULL);
@@ -343,14 +414,14 @@ static inline uint32_t yarib_look_up_all_checked(yarib *table, uint32_t address,
 }
 #define yarib_look_up_all yarib_look_up_all_checked
 
-static inline uint32_t yarib_routes_checked(yarib *table, size_t skip, yarib_route *routes, size_t room, size_t *total)
+static inline YARIB_STATUS yarib_routes_checked(const yarib *table, size_t skip, yarib_route *routes, size_t room, size_t *total)
 {
     assert(table != NULL && routes != NULL && total != NULL);
     return yarib_routes(table, skip, routes, room, total);
 }
 #define yarib_routes yarib_routes_checked
 
-static inline uint32_t yarib_routes_from_checked(yarib *table, const yarib_route *from, yarib_route *routes, size_t room,
+static inline YARIB_STATUS yarib_routes_from_checked(const yarib *table, const yarib_route *from, yarib_route *routes, size_t room,
     size_t *used)
 {
     assert(table != NULL && from != NULL && routes != NULL && used != NULL);
@@ -359,7 +430,7 @@ static inline uint32_t yarib_routes_from_checked(yarib *table, const yarib_route
 }
 #define yarib_routes_from yarib_routes_from_checked
 
-static inline uint32_t yarib_select_checked(yarib *table, const yarib_selection *asked, size_t skip, yarib_route *routes,
+static inline YARIB_STATUS yarib_select_checked(const yarib *table, const yarib_selection *asked, size_t skip, yarib_route *routes,
     size_t room, size_t *total)
 {
     assert(table != NULL && asked != NULL && routes != NULL && total != NULL);
@@ -368,14 +439,14 @@ static inline uint32_t yarib_select_checked(yarib *table, const yarib_selection 
 }
 #define yarib_select yarib_select_checked
 
-static inline uint32_t yarib_count_checked(yarib *table, size_t *total)
+static inline YARIB_STATUS yarib_count_checked(const yarib *table, size_t *total)
 {
     assert(table != NULL && total != NULL);
     return yarib_count(table, total);
 }
 #define yarib_count yarib_count_checked
 
-static inline uint32_t yarib_journal_checked(yarib *table, size_t skip, yarib_entry *entries, size_t room,
+static inline YARIB_STATUS yarib_journal_checked(const yarib *table, size_t skip, yarib_entry *entries, size_t room,
     size_t *total)
 {
     assert(table != NULL && entries != NULL && total != NULL);
@@ -383,7 +454,7 @@ static inline uint32_t yarib_journal_checked(yarib *table, size_t skip, yarib_en
 }
 #define yarib_journal yarib_journal_checked
 
-static inline uint32_t yarib_first_difference_checked(yarib *old_table, yarib *new_table, uint32_t by,
+static inline YARIB_STATUS yarib_first_difference_checked(const yarib *old_table, const yarib *new_table, uint32_t by,
     uint32_t from, yarib_difference *difference)
 {
     assert(old_table != NULL && new_table != NULL && difference != NULL && old_table != new_table);
@@ -391,56 +462,59 @@ static inline uint32_t yarib_first_difference_checked(yarib *old_table, yarib *n
 }
 #define yarib_first_difference yarib_first_difference_checked
 
-static inline uint32_t yarib_forward_checked(yarib *table, yarib *forwarding)
+static inline YARIB_STATUS yarib_fib_new_checked(const yarib *table, yarib *forwarding)
 {
     assert(table != NULL && forwarding != NULL && table != forwarding);
-    return yarib_forward(table, forwarding);
+    return yarib_fib_new(table, forwarding);
 }
-#define yarib_forward yarib_forward_checked
+#define yarib_fib_new yarib_fib_new_checked
+#define yarib_forward yarib_fib_new_checked
 
-static inline uint32_t yarib_share_checked(yarib *forwarding, yarib *other)
+static inline YARIB_STATUS yarib_fib_clone_checked(const yarib *forwarding, yarib *other)
 {
     assert(forwarding != NULL && other != NULL && forwarding != other);
-    return yarib_share(forwarding, other);
+    return yarib_fib_clone(forwarding, other);
 }
-#define yarib_share yarib_share_checked
+#define yarib_fib_clone yarib_fib_clone_checked
+#define yarib_share yarib_fib_clone_checked
 
-static inline uint32_t yarib_follow_checked(yarib *table)
+static inline YARIB_STATUS yarib_fib_attach_checked(yarib *table)
 {
     assert(table != NULL);
-    return yarib_follow(table);
+    return yarib_fib_attach(table);
 }
-#define yarib_follow yarib_follow_checked
+#define yarib_fib_attach yarib_fib_attach_checked
+#define yarib_follow yarib_fib_attach_checked
 
-static inline uint32_t yarib_memory_checked(yarib *table, size_t *bytes)
+static inline YARIB_STATUS yarib_memory_checked(const yarib *table, size_t *bytes)
 {
     assert(table != NULL && bytes != NULL);
     return yarib_memory(table, bytes);
 }
 #define yarib_memory yarib_memory_checked
 
-static inline uint32_t yarib_prefix_parse_checked(const char *text, size_t size, yarib_prefix *prefix)
+static inline YARIB_STATUS yarib_prefix_parse_checked(const char *text, size_t size, yarib_prefix *prefix)
 {
     assert(text != NULL && prefix != NULL);
     return yarib_prefix_parse(text, size, prefix);
 }
 #define yarib_prefix_parse yarib_prefix_parse_checked
 
-static inline uint32_t yarib_prefix_print_checked(const yarib_prefix *prefix, char *text, size_t room, size_t *used)
+static inline YARIB_STATUS yarib_prefix_print_checked(const yarib_prefix *prefix, char *text, size_t room, size_t *used)
 {
     assert(prefix != NULL && text != NULL && used != NULL);
     return yarib_prefix_print(prefix, text, room, used);
 }
 #define yarib_prefix_print yarib_prefix_print_checked
 
-static inline uint32_t yarib_address_parse_checked(const char *text, size_t size, uint32_t *address)
+static inline YARIB_STATUS yarib_address_parse_checked(const char *text, size_t size, uint32_t *address)
 {
     assert(text != NULL && address != NULL);
     return yarib_address_parse(text, size, address);
 }
 #define yarib_address_parse yarib_address_parse_checked
 
-static inline uint32_t yarib_address_print_checked(uint32_t address, char *text, size_t room, size_t *used)
+static inline YARIB_STATUS yarib_address_print_checked(uint32_t address, char *text, size_t room, size_t *used)
 {
     assert(text != NULL && used != NULL);
     return yarib_address_print(address, text, room, used);

@@ -1,9 +1,8 @@
 // Package yarib provides IPv4 routing tables with proved answers.
 //
 // Feeds are 1 to 64. The lowest preference number is preferred; between equal preferences, the lowest feed. After an error the
-// table is unchanged. Only one call at a time may use a Table, also for look-ups: goroutines share one behind their own lock. A
-// Forwarding answers look-ups of several goroutines concurrently; each has its own handle (Share). Close frees memory at once;
-// otherwise the garbage collector does.
+// table is unchanged. Goroutines may share a Table and a Forwarding: calls that only read run at the same time, and a change waits
+// until it is alone. Close frees memory at once; otherwise the garbage collector does.
 package yarib
 
 // #cgo CFLAGS: -I${SRCDIR}/../c
@@ -17,6 +16,8 @@ import (
 	"fmt"
 	"net/netip"
 	"runtime"
+	"sync"
+	"sync/atomic"
 	"unsafe"
 )
 
@@ -31,9 +32,13 @@ var (
 	ErrLength  = errors.New("yarib: the length is over 32")
 	ErrBits    = errors.New("yarib: a bit past the length is set")
 	ErrKind    = errors.New("yarib: the table doesn't support this call")
+	ErrExists  = errors.New("yarib: the feed has a route to this prefix")
+	ErrFull    = errors.New("yarib: the feed is at its limit")
+	ErrMissing = errors.New("yarib: the feed has no route to this prefix")
+	ErrBusy    = errors.New("yarib: another call uses the table")
 )
 
-func failed(status C.uint32_t) error {
+func failed(status uint32) error {
 	switch status {
 	case C.YARIB_DONE:
 		return nil
@@ -53,30 +58,40 @@ func failed(status C.uint32_t) error {
 		return ErrBits
 	case C.YARIB_WRONG_KIND:
 		return ErrKind
+	case C.YARIB_BUSY:
+		return ErrBusy
 	}
 	return ErrNumber
 }
 
+// The limits of a table: the largest feed, the largest number of routes of a feed, and the largest prefix length.
+const (
+	MaxFeed   = C.YARIB_MAX_FEED
+	MaxLimit  = C.YARIB_MAX_LIMIT
+	MaxLength = C.YARIB_MAX_PREFIX_LENGTH
+)
+
 // Hop is the next hop of a route: the router with this address or, for the zero Hop, none.
 type Hop struct {
-	via netip.Addr
+	via   netip.Addr
+	isVia bool
 }
 
 // Discard is the next hop of packets that are discarded.
 var Discard = Hop{}
 
-// Via is the next hop to the router with this IPv4 address.
+// Via is the next hop to the router with this IPv4 address. A command with an address that isn't IPv4 is ErrCommand.
 func Via(router netip.Addr) Hop {
-	return Hop{router}
+	return Hop{router.Unmap(), true}
 }
 
 // Router returns the address of the router, if there is one.
 func (hop Hop) Router() (netip.Addr, bool) {
-	return hop.via, hop.via.IsValid()
+	return hop.via, hop.isVia
 }
 
 func (hop Hop) String() string {
-	if !hop.via.IsValid() {
+	if !hop.isVia {
 		return "discard"
 	}
 	return hop.via.String()
@@ -94,12 +109,23 @@ func (route Route) String() string {
 	return fmt.Sprintf("%v feed %d pref %d via %v", route.Prefix, route.Feed, route.Pref, route.Hop)
 }
 
+// number returns the number of an IPv4 address, also of one that is mapped into IPv6.
 func number(address netip.Addr) (C.uint32_t, bool) {
+	address = address.Unmap()
 	if !address.Is4() {
 		return 0, false
 	}
 	octets := address.As4()
 	return C.uint32_t(octets[0])<<24 | C.uint32_t(octets[1])<<16 | C.uint32_t(octets[2])<<8 | C.uint32_t(octets[3]), true
+}
+
+// numbersOf returns base and length of an IPv4 prefix. A prefix of mapped addresses isn't IPv4.
+func numbersOf(prefix netip.Prefix) (C.uint32_t, C.uint8_t, bool) {
+	if !prefix.IsValid() || !prefix.Addr().Is4() {
+		return 0, 255, false
+	}
+	base, isRight := number(prefix.Addr())
+	return base, C.uint8_t(prefix.Bits()), isRight
 }
 
 func address(number C.uint32_t) netip.Addr {
@@ -161,12 +187,7 @@ func (command Command) numbers() C.yarib_command {
 		raw.base = base
 		return raw
 	}
-	base, isRight := number(command.Prefix.Addr())
-	if !isRight || command.Prefix.Bits() < 0 {
-		raw.len = 255
-	} else {
-		raw.base, raw.len = base, C.uint8_t(command.Prefix.Bits())
-	}
+	raw.base, raw.len, _ = numbersOf(command.Prefix)
 	raw.hop = C.YARIB_DISCARD
 	if router, isThere := command.Hop.Router(); isThere {
 		via, isRight := number(router)
@@ -194,6 +215,24 @@ const (
 	Dumped    Code = C.YARIB_DUMPED
 	Purged    Code = C.YARIB_PURGED
 )
+
+var operations = [...]string{"", "add", "replace", "withdraw", "lookup", "dump", "purge"}
+
+func (operation Operation) String() string {
+	if operation < Add || operation > Purge {
+		return fmt.Sprintf("Operation(%d)", uint32(operation))
+	}
+	return operations[operation]
+}
+
+var codes = [...]string{"", "added", "exists", "full", "replaced", "withdrawn", "missing", "found", "no route", "dumped", "purged"}
+
+func (code Code) String() string {
+	if code < Added || code > Purged {
+		return fmt.Sprintf("Code(%d)", uint32(code))
+	}
+	return codes[code]
+}
 
 // Reply is the reply to a command. Count is set for Dumped and Purged, Route for Found.
 type Reply struct {
@@ -233,29 +272,62 @@ type Selection struct {
 	OnlyBest bool
 }
 
-// handle is a handle of the C library. It is never copied.
+// handle is a handle of the C library. It is never copied. Its lock is held by any number of calls that read it, or by one that
+// changes it, so the library never finds it busy.
 type handle struct {
 	inside C.yarib
+	lock   sync.RWMutex
+	number uint64
 }
 
+// handles is the number of handles made.
+var handles uint64
+
 func newHandle() *handle {
-	one := new(handle)
+	one := &handle{number: atomic.AddUint64(&handles, 1)}
 	runtime.SetFinalizer(one, (*handle).free)
 	return one
 }
 
 func (one *handle) free() {
+	if one == nil {
+		return
+	}
+	one.lock.Lock()
+	defer one.lock.Unlock()
 	C.yarib_free(&one.inside)
 }
 
-// Table is a routing table, created by New or NewJournaled.
+// change makes a call that changes the handle, once no other is under way.
+func (one *handle) change(call func() uint32) error {
+	if one == nil {
+		return ErrClosed
+	}
+	one.lock.Lock()
+	defer one.lock.Unlock()
+	return failed(call())
+}
+
+// read makes a call that only reads the handle.
+func (one *handle) read(call func() uint32) error {
+	if one == nil {
+		return ErrClosed
+	}
+	one.lock.RLock()
+	defer one.lock.RUnlock()
+	return failed(call())
+}
+
+// Table is a routing table, created by New or NewJournaled. Each call of the zero Table returns ErrClosed.
 type Table struct {
 	held *handle
 }
 
 func made(limit uint32, kind C.uint32_t) (*Table, error) {
 	table := &Table{newHandle()}
-	if err := failed(C.yarib_new(&table.held.inside, C.uint32_t(limit), kind)); err != nil {
+	if err := table.held.change(func() uint32 {
+		return uint32(C.yarib_new(&table.held.inside, C.uint32_t(limit), kind))
+	}); err != nil {
 		return nil, err
 	}
 	return table, nil
@@ -279,7 +351,9 @@ func (table *Table) Close() {
 // Apply executes a command and returns its reply.
 func (table *Table) Apply(command Command) (Reply, error) {
 	asked, raw := command.numbers(), C.yarib_reply{}
-	if err := failed(C.yarib_apply(&table.held.inside, &asked, &raw)); err != nil {
+	if err := table.held.change(func() uint32 {
+		return uint32(C.yarib_apply(&table.held.inside, &asked, &raw))
+	}); err != nil {
 		return Reply{}, err
 	}
 	return replyOf(&raw), nil
@@ -293,13 +367,15 @@ func (table *Table) ApplyEach(commands []Command) ([]Outcome, error) {
 		asked[k] = command.numbers()
 	}
 	size := C.size_t(len(commands))
-	if err := failed(C.yarib_apply_each(&table.held.inside, &asked[0], size, &replies[0], size)); err != nil {
+	if err := table.held.change(func() uint32 {
+		return uint32(C.yarib_apply_each(&table.held.inside, &asked[0], size, &replies[0], size))
+	}); err != nil {
 		return nil, err
 	}
 	outcomes := make([]Outcome, len(commands))
 	for k := range outcomes {
 		if replies[k].code == C.YARIB_UNANSWERED {
-			outcomes[k].Err = failed(replies[k].count)
+			outcomes[k].Err = failed(uint32(replies[k].count))
 		} else {
 			outcomes[k].Reply = replyOf(&replies[k])
 		}
@@ -307,15 +383,82 @@ func (table *Table) ApplyEach(commands []Command) ([]Outcome, error) {
 	return outcomes, nil
 }
 
-// Add executes an Add command.
-func (table *Table) Add(feed uint32, prefix netip.Prefix, pref uint32, hop Hop) (Reply, error) {
-	return table.Apply(Command{Operation: Add, Feed: feed, Prefix: prefix, Pref: pref, Hop: hop})
+// done turns a reply that says that nothing changed into an error.
+func done(reply Reply, err error) (Reply, error) {
+	if err != nil {
+		return reply, err
+	}
+	switch reply.Code {
+	case Exists:
+		return reply, ErrExists
+	case Full:
+		return reply, ErrFull
+	case Missing:
+		return reply, ErrMissing
+	}
+	return reply, nil
 }
 
-// Withdraw executes a Withdraw command.
-func (table *Table) Withdraw(feed uint32, prefix netip.Prefix) (Reply, error) {
-	return table.Apply(Command{Operation: Withdraw, Feed: feed, Prefix: prefix})
+// Add adds a route. It returns ErrExists or ErrFull if nothing changed.
+func (table *Table) Add(feed uint32, prefix netip.Prefix, pref uint32, hop Hop) (Reply, error) {
+	return done(table.Apply(Command{Operation: Add, Feed: feed, Prefix: prefix, Pref: pref, Hop: hop}))
 }
+
+// Replace changes preference and next hop of the feed's route. It returns ErrMissing if there is none.
+func (table *Table) Replace(feed uint32, prefix netip.Prefix, pref uint32, hop Hop) (Reply, error) {
+	return done(table.Apply(Command{Operation: Replace, Feed: feed, Prefix: prefix, Pref: pref, Hop: hop}))
+}
+
+// Put adds a route, or changes the feed's route to this prefix. It returns ErrFull if nothing changed.
+func (table *Table) Put(feed uint32, prefix netip.Prefix, pref uint32, hop Hop) (Reply, error) {
+	for {
+		reply, err := table.Add(feed, prefix, pref, hop)
+		if err != ErrExists {
+			return reply, err
+		}
+		// Another goroutine may withdraw the route between the two commands.
+		if reply, err = table.Replace(feed, prefix, pref, hop); err != ErrMissing {
+			return reply, err
+		}
+	}
+}
+
+// Withdraw removes the feed's route. It returns ErrMissing if there is none.
+func (table *Table) Withdraw(feed uint32, prefix netip.Prefix) (Reply, error) {
+	return done(table.Apply(Command{Operation: Withdraw, Feed: feed, Prefix: prefix}))
+}
+
+// LookUpPrefix returns the best route of the longest prefix that contains this prefix, if there is one.
+func (table *Table) LookUpPrefix(prefix netip.Prefix) (Route, bool, error) {
+	found, err := table.Select(Selection{Part: Covering, Prefix: prefix, OnlyBest: true})
+	if err != nil || len(found) == 0 {
+		return Route{}, false, err
+	}
+	return found[len(found)-1], true, nil
+}
+
+// Walk visits the routes in the order of Routes from a position on, page by page, until visit returns false. The table may change
+// meanwhile: a route is visited if it exists when its turn comes, and never twice.
+func (table *Table) Walk(from Place, visit func(Route) bool) error {
+	for {
+		page, err := table.RoutesFrom(from, pageSize)
+		if err != nil {
+			return err
+		}
+		for _, route := range page {
+			if !visit(route) {
+				return nil
+			}
+		}
+		if len(page) < pageSize {
+			return nil
+		}
+		from = page[pageSize-1].Behind()
+	}
+}
+
+// pageSize is the number of routes that Walk reads at once.
+const pageSize = 256
 
 func lookUp(held *handle, asked netip.Addr) (Route, bool, error) {
 	base, isRight := number(asked)
@@ -323,7 +466,7 @@ func lookUp(held *handle, asked netip.Addr) (Route, bool, error) {
 		return Route{}, false, ErrCommand
 	}
 	raw := C.yarib_route{}
-	if err := failed(C.yarib_look_up(&held.inside, &base, 1, &raw, 1)); err != nil {
+	if err := held.read(func() uint32 { return uint32(C.yarib_look_up_one(&held.inside, base, &raw)) }); err != nil {
 		return Route{}, false, err
 	}
 	route, found := routeOf(&raw)
@@ -351,7 +494,9 @@ func lookUpEach(held *handle, addresses []uint32) (Answers, error) {
 	if len(addresses) > 0 {
 		first = (*C.uint32_t)(&addresses[0])
 	}
-	return Answers{raw}, failed(C.yarib_look_up(&held.inside, first, size, &raw[0], size))
+	return Answers{raw}, held.read(func() uint32 {
+		return uint32(C.yarib_look_up(&held.inside, first, size, &raw[0], size))
+	})
 }
 
 // LookUp returns the best route of the longest prefix that covers the address, if there is one.
@@ -365,11 +510,11 @@ func (table *Table) LookUpEach(addresses []uint32) (Answers, error) {
 }
 
 // whole returns a whole list. The call reports its length; if the list is longer than expected, it is called once more.
-func whole(call func(room []C.yarib_route, total *C.size_t) C.uint32_t) ([]Route, error) {
+func (one *handle) whole(call func(room []C.yarib_route, total *C.size_t) uint32) ([]Route, error) {
 	total, room := C.size_t(64), []C.yarib_route{}
 	for int(total) > len(room) {
 		room = make([]C.yarib_route, total)
-		if err := failed(call(room, &total)); err != nil {
+		if err := one.read(func() uint32 { return call(room, &total) }); err != nil {
 			return nil, err
 		}
 	}
@@ -382,8 +527,8 @@ func (table *Table) LookUpAll(address netip.Addr) ([]Route, error) {
 	if !isRight {
 		return nil, ErrCommand
 	}
-	return whole(func(room []C.yarib_route, total *C.size_t) C.uint32_t {
-		return C.yarib_look_up_all(&table.held.inside, base, 0, &room[0], C.size_t(len(room)), total)
+	return table.held.whole(func(room []C.yarib_route, total *C.size_t) uint32 {
+		return uint32(C.yarib_look_up_all(&table.held.inside, base, 0, &room[0], C.size_t(len(room)), total))
 	})
 }
 
@@ -394,14 +539,14 @@ func (table *Table) Select(asked Selection) ([]Route, error) {
 		raw.only_best = 1
 	}
 	if asked.Part != All {
-		base, isRight := number(asked.Prefix.Addr())
-		if !isRight || asked.Prefix.Bits() < 0 {
+		base, length, isRight := numbersOf(asked.Prefix)
+		if !isRight {
 			return nil, ErrCommand
 		}
-		raw.base, raw.len = base, C.uint8_t(asked.Prefix.Bits())
+		raw.base, raw.len = base, length
 	}
-	return whole(func(room []C.yarib_route, total *C.size_t) C.uint32_t {
-		return C.yarib_select(&table.held.inside, &raw, 0, &room[0], C.size_t(len(room)), total)
+	return table.held.whole(func(room []C.yarib_route, total *C.size_t) uint32 {
+		return uint32(C.yarib_select(&table.held.inside, &raw, 0, &room[0], C.size_t(len(room)), total))
 	})
 }
 
@@ -426,13 +571,15 @@ func (route Route) Behind() Place {
 // RoutesFrom returns up to the given number of routes, sorted by base, length, preference and feed, from a position on. It
 // allocates memory only for them.
 func (table *Table) RoutesFrom(from Place, most int) ([]Route, error) {
-	base, isRight := number(from.Prefix.Addr())
-	if !isRight || from.Prefix.Bits() < 0 || most < 0 {
+	base, length, isRight := numbersOf(from.Prefix)
+	if !isRight || most < 0 {
 		return nil, ErrCommand
 	}
-	raw := C.yarib_route{base: base, len: C.uint8_t(from.Prefix.Bits()), pref: C.uint32_t(from.Pref), feed: C.uint32_t(from.Feed)}
+	raw := C.yarib_route{base: base, len: length, pref: C.uint32_t(from.Pref), feed: C.uint32_t(from.Feed)}
 	room, used := make([]C.yarib_route, most+1), C.size_t(0)
-	if err := failed(C.yarib_routes_from(&table.held.inside, &raw, &room[0], C.size_t(most), &used)); err != nil {
+	if err := table.held.read(func() uint32 {
+		return uint32(C.yarib_routes_from(&table.held.inside, &raw, &room[0], C.size_t(most), &used))
+	}); err != nil {
 		return nil, err
 	}
 	return routesOf(room[:used]), nil
@@ -441,13 +588,13 @@ func (table *Table) RoutesFrom(from Place, most int) ([]Route, error) {
 // Count returns the number of routes.
 func (table *Table) Count() (int, error) {
 	total := C.size_t(0)
-	err := failed(C.yarib_count(&table.held.inside, &total))
+	err := table.held.read(func() uint32 { return uint32(C.yarib_count(&table.held.inside, &total)) })
 	return int(total), err
 }
 
 // Reserve reserves capacity for this many journal entries, if there is a journal.
 func (table *Table) Reserve(entries int) error {
-	return failed(C.yarib_reserve(&table.held.inside, C.size_t(entries)))
+	return table.held.change(func() uint32 { return uint32(C.yarib_reserve(&table.held.inside, C.size_t(entries))) })
 }
 
 // Entry is an entry of the journal.
@@ -476,7 +623,9 @@ func (table *Table) Journal() ([]Entry, error) {
 	total, room := C.size_t(64), []C.yarib_entry{}
 	for int(total) > len(room) {
 		room = make([]C.yarib_entry, total)
-		if err := failed(C.yarib_journal(&table.held.inside, 0, &room[0], C.size_t(len(room)), &total)); err != nil {
+		if err := table.held.read(func() uint32 {
+			return uint32(C.yarib_journal(&table.held.inside, 0, &room[0], C.size_t(len(room)), &total))
+		}); err != nil {
 			return nil, err
 		}
 	}
@@ -503,14 +652,30 @@ type Difference struct {
 	HasOld, HasNew bool
 }
 
+// firstDifference locks the handle that was made first before the other, so that no two calls wait for each other.
+func firstDifference(older, newer *handle, by By, from uint64, raw *C.yarib_difference) uint32 {
+	if older == nil || newer == nil {
+		return C.YARIB_NOTHING
+	}
+	first, second := older, newer
+	if second.number < first.number {
+		first, second = second, first
+	}
+	first.lock.RLock()
+	defer first.lock.RUnlock()
+	second.lock.RLock()
+	defer second.lock.RUnlock()
+	return uint32(C.yarib_first_difference(&older.inside, &newer.inside, C.uint32_t(by), C.uint32_t(from), raw))
+}
+
 // Differences returns the ranges for which this table and a newer one give different answers, in order.
 func (table *Table) Differences(newer *Table, by By) ([]Difference, error) {
 	found, raw := []Difference{}, C.yarib_difference{}
-	if table.held == newer.held {
+	if table.held != nil && table.held == newer.held {
 		return found, nil
 	}
 	for from := uint64(0); from < 1<<32; from = uint64(raw.last) + 1 {
-		status := C.yarib_first_difference(&table.held.inside, &newer.held.inside, C.uint32_t(by), C.uint32_t(from), &raw)
+		status := firstDifference(table.held, newer.held, by, from, &raw)
 		if status == C.YARIB_NONE_LEFT {
 			break
 		}
@@ -529,12 +694,12 @@ func (table *Table) Differences(newer *Table, by By) ([]Difference, error) {
 // it. If a command finds no memory for the update, the forwarding table is freed until this is called again. It returns ErrKind if
 // the table keeps a journal.
 func (table *Table) Follow() error {
-	return failed(C.yarib_follow(&table.held.inside))
+	return table.held.change(func() uint32 { return uint32(C.yarib_follow(&table.held.inside)) })
 }
 
 func memory(held *handle) (int, error) {
 	bytes := C.size_t(0)
-	err := failed(C.yarib_memory(&held.inside, &bytes))
+	err := held.read(func() uint32 { return uint32(C.yarib_memory(&held.inside, &bytes)) })
 	return int(bytes), err
 }
 
@@ -551,7 +716,9 @@ type Forwarding struct {
 // Forward returns a forwarding table with the current answers of this table.
 func (table *Table) Forward() (*Forwarding, error) {
 	forwarding := &Forwarding{newHandle()}
-	if err := failed(C.yarib_forward(&table.held.inside, &forwarding.held.inside)); err != nil {
+	if err := table.held.read(func() uint32 {
+		return uint32(C.yarib_forward(&table.held.inside, &forwarding.held.inside))
+	}); err != nil {
 		return nil, err
 	}
 	return forwarding, nil
@@ -560,7 +727,9 @@ func (table *Table) Forward() (*Forwarding, error) {
 // Share returns another handle to it, for another goroutine. The memory is freed with the last handle.
 func (forwarding *Forwarding) Share() (*Forwarding, error) {
 	other := &Forwarding{newHandle()}
-	if err := failed(C.yarib_share(&forwarding.held.inside, &other.held.inside)); err != nil {
+	if err := forwarding.held.read(func() uint32 {
+		return uint32(C.yarib_share(&forwarding.held.inside, &other.held.inside))
+	}); err != nil {
 		return nil, err
 	}
 	return other, nil
@@ -590,7 +759,7 @@ func (forwarding *Forwarding) Memory() (int, error) {
 func ParsePrefix(text string) (netip.Prefix, error) {
 	bytes, read := C.CString(text), C.yarib_prefix{}
 	defer C.free(unsafe.Pointer(bytes))
-	if err := failed(C.yarib_prefix_parse(bytes, C.size_t(len(text)), &read)); err != nil {
+	if err := failed(uint32(C.yarib_prefix_parse(bytes, C.size_t(len(text)), &read))); err != nil {
 		return netip.Prefix{}, err
 	}
 	return netip.PrefixFrom(address(read.base), int(read.len)), nil

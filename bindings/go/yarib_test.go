@@ -360,3 +360,80 @@ func TestGoroutinesLookUpAtOnce(t *testing.T) {
 	first.Close()
 	group.Wait()
 }
+
+// Four goroutines look up and one changes, on one table: the next hop goes up with each change.
+func TestGoroutinesMeetOnOneTable(t *testing.T) {
+	const changes = 1000
+	eight, address := netip.MustParsePrefix("10.0.0.0/8"), netip.MustParseAddr("10.1.2.3")
+	for _, isFollowed := range []bool{false, true} {
+		table, _ := New(10)
+		other, _ := New(10)
+		if _, err := table.Add(1, eight, 0, Via(addressOf(0))); err != nil {
+			t.Fatal(err)
+		}
+		if isFollowed {
+			if err := table.Follow(); err != nil {
+				t.Fatal(err)
+			}
+		}
+		ended := make(chan struct{})
+		var group sync.WaitGroup
+		for k := 0; k < 4; k++ {
+			group.Add(1)
+			go func() {
+				defer group.Done()
+				readOneTable(t, table, other, address, ended)
+			}()
+		}
+		for k := uint32(1); k <= changes; k++ {
+			reply, err := table.Apply(Command{Operation: Replace, Feed: 1, Prefix: eight, Hop: Via(addressOf(k))})
+			if err != nil || reply.Code != Replaced {
+				t.Error(reply, err)
+				break
+			}
+		}
+		close(ended)
+		group.Wait()
+		if route, found, err := table.LookUp(address); err != nil || !found || route.Hop != Via(addressOf(changes)) {
+			t.Fatal(route, found, err)
+		}
+	}
+}
+
+// readOneTable asks in each way until the end. No next hop is before one that was seen.
+func readOneTable(t *testing.T, table, other *Table, address netip.Addr, ended chan struct{}) {
+	last := addressOf(0)
+	for {
+		select {
+		case <-ended:
+			return
+		default:
+		}
+		route, _, failedOne := table.LookUp(address)
+		answers, failedEach := table.LookUpEach([]uint32{0x0a010203, 0x0b000000})
+		all, failedAll := table.LookUpAll(address)
+		listed, failedList := table.Routes()
+		page, failedPage := table.RoutesFrom(Place{Prefix: netip.MustParsePrefix("0.0.0.0/0")}, 5)
+		found, failedDifference := other.Differences(table, ByHop)
+		count, failedCount := table.Count()
+		for _, err := range []error{failedOne, failedEach, failedAll, failedList, failedPage, failedDifference, failedCount} {
+			if err != nil {
+				t.Error(err)
+				return
+			}
+		}
+		if count != 1 || len(all) != 1 || len(listed) != 1 || len(page) != 1 || len(found) != 1 {
+			t.Error(count, all, listed, page, found)
+			return
+		}
+		each, _ := answers.At(0)
+		for _, one := range []Route{route, each, all[0], listed[0], page[0], found[0].New} {
+			router, isThere := one.Hop.Router()
+			if !isThere || router.Less(last) {
+				t.Error(one, last)
+				return
+			}
+			last = router
+		}
+	}
+}

@@ -1,20 +1,28 @@
-"""Makes the package's wheel for pip, of plain files: no other package and no network is wanted."""
+"""Makes the package's wheel for pip from plain files. It needs no other package and no network. If YARIB_LIBRARY names
+the shared library, the wheel contains it."""
 import base64
 import hashlib
+import os
 import pathlib
+import platform
 import zipfile
 
 HERE = pathlib.Path(__file__).resolve().parent
-NAME, VERSION, ABOUT = "yarib", "0.1", "IPv4 routing tables whose answers are proved"
+NAME, VERSION, ABOUT = "yarib", "0.2", "IPv4 routing tables whose answers are proved"
 INFO = f"{NAME}-{VERSION}.dist-info"
+LIBRARY = os.environ.get("YARIB_LIBRARY")
+TAG = f"py3-none-linux_{platform.machine()}" if LIBRARY else "py3-none-any"
 
 
 def files_of_wheel():
     """What the wheel holds, by name, but for the list of it."""
-    found = {f"{NAME}/{path.name}": path.read_bytes() for path in sorted((HERE / NAME).glob("*.py"))}
+    found = {f"{NAME}/{path.name}": path.read_bytes() for path in sorted((HERE / NAME).glob("*")) if path.is_file()}
+    if LIBRARY:
+        found[f"{NAME}/libyarib.so.0"] = pathlib.Path(LIBRARY).read_bytes()
     about = f"Metadata-Version: 2.1\nName: {NAME}\nVersion: {VERSION}\nSummary: {ABOUT}\nRequires-Python: >=3.9\n"
     return found | {f"{INFO}/METADATA": about.encode(),
-                    f"{INFO}/WHEEL": b"Wheel-Version: 1.0\nGenerator: yarib\nRoot-Is-Purelib: true\nTag: py3-none-any\n"}
+                    f"{INFO}/WHEEL": f"Wheel-Version: 1.0\nGenerator: yarib\nRoot-Is-Purelib: {str(not LIBRARY).lower()}\n"
+                                     f"Tag: {TAG}\n".encode()}
 
 
 def listed(name, content):
@@ -25,7 +33,7 @@ def listed(name, content):
 
 def build_wheel(folder, config_settings=None, metadata_directory=None):
     """The call that pip makes: writes the wheel into the folder, and returns its name."""
-    files, name = files_of_wheel(), f"{NAME}-{VERSION}-py3-none-any.whl"
+    files, name = files_of_wheel(), f"{NAME}-{VERSION}-{TAG}.whl"
     files[f"{INFO}/RECORD"] = ("".join(listed(*file) for file in files.items()) + f"{INFO}/RECORD,,\n").encode()
     with zipfile.ZipFile(pathlib.Path(folder) / name, "w", zipfile.ZIP_DEFLATED) as wheel:
         for file, content in files.items():

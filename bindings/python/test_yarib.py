@@ -258,6 +258,83 @@ class Forwarding(unittest.TestCase):
         self.assertEqual(len(table), 8 * 250)
 
 
+class Threads(unittest.TestCase):
+    """Four threads that look up and one that changes, on one table. The next hop to 10.0.0.0/8 goes up with each change."""
+    CHANGES = 300
+
+    def meet(self, table):
+        asked, faults, ended = array.array("I", [0x0A010203, 0x0B000001, 0xC0000200] * 40), [], threading.Event()
+
+        def guarded(work):
+            try:
+                work()
+            except BaseException as fault:
+                faults.append(fault)
+
+        def read():
+            last = 0
+            while not ended.is_set():
+                best, answers, size = table.look_up(asked[0]), table.look_up_each(asked), len(table)
+                all_of, exact, pages = table.look_up_all(asked[0]), table.exact("10.0.0.0/8"), list(table)
+                seen = [last, best.via, answers[0].via, all_of[0].via, exact[0].via, pages[0].via]
+                if seen != sorted(seen) or (answers[1], answers[2].via, size) != (None, 9, 2) or table.memory() < 96:
+                    faults.append(seen)
+                last = seen[-1]
+
+        def change():
+            for k in range(1, self.CHANGES + 1):
+                table.replace("10.0.0.0/8", via=k)
+
+        readers = [threading.Thread(target=guarded, args=(read,)) for _ in range(4)]
+        for thread in readers:
+            thread.start()
+        guarded(change)
+        ended.set()
+        for thread in readers:
+            thread.join()
+        self.assertEqual((faults, len(table), table.look_up("10.0.0.1").via), ([], 2, self.CHANGES))
+
+    def made(self):
+        table = yarib.Table()
+        table.add("10.0.0.0/8", via=0)
+        table.add("192.0.2.0/24", via=9)
+        return table
+
+    def test_they_meet_under_the_global_lock(self):
+        self.meet(self.made())
+
+    def test_they_meet_without_the_global_lock(self):
+        """Every call lets other threads run, as all do in a Python that has no such lock."""
+        tables = yarib._tables
+        kept, tables.held = tables.held, tables.freed
+        try:
+            for is_followed in (False, True):
+                table = self.made()
+                if is_followed:
+                    table.follow()
+                self.meet(table)
+        finally:
+            tables.held = kept
+
+    def test_a_close_waits(self):
+        table, faults = self.made(), []
+        asked = array.array("I", [0x0A010203]) * 1_000_000
+
+        def read():
+            try:
+                while True:
+                    table.look_up_each(asked)
+            except yarib.Refused:
+                faults.append("closed")
+
+        thread = threading.Thread(target=read)
+        thread.start()
+        table.close()
+        thread.join()
+        self.assertEqual(faults, ["closed"])
+        self.assertRaises(yarib.Refused, len, table)
+
+
 class Model(unittest.TestCase):
     """Random commands of several feeds, beside the model of the program's tests."""
 

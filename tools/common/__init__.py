@@ -6,4 +6,4 @@ import sys
 sys.dont_write_bytecode = True
 from .crates import TOP
 
-sys.path += [str(TOP / folder) for folder in ("tests", "bench", "bindings/python", "examples/map")]
+sys.path += [str(TOP / folder) for folder in ("tests", "bench", "bindings/python", "map")]

@@ -1,4 +1,4 @@
-"""Proves and builds what tools/build is named: the order of the crates, the prover's jobs, and what the user is told."""
+"""Proves and builds the crate that tools/build names: the order of the crates, the prover's jobs, and the messages."""
 import collections
 import contextlib
 import fcntl
@@ -19,7 +19,7 @@ from .crates import CRATES, below, is_program, is_static, needs
 from .prover import kit, linking_words, words_for
 
 FIRST_BUILD = "ten to fifteen minutes on four processors"
-# What an estimate takes a crate to cost beside its sources, in bytes of these: each crate, and a program, which is linked.
+# The estimated cost of a crate in addition to that of its sources, in bytes of source: of each crate, and of a linked program.
 EACH, PROGRAM = 60_000, 300_000
 MOST_JOBS = 4  # of one proof
 
@@ -35,7 +35,7 @@ def stop(text, status=1):
 
 @functools.cache
 def toolchain():
-    """What `rt version` says; stops if the toolchain isn't there or has another logic."""
+    """Returns the output of `rt version`; exits if the toolchain is missing or has another logic."""
     if not shutil.which("rt"):
         stop("to build it, the Rattle toolchain (the command rt) has to be on PATH", 127)
     said = subprocess.run(["rt", "version"], stdout=subprocess.PIPE, text=True).stdout.strip()
@@ -48,7 +48,7 @@ def toolchain():
 
 
 class Copy:
-    """The sources as they are when a build begins, in a folder in which the libraries also lie while it is at work."""
+    """The sources at the start of a build, in a directory that also contains the libraries during the build."""
 
     def __init__(self, folder, crates):
         self.crates, self.libraries = folder / "crates", folder / "built"
@@ -63,7 +63,7 @@ class Copy:
         return sum(path.stat().st_size for path in (self.crates / crate).rglob("*") if path.is_file())
 
     def made(self, crate):
-        """What the prover makes of a crate: a library, an archive or a program."""
+        """Returns the path of the prover's product for a crate: a library, an archive or a program."""
         return self.libraries / (f"{crate}.rlib" if not (is_program(crate) or is_static(crate)) else crate)
 
     def product(self, crate):
@@ -73,12 +73,12 @@ class Copy:
         return self.product(crate).is_file()
 
     def unpack(self, crate):
-        """Puts a library that an earlier build left where the prover reads it."""
+        """Extracts a library of an earlier build to where the prover reads it."""
         with tarfile.open(self.product(crate)) as packed:
             packed.extractall(self.libraries, **({"filter": "data"} if hasattr(tarfile, "data_filter") else {}))
 
     def keep(self, crate):
-        """Keeps what was built of a crate under its name, which it gets when it is whole, and removes older ones."""
+        """Stores the product of a crate under its name, once it is complete, and removes older ones."""
         made, kept, new = self.made(crate), self.product(crate), STATE / f"{crate}.new"
         try:
             with open(new, "wb") as file:
@@ -104,13 +104,13 @@ class Copy:
 
 
 def lanes():
-    """How many provers work at once: one a processor, with 4 GB of memory for each."""
+    """Returns the number of concurrent provers: one per processor, with 4 GB of memory each."""
     memory = os.sysconf("SC_PAGE_SIZE") * os.sysconf("SC_PHYS_PAGES")
     return max(1, min(len(os.sched_getaffinity(0)), memory // 4_000_000_000))
 
 
 def commands(copy, crate, jobs, niceness):
-    """The commands that prove a crate, and build what is built of it."""
+    """Returns the commands that prove a crate and build its product."""
     words = ["nice", "-n", niceness, kit() / "bin/rattle", "build", "--jobs", jobs]
     words += words_for(crate, needs()[crate], copy.crates / crate, libraries=copy.made)
     compiled = ["--toolchain", kit() / "toolchain", "--backend", "llvm", "-o"]
@@ -123,7 +123,7 @@ def commands(copy, crate, jobs, niceness):
 
 
 class Job:
-    """A crate at work: the commands that are left, and the one that runs."""
+    """A crate that is being built: the remaining commands, and the one that runs."""
 
     def __init__(self, copy, crate, jobs, niceness):
         self.crate, self.begun = crate, time.monotonic()
@@ -133,12 +133,12 @@ class Job:
 
     def start(self):
         words = [str(word) for word in self.left.popleft()]
-        # In a session of its own, so that the builder alone gets a terminal's Ctrl-C, and ends it.
+        # In its own session, so that only the builder gets a terminal's Ctrl-C, and ends it.
         self.process = subprocess.Popen(words, cwd=self.folder, stdin=subprocess.DEVNULL, stdout=self.log,
                                         stderr=subprocess.STDOUT, start_new_session=True)
 
     def goes_on(self):
-        """Whether it is still at work; starts its next command if one ended well."""
+        """Returns true if it is still running; starts its next command if one succeeded."""
         if self.process.poll() is None:
             return True
         if self.process.returncode == 0 and self.left:
@@ -159,31 +159,31 @@ class Job:
 
 
 class Plan:
-    """Which crates are still to be built, what they are taken to cost, and which is to be started next."""
+    """The crates that remain to be built, their estimated costs, and the one to start next."""
 
     def __init__(self, copy, crates):
         self.left = set(crates)
         self.cost = {crate: copy.size(crate) + EACH + PROGRAM * is_program(crate) for crate in crates}
-        self.chain = {}  # of a crate its cost and the largest of those that wait for it, one behind the other
+        self.chain = {}  # the cost of a crate and of the most expensive chain of crates that wait for it
         for crate in sorted(crates, key=lambda one: -len(below([one]))):
             above = [self.chain[one] for one in self.chain if crate in own(one)]
             self.chain[crate] = self.cost[crate] + max(above, default=0)
         self.begun, self.done = time.monotonic(), {}
 
     def ready(self, at_work):
-        """The crates that wait for no other, first those with the most behind them."""
+        """Returns the crates that wait for no other, the one with the most expensive chain first."""
         waiting = self.left - set(at_work)
         free = [crate for crate in waiting if not self.left.intersection(below([crate]) - {crate})]
         return sorted(free, key=lambda crate: (-self.chain[crate], crate))
 
     def share(self, crate):
-        """A crate's jobs and niceness: the processors are for the longest chain, and the rest gives way to it."""
+        """Returns a crate's jobs and niceness: the longest chain gets the processors, and other crates yield to it."""
         longest = max(self.chain[one] for one in self.left)
         is_first = self.chain[crate] == longest
         return str(min(MOST_JOBS, lanes()) if is_first else 1), str(int(10 * (1 - self.chain[crate] / longest)))
 
     def seconds_left(self, at_work):
-        """An estimate, by what the crates took that are done: the longest chain left, or all that is left on all lanes."""
+        """Estimates the time from that of finished crates: of the longest remaining chain, or of all remaining work on all lanes."""
         pace = sum(self.done.values()) / sum(self.cost[crate] for crate in self.done)
         spent = {job.crate: min((time.monotonic() - job.begun) / pace, 0.9 * self.cost[job.crate]) for job in at_work}
         left = {crate: self.cost[crate] - spent.get(crate, 0) for crate in self.left}
@@ -196,8 +196,8 @@ def clock(seconds):
 
 
 def build_all(copy, crates, whole):
-    """Builds crates, each once those below it are proved; whether all of them are proved. Says how far it is, in all
-    the crates that `whole` counts."""
+    """Builds crates, each after its dependencies, and returns true if all are proved. It reports progress out of `whole`
+    crates."""
     plan, at_work, is_well = Plan(copy, crates), {}, True
     try:
         while plan.left:
@@ -221,7 +221,7 @@ def build_all(copy, crates, whole):
 
 
 def finish(copy, plan, job, at_work, whole):
-    """Keeps what a job has built, and says that its crate is proved, or why not."""
+    """Stores the product of a job, and reports that its crate is proved, or why it isn't."""
     seconds = time.monotonic() - job.begun
     if job.process.returncode != 0 or not copy.made(job.crate).exists() or not says_proved(job):
         ended = job.process.returncode
@@ -239,13 +239,13 @@ def finish(copy, plan, job, at_work, whole):
 
 
 def says_proved(job):
-    """Whether the prover's own summary says that all is proved, and by this logic."""
+    """Returns true if the prover's summary says that everything is proved, by this logic."""
     summary = re.compile(rf"^logic=proved functions=.* sum={LOGIC}\b", re.M)
     return summary.search(pathlib.Path(job.log.name).read_text(errors="replace")) is not None
 
 
 def of_disk(copy):
-    """Which disk is full, as a reason why a prover failed."""
+    """Returns a message if a full disk is the reason why a prover failed."""
     full = [str(folder) for folder in (copy.libraries, STATE) if shutil.disk_usage(folder).free < 50_000_000]
     return f"; the disk of {full[0]} is full: free space there, or set TMPDIR" if full else ""
 
@@ -254,7 +254,7 @@ def of_disk(copy):
 
 
 class Signals:
-    """Ends the build by the status of a signal, but not while a prover is being started, which would be left alone."""
+    """Ends the build with the status of a signal, but not while a prover is being started, which would continue to run."""
 
     def __init__(self):
         self.is_put_off, self.came = False, None
@@ -279,7 +279,7 @@ signals = Signals()
 
 
 def locked():
-    """Waits until no other build works in this checkout, and keeps others out until this process ends."""
+    """Waits until no other build runs in this checkout, and excludes others until this process ends."""
     lock = open(STATE / "lock", "w")
     try:
         fcntl.flock(lock, fcntl.LOCK_EX | fcntl.LOCK_NB)
@@ -290,7 +290,7 @@ def locked():
 
 
 def clear():
-    """Removes what killed builds and earlier forms of this script left."""
+    """Removes what killed builds and earlier versions of this script left."""
     noted = STATE / "work"
     if noted.exists():
         folder = pathlib.Path(noted.read_text())
@@ -304,7 +304,7 @@ def clear():
 
 
 def place():
-    """A folder for all that a build needs while it works: in $TMPDIR, or where large temporary files lie."""
+    """Creates a directory for the files of a build, in $TMPDIR or in the system's directory for large temporary files."""
     large = os.environ.get("TMPDIR") or ("/var/tmp" if os.access("/var/tmp", os.W_OK) else None)
     return pathlib.Path(tempfile.mkdtemp(prefix="yarib-build-", dir=large)).resolve()
 
@@ -332,7 +332,7 @@ def build_in(folder, crate):
 
 
 def build(crate):
-    """Builds a program or a static library, unless another build has just done so; where it lies."""
+    """Builds a program or a static library, unless another build has just done so; returns its path."""
     for number in (signal.SIGINT, signal.SIGTERM, signal.SIGHUP):
         signal.signal(number, signals.end)
     try:

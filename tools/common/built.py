@@ -1,8 +1,8 @@
-"""What is built of a crate, and whether it is stale: the one rule of tools/build, ./yarib, ./install and bindings/build.
+"""The products of crates and their staleness: the same rule for tools/build, ./yarib, ./install and bindings/build.
 
-A built file is named by a sum of all that it was built of, and gets its name when it is whole. So it is stale if no file
-has the name that the sources give now. All lie in out/build. A library is a folder of .rt files, which `rt ci` accepts
-only among the files of a crate, so it is kept as one tar file."""
+The name of a product contains a checksum of everything that it was built from, and it gets that name once it is complete.
+Hence it is stale if no file has the name for the current sources. All products are in out/build. A library is a directory
+of .rt files, which `rt ci` only accepts among the files of a crate, so it is stored as a tar file."""
 import functools
 import hashlib
 import os
@@ -17,19 +17,19 @@ LOGIC = "dac8208d650f15bf"
 
 
 def own(crate):
-    """The crates of the repository that a crate's line names."""
+    """Returns the crates of the repository that a crate's line names."""
     return [one for one in needs()[crate] if one in needs()]
 
 
 @functools.cache
 def sources_sum(crate, crates=CRATES):
-    """A sum of all that a crate is built of: the logic, its line of crates.txt, its files below this folder, and the
-    crates below it."""
+    """Returns a checksum of everything that a crate is built from: the logic, its line of crates.txt, its files below this
+    directory, and its dependencies."""
     below = [sources_sum(one, crates) for one in own(crate)]
     made = hashlib.sha256(repr((LOGIC, crate, is_static(crate), needs()[crate], below)).encode())
     for part in PARTS:
         walked = [(at, name) for at, _, names in os.walk(crates / crate / part) for name in names]
-        # Each start of ./yarib comes by here: paths as plain texts take half the time.
+        # Each start of ./yarib runs this: paths as strings need half the time.
         for file in sorted(path for path in (f"{at}/{name}" for at, name in walked) if os.path.isfile(path)):
             with open(file, "rb") as opened:
                 text = opened.read()
@@ -38,8 +38,8 @@ def sources_sum(crate, crates=CRATES):
 
 
 def product(crate, toolchain="", crates=CRATES):
-    """Where a program or an archive lies that is built of these sources, or a library, which only the same toolchain
-    can read."""
+    """Returns the path of the program or archive for these sources, or of the library, which only the same toolchain can
+    read."""
     name = f"{crate}-{sources_sum(crate, crates)}"
     if is_program(crate):
         return STATE / name

@@ -1,4 +1,4 @@
-"""The crates of the repository, and on what each stands, as crates.txt says."""
+"""The crates of the repository and their dependencies, as crates.txt lists them."""
 import functools
 import os
 import pathlib
@@ -8,19 +8,20 @@ CRATES = TOP / "crates"
 
 
 def cache(name):
-    """A folder of the user's cache that is for this alone."""
+    """Returns a directory of the user's cache with this name."""
     return pathlib.Path(os.environ.get("XDG_CACHE_HOME") or pathlib.Path("~/.cache").expanduser()) / "yarib" / name
 
 
 @functools.cache
 def heads():
-    """Of each line of crates.txt what stands before the colon, a crate's name and perhaps its kind, and what behind."""
+    """Returns for each line of crates.txt the words before the colon, a crate's name and optionally its kind, and those
+    after it."""
     lines = [line.partition("#")[0].partition(":") for line in (TOP / "crates.txt").read_text().splitlines()]
     return [(head.split(), rest.split()) for head, _, rest in lines if head.strip()]
 
 
 def needs():
-    """The crates of crates.txt, each with what its line names."""
+    """Returns the crates of crates.txt, each with its dependencies."""
     return {name: rest for (name, *_), rest in heads()}
 
 
@@ -37,7 +38,7 @@ def is_program(crate):
 
 
 def below(crates):
-    """These crates and all of the repository on which they rest."""
+    """Returns these crates and every crate of the repository on which they depend."""
     known, found, waiting = needs(), set(), list(crates)
     while waiting:
         crate = waiting.pop()
@@ -48,5 +49,5 @@ def below(crates):
 
 
 def crate_of(file):
-    """The crate in whose folder a file lies."""
+    """Returns the crate whose directory contains the file."""
     return file.relative_to(CRATES).parts[0]

@@ -1,7 +1,7 @@
-"""Copies of definitions of specs/ and of the examples that test them, by which one check tries many changes.
+"""Copies of definitions in specs/ and of the examples that test them, so that one check covers many changes.
 
-For each change three things are copied into files of a crate above the crates of examples: the changed definition, the
-example that refuses it, and what both rest on."""
+For each change, three things are copied into files of a crate above the crates of examples: the changed definition, the
+example that refuses it, and everything on which both depend."""
 import collections
 import pathlib
 import re
@@ -111,7 +111,7 @@ class Crate:
         return found - {block}
 
     def resting_on(self, block):
-        """All blocks of the crate that rest on this one, itself among them."""
+        """Returns all blocks of the crate that depend on this one, including itself."""
         if block not in self.known:
             found, more = set(), {block}
             while more:
@@ -124,10 +124,10 @@ class Crate:
 # -- the copies that try them
 
 class Copy:
-    """Definitions with texts of their own, or as they are, and the examples that try them."""
+    """Definitions with changed texts, or unchanged, and the examples that test them."""
 
     def __init__(self, crate, number, texts, examples, uses=None):
-        """texts: what stands in place of each of these blocks, all of one file; uses: the `use` lines in place of that file's."""
+        """texts: the new text of each of these blocks, all of the same file; uses: the new `use` lines of that file."""
         self.crate, self.number, self.texts, self.examples, self.new_uses = crate, number, texts, examples, uses
         resting = set().union(*(crate.resting_on(block) for block in texts))
         self.needed, ahead = set(texts), [*examples]
@@ -141,8 +141,8 @@ class Copy:
         return f"H{self.number}_" + file.module.removeprefix("Rattle.").replace(".", "_")
 
     def uses(self, file, kept):
-        """The `use` lines of the copy of a file: what is copied comes from the copies, all else from where it was, but for types
-        that it doesn't speak of, which the crate may keep to itself."""
+        """Returns the `use` lines of the copy of a file. Copied names come from the copies, all others from their original
+        place, except unused types, which may be private to the crate."""
         out, words = [], set().union(*(WORD.findall(uncommented(self.text_of(block))) for block in kept))
         is_changed = self.new_uses is not None and any(block in self.texts for block in kept)
         for module, items, alias in self.new_uses if is_changed else file.uses:
@@ -166,7 +166,7 @@ class Copy:
         return self.texts.get(block) or block.text()
 
     def files(self):
-        """Each file: its name, its text, and its blocks, before each of which stands an empty line, and in none of which."""
+        """Yields each file: its name, its text, and its blocks. There is an empty line before each block and none in it."""
         for file in self.crate.files.values():
             kept = [block for block in file.blocks if block in self.needed]
             if not kept:
@@ -180,13 +180,13 @@ class Copy:
             yield self.name_of(file), "\n".join(lines) + "\n", kept
 
 
-# A crate of copies alone, above the crates of examples.
+# A crate that only has copies, above the crates of examples.
 COPIES = "changed_definitions"
 ROOT = "//! Copies of definitions, changed, and of the examples that try them.\n#![tactic(auto)]\n"
 
 
 class Scratch:
-    """A workspace of the crates that some crates of examples rest on, with a crate of copies above those examples."""
+    """A workspace of some crates of examples and their dependencies, with a crate of copies above them."""
 
     def __init__(self, examples, room):
         self.folder = pathlib.Path(room) / "crates" / COPIES
@@ -198,8 +198,8 @@ class Scratch:
         (self.folder / "src/lib.rt").write_text(ROOT)
 
     def tried(self, copies, check):
-        """Of each copy the blocks that the prover refuses, None for an error at another place; None in place of all where
-        the check doesn't end. check: what has the crate of copies proved, and gives what that printed, or None."""
+        """Returns for each copy the blocks that the prover refuses, with None for an error elsewhere; returns None if the
+        check doesn't end. check: runs the prover on the crate of copies and returns its output, or None."""
         written = {}
         for copy in copies:
             for name, text, blocks in copy.files():
@@ -213,7 +213,7 @@ class Scratch:
         return refused
 
     def refused_in(self, printed, written):
-        """Which blocks of which copy have the errors that were printed. Before each block of a file stands an empty line."""
+        """Returns the blocks of each copy that have the printed errors. There is an empty line before each block of a file."""
         refused = collections.defaultdict(set)
         for name, _, line in ERROR.findall(printed):
             copy, blocks = written[name]
@@ -232,14 +232,14 @@ class Scratch:
 
 
 def by_check(seconds):
-    """The check of one who works on a crate, over what earlier checks kept in out/. Where it has no verdict after so many
-    seconds of processor time, it gives None."""
+    """Returns the check for a developer, based on what earlier checks kept in out/. It returns None if there is no verdict
+    after `seconds` of processor time."""
     words = ["rt", "check", "--jobs", "1", "--allow-holes"]
     return lambda scratch: with_verdict(said_by(words, scratch.folder, seconds))
 
 
 def by_gate(seconds):
-    """The check of the gate: of the crate of copies alone, over the libraries that `rt ci` has just built."""
+    """Returns the check for the gate: it only checks the crate of copies, based on the libraries that `rt ci` just built."""
     return lambda scratch: with_verdict(said_of(COPIES, scratch.named, scratch.folder, seconds=seconds))
 
 

@@ -8,7 +8,7 @@ FORM = re.compile(r"([\w-]+)\n\n```\nfile: (specs/\S+)\n((?:old: .+\nnew:.*\n)+)
 
 
 class Change:
-    """A change of a list: its crate and name, and, where it is written as one, its file, its pairs of old and new, its
+    """A change of a list: its crate and name; and if its form is valid, its file, its pairs of old and new, and its
     example."""
 
     def __init__(self, crate, section):
@@ -23,7 +23,7 @@ def listing_crates():
 
 
 def changes_of(crate):
-    """The changes that a crate lists, in their order."""
+    """Returns the changes that a crate lists, in order."""
     file = CRATES / crate / "must-fail/definitions.md"
     return [Change(crate, section)
             for section in re.split(r"^## ", file.read_text(), flags=re.M)[1:]] if file.exists() else []

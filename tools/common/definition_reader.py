@@ -1,4 +1,4 @@
-"""Definitions of specs/ and types of src/: where each is, its lines, and what it speaks of."""
+"""Definitions in specs/ and types in src/: their positions, their lines, and the definitions that they use."""
 import functools
 import re
 import sys
@@ -6,7 +6,7 @@ import sys
 from .crates import CRATES, crate_of, needs
 from .rust_sources import indent_of, source, sources
 
-# The libraries that have definitions, in the order of crates.txt: each behind those that it stands on.
+# The libraries that have definitions, in the order of crates.txt: each after its dependencies.
 LIBRARY_CRATES = tuple(
     crate for crate in needs() if (CRATES / crate / "specs").is_dir() and (CRATES / crate / "src/lib.rt").exists()
     and not crate.endswith("_tests"))
@@ -19,7 +19,7 @@ RUST_TYPES = ("struct", "enum", "trait", "type", "const")
 
 
 class Definition:
-    """A definition of specs/ or a type of src/: where it stands, its comment, its lines, the parameters around it."""
+    """A definition in specs/ or a type in src/: its position, its comment, its lines, and the parameters around it."""
 
     def __init__(self, key, file, line, comment, lines, context=()):
         self.key, self.file, self.line, self.comment, self.lines = key, file, line, comment, lines
@@ -27,7 +27,7 @@ class Definition:
         self.name = key.rpartition(".")[2]
 
     def count(self):
-        """How many lines it has, without those that are comments alone."""
+        """Returns the number of its lines that aren't comments."""
         return sum(not line.strip().startswith(("--", "//")) for line in self.lines)
 
 
@@ -36,7 +36,7 @@ def uncommented(text):
 
 
 def imports(text):
-    """What each word of a file stands for: a name of a module, or (with no name) the module itself."""
+    """Returns what each word of a file denotes: a name of a module, or (without a name) the module itself."""
     found = {}
     for module, items, alias in IMPORT.findall(text):
         if items:
@@ -51,7 +51,7 @@ def imports(text):
 
 @functools.cache
 def spec_module(module):
-    """The definitions of a module of specs/ by name, and what its other words stand for; None if it is none of ours."""
+    """Returns the definitions of a module of specs/ by name, and what its other words denote; None for modules of the kit."""
     match = re.fullmatch(r"Rattle\.(\w+)\.(?:specs|proofs)\.(.+)", module)
     if not match:
         return None
@@ -63,7 +63,7 @@ def spec_module(module):
 
 
 def parse_module(module, file, text=None):
-    """The definitions of a file, or of another text of it, by name."""
+    """Returns the definitions of a file, or of another text of it, by name."""
     reader = ModuleReader(module, file, (file.read_text() if text is None else text).split("\n"))
     while reader.number < len(reader.lines):
         reader.read_line()
@@ -76,8 +76,8 @@ def parse_module(module, file, text=None):
 
 
 class ModuleReader:
-    """What reads a file line by line: the definitions that it has found, the comment above the next one, the one that
-    goes on, and the margins of the sections around, each with its parameters."""
+    """Reads a file line by line. It keeps the definitions that it has found, the comment above the next one, the current
+    one, and the margins of the surrounding sections, each with its parameters."""
 
     def __init__(self, module, file, lines):
         self.module, self.file, self.lines, self.number = module, file, lines, 0
@@ -96,7 +96,7 @@ class ModuleReader:
             self.read_at_margin(line, line.strip())
 
     def read_blank(self):
-        """A definition goes on below an empty line where the next line is indented."""
+        """Continues a definition after an empty line if the next line is indented."""
         more = self.lines[self.number] if self.number < len(self.lines) else ""
         if not self.current:
             self.comment = []
@@ -155,7 +155,7 @@ def is_type(item, name):
 
 @functools.cache
 def rust_type(crate, name):
-    """A struct, enum, trait, type or constant of the crate, as its source has it."""
+    """Returns a struct, enum, trait, type or constant of the crate as written in its source."""
     return next((type_of(crate, item) for one in sources(crate) for item in one.items if is_type(item, name)), None)
 
 
@@ -170,8 +170,8 @@ def type_of(crate, item):
 
 
 def rust_words(definition):
-    """The words of a Rust type that are types of ours, and those of its ghost parts, but for what proves or stores a
-    field."""
+    """Yields the types of the repository that a Rust type names, and what its ghost parts name, except in proofs of
+    fields."""
     ghosts = imports(source(definition.file).text)
     code = "\n".join(re.sub(r"//(?! contracts see it as).*", "", line) for line in definition.lines)
     for word in re.findall(r"[A-Za-z_]\w*", re.sub(r"\} by \{[^}]*\}", "}", code)):
@@ -183,7 +183,7 @@ def rust_words(definition):
 
 @functools.cache
 def rust_named(file, word):
-    """The type that a word of a source file names, if it is one of ours."""
+    """Returns the type of the repository that a word of a source file names, in a list that is empty if there is none."""
     if any(is_type(item, word) for item in source(file).items):
         found = rust_type(crate_of(file), word)
     else:
@@ -194,7 +194,7 @@ def rust_named(file, word):
 
 
 def resolved(module, name):
-    """The definition that a name of a module is, or (module, name) where it is the library's."""
+    """Yields the definition that a name of a module denotes, or (module, name) if it belongs to the kit's library."""
     declared = re.fullmatch(r"Rattle\.(\w+)\.specs\.declared\.(.+)", module)
     if declared and (CRATES / declared[1]).is_dir():
         parts = declared[2].split(".")
@@ -228,8 +228,8 @@ def resolved(module, name):
 
 
 def words_of(text, local, used):
-    """What the words of a term stand for: definitions of ours and (module, name) of the library's. A variable that has
-    the name of a definition is taken for it: better one too many on the page than one missing."""
+    """Yields what the words of a term denote: definitions of the repository, and (module, name) for the kit's library. A
+    variable with the name of a definition counts as that definition: the page may have one too many, but misses none."""
     text = uncommented(text)
     tokens = [(match[1], match[2], match[4], match.start(), match.end()) for match in WORD.finditer(text)]
     seen = {token[1] for token in tokens if token[1]} | {token[2] for token in tokens if token[2]}
@@ -260,7 +260,7 @@ def words_of(text, local, used):
 
 @functools.cache
 def rests_on(definition):
-    """What the definition speaks of: definitions of ours, and (module, name) of the library's."""
+    """Returns what the definition uses: definitions of the repository, and (module, name) for the kit's library."""
     if definition.file.suffix == ".rt":
         return unique(rust_words(definition), definition)
     module = definition.key.rpartition(".")[0]
@@ -281,8 +281,8 @@ def unique(found, but=None):
 
 @functools.cache
 def example_files():
-    """The files of examples by module, each with the crate whose definitions it tests: a library's stand in a file with
-    the second part of its name in a crate of examples, those of the program in its own proofs/."""
+    """Returns the files of examples by module, each with the crate whose definitions it tests. A library's examples are in a
+    crate of examples, in a file with the second part of the library's name; those of the program are in its proofs/."""
     found = {f"Rattle.{crate_of(file)}.proofs.Examples": (file, crate_of(file))
              for file in CRATES.glob("*/proofs/Examples.antt")}
     for crate in LIBRARY_CRATES:

@@ -1,5 +1,5 @@
-"""Which wrong bodies earlier gates on this machine saw refused. A later gate tries a body again only if something
-changed that its verdict can rest on.
+"""The mutants that earlier gates on this machine saw refused. A later gate checks a mutant again only if something changed
+on which its verdict can depend.
 
 A function is proved from its own text, the contracts of what it calls, types, definitions and lemmas, never from the
 body of another function. So the name of an entry is a sum of: the toolchain; what decides in the scripts; the body; its
@@ -18,7 +18,7 @@ from .crates import CRATES, TOP, below, cache, heads
 from .prover import kit
 from .rust_sources import Source
 
-SCRIPTS = ("tools/bodies", "tools/common/body_lists.py", "tools/common/prover.py")
+SCRIPTS = ("tools/mutants", "tools/common/mutant_lists.py", "tools/common/prover.py")
 CITED = re.compile(r"\bproofs\.([\w.+']+)")
 
 

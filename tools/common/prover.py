@@ -1,6 +1,5 @@
-"""The prover's own command over a crate whose libraries are built, as `rt must-fail` calls it: what `rt check` would
-say of the crate, but with what is built below it taken as it is. So it goes over the libraries that `rt ci` leaves,
-which `rt check` would build anew."""
+"""Runs the prover on a crate whose dependencies are built, as `rt must-fail` does. It reports what `rt check` would report,
+but accepts the libraries that `rt ci` left, which `rt check` would build again."""
 import functools
 import pathlib
 import subprocess
@@ -10,7 +9,7 @@ from .crates import CRATES, below, is_static, needs
 
 @functools.cache
 def kit():
-    """The folder of the toolchain whose `rt` is on PATH, where the page lies that it names."""
+    """Returns the directory of the toolchain whose `rt` is on PATH: that of the page that `rt doc` names."""
     return pathlib.Path(subprocess.run(["rt", "doc"], stdout=subprocess.PIPE, text=True,
                                        check=True).stdout.strip()).parent
 
@@ -20,8 +19,8 @@ def library(crate):
 
 
 def words_for(name, named, folder, libraries=library):
-    """The prover's arguments for a crate in this folder: its name, what its line of crates.txt names, and where the built
-    library of a crate is."""
+    """Returns the prover's arguments for a crate in this directory, with these dependencies; `libraries` gives the path of
+    a crate's library."""
     own = [one for one in named if one in needs()]
     root = "src/main.rt" if (folder / "src/main.rt").exists() else "src/lib.rt"
     words = ["--crate-name", name, root]
@@ -38,14 +37,14 @@ def words_for(name, named, folder, libraries=library):
 
 
 def said_of(name, named, folder, more=(), seconds=None):
-    """What the prover prints of the crate in this folder, past open goals, over what it keeps there of earlier runs.
-    Where it is given so many seconds of processor time, it is ended after these, with its last lines unsaid."""
+    """Returns the prover's output for the crate in this directory; it continues after open goals and reuses earlier runs.
+    With a limit in seconds of processor time, it is ended then, and its last lines are missing."""
     words = [kit() / "bin/rattle", "check", *words_for(name, named, folder), "--jobs", "1", "--allow-holes", *more]
     return said_by([*words, "--incremental", "out/incremental"], folder, seconds)
 
 
 def said_by(words, folder, seconds=None):
-    """What a command prints, which is ended after so many seconds of processor time, if it is given any."""
+    """Returns the output of a command, which is ended after `seconds` of processor time, if there is a limit."""
     if seconds:
         words = ["sh", "-c", f'ulimit -t {seconds} && exec "$@"', "sh", *words]
     return subprocess.run(words, cwd=folder, stdin=subprocess.DEVNULL, stdout=subprocess.PIPE, stderr=subprocess.STDOUT,
@@ -53,7 +52,7 @@ def said_by(words, folder, seconds=None):
 
 
 def linking_words(program):
-    """The command that links what the prover has compiled of a program, PROGRAM.o."""
+    """Returns the command that links PROGRAM.o, which the prover has compiled."""
     parts = [f"{program}.o", kit() / "c/libos_c.a", kit() / "c/liblibc_c.a"]
     return [kit() / "bin/rattle-link", "--target", "x86_64-unknown-linux-gnu", "--toolchain", kit() / "toolchain", "-o",
             program, *parts]

@@ -1,21 +1,20 @@
-"""The public clauses of a crate, read from its sources: what is said of all that can be named from outside of it."""
+"""The public clauses of a crate, read from its sources: those of every item that can be named from outside it."""
 import re
 
 from .crates import CRATES, all_crates
 from .definition_reader import Definition, imports, rust_named, words_of
 from .rust_sources import items_of, root_of, source, taken_by
 
-# What a type gives as an instance of a trait and no caller reads: how its value is seen in its private fields and what
-# it keeps of them, and proofs.
+# The terms of a trait's instance that no caller reads: the view of the private fields, invariants and proofs.
 UNSEEN = {"view", "invariant", "inverse", "also_owns", "coded", "since_same", "done_same", "since_done", "holds_some",
           "holds_one"}
 
-# What C calls by its bare name, in whichever module it stands.
+# Functions that C calls by their bare names, in any module.
 EXPORT = re.compile(r"pub extern \"C\" fn\b")
 
 
 def exported(crate):
-    """What can be named from outside: pairs of a file's module and a name, None for each name of a public module."""
+    """Returns what can be named from outside: pairs of a module and a name, or None for every name of a public module."""
     found = set()
     for item in items_of(crate):
         if item.file == root_of(crate) and item.is_pub and item.kind == "mod":
@@ -27,7 +26,7 @@ def exported(crate):
 
 
 def words(file, text):
-    """The definitions of ours that a piece of a source speaks of."""
+    """Returns the definitions of the repository that a piece of a source names."""
     ghosts = imports(source(file).text)
     found = [one for one in words_of(text, {}, ghosts) if isinstance(one, Definition)]
     for word in dict.fromkeys(re.findall(r"(?<![\w.])[A-Z]\w*", text)):
@@ -37,24 +36,24 @@ def words(file, text):
 
 
 def is_named(item, crate, names):
-    """Whether the item can be named from outside of its crate."""
+    """Returns true if the item can be named from outside its crate."""
     return item.is_pub and (item.file == root_of(crate) or bool(EXPORT.match(item.lines[0]))
                             or any((item.file.stem, name) in names for name in (item.name, None)))
 
 
 def field_terms(item):
-    """A type's or a trait's text, but for ghost fields that are private, and for what proves a field."""
+    """Returns the text of a type or a trait without private ghost fields and proofs of fields."""
     body = [line for line in item.lines if not re.match(r"\s*ghost \w+: ", line) or item.kind == "trait"]
     return unproved("\n".join(body))
 
 
 def unproved(text):
-    """A field's text without what proves or stores it."""
+    """Returns a field's text without its proof."""
     return re.sub(r"\} by \{[^}]*\}", "}", text)
 
 
 def public_clauses(crate):
-    """The pieces of a crate's sources that are its public clauses: each item, its name with its type's, its text."""
+    """Yields the public clauses of a crate: each item, its qualified name, and its text."""
     names, items = exported(crate), items_of(crate)
     types = {item.name for item in items if item.kind in ("struct", "enum", "trait", "type")
              and is_named(item, crate, names)}
@@ -76,12 +75,12 @@ def public_clauses(crate):
 
 
 def head_of(function):
-    """A function's head and its clauses, without its body."""
+    """Returns a function's head and clauses, without its body."""
     return "\n".join(function.lines[:function.clauses_end()])
 
 
 def impl_clauses(item, trait, owner):
-    """What an impl says that callers read: its methods' contracts, and what it gives for the trait's ghost members."""
+    """Yields what callers read of an impl: the contracts of its methods, and its terms for the trait's ghost members."""
     for member in item.members():
         if member.kind == "ghost" and member.name not in UNSEEN:
             yield member, f"{owner}::{member.name}", "\n".join(member.lines)
@@ -90,7 +89,7 @@ def impl_clauses(item, trait, owner):
 
 
 def judged_crates():
-    """The crates whose definitions have classes: those with specs/, but for programs, of which nothing can be named,
-    and for the callers to be copied, which nothing stands on."""
+    """Returns the crates whose definitions are classified: those with specs/, except programs, which export nothing, and
+    walkthrough, on which nothing depends."""
     return [crate for crate in all_crates()
             if crate != "walkthrough" and (CRATES / crate / "specs").is_dir() and exported(crate)]

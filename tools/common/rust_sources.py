@@ -1,5 +1,5 @@
-"""Sources in Rust: their code without comments, what they use, and their items and functions, each with its comment,
-its attributes and its place. An item is read by how `rt fmt` lays it out."""
+"""Rust sources: their code without comments, their imports, and their items and functions, each with its comment, its
+attributes and its position. Items are recognized by the layout of `rt fmt`."""
 import functools
 import re
 
@@ -8,12 +8,12 @@ from .crates import CRATES
 COMMENT_OR_LITERAL = re.compile(r' *//.*|"(?:[^"\\]|\\(?s:.))*"|\'(?:[^\'\\]|\\.)\'')
 HEAD = re.compile(r"(pub(?:\([^)]*\))? )?(?:unsafe |const |async |extern \"C\" )*"
                   r"(fn|struct|enum|trait|impl|type|const|static|mod|use|ghost(?! use))\b[ <]*(\w*)")
-# How a line begins that goes on with the item above it: it is indented further, ends brackets or begins a body.
+# The start of a line that continues the item above it: it is indented further, closes brackets or begins a body.
 GOES_ON = re.compile(r"[\s{}()\]]|where\b|$")
 
 
 def code_of(text, emptied=False):
-    """The text without its comments. Literals, which may contain anything, are emptied, or have all lines indented."""
+    """Returns the text without comments. Literals, which may contain anything, are emptied, or all their lines indented."""
     def kept(found):
         if found[0].lstrip().startswith("//"):
             return ""
@@ -26,7 +26,7 @@ def indent_of(line):
 
 
 class Item:
-    """An item of a source, or a member of one: its lines of code, and the type or trait around it."""
+    """An item of a source, or a member of an item: its lines of code, and the type or trait around it."""
 
     def __init__(self, source, head, start, margin, owner):
         self.source, self.file, self.start, self.margin, self.owner = source, source.file, start, margin, owner
@@ -34,18 +34,18 @@ class Item:
         self.is_pub = self.kind == "ghost" or head[1] == "pub "
 
     def end_at(self, end):
-        """Gives it the lines above this one, but for empty ones at the end."""
+        """Gives it the lines above this one, without empty ones at the end."""
         while not self.source.code[end - 1].strip():
             end -= 1
         self.end, self.lines = end, self.source.code[self.start:end]
         return self
 
     def written(self):
-        """Its lines with their comments."""
+        """Returns its lines with their comments."""
         return self.source.lines[self.start:self.end]
 
     def above(self):
-        """The lines of its comment and its attributes, which stand right above it."""
+        """Returns the lines of its comment and its attributes, directly above it."""
         start = self.start
         while start and re.match(r" *(///|#\[)", self.source.lines[start - 1]):
             start -= 1
@@ -61,7 +61,7 @@ class Item:
         return "#[cfg(test)]" in self.attributes()
 
     def clauses_end(self):
-        """At which of its lines a function's body begins: behind its head and its clauses."""
+        """Returns the index of the line at which a function's body begins, after its head and its clauses."""
         for number, line in enumerate(self.lines):
             is_own = line.lstrip().startswith("{")
             if indent_of(line) == self.margin and (is_own or line.rstrip().endswith("{")):
@@ -69,7 +69,7 @@ class Item:
         return len(self.lines)
 
     def of_impl(self):
-        """The trait of an impl, if it is of one, and its type."""
+        """Returns the trait of an impl, or None, and its type."""
         head = " ".join(line.strip() for line in self.lines).partition("{")[0]
         head = re.sub(r"^(unsafe )?impl\s*", "", head)
         if head.startswith("<"):
@@ -79,7 +79,7 @@ class Item:
         return (re.match(r"(?:\w+::)*(\w+)", trait.strip())[1] if parted else None), owner
 
     def members(self):
-        """What stands in an impl, a trait or a module."""
+        """Returns the members of an impl, a trait or a module."""
         owner = self.of_impl()[1] if self.kind == "impl" else self.name if self.kind == "trait" else None
         return list(self.source.items_at(self.margin + 4, self.start + 1, self.end, owner))
 
@@ -92,7 +92,7 @@ class Source:
         self.lines, self.code = self.text.split("\n"), code_of(self.text).split("\n")
 
     def items_at(self, margin, start, end, owner=None):
-        """The items that begin at this margin between these lines."""
+        """Yields the items that begin at this margin between these lines."""
         current = None
         for number in range(start, end):
             line = self.code[number]
@@ -112,7 +112,7 @@ class Source:
 
     @functools.cached_property
     def functions(self):
-        """All functions, also those in impls, traits and modules."""
+        """Returns all functions, including those in impls, traits and modules."""
         found, waiting = [], list(self.items)
         while waiting:
             item = waiting.pop(0)
@@ -123,25 +123,19 @@ class Source:
         return found
 
     def function_at(self, line):
-        """The function in which this line stands, from 0."""
+        """Returns the function that contains this line, counted from 0."""
         return next((one for one in self.functions if one.start <= line < one.end), None)
 
     @functools.cached_property
     def uses(self):
-        """What each word stands for that a `use` takes."""
+        """Returns the path that each imported word denotes."""
         text = re.sub(r"(?m)^\s*ghost use .*$", "", self.text)
         return {other.rpartition("::")[2]: "::".join(part for part in (path, name) if part)
                 for use in re.findall(r"(?m)^\s*(?:pub )?use ([^;]+);", text) for path, name, other in taken_by(use)}
 
-    def code_but_tests(self):
-        """The lines of code that aren't for tests alone."""
-        tests = [item for item in self.items if item.is_for_tests()]
-        return [line for number, line in enumerate(self.code)
-                if not any(one.start <= number < one.end for one in tests)]
-
 
 def closing(text, start, pair):
-    """The index behind the bracket that closes the one at the start."""
+    """Returns the index after the bracket that closes the one at the start."""
     depth = 0
     for index in range(start, len(text)):
         depth += (text[index] == pair[0]) - (text[index] == pair[1] and text[index - 1] != "-")
@@ -151,7 +145,7 @@ def closing(text, start, pair):
 
 
 def taken_by(use):
-    """What a `use` takes: each path, the name in it, and its name here."""
+    """Yields the imports of a `use`: each path, the name in it, and its local name."""
     head, brace, inner = use.partition("{")
     path = head.rstrip(":") if brace else head.rpartition("::")[0]
     for item in inner.rstrip("} \n").split(",") if brace else [use.rpartition("::")[2]]:
@@ -166,12 +160,12 @@ def source(file):
 
 
 def sources(crate):
-    """The sources of a crate that aren't in a folder of tests."""
+    """Returns the sources of a crate that aren't in a directory `tests`."""
     return [source(file) for file in sorted((CRATES / crate / "src").rglob("*.rt")) if "tests" not in file.parts[-2:]]
 
 
 def modules_below(file, folder, is_test=False):
-    """A source and those of its modules, which lie in the folder, each with whether it is for tests alone."""
+    """Yields a source and those of its modules, which are in the directory, each with whether it is only for tests."""
     yield source(file), is_test
     for item in source(file).items:
         if item.kind == "mod" and item.lines[0].endswith(";"):
@@ -187,11 +181,11 @@ def root_of(crate):
 
 @functools.cache
 def modules(crate):
-    """The sources of a crate, each with whether it is for tests alone."""
+    """Returns the sources of a crate, each with whether it is only for tests."""
     return list(modules_below(root_of(crate), CRATES / crate / "src"))
 
 
 @functools.cache
 def items_of(crate):
-    """The items of a crate that are no tests'."""
+    """Returns the items of a crate that aren't for tests."""
     return [item for one, is_test in modules(crate) if not is_test for item in one.items if not item.is_for_tests()]

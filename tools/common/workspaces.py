@@ -1,5 +1,5 @@
-"""Workspaces outside the repository: copies of its crates, with the libraries that were built of them, and other crates
-above these. `rt ci` accepts no second crates.txt in the repository."""
+"""Workspaces outside the repository: copies of its crates with their built libraries, and further crates that depend on
+them. `rt ci` accepts no second crates.txt in the repository."""
 import os
 import shutil
 
@@ -9,7 +9,7 @@ PARTS = ("src", "specs", "proofs")
 
 
 def lay_out(room, crates, lines):
-    """Copies these crates and those below them into the folder, with a crates.txt of theirs and of the other lines."""
+    """Copies these crates and their dependencies into the directory, with a crates.txt of their lines and the given ones."""
     used = below(crates)
     for crate in used:
         for part in PARTS:
@@ -21,13 +21,13 @@ def lay_out(room, crates, lines):
 
 
 def files_of(folder, suffix=""):
-    """The bytes of each file below the folder, by its path without the suffix."""
+    """Returns the bytes of each file below the directory, by its path without the suffix."""
     return {str(path.relative_to(folder)).removesuffix(suffix): path.read_bytes()
             for path in folder.rglob("*") if path.is_file()}
 
 
 def renew(folder, copy, suffix=""):
-    """Makes the copy of a folder what the folder is, with each file's name without the suffix."""
+    """Updates the copy of a directory; the name of each file loses the suffix."""
     wanted = files_of(folder, suffix)
     if files_of(copy) == wanted:
         return
@@ -38,7 +38,7 @@ def renew(folder, copy, suffix=""):
 
 
 def link_library(kept, copy):
-    """Has the copy of a crate begin with the library that is built of the crate, if there is another one."""
+    """Gives the copy of a crate the built library of the crate, unless it has the same one."""
     stamp = kept / "stamp"
     if stamp.exists() and not ((copy / "stamp").exists() and (copy / "stamp").read_bytes() == stamp.read_bytes()):
         shutil.rmtree(copy, ignore_errors=True)
@@ -46,7 +46,7 @@ def link_library(kept, copy):
 
 
 def linked(one, other):
-    """Gives a file of a library a second name: rt never writes into such a file."""
+    """Makes a hard link to a file of a library: rt never writes into such a file."""
     try:
         os.link(one, other)
     except OSError:

@@ -10,20 +10,22 @@
 
 A prefix is a text ("10.0.0.0/8"), an ipaddress.IPv4Network or a pair (base, length) of numbers; an address is a text,
 an ipaddress.IPv4Address or a number. Feeds are 1 to 64. The lowest preference number is preferred; between equal
-preferences, the lowest feed. An invalid number, text or prefix raises ValueError, and MemoryError means out of memory;
-after either error the table is unchanged.
+preferences, the lowest feed. Error is the base class of this package's errors: an invalid number, text or prefix raises
+Invalid, a ValueError, and OutOfMemory is a MemoryError. An argument of the wrong type raises TypeError. After each of
+these the table is unchanged.
 
-Several threads may use a Table: each call holds Python's global lock, so only one runs at a time. Several threads can
-query a Forwarding concurrently: each thread has its own handle, and a look-up of many lets other threads run.
+Several threads may use a Table or a Forwarding, also in a Python without a global lock. Calls that only read run at the
+same time; a change waits until it is alone. Long calls (look_up_each, apply_each, follow, forward) let other threads run.
 """
-from ._library import STATUS, VERSION
+from ._library import MAX_FEED, MAX_LENGTH, MAX_LIMIT, STATUS, VERSION, Error, Invalid, OutOfMemory, Refused
 from ._tables import (
-    Answers, Difference, Entry, Exists, Forwarding, Full, Missing, Outcome, Refused, Route, Table,
+    Answers, Difference, Entry, Exists, Forwarding, Full, Missing, Outcome, Route, Source, Table,
     prefix_of, address_of,
 )
 
 __version__ = VERSION
 __all__ = [
-    "Answers", "Difference", "Entry", "Exists", "Forwarding", "Full", "Missing", "Outcome", "Refused", "Route",
-    "STATUS", "Table", "address_of", "prefix_of",
+    "Answers", "Difference", "Entry", "Error", "Exists", "Forwarding", "Full", "Invalid", "MAX_FEED", "MAX_LENGTH",
+    "MAX_LIMIT", "Missing", "OutOfMemory", "Outcome", "Refused", "Route", "STATUS", "Source", "Table", "address_of",
+    "prefix_of",
 ]

@@ -1,17 +1,24 @@
 """The shared library and the declarations of its header."""
+from __future__ import annotations
+
 import ctypes
 import ctypes.util
 import os
 import pathlib
+import time
+from typing import Any, Callable, Dict, NoReturn, Tuple
 
-VERSION = "0.1"
+VERSION = "0.2"
 NAME = "libyarib.so.0"
+
+# The largest feed, limit and prefix length.
+MAX_FEED, MAX_LIMIT, MAX_LENGTH = 64, 1_000_000, 32
 
 # Of the header: what a call returns, by its number.
 STATUS = ("done", "nothing", "bad number", "bad command", "no memory", "bad size", "none left", "bad text",
-          "bad length", "bad bits", "wrong kind")
+          "bad length", "bad bits", "wrong kind", "busy")
 (DONE, NOTHING, BAD_NUMBER, BAD_COMMAND, NO_MEMORY, BAD_SIZE, NONE_LEFT, BAD_TEXT, BAD_LENGTH, BAD_BITS,
- WRONG_KIND) = range(len(STATUS))
+ WRONG_KIND, BUSY) = range(len(STATUS))
 ADD, REPLACE, WITHDRAW, LOOKUP, DUMP, PURGE = range(1, 7)
 ALL, WITHIN, COVERING, EXACT = range(4)
 NO_ROUTE, VIA, DISCARD = range(3)
@@ -52,13 +59,14 @@ class RawDifference(ctypes.Structure):
 
 
 NUMBER, SIZE, POINTER = ctypes.c_uint32, ctypes.c_size_t, ctypes.c_void_p
-CALLS = {
+CALLS: Dict[str, Tuple[Any, ...]] = {
     "yarib_new": (POINTER, NUMBER, NUMBER),
     "yarib_free": (POINTER,),
     "yarib_apply": (POINTER, POINTER, POINTER),
     "yarib_apply_each": (POINTER, POINTER, SIZE, POINTER, SIZE),
     "yarib_reserve": (POINTER, SIZE),
     "yarib_look_up": (POINTER, POINTER, SIZE, POINTER, SIZE),
+    "yarib_look_up_one": (POINTER, NUMBER, POINTER),
     "yarib_look_up_all": (POINTER, NUMBER, SIZE, POINTER, SIZE, POINTER),
     "yarib_routes": (POINTER, SIZE, POINTER, SIZE, POINTER),
     "yarib_routes_from": (POINTER, POINTER, POINTER, SIZE, POINTER),
@@ -77,7 +85,7 @@ CALLS = {
 }
 
 
-def file_of_library():
+def file_of_library() -> str:
     """Returns the path of the shared library: YARIB_LIBRARY, in this package's directory, or where the system finds it."""
     if named := os.environ.get("YARIB_LIBRARY"):
         return named
@@ -85,30 +93,63 @@ def file_of_library():
     return str(beside) if beside.exists() else ctypes.util.find_library("yarib") or NAME
 
 
-def load(kind):
+def load(kind: Callable[[str], Any]) -> Any:
     library = kind(file_of_library())
     for name, types in CALLS.items():
         call = getattr(library, name)
         call.argtypes = types
-        call.restype = None if name == "yarib_free" else NUMBER
+        call.restype = NUMBER
     return library
 
 
-# `held` keeps Python's lock, so that no two threads are inside one handle; `freed` lets other threads run, and is for
-# handles that one thread alone has.
+# `held` keeps Python's global lock, if there is one, and is for short calls; `freed` lets other threads run meanwhile.
+# Neither needs that lock: the library returns BUSY from a call that can't run beside another one on its handle.
 held, freed = load(ctypes.PyDLL), load(ctypes.CDLL)
 
+# So long, in seconds, a thread waits before it makes a busy call again.
+PAUSE = 0.00005
 
-class Refused(RuntimeError):
+
+class Error(Exception):
+    """The base class of this package's errors. After each of them the table is unchanged."""
+
+
+class Invalid(Error, ValueError):
+    """A number is out of range, or a text, a prefix or a buffer is invalid."""
+
+
+class OutOfMemory(Error, MemoryError):
+    """Out of memory."""
+
+
+class Refused(Error, RuntimeError):
     """The table is closed, or doesn't support the call."""
 
 
-def check(status):
-    """Raises the error that a status means."""
-    if status == DONE:
-        return
+def check(status: int, value: object = None) -> None:
+    """Raises the error that a status means, with the value that caused it if there is one."""
+    if status != DONE:
+        fail(status, value)
+
+
+def fail(status: int, value: object) -> NoReturn:
     if status == NO_MEMORY:
-        raise MemoryError("yarib: out of memory")
+        raise OutOfMemory("yarib: out of memory")
     if status in (NOTHING, WRONG_KIND):
         raise Refused("the table is closed" if status == NOTHING else "the table doesn't support this call")
-    raise ValueError(f"yarib: {STATUS[status]}")
+    raise Invalid(f"yarib: {STATUS[status]}" + ("" if value is None else f": {value!r}"))
+
+
+def status_of(call: Callable[..., int], *words: Any) -> int:
+    """Makes a call, again while it is busy, and returns its status."""
+    status = call(*words)
+    while status == BUSY:
+        time.sleep(PAUSE)
+        status = call(*words)
+    return status
+
+
+def done(call: Callable[..., int], *words: Any) -> None:
+    """Makes a call, again while it is busy, and raises the error that its status means."""
+    if (status := call(*words)) != DONE:
+        check(status_of(call, *words) if status == BUSY else status)

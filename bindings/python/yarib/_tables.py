@@ -1,26 +1,33 @@
 """Tables and forwarding tables."""
+from __future__ import annotations
+
 import array
 import ctypes
 import ipaddress
+import operator
+import os
+import sys
 import threading
-from typing import NamedTuple, Optional
+from typing import Any, Callable, Dict, Iterable, Iterator, List, NamedTuple, NoReturn, Optional, Sequence, Tuple, Union
 
 from . import _library as c
-from ._library import Refused, check, held
+from ._library import Error, Invalid, check, done, freed, held, status_of
 
 PAGE, ENTRIES = 256, 4096
 NETWORK, ADDRESS = ipaddress.IPv4Network, ipaddress.IPv4Address
+Address = Union[str, int, ipaddress.IPv4Address]
+Prefix = Union[str, ipaddress.IPv4Network, Sequence[int]]
 
 
-class Exists(ValueError):
+class Exists(Error, ValueError):
     """The feed has a route to this prefix; nothing changed."""
 
 
-class Full(ValueError):
+class Full(Error, ValueError):
     """The feed is at its limit; nothing changed."""
 
 
-class Missing(KeyError):
+class Missing(Error, KeyError):
     """The feed has no route to this prefix; nothing changed."""
 
 
@@ -33,14 +40,14 @@ class Route(NamedTuple):
     via: Optional[int]
 
     @property
-    def prefix(self):
+    def prefix(self) -> ipaddress.IPv4Network:
         return NETWORK((self.base, self.length))
 
     @property
-    def next_hop(self):
+    def next_hop(self) -> Optional[ipaddress.IPv4Address]:
         return None if self.via is None else ADDRESS(self.via)
 
-    def __str__(self):
+    def __str__(self) -> str:
         hop = "discard" if self.via is None else str(self.next_hop)
         return f"{self.prefix} feed {self.feed} pref {self.pref} via {hop}"
 
@@ -65,50 +72,59 @@ class Outcome(NamedTuple):
 
 class Entry(NamedTuple):
     """An entry of the journal: a feed's command, as the arguments of `apply`, and its reply."""
-    command: tuple
+    command: Tuple[Any, ...]
     outcome: Outcome
 
 
-def address_of(value):
+def address_of(value: Address) -> int:
     """Returns the number of an address."""
     if isinstance(value, str):
         found = ctypes.c_uint32()
         text = value.encode("utf-8", "surrogateescape")
-        check(held.yarib_address_parse(text, len(text), ctypes.byref(found)))
+        check(held.yarib_address_parse(text, len(text), ctypes.byref(found)), value)
         return found.value
-    return number(value, "an address")
+    return int(value) if isinstance(value, ADDRESS) else number(value, "an IPv4 address")
 
 
-def number(value, said="a number"):
-    """Returns a number of 32 bits or raises: ctypes would drop further bits."""
-    value = int(value)
-    if not 0 <= value < 1 << 32:
-        raise ValueError(f"yarib: {value} is not {said} of 32 bits")
-    return value
+def number(value: object, said: str = "a number", bits: int = 32) -> int:
+    """Returns an unsigned number of at most `bits` bits, or raises: ctypes would drop further bits."""
+    try:
+        found = operator.index(value)  # type: ignore[arg-type]
+    except TypeError:
+        raise TypeError(f"yarib: {value!r} is not {said}") from None
+    if not 0 <= found < 1 << bits:
+        raise Invalid(f"yarib: {value!r} is not {said} of {bits} bits")
+    return found
 
 
-def prefix_of(value):
+def prefix_of(value: Prefix) -> Tuple[int, int]:
     """Returns the base and length of a prefix."""
     if isinstance(value, str):
         found = c.RawPrefix()
         text = value.encode("utf-8", "surrogateescape")
-        check(held.yarib_prefix_parse(text, len(text), ctypes.byref(found)))
+        check(held.yarib_prefix_parse(text, len(text), ctypes.byref(found)), value)
         return found.base, found.len
     if isinstance(value, NETWORK):
         return int(value.network_address), value.prefixlen
-    base, length = value
-    if not 0 <= int(length) <= 32:
-        raise ValueError(f"yarib: {c.STATUS[c.BAD_LENGTH]}")
-    return number(base, "an address"), int(length)
+    if not isinstance(value, (tuple, list)) or len(value) != 2:
+        raise TypeError(f"yarib: {value!r} is not an IPv4 prefix")
+    base, length = address_of(value[0]), number(value[1], "a length")
+    if length > c.MAX_LENGTH:
+        c.fail(c.BAD_LENGTH, value)
+    return base, length
 
 
-def route_of(raw):
+def route_of(raw: Any) -> Optional[Route]:
     if raw.hop == c.NO_ROUTE:
         return None
     return Route(raw.base, raw.len, raw.feed, raw.pref, raw.via if raw.hop == c.VIA else None)
 
 
-def outcome_of(raw):
+def routes_of(raws: Iterable[Any]) -> List[Route]:
+    return [route for route in map(route_of, raws) if route is not None]
+
+
+def outcome_of(raw: Any) -> Outcome:
     if raw.code == c.UNANSWERED:
         return Outcome(c.CODES[0], 0, None, c.STATUS[raw.count])
     return Outcome(c.CODES[raw.code], raw.count, route_of(raw.route), None)
@@ -119,7 +135,7 @@ OPERATIONS = {"add": c.ADD, "replace": c.REPLACE, "withdraw": c.WITHDRAW, "looku
 NAMES = {number: name for name, number in OPERATIONS.items()}
 
 
-def command_of(feed, name, *words):
+def command_of(feed: int, name: str, *words: Any) -> Any:
     """Returns a command from its arguments, such as ("add", prefix, pref, via) or ("lookup", address)."""
     operation = OPERATIONS[name]
     raw = c.RawCommand(operation=operation, feed=number(feed, "a feed"))
@@ -140,7 +156,7 @@ def command_of(feed, name, *words):
     return raw
 
 
-def words_of(raw):
+def words_of(raw: Any) -> Tuple[Any, ...]:
     """Returns the arguments of a command."""
     prefix = NETWORK((raw.base, raw.len)) if raw.operation <= c.WITHDRAW else None
     name = NAMES[raw.operation]
@@ -155,82 +171,95 @@ class Answers:
     """The answers to several look-ups, in order: a Route or None each. They are in one block of memory, 20 bytes each,
     which `memory` and `numpy.frombuffer(answers.memory(), answers.dtype)` read without a copy."""
 
-    dtype = {"names": ["base", "pref", "via", "feed", "len", "hop"], "formats": ["u4", "u4", "u4", "u4", "u1", "u1"],
-             "offsets": [0, 4, 8, 12, 16, 17], "itemsize": ctypes.sizeof(c.RawRoute)}
+    dtype: Dict[str, Any] = {"names": ["base", "pref", "via", "feed", "len", "hop"], "formats": ["u4", "u4", "u4", "u4", "u1", "u1"],
+                             "offsets": [0, 4, 8, 12, 16, 17], "itemsize": ctypes.sizeof(c.RawRoute)}
 
-    def __init__(self, size):
+    def __init__(self, size: int) -> None:
         self.block = bytearray(size * ctypes.sizeof(c.RawRoute))
         self.raw = (c.RawRoute * size).from_buffer(self.block)
 
-    def __len__(self):
+    def __len__(self) -> int:
         return len(self.raw)
 
-    def __getitem__(self, index):
+    def __getitem__(self, index: Any) -> Any:
         if isinstance(index, slice):
             return [route_of(raw) for raw in self.raw[index]]
         return route_of(self.raw[index])
 
-    def __iter__(self):
+    def __iter__(self) -> Iterator[Optional[Route]]:
         return map(route_of, self.raw)
 
-    def memory(self):
+    def __repr__(self) -> str:
+        return f"<yarib.Answers: {len(self)}>"
+
+    def memory(self) -> memoryview:
         """Returns the block of memory, read-only."""
         return memoryview(self.block).toreadonly()
 
 
-def addresses_of(addresses):
+# The marks of a buffer's form that mean host byte order.
+ORDERS = "@=<" if sys.byteorder == "little" else "@=>!"
+
+
+def addresses_of(addresses: Any) -> Tuple[Any, int]:
     """Returns the addresses as a block for C, without a copy if they are a writable buffer of 32-bit numbers."""
     try:
         view = memoryview(addresses)
     except TypeError:
         block = array.array("I", map(address_of, addresses))
         return (ctypes.c_uint32 * len(block)).from_buffer(block) if block else (ctypes.c_uint32 * 1)(), len(block)
-    if view.itemsize != 4 or view.format.lstrip("@=<") not in ("I", "L") or view.ndim != 1 or not view.c_contiguous:
-        raise ValueError("yarib: a buffer of addresses is one of numbers of 32 bits without a sign, one after another")
+    if view.itemsize != 4 or view.format.lstrip(ORDERS) not in ("I", "L") or view.ndim != 1 or not view.c_contiguous:
+        raise Invalid(f"yarib: {addresses!r} is not a contiguous buffer of unsigned 32-bit numbers in host byte order")
     if not len(view):
         return (ctypes.c_uint32 * 1)(), 0
     kind = ctypes.c_uint32 * len(view)
     return (kind.from_buffer_copy(view) if view.readonly else kind.from_buffer(view)), len(view)
 
 
-def ask(library, handle, addresses):
+def ask(handle: Any, addresses: Any) -> Answers:
     block, size = addresses_of(addresses)
     answers = Answers(size)
-    check(library.yarib_look_up(handle, block, size, answers.raw if size else (c.RawRoute * 1)(), size))
+    done(freed.yarib_look_up, handle, block, size, answers.raw if size else (c.RawRoute * 1)(), size)
     return answers
 
 
-def ask_one(library, handle, address):
-    asked, found = ctypes.c_uint32(address_of(address)), c.RawRoute()
-    check(library.yarib_look_up(handle, ctypes.byref(asked), 1, ctypes.byref(found), 1))
+def ask_one(handle: Any, address: Address) -> Optional[Route]:
+    found = c.RawRoute()
+    done(held.yarib_look_up_one, handle, address_of(address), ctypes.byref(found))
     return route_of(found)
 
 
-def bytes_of(handle):
+def bytes_of(handle: Any) -> int:
     found = ctypes.c_size_t()
-    check(held.yarib_memory(handle, ctypes.byref(found)))
+    done(held.yarib_memory, handle, ctypes.byref(found))
     return found.value
 
 
 class Handle:
     """A handle of the C library, freed with this object."""
 
-    def __init__(self):
+    def __init__(self) -> None:
         self._handle = ctypes.c_void_p()
         self._at = ctypes.byref(self._handle)
+        # Held by a change that waits for the calls under way: long calls that only read let it go first.
+        self._turn = threading.Lock()
 
-    def close(self):
-        """Frees the handle's contents. Closing twice is harmless."""
-        held.yarib_free(self._at)
+    def _change(self, call: Callable[..., int], *words: Any) -> None:
+        """Makes a call that changes the handle, once no other call is on it."""
+        if (status := call(*words)) == c.BUSY:
+            with self._turn:
+                status = status_of(call, *words)
+        check(status)
 
-    def __del__(self):
+    def close(self) -> None:
+        """Frees the handle's contents, once no other thread's call uses them. Closing twice is harmless."""
+        self._change(freed.yarib_free, self._at)
+
+    def __del__(self) -> None:
         if hasattr(self, "_at"):
             held.yarib_free(self._at)
 
-    def __enter__(self):
-        return self
-
-    def __exit__(self, *_):
+    def __exit__(self, *_: object) -> None:
         self.close()
 
 
@@ -238,197 +267,342 @@ class Table(Handle):
     """A routing table in which each feed may have `limit` routes, 1 to 1,000,000. With `journal` it keeps every
     answered command, 56 bytes each."""
 
-    def __init__(self, limit=1_000_000, journal=False):
+    def __init__(self, limit: int = c.MAX_LIMIT, journal: bool = False) -> None:
         super().__init__()
-        check(held.yarib_new(self._at, number(limit, "a limit"), int(bool(journal))))
+        self._limit, self._journal = number(limit, "a limit"), bool(journal)
+        check(status_of(held.yarib_new, self._at, self._limit, int(self._journal)), limit)
 
-    def apply(self, feed, name, *words):
+    def __enter__(self) -> Table:
+        return self
+
+    def __repr__(self) -> str:
+        try:
+            return f"<yarib.Table of {len(self)} routes>"
+        except Error as error:
+            return f"<yarib.Table: {error}>"
+
+    def __reduce__(self) -> Tuple[Any, ...]:
+        """Copies and pickles a table by its routes, or by its journal if it keeps one. The copy isn't followed."""
+        if self._journal:
+            commands = [entry.command for entry in self.journal()]
+        else:
+            commands = [(one.feed, "add", one[:2], one.pref, one.via) for one in self.routes()]
+        return restored, (self._limit, self._journal, commands)
+
+    def apply(self, feed: int, name: str, *words: Any) -> Outcome:
         """Executes a command of the feed and returns its outcome: add or replace with prefix, preference and via, withdraw
         with prefix, lookup with address, dump or purge."""
         raw, reply = command_of(feed, name, *words), c.RawReply()
-        check(held.yarib_apply(self._at, ctypes.byref(raw), ctypes.byref(reply)))
+        self._change(held.yarib_apply, self._at, ctypes.byref(raw), ctypes.byref(reply))
         return outcome_of(reply)
 
-    def apply_each(self, commands):
+    def apply_each(self, commands: Iterable[Sequence[Any]]) -> List[Outcome]:
         """Executes commands, given as the arguments of `apply`, and returns the list of their outcomes."""
         raw = [command_of(*words) for words in commands]
         if not raw:
             return []
         block, replies = (c.RawCommand * len(raw))(*raw), (c.RawReply * len(raw))()
-        check(held.yarib_apply_each(self._at, block, len(raw), replies, len(raw)))
+        self._change(freed.yarib_apply_each, self._at, block, len(raw), replies, len(raw))
         return [outcome_of(reply) for reply in replies]
 
-    def _change(self, prefix, feed, name, *words):
+    def _put(self, prefix: Prefix, feed: int, name: str, *words: Any) -> None:
         said = self.apply(feed, name, prefix, *words).said
         if said in ("exists", "full"):
             raise (Exists if said == "exists" else Full)(f"feed {feed}: {prefix}")
         if said == "missing":
             raise Missing(f"feed {feed}: {prefix}")
 
-    def add(self, prefix, via, pref=0, feed=1):
+    def add(self, prefix: Prefix, via: Optional[Address], pref: int = 0, feed: int = 1) -> None:
         """Adds a route; `via` None discards packets. Raises Exists or Full."""
-        self._change(prefix, feed, "add", pref, via)
+        self._put(prefix, feed, "add", pref, via)
 
-    def replace(self, prefix, via, pref=0, feed=1):
+    def put(self, prefix: Prefix, via: Optional[Address], pref: int = 0, feed: int = 1) -> bool:
+        """Adds a route, or changes the feed's route to this prefix. Returns True if it was added. Raises Full."""
+        while True:
+            said = self.apply(feed, "add", prefix, pref, via).said
+            if said == "full":
+                raise Full(f"feed {feed}: {prefix}")
+            # Another thread may withdraw the route between the two commands.
+            if said == "added" or self.apply(feed, "replace", prefix, pref, via).said == "replaced":
+                return said == "added"
+
+    def replace(self, prefix: Prefix, via: Optional[Address], pref: int = 0, feed: int = 1) -> None:
         """Changes preference and next hop of the feed's route. Raises Missing."""
-        self._change(prefix, feed, "replace", pref, via)
+        self._put(prefix, feed, "replace", pref, via)
 
-    def withdraw(self, prefix, feed=1):
+    def withdraw(self, prefix: Prefix, feed: int = 1) -> None:
         """Removes the feed's route. Raises Missing."""
-        self._change(prefix, feed, "withdraw")
+        self._put(prefix, feed, "withdraw")
 
-    def purge(self, feed=1):
+    def purge(self, feed: int = 1) -> int:
         """Removes all routes of the feed and returns their number."""
         return self.apply(feed, "purge").count
 
-    def look_up(self, address):
+    def look_up(self, address: Address) -> Optional[Route]:
         """Returns the best route of the longest prefix that covers the address, or None."""
-        return ask_one(held, self._at, address)
+        return ask_one(self._at, address)
 
-    def look_up_each(self, addresses):
-        """Looks up all these addresses and returns the Answers. They are any iterable, or a buffer of 32-bit numbers."""
-        return ask(held, self._at, addresses)
+    def look_up_each(self, addresses: Any) -> Answers:
+        """Looks up all these addresses and returns the Answers. They are any iterable, or a buffer of 32-bit numbers. Other
+        threads run meanwhile."""
+        with self._turn:
+            pass
+        return ask(self._at, addresses)
 
-    def look_up_all(self, address):
+    def look_up_all(self, address: Address) -> List[Route]:
         """Returns all routes whose prefix covers the address, the best first."""
         address = address_of(address)
         found = self._pages(c.RawRoute, 64, lambda *place: held.yarib_look_up_all(self._at, address, *place))
-        return [route_of(raw) for raw in found]
+        return routes_of(found)
 
-    def _pages(self, kind, size, call):
+    def _pages(self, kind: Any, size: int, call: Callable[..., int]) -> Any:
         """Returns a whole list, in at most two calls while it doesn't change."""
         total = ctypes.c_size_t()
         while True:
             block = (kind * size)()
-            check(call(0, block, size, ctypes.byref(total)))
+            done(call, 0, block, size, ctypes.byref(total))
             if total.value <= size:
                 return block[:total.value]
             size = total.value
 
-    def __len__(self):
+    def __len__(self) -> int:
         total = ctypes.c_size_t()
-        check(held.yarib_count(self._at, ctypes.byref(total)))
+        done(held.yarib_count, self._at, ctypes.byref(total))
         return total.value
 
-    def routes(self, feed=None, best=False):
+    def routes(self, feed: Optional[int] = None, best: bool = False) -> List[Route]:
         """Returns the routes, sorted by base, length, preference and feed: all, or those of a feed. With `best` only the
         best of each prefix; with a feed, only those best routes that belong to the feed."""
         if feed is not None or best:
             return self._select(c.ALL, (0, 0), feed, best)
         found = self._pages(c.RawRoute, len(self) + 1, lambda *place: held.yarib_routes(self._at, *place))
-        return [route_of(raw) for raw in found]
+        return routes_of(found)
 
-    def exact(self, prefix, feed=None, best=False):
+    def exact(self, prefix: Prefix, feed: Optional[int] = None, best: bool = False) -> List[Route]:
         """Returns the routes to this prefix, the best first, selected as in `routes`."""
         return self._select(c.EXACT, prefix_of(prefix), feed, best)
 
-    def within(self, prefix, feed=None, best=False):
+    def within(self, prefix: Prefix, feed: Optional[int] = None, best: bool = False) -> List[Route]:
         """Returns the routes to this prefix and to longer prefixes inside it, selected as in `routes`."""
         return self._select(c.WITHIN, prefix_of(prefix), feed, best)
 
-    def covering(self, prefix, feed=None, best=False):
+    def covering(self, prefix: Prefix, feed: Optional[int] = None, best: bool = False) -> List[Route]:
         """Returns the routes to this prefix and to shorter prefixes that contain it, selected as in `routes`."""
         return self._select(c.COVERING, prefix_of(prefix), feed, best)
 
-    def _select(self, part, prefix, feed, best):
+    def _select(self, part: int, prefix: Tuple[int, int], feed: Optional[int], best: bool) -> List[Route]:
         if feed == 0:
-            raise ValueError("yarib: bad number")
+            c.fail(c.BAD_NUMBER, feed)
         base, length = prefix
         asked = c.RawSelection(part, number(feed or 0, "a feed"), base, length, int(bool(best)))
         found = self._pages(c.RawRoute, 64, lambda *place: held.yarib_select(self._at, ctypes.byref(asked), *place))
-        return [route_of(raw) for raw in found]
+        return routes_of(found)
 
-    def routes_from(self, prefix, pref=0, feed=0):
+    def routes_from(self, prefix: Prefix, pref: int = 0, feed: int = 0) -> Iterator[Route]:
         """Iterates over the routes, in the order of `routes`, from the position of this prefix, preference and feed on.
         Preference and feed 0 are before all routes to the prefix. Allocates memory for one page of routes. The table
         may change during the iteration: a route is included if it exists when its turn comes, and never twice."""
         base, length = prefix_of(prefix)
         return self._pages_from(c.RawRoute(base, number(pref, "a preference"), 0, number(feed, "a feed"), length))
 
-    def _pages_from(self, place):
+    def _pages_from(self, place: Any) -> Iterator[Route]:
         used = ctypes.c_size_t(PAGE)
         while used.value == PAGE:
             page = (c.RawRoute * PAGE)()
-            check(held.yarib_routes_from(self._at, ctypes.byref(place), page, PAGE, ctypes.byref(used)))
-            yield from map(route_of, page[:used.value])
+            done(held.yarib_routes_from, self._at, ctypes.byref(place), page, PAGE, ctypes.byref(used))
+            yield from routes_of(page[:used.value])
             place = c.RawRoute.from_buffer_copy(page[PAGE - 1])
             place.feed += 1
 
-    def __iter__(self):
+    def __iter__(self) -> Iterator[Route]:
         """Iterates over all routes, page by page, like `routes_from`."""
         return self.routes_from((0, 0))
 
-    def __contains__(self, prefix):
-        """Returns True if some feed has a route to exactly this prefix."""
-        return bool(self.exact(prefix))
+    def look_up_prefix(self, prefix: Prefix) -> Optional[Route]:
+        """Returns the best route of the longest prefix that contains this prefix, or None."""
+        found = self.covering(prefix, best=True)
+        return found[-1] if found else None
 
-    def journal(self):
+    def __getitem__(self, key: Union[Address, Prefix]) -> Route:
+        """Returns the best route to exactly this prefix, or the answer to a look-up of this address. Raises Missing."""
+        if (route := self.get(key)) is None:
+            raise Missing(f"no route to {key}")
+        return route
+
+    def get(self, key: Union[Address, Prefix], default: Any = None) -> Any:
+        """Returns what `table[key]` returns, or the default if there is no such route."""
+        found = self.exact(key, best=True) if is_prefix(key) else [self.look_up(key)]  # type: ignore[arg-type]
+        return default if found in ([], [None]) else found[0]
+
+    def __delitem__(self, prefix: Prefix) -> None:
+        """Removes the routes of all feeds to this prefix. Raises Missing if there is none."""
+        removed = [self.apply(route.feed, "withdraw", prefix).said for route in self.exact(prefix)]
+        if "withdrawn" not in removed:
+            raise Missing(f"no route to {prefix}")
+
+    def __contains__(self, key: object) -> bool:
+        """Returns True if the table has exactly this route, if some feed has a route to exactly this prefix, or if some
+        prefix covers this address."""
+        if isinstance(key, Route):
+            return key in self.exact(key[:2], feed=key.feed)
+        return bool(self.exact(key)) if is_prefix(key) else self.look_up(key) is not None  # type: ignore[arg-type]
+
+    def save(self, path: Union[str, os.PathLike[str]], feed: int = 1) -> None:
+        """Writes the feed's routes as a feed file of version 2."""
+        lines = [f"add {one.prefix} {one.pref} {'discard' if one.via is None else one.next_hop}\n"
+                 for one in self.routes(feed)]
+        with open(path, "w", encoding="ascii", newline="\n") as file:
+            file.writelines(["version 2\n", *lines])
+
+    def load(self, path: Union[str, os.PathLike[str]], feed: int = 1) -> None:
+        """Adds the routes of a feed file that consists of `add` lines. Raises Exists, Full or Invalid with the number of
+        the first line that can't be added; the routes of the lines before it stay."""
+        with open(path, encoding="ascii", errors="surrogateescape", newline="\n") as file:
+            lines = [line.rstrip("\n") for line in file]
+        first = lines[:1] == ["version 2"]
+        for at, line in enumerate(lines[first:], 1 + first):
+            if line and line[0] != "#" or len(line) > 128:
+                self._load_line(f"{os.fspath(path)}:{at}", line, feed, has_discard=first)
+
+    def _load_line(self, place: str, line: str, feed: int, has_discard: bool) -> None:
+        try:
+            name, prefix, pref, hop = line.split(" ")
+            if name != "add" or str(int(pref)) != pref:
+                raise ValueError
+            via = None if hop == "discard" and has_discard else address_of(hop)
+            self.add(prefix, via, int(pref), feed)
+        except (Exists, Full) as error:
+            raise type(error)(f"{place}: {error}") from None
+        except ValueError:
+            raise Invalid(f"yarib: {place}: not an add line: {line!r}") from None
+
+    def journal(self) -> List[Entry]:
         """Returns each answered command with its outcome. Raises Refused if the table keeps no journal."""
         raws = self._pages(c.RawEntry, ENTRIES, lambda *place: held.yarib_journal(self._at, *place))
         return [Entry(words_of(raw.command), outcome_of(raw.reply)) for raw in raws]
 
-    def reserve(self, entries):
+    def reserve(self, entries: int) -> None:
         """Reserves capacity for this many journal entries, if there is a journal."""
-        check(held.yarib_reserve(self._at, entries))
+        self._change(held.yarib_reserve, self._at, number(entries, "a size", ctypes.sizeof(ctypes.c_size_t) * 8))
 
-    def differences(self, other, by="hop"):
+    def differences(self, other: Table, by: str = "hop") -> Iterator[Difference]:
         """Iterates over the ranges for which this table and another give different answers, by "hop" or by "route"."""
         if other is self:
             return
+        if by not in ("hop", "route"):
+            raise Invalid(f"yarib: {by!r} is not \"hop\" or \"route\"")
         kind, told = {"hop": (0, hop_of), "route": (1, route_of)}[by]
         raw, first = c.RawDifference(), 0
         while first < 1 << 32:
-            status = held.yarib_first_difference(self._at, other._at, kind, first, ctypes.byref(raw))
+            status = status_of(held.yarib_first_difference, self._at, other._at, kind, first, ctypes.byref(raw))
             if status == c.NONE_LEFT:
                 return
             check(status)
             yield Difference(raw.first, raw.last, told(raw.before), told(raw.after))
             first = raw.last + 1
 
-    def forward(self):
+    def forward(self) -> Forwarding:
         """Returns a forwarding table with the current answers of this table."""
         return Forwarding(self)
 
-    def follow(self):
+    def follow(self) -> None:
         """Attaches a forwarding table of 64 MiB or more, if none is attached. From then on every command updates it, and
         look-ups use it. If a command finds no memory for the update, the forwarding table is freed until this is called
         again. Raises Refused if the table keeps a journal."""
-        check(held.yarib_follow(self._at))
+        self._change(freed.yarib_follow, self._at)
 
-    def memory(self):
+    def memory(self) -> int:
         """Returns an estimate of its size in bytes, including an attached forwarding table."""
         return bytes_of(self._at)
 
 
-def hop_of(raw):
+def is_prefix(key: object) -> bool:
+    """Returns True if a key of `table[key]` is a prefix, and not an address."""
+    return "/" in key if isinstance(key, str) else isinstance(key, (NETWORK, tuple, list))
+
+
+def restored(limit: int, journal: bool, commands: List[Sequence[Any]]) -> Table:
+    """Returns a table that executed these commands."""
+    table = Table(limit, journal)
+    table.reserve(len(commands))
+    table.apply_each(commands)
+    return table
+
+
+def hop_of(raw: Any) -> object:
     return False if raw.hop == c.NO_ROUTE else ADDRESS(raw.via) if raw.hop == c.VIA else None
 
 
-class Forwarding:
+class Forwarding(Handle):
     """A table's answers at the time when this was created: 64 MiB or more, for look-ups with two or three memory reads.
     Several threads can query it concurrently."""
 
-    def __init__(self, table):
-        self._first = Handle()
-        self._own = threading.local()
-        check(held.yarib_forward(table._at, self._first._at))
+    def __init__(self, table: Table) -> None:
+        super().__init__()
+        done(freed.yarib_forward, table._at, self._at)
 
-    def _mine(self):
-        """Returns this thread's own handle."""
-        if not hasattr(self._own, "handle"):
-            handle = Handle()
-            check(held.yarib_share(self._first._at, handle._at))
-            self._own.handle = handle
-        return self._own.handle._at
+    def __enter__(self) -> Forwarding:
+        return self
 
-    def look_up(self, address):
+    def __repr__(self) -> str:
+        try:
+            return f"<yarib.Forwarding of {self.memory()} bytes>"
+        except Error as error:
+            return f"<yarib.Forwarding: {error}>"
+
+    def __reduce__(self) -> NoReturn:
+        raise TypeError("yarib: a forwarding table can't be copied or pickled: copy its table and call forward()")
+
+    def look_up(self, address: Address) -> Optional[Route]:
         """Returns the best route of the longest prefix that covers the address, or None."""
-        return ask_one(held, self._mine(), address)
+        return ask_one(self._at, address)
 
-    def look_up_each(self, addresses):
+    def look_up_each(self, addresses: Any) -> Answers:
         """Looks up all these addresses and returns the Answers. Other threads run meanwhile."""
-        return ask(c.freed, self._mine(), addresses)
+        return ask(self._at, addresses)
 
-    def memory(self):
+    def memory(self) -> int:
         """Returns its size in bytes."""
-        return bytes_of(self._first._at)
+        return bytes_of(self._at)
+
+
+class Source:
+    """A source of more routes than a feed may have, in consecutive feeds of a table. Each prefix belongs to one of the
+    feeds, so the source has at most one route to it, and routes of the source and of other feeds are compared as if the
+    source were one feed. With n feeds, n times the limit is reached only approximately: Full is raised as soon as the
+    feed of the prefix is at its limit."""
+
+    def __init__(self, table: Table, first: int = 1, feeds: int = 2) -> None:
+        if not 1 <= number(first, "a feed") <= c.MAX_FEED + 1 - number(feeds, "a number of feeds") <= c.MAX_FEED:
+            raise Invalid(f"yarib: feeds {first} to {first + feeds - 1} are not consecutive feeds of a table")
+        self.table, self.feeds = table, range(first, first + feeds)
+
+    def feed_of(self, prefix: Prefix) -> int:
+        """Returns the feed that the prefix belongs to."""
+        base, length = prefix_of(prefix)
+        mixed = (base + length) * 2_654_435_769 & 0xFFFFFFFF
+        return self.feeds[mixed * len(self.feeds) >> 32]
+
+    def add(self, prefix: Prefix, via: Optional[Address], pref: int = 0) -> None:
+        """Adds a route; `via` None discards packets. Raises Exists or Full."""
+        self.table.add(prefix, via, pref, self.feed_of(prefix))
+
+    def put(self, prefix: Prefix, via: Optional[Address], pref: int = 0) -> bool:
+        """Adds a route, or changes the route to this prefix. Returns True if it was added. Raises Full."""
+        return self.table.put(prefix, via, pref, self.feed_of(prefix))
+
+    def replace(self, prefix: Prefix, via: Optional[Address], pref: int = 0) -> None:
+        """Changes preference and next hop of the route to this prefix. Raises Missing."""
+        self.table.replace(prefix, via, pref, self.feed_of(prefix))
+
+    def withdraw(self, prefix: Prefix) -> None:
+        """Removes the route to this prefix. Raises Missing."""
+        self.table.withdraw(prefix, self.feed_of(prefix))
+
+    def purge(self) -> int:
+        """Removes all routes of the source and returns their number."""
+        return sum(self.table.purge(feed) for feed in self.feeds)
+
+    def routes(self) -> List[Route]:
+        """Returns the routes of the source, sorted by base and length."""
+        return sorted(route for feed in self.feeds for route in self.table.routes(feed))

@@ -29,6 +29,7 @@ fn main() -> Result<(), Error> {
         }
     }
     for range in before.differences(&mut after, By::Hop) {
+        let range = range?;
         println!("{} to {} goes another way", range.first, range.last);
     }
     Ok(())

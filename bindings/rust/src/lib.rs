@@ -13,21 +13,35 @@
 //! ```
 //!
 //! Feeds are 1 to 64. The lowest preference number is preferred; between equal preferences, the lowest feed. After an [`Error`]
-//! the table is unchanged. Look-ups take `&mut self`: only one call at a time may use a table, so threads share one behind their
-//! own lock. A [`Forwarding`] answers look-ups of several threads concurrently; each has its own handle
-//! ([`Forwarding::share`]).
+//! the table is unchanged. Calls that only read take `&self`, so any number of threads can look up in one table at the same time;
+//! with changes in between they share it behind a [`RwLock`](std::sync::RwLock), or look up in a [`Forwarding`], which doesn't change.
 #![deny(unsafe_code)]
 #![warn(missing_docs)]
 
 mod raw;
 
+use std::cmp::Ordering;
 use std::fmt;
 use std::net::Ipv4Addr;
 use std::str::FromStr;
 
+/// The largest feed.
+pub const MAX_FEED: u32 = 64;
+/// The largest limit of a table: the number of routes of a feed.
+pub const MAX_LIMIT: u32 = 1_000_000;
+/// The largest length of a prefix.
+pub const MAX_LENGTH: u8 = 32;
+
 /// The reason why a call did nothing.
-#[derive(Clone, Copy, Debug, PartialEq, Eq)]
+#[derive(Clone, Copy, Debug, PartialEq, Eq, Hash)]
+#[non_exhaustive]
 pub enum Error {
+    /// The feed already has a route to this prefix.
+    Exists,
+    /// The feed is at its limit.
+    Full,
+    /// The feed has no route to this prefix.
+    Missing,
     /// A limit or a feed is out of range.
     Number,
     /// Out of memory.
@@ -61,6 +75,9 @@ impl Error {
 impl fmt::Display for Error {
     fn fmt(&self, f: &mut fmt::Formatter<'_>) -> fmt::Result {
         f.write_str(match self {
+            Error::Exists => "the feed has a route to this prefix",
+            Error::Full => "the feed is at its limit",
+            Error::Missing => "the feed has no route to this prefix",
             Error::Number => "a limit or a feed is out of range",
             Error::Memory => "out of memory",
             Error::Text => "the text isn't a prefix",
@@ -110,11 +127,45 @@ impl Prefix {
         self.len
     }
 
+    /// Returns true if it covers this address.
+    pub fn contains(&self, address: Ipv4Addr) -> bool {
+        let past = 32 - u32::from(self.len);
+        u64::from(u32::from(self.base)) >> past == u64::from(u32::from(address)) >> past
+    }
+
+    /// Returns true if it covers every address of this prefix.
+    pub fn contains_prefix(&self, other: Prefix) -> bool {
+        self.len <= other.len && self.contains(other.base)
+    }
+
     fn of(base: u32, len: u8) -> Prefix {
         Prefix {
             base: Ipv4Addr::from(base),
             len,
         }
+    }
+}
+
+impl From<Ipv4Addr> for Prefix {
+    fn from(address: Ipv4Addr) -> Prefix {
+        Prefix {
+            base: address,
+            len: MAX_LENGTH,
+        }
+    }
+}
+
+impl TryFrom<(Ipv4Addr, u8)> for Prefix {
+    type Error = Error;
+
+    fn try_from((base, len): (Ipv4Addr, u8)) -> Result<Prefix> {
+        Prefix::new(base, len)
+    }
+}
+
+impl From<Ipv4Addr> for Hop {
+    fn from(router: Ipv4Addr) -> Hop {
+        Hop::Via(router)
     }
 }
 
@@ -134,7 +185,7 @@ impl fmt::Display for Prefix {
 }
 
 /// The next hop of a route.
-#[derive(Clone, Copy, Debug, PartialEq, Eq, Hash)]
+#[derive(Clone, Copy, Debug, PartialEq, Eq, PartialOrd, Ord, Hash)]
 pub enum Hop {
     /// The router with this address.
     Via(Ipv4Addr),
@@ -203,7 +254,7 @@ impl fmt::Display for Route {
 }
 
 /// A command of a feed.
-#[derive(Clone, Copy, Debug, PartialEq, Eq)]
+#[derive(Clone, Copy, Debug, PartialEq, Eq, Hash)]
 pub enum Command {
     /// Inserts a route, unless the feed has one to this prefix or is at its limit.
     Add(Prefix, u32, Hop),
@@ -272,7 +323,7 @@ impl Command {
 }
 
 /// The reply to a command.
-#[derive(Clone, Copy, Debug, PartialEq, Eq)]
+#[derive(Clone, Copy, Debug, PartialEq, Eq, Hash)]
 pub enum Reply {
     /// The route was inserted.
     Added,
@@ -296,7 +347,48 @@ pub enum Reply {
     Purged(u32),
 }
 
+impl fmt::Display for Reply {
+    fn fmt(&self, f: &mut fmt::Formatter<'_>) -> fmt::Result {
+        match self {
+            Reply::Added => f.write_str("added"),
+            Reply::Exists => f.write_str("exists"),
+            Reply::Full => f.write_str("full"),
+            Reply::Replaced => f.write_str("replaced"),
+            Reply::Withdrawn => f.write_str("withdrawn"),
+            Reply::Missing => f.write_str("missing"),
+            Reply::Found(route) => write!(f, "route {route}"),
+            Reply::NoRoute => f.write_str("no route"),
+            Reply::Dumped(count) => write!(f, "dumped {count}"),
+            Reply::Purged(count) => write!(f, "purged {count}"),
+        }
+    }
+}
+
+impl PartialOrd for Route {
+    fn partial_cmp(&self, other: &Route) -> Option<Ordering> {
+        Some(self.cmp(other))
+    }
+}
+
+/// The order of a table's lists: base, length, preference and feed.
+impl Ord for Route {
+    fn cmp(&self, other: &Route) -> Ordering {
+        let key = |one: &Route| (one.prefix, one.pref, one.feed, one.hop);
+        key(self).cmp(&key(other))
+    }
+}
+
 impl Reply {
+    /// Returns the error of a reply that says that nothing changed.
+    fn done(self) -> Result<Reply> {
+        match self {
+            Reply::Exists => Err(Error::Exists),
+            Reply::Full => Err(Error::Full),
+            Reply::Missing => Err(Error::Missing),
+            other => Ok(other),
+        }
+    }
+
     /// Returns the reply, or the reason why there is none.
     fn of(raw: &raw::Reply) -> Result<Reply> {
         Ok(match raw.code {
@@ -316,7 +408,7 @@ impl Reply {
 }
 
 /// An entry of the journal.
-#[derive(Clone, Copy, Debug, PartialEq, Eq)]
+#[derive(Clone, Copy, Debug, PartialEq, Eq, Hash)]
 pub struct Entry {
     /// The feed that executed it.
     pub feed: u32,
@@ -327,7 +419,7 @@ pub struct Entry {
 }
 
 /// How the answers of two tables are compared.
-#[derive(Clone, Copy, Debug, PartialEq, Eq)]
+#[derive(Clone, Copy, Debug, PartialEq, Eq, Hash)]
 pub enum By {
     /// By next hop.
     Hop,
@@ -336,7 +428,7 @@ pub enum By {
 }
 
 /// The answer of a table for the addresses of a range.
-#[derive(Clone, Copy, Debug, PartialEq, Eq)]
+#[derive(Clone, Copy, Debug, PartialEq, Eq, Hash)]
 pub enum Answer {
     /// No route covers them.
     NoRoute,
@@ -356,7 +448,7 @@ impl Answer {
 }
 
 /// A range of addresses for which two tables give different answers.
-#[derive(Clone, Copy, Debug, PartialEq, Eq)]
+#[derive(Clone, Copy, Debug, PartialEq, Eq, Hash)]
 pub struct Difference {
     /// Its first address.
     pub first: Ipv4Addr,
@@ -369,7 +461,7 @@ pub struct Difference {
 }
 
 /// The prefixes of a selection.
-#[derive(Clone, Copy, Debug, PartialEq, Eq)]
+#[derive(Clone, Copy, Debug, PartialEq, Eq, Hash)]
 pub enum Part {
     /// All.
     All,
@@ -382,7 +474,7 @@ pub enum Part {
 }
 
 /// A selection of routes.
-#[derive(Clone, Copy, Debug, PartialEq, Eq)]
+#[derive(Clone, Copy, Debug, PartialEq, Eq, Hash)]
 pub struct Selection {
     /// Their prefixes.
     pub part: Part,
@@ -439,6 +531,9 @@ impl Table {
     }
 
     /// Executes a command of the feed and returns its reply.
+    ///
+    /// # Errors
+    /// [`Error::Number`] if the feed is out of range, [`Error::Memory`].
     pub fn apply(&mut self, feed: u32, command: Command) -> Result<Reply> {
         let reply = self.0.apply(&command.numbers(feed)).map_err(Error::of)?;
         Reply::of(&reply)
@@ -455,39 +550,78 @@ impl Table {
         Ok(replies.iter().map(Reply::of).collect())
     }
 
-    /// Executes `Command::Add`.
+    /// Adds a route.
+    ///
+    /// # Errors
+    /// [`Error::Exists`], [`Error::Full`], and those of [`Table::apply`].
     pub fn add(&mut self, feed: u32, prefix: Prefix, pref: u32, hop: Hop) -> Result<Reply> {
-        self.apply(feed, Command::Add(prefix, pref, hop))
+        self.apply(feed, Command::Add(prefix, pref, hop))?.done()
     }
 
-    /// Executes `Command::Withdraw`.
+    /// Changes preference and next hop of the feed's route.
+    ///
+    /// # Errors
+    /// [`Error::Missing`], and those of [`Table::apply`].
+    pub fn replace(&mut self, feed: u32, prefix: Prefix, pref: u32, hop: Hop) -> Result<Reply> {
+        self.apply(feed, Command::Replace(prefix, pref, hop))?
+            .done()
+    }
+
+    /// Adds a route, or changes the feed's route to this prefix.
+    ///
+    /// # Errors
+    /// [`Error::Full`], and those of [`Table::apply`].
+    pub fn put(&mut self, feed: u32, prefix: Prefix, pref: u32, hop: Hop) -> Result<Reply> {
+        match self.add(feed, prefix, pref, hop) {
+            Err(Error::Exists) => self.replace(feed, prefix, pref, hop),
+            other => other,
+        }
+    }
+
+    /// Removes the feed's route.
+    ///
+    /// # Errors
+    /// [`Error::Missing`], and those of [`Table::apply`].
     pub fn withdraw(&mut self, feed: u32, prefix: Prefix) -> Result<Reply> {
-        self.apply(feed, Command::Withdraw(prefix))
+        self.apply(feed, Command::Withdraw(prefix))?.done()
+    }
+
+    /// Returns the best route of the longest prefix that contains this prefix.
+    ///
+    /// # Errors
+    /// [`Error::Memory`].
+    pub fn look_up_prefix(&self, prefix: Prefix) -> Result<Option<Route>> {
+        let asked = Selection {
+            only_best: true,
+            ..Selection::of(Part::Covering(prefix))
+        };
+        Ok(self.select(asked)?.pop())
     }
 
     /// Returns the best route of the longest prefix that covers the address.
-    pub fn look_up(&mut self, address: Ipv4Addr) -> Result<Option<Route>> {
-        Ok(self.look_up_each(&[u32::from(address)])?[0])
+    pub fn look_up(&self, address: Ipv4Addr) -> Result<Option<Route>> {
+        let found = self.0.look_up_one(u32::from(address)).map_err(Error::of)?;
+        Ok(Route::of(&found))
     }
 
     /// Returns the answers for all these addresses, in less time than one call each.
-    pub fn look_up_each(&mut self, addresses: &[u32]) -> Result<Vec<Option<Route>>> {
-        answers(&mut self.0, addresses)
+    pub fn look_up_each(&self, addresses: &[u32]) -> Result<Vec<Option<Route>>> {
+        answers(&self.0, addresses)
     }
 
     /// Returns all routes whose prefix covers the address, the best first.
-    pub fn look_up_all(&mut self, address: Ipv4Addr) -> Result<Vec<Route>> {
+    pub fn look_up_all(&self, address: Ipv4Addr) -> Result<Vec<Route>> {
         let found = whole(64, |part| self.0.look_up_all(u32::from(address), part))?;
         Ok(found.iter().filter_map(Route::of).collect())
     }
 
     /// Returns the number of routes.
-    pub fn count(&mut self) -> Result<usize> {
+    pub fn count(&self) -> Result<usize> {
         self.0.count().map_err(Error::of)
     }
 
     /// Returns all routes, sorted by base, length, preference and feed.
-    pub fn routes(&mut self) -> Result<Vec<Route>> {
+    pub fn routes(&self) -> Result<Vec<Route>> {
         let size = self.count()?;
         let found = whole(size, |part| self.0.routes(part))?;
         Ok(found.iter().filter_map(Route::of).collect())
@@ -495,7 +629,7 @@ impl Table {
 
     /// Returns the routes in the order of `routes` from the position of this prefix, preference and feed on; there need not be such
     /// a route. Preference and feed 0 are before all routes to the prefix. Allocates memory for a few routes at a time.
-    pub fn routes_from(&mut self, prefix: Prefix, pref: u32, feed: u32) -> RoutesFrom<'_> {
+    pub fn routes_from(&self, prefix: Prefix, pref: u32, feed: u32) -> RoutesFrom<'_> {
         let place = raw::Route {
             base: u32::from(prefix.base),
             len: prefix.len,
@@ -511,14 +645,14 @@ impl Table {
     }
 
     /// Returns the selected routes in the order of `routes`.
-    pub fn select(&mut self, asked: Selection) -> Result<Vec<Route>> {
+    pub fn select(&self, asked: Selection) -> Result<Vec<Route>> {
         let asked = asked.numbers();
         let found = whole(64, |part| self.0.select(&asked, part))?;
         Ok(found.iter().filter_map(Route::of).collect())
     }
 
     /// Returns the journal of a table that keeps one; `Error::Kind` otherwise.
-    pub fn journal(&mut self) -> Result<Vec<Entry>> {
+    pub fn journal(&self) -> Result<Vec<Entry>> {
         let found = whole(0, |part| self.0.journal(part))?;
         found.iter().map(entry).collect()
     }
@@ -528,13 +662,14 @@ impl Table {
         self.0.reserve(entries).map_err(Error::of)
     }
 
-    /// Returns the ranges of addresses for which this table and a newer one give different answers, one after another.
-    pub fn differences<'a>(&'a mut self, new: &'a mut Table, by: By) -> Differences<'a> {
+    /// Returns the ranges of addresses for which this table and a newer one give different answers, one after another. A table
+    /// and itself have none.
+    pub fn differences<'a>(&'a self, new: &'a Table, by: By) -> Differences<'a> {
         Differences {
             old: self,
             new,
             by,
-            from: Some(0),
+            from: (!std::ptr::eq(self, new)).then_some(0),
         }
     }
 
@@ -546,12 +681,12 @@ impl Table {
     }
 
     /// Returns an estimate of its size in bytes, including an attached forwarding table.
-    pub fn memory(&mut self) -> Result<usize> {
+    pub fn memory(&self) -> Result<usize> {
         self.0.memory().map_err(Error::of)
     }
 
     /// Returns a forwarding table with the current answers of this table.
-    pub fn forward(&mut self) -> Result<Forwarding> {
+    pub fn forward(&self) -> Result<Forwarding> {
         self.0.forward().map(Forwarding).map_err(Error::of)
     }
 }
@@ -564,7 +699,7 @@ fn entry(raw: &raw::Entry) -> Result<Entry> {
     })
 }
 
-fn answers(handle: &mut raw::Handle, addresses: &[u32]) -> Result<Vec<Option<Route>>> {
+fn answers(handle: &raw::Handle, addresses: &[u32]) -> Result<Vec<Option<Route>>> {
     let mut found = vec![raw::Route::default(); addresses.len()];
     handle.look_up(addresses, &mut found).map_err(Error::of)?;
     Ok(found.iter().map(Route::of).collect())
@@ -591,64 +726,79 @@ const PAGE: usize = 256;
 /// The routes of a table from a position on.
 #[derive(Debug)]
 pub struct RoutesFrom<'a> {
-    table: &'a mut Table,
+    table: &'a Table,
     /// The position of the next page, if there is one.
     place: Option<raw::Route>,
     page: std::vec::IntoIter<raw::Route>,
 }
 
 impl RoutesFrom<'_> {
-    /// Fetches the next page. A page that isn't full is the last.
-    fn turn(&mut self) -> Option<()> {
+    /// Fetches the next page, if there is one. A page that isn't full is the last.
+    fn turn(&mut self) -> Result<()> {
+        let Some(place) = self.place.take() else {
+            return Ok(());
+        };
         let mut page = vec![raw::Route::default(); PAGE];
-        let used = self.table.0.routes_from(&self.place?, &mut page).ok()?;
+        let used = self
+            .table
+            .0
+            .routes_from(&place, &mut page)
+            .map_err(Error::of)?;
         page.truncate(used);
         self.place = page.last().filter(|_| used == PAGE).copied();
         if let Some(last) = &mut self.place {
             last.feed += 1;
         }
         self.page = page.into_iter();
-        Some(())
+        Ok(())
     }
 }
 
+/// An error is the last item.
 impl Iterator for RoutesFrom<'_> {
-    type Item = Route;
+    type Item = Result<Route>;
 
-    fn next(&mut self) -> Option<Route> {
+    fn next(&mut self) -> Option<Result<Route>> {
         if self.page.len() == 0 {
-            self.turn()?;
+            if let Err(error) = self.turn() {
+                return Some(Err(error));
+            }
         }
-        self.page.next().as_ref().and_then(Route::of)
+        self.page.next().as_ref().and_then(Route::of).map(Ok)
     }
 }
 
 /// The ranges for which two tables give different answers.
 #[derive(Debug)]
 pub struct Differences<'a> {
-    old: &'a mut Table,
-    new: &'a mut Table,
+    old: &'a Table,
+    new: &'a Table,
     by: By,
     from: Option<u32>,
 }
 
+/// An error is the last item.
 impl Iterator for Differences<'_> {
-    type Item = Difference;
+    type Item = Result<Difference>;
 
-    fn next(&mut self) -> Option<Difference> {
+    fn next(&mut self) -> Option<Result<Difference>> {
         let by = u32::from(self.by == By::Route);
         let found = self
             .old
             .0
-            .first_difference(&mut self.new.0, by, self.from?)
-            .ok()?;
+            .first_difference(&self.new.0, by, self.from.take()?);
+        let found = match found {
+            Ok(found) => found,
+            Err(raw::NONE_LEFT) => return None,
+            Err(status) => return Some(Err(Error::of(status))),
+        };
         self.from = found.last.checked_add(1);
-        Some(Difference {
+        Some(Ok(Difference {
             first: Ipv4Addr::from(found.first),
             last: Ipv4Addr::from(found.last),
             old: Answer::of(self.by, &found.before),
             new: Answer::of(self.by, &found.after),
-        })
+        }))
     }
 }
 
@@ -658,22 +808,23 @@ pub struct Forwarding(raw::Handle);
 
 impl Forwarding {
     /// Returns another handle to it, for another thread. The memory is freed with the last handle.
-    pub fn share(&mut self) -> Result<Forwarding> {
+    pub fn share(&self) -> Result<Forwarding> {
         self.0.share().map(Forwarding).map_err(Error::of)
     }
 
     /// Returns the best route of the longest prefix that covers the address.
-    pub fn look_up(&mut self, address: Ipv4Addr) -> Result<Option<Route>> {
-        Ok(self.look_up_each(&[u32::from(address)])?[0])
+    pub fn look_up(&self, address: Ipv4Addr) -> Result<Option<Route>> {
+        let found = self.0.look_up_one(u32::from(address)).map_err(Error::of)?;
+        Ok(Route::of(&found))
     }
 
     /// Returns the answers for all these addresses.
-    pub fn look_up_each(&mut self, addresses: &[u32]) -> Result<Vec<Option<Route>>> {
-        answers(&mut self.0, addresses)
+    pub fn look_up_each(&self, addresses: &[u32]) -> Result<Vec<Option<Route>>> {
+        answers(&self.0, addresses)
     }
 
     /// Returns its size in bytes, counted once for all its handles.
-    pub fn memory(&mut self) -> Result<usize> {
+    pub fn memory(&self) -> Result<usize> {
         self.0.memory().map_err(Error::of)
     }
 }

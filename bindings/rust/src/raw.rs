@@ -1,14 +1,16 @@
 //! What the header of the C library declares, and one safe call over each of its calls. No other module is unsafe.
 //!
-//! A `Handle` is made here alone, from the null pointer, and is never copied; every call takes it by `&mut`, so one call at
-//! a time is on it. References and slices are never null.
+//! A `Handle` is made here alone, from the null pointer, and is never copied. A call that changes it takes `&mut`, so it runs alone;
+//! one that reads it takes `&`, and any number of these run at the same time. References and slices are never null.
 #![allow(unsafe_code)]
 
 use std::ffi::c_void;
 use std::ptr::null_mut;
+use std::sync::atomic::AtomicPtr;
 
 pub const DONE: u32 = 0;
 pub const NO_MEMORY: u32 = 4;
+pub const NONE_LEFT: u32 = 6;
 
 #[repr(C)]
 #[derive(Clone, Copy, Debug, Default, PartialEq, Eq)]
@@ -74,16 +76,17 @@ pub struct Difference {
     pub after: Route,
 }
 
-/// What C calls a handle: it owns what it holds, and is the one pointer to it.
+/// What C calls a handle: it owns what it holds, and is the one pointer to it. It is atomic, since calls that read may
+/// count themselves in it.
 #[repr(C)]
 #[derive(Debug)]
 pub struct Handle {
-    inside: *mut c_void,
+    inside: AtomicPtr<c_void>,
 }
 
 extern "C" {
     fn yarib_new(table: *mut Handle, limit: u32, kind: u32) -> u32;
-    fn yarib_free(table: *mut Handle);
+    fn yarib_free(table: *mut Handle) -> u32;
     fn yarib_apply(table: *mut Handle, command: *const Command, reply: *mut Reply) -> u32;
     fn yarib_apply_each(
         table: *mut Handle,
@@ -94,14 +97,15 @@ extern "C" {
     ) -> u32;
     fn yarib_reserve(table: *mut Handle, entries: usize) -> u32;
     fn yarib_look_up(
-        table: *mut Handle,
+        table: *const Handle,
         addresses: *const u32,
         size: usize,
         answers: *mut Route,
         room: usize,
     ) -> u32;
+    fn yarib_look_up_one(table: *const Handle, address: u32, answer: *mut Route) -> u32;
     fn yarib_look_up_all(
-        table: *mut Handle,
+        table: *const Handle,
         address: u32,
         skip: usize,
         routes: *mut Route,
@@ -109,57 +113,56 @@ extern "C" {
         total: *mut usize,
     ) -> u32;
     fn yarib_routes(
-        table: *mut Handle,
+        table: *const Handle,
         skip: usize,
         routes: *mut Route,
         room: usize,
         total: *mut usize,
     ) -> u32;
     fn yarib_routes_from(
-        table: *mut Handle,
+        table: *const Handle,
         from: *const Route,
         routes: *mut Route,
         room: usize,
         used: *mut usize,
     ) -> u32;
     fn yarib_select(
-        table: *mut Handle,
+        table: *const Handle,
         asked: *const Selection,
         skip: usize,
         routes: *mut Route,
         room: usize,
         total: *mut usize,
     ) -> u32;
-    fn yarib_count(table: *mut Handle, total: *mut usize) -> u32;
+    fn yarib_count(table: *const Handle, total: *mut usize) -> u32;
     fn yarib_journal(
-        table: *mut Handle,
+        table: *const Handle,
         skip: usize,
         entries: *mut Entry,
         room: usize,
         total: *mut usize,
     ) -> u32;
     fn yarib_first_difference(
-        old: *mut Handle,
-        new: *mut Handle,
+        old: *const Handle,
+        new: *const Handle,
         by: u32,
         from: u32,
         difference: *mut Difference,
     ) -> u32;
-    fn yarib_forward(table: *mut Handle, forwarding: *mut Handle) -> u32;
-    fn yarib_share(forwarding: *mut Handle, other: *mut Handle) -> u32;
+    fn yarib_forward(table: *const Handle, forwarding: *mut Handle) -> u32;
+    fn yarib_share(forwarding: *const Handle, other: *mut Handle) -> u32;
     fn yarib_follow(table: *mut Handle) -> u32;
-    fn yarib_memory(table: *mut Handle, bytes: *mut usize) -> u32;
+    fn yarib_memory(table: *const Handle, bytes: *mut usize) -> u32;
     fn yarib_prefix_parse(text: *const u8, size: usize, prefix: *mut Prefix) -> u32;
 }
 
-// SAFETY: the library promises that what a handle holds may go to another thread; what several handles hold together is only
-// read, but for the count of the handles, which is atomic.
-unsafe impl Send for Handle {}
+// A handle is `Send` and `Sync` by its one field. What it holds may go to another thread, and several threads may read it: the
+// library proves both of its types, and what several handles hold together is only read, but for their count, which is atomic.
 
 impl Drop for Handle {
     fn drop(&mut self) {
-        // SAFETY: as for every call below: `self` is a handle that `empty` made, and `&mut` says that this call alone is on it.
-        unsafe { yarib_free(self) }
+        // SAFETY: as for every call below. No other call is on the handle, so it isn't busy.
+        unsafe { yarib_free(self) };
     }
 }
 
@@ -171,11 +174,13 @@ fn told(status: u32) -> Result<(), u32> {
     }
 }
 
-// SAFETY, of each call: `self` is a handle that `empty` made, `&mut` says that this call alone is on it, and references and slices
+// SAFETY, of each call: `self` is a handle that `empty` made, one that a call changes is lent by `&mut`, and references and slices
 // point to what their lengths say.
 impl Handle {
     pub fn empty() -> Handle {
-        Handle { inside: null_mut() }
+        Handle {
+            inside: AtomicPtr::new(null_mut()),
+        }
     }
 
     pub fn new(limit: u32, kind: u32) -> Result<Handle, u32> {
@@ -199,12 +204,18 @@ impl Handle {
         told(unsafe { yarib_reserve(self, entries) })
     }
 
-    pub fn look_up(&mut self, addresses: &[u32], answers: &mut [Route]) -> Result<(), u32> {
+    pub fn look_up(&self, addresses: &[u32], answers: &mut [Route]) -> Result<(), u32> {
         let (size, room) = (addresses.len(), answers.len());
         told(unsafe { yarib_look_up(self, addresses.as_ptr(), size, answers.as_mut_ptr(), room) })
     }
 
-    pub fn look_up_all(&mut self, address: u32, routes: &mut [Route]) -> Result<usize, u32> {
+    pub fn look_up_one(&self, address: u32) -> Result<Route, u32> {
+        let mut answer = Route::default();
+        told(unsafe { yarib_look_up_one(self, address, &mut answer) })?;
+        Ok(answer)
+    }
+
+    pub fn look_up_all(&self, address: u32, routes: &mut [Route]) -> Result<usize, u32> {
         let (mut total, room) = (0, routes.len());
         told(unsafe {
             yarib_look_up_all(self, address, 0, routes.as_mut_ptr(), room, &mut total)
@@ -212,54 +223,49 @@ impl Handle {
         Ok(total)
     }
 
-    pub fn routes(&mut self, routes: &mut [Route]) -> Result<usize, u32> {
+    pub fn routes(&self, routes: &mut [Route]) -> Result<usize, u32> {
         let (mut total, room) = (0, routes.len());
         told(unsafe { yarib_routes(self, 0, routes.as_mut_ptr(), room, &mut total) })?;
         Ok(total)
     }
 
-    pub fn routes_from(&mut self, from: &Route, routes: &mut [Route]) -> Result<usize, u32> {
+    pub fn routes_from(&self, from: &Route, routes: &mut [Route]) -> Result<usize, u32> {
         let (mut used, room) = (0, routes.len());
         told(unsafe { yarib_routes_from(self, from, routes.as_mut_ptr(), room, &mut used) })?;
         Ok(used)
     }
 
-    pub fn select(&mut self, asked: &Selection, routes: &mut [Route]) -> Result<usize, u32> {
+    pub fn select(&self, asked: &Selection, routes: &mut [Route]) -> Result<usize, u32> {
         let (mut total, room) = (0, routes.len());
         told(unsafe { yarib_select(self, asked, 0, routes.as_mut_ptr(), room, &mut total) })?;
         Ok(total)
     }
 
-    pub fn count(&mut self) -> Result<usize, u32> {
+    pub fn count(&self) -> Result<usize, u32> {
         let mut total = 0;
         told(unsafe { yarib_count(self, &mut total) })?;
         Ok(total)
     }
 
-    pub fn journal(&mut self, entries: &mut [Entry]) -> Result<usize, u32> {
+    pub fn journal(&self, entries: &mut [Entry]) -> Result<usize, u32> {
         let (mut total, room) = (0, entries.len());
         told(unsafe { yarib_journal(self, 0, entries.as_mut_ptr(), room, &mut total) })?;
         Ok(total)
     }
 
-    pub fn first_difference(
-        &mut self,
-        new: &mut Handle,
-        by: u32,
-        from: u32,
-    ) -> Result<Difference, u32> {
+    pub fn first_difference(&self, new: &Handle, by: u32, from: u32) -> Result<Difference, u32> {
         let mut difference = Difference::default();
         told(unsafe { yarib_first_difference(self, new, by, from, &mut difference) })?;
         Ok(difference)
     }
 
-    pub fn forward(&mut self) -> Result<Handle, u32> {
+    pub fn forward(&self) -> Result<Handle, u32> {
         let mut forwarding = Handle::empty();
         told(unsafe { yarib_forward(self, &mut forwarding) })?;
         Ok(forwarding)
     }
 
-    pub fn share(&mut self) -> Result<Handle, u32> {
+    pub fn share(&self) -> Result<Handle, u32> {
         let mut other = Handle::empty();
         told(unsafe { yarib_share(self, &mut other) })?;
         Ok(other)
@@ -269,7 +275,7 @@ impl Handle {
         told(unsafe { yarib_follow(self) })
     }
 
-    pub fn memory(&mut self) -> Result<usize, u32> {
+    pub fn memory(&self) -> Result<usize, u32> {
         let mut bytes = 0;
         told(unsafe { yarib_memory(self, &mut bytes) })?;
         Ok(bytes)

@@ -1,9 +1,12 @@
 //! Random commands beside a model of the table in plain Rust, and what the crate adds to the library's calls.
-use std::collections::BTreeMap;
+use std::collections::{BTreeMap, BTreeSet};
 use std::net::Ipv4Addr;
+use std::sync::atomic::{AtomicBool, Ordering};
+use std::sync::RwLock;
 use std::thread;
 use yarib::{
     Answer, By, Command, Error, Forwarding, Hop, Part, Prefix, Reply, Route, Selection, Table,
+    MAX_FEED,
 };
 
 /// Numbers that look drawn, the same in each run.
@@ -168,10 +171,11 @@ fn replies_and_routes_are_the_models() {
             .collect();
         assert_eq!(plain.look_up_each(&addresses).unwrap(), wanted);
         for (address, best) in addresses.iter().zip(&wanted).take(20) {
-            assert_eq!(
-                plain.look_up_all(Ipv4Addr::from(*address)).unwrap().first(),
-                best.as_ref()
-            );
+            let mut listed = model.listed();
+            listed.retain(|route| route.prefix.contains(Ipv4Addr::from(*address)));
+            listed.sort_by_key(|route| (32 - route.prefix.len(), route.pref, route.feed));
+            let found = plain.look_up_all(Ipv4Addr::from(*address)).unwrap();
+            assert_eq!((found.first(), &found), (best.as_ref(), &listed));
         }
     }
 }
@@ -221,7 +225,8 @@ fn check_pages(table: &mut Table, model: &Model, draw: &mut Draw) {
         let place = (draw.prefix(), draw.below(4), draw.below(7));
         let mut wanted = model.listed();
         wanted.retain(|route| (route.prefix, route.pref, route.feed) >= place);
-        let found: Vec<Route> = table.routes_from(place.0, place.1, place.2).collect();
+        let pages = table.routes_from(place.0, place.1, place.2);
+        let found: Vec<Route> = pages.map(Result::unwrap).collect();
         assert_eq!(found, wanted, "{place:?}");
     }
 }
@@ -236,7 +241,10 @@ fn pages_follow_one_another() {
         table.add(1 + k % 3, prefix, k, Hop::Discard).unwrap();
         if [254, 255, 256, 511].contains(&k) {
             let listed = table.routes().unwrap();
-            assert!(table.routes_from(first, 0, 0).eq(listed));
+            assert!(table
+                .routes_from(first, 0, 0)
+                .map(Result::unwrap)
+                .eq(listed));
         }
     }
     let last = table.routes().unwrap()[511];
@@ -328,6 +336,7 @@ fn differences_reach_the_last_address() {
         .unwrap();
     let found: Vec<_> = old
         .differences(&mut new, By::Hop)
+        .map(Result::unwrap)
         .map(|range| (u32::from(range.first), range.new))
         .collect();
     assert_eq!(
@@ -369,4 +378,249 @@ fn threads_look_up_at_once() {
         threads.into_iter().all(|one| one.join().unwrap())
     });
     assert!(right);
+}
+
+/// Four threads that look up in one table at the same time.
+#[test]
+fn threads_look_up_in_one_table() {
+    fn is_sync<T: Sync>(_: &T) {}
+    for is_followed in [false, true] {
+        let mut table = Table::new(1_000).unwrap();
+        for k in 0..256 {
+            let prefix = Prefix::new(Ipv4Addr::from(k << 24), 8).unwrap();
+            table.add(1, prefix, k, Hop::Discard).unwrap();
+        }
+        if is_followed {
+            table.follow().unwrap();
+        }
+        is_sync(&table);
+        let ask = || {
+            (0..20_000u32).all(|k| {
+                let found = table.look_up(Ipv4Addr::from(k % 256 << 24 | k)).unwrap();
+                let all = table.look_up_all(Ipv4Addr::from(k << 24)).unwrap();
+                found.map(|route| route.pref) == Some(k % 256) && all.len() == 1
+            }) && table.routes_from(all_addresses(), 0, 0).count() == 256
+        };
+        thread::scope(|scope| {
+            let threads: Vec<_> = (0..4).map(|_| scope.spawn(ask)).collect();
+            assert!(threads.into_iter().all(|one| one.join().unwrap()));
+        });
+        assert_eq!(table.count().unwrap(), 256);
+    }
+}
+
+fn all_addresses() -> Prefix {
+    Prefix::new(Ipv4Addr::from(0), 0).unwrap()
+}
+
+/// Four threads that look up and one that changes: the next hop goes up with each change.
+#[test]
+fn threads_look_up_beside_changes() {
+    let changes = 1_000;
+    let eight: Prefix = "10.0.0.0/8".parse().unwrap();
+    let via = |k: u32| Hop::Via(Ipv4Addr::from(k));
+    let mut made = Table::new(10).unwrap();
+    made.add(1, eight, 0, via(0)).unwrap();
+    let (table, ended) = (RwLock::new(made), AtomicBool::new(false));
+    let ask = || {
+        let mut last = via(0);
+        while !ended.load(Ordering::Relaxed) {
+            let found = table.read().unwrap().look_up(eight.base()).unwrap();
+            let hop = found.expect("the prefix covers it").hop;
+            assert!(number(hop) >= number(last));
+            last = hop;
+        }
+    };
+    thread::scope(|scope| {
+        for _ in 0..4 {
+            scope.spawn(ask);
+        }
+        for k in 1..=changes {
+            let command = Command::Replace(eight, 0, via(k));
+            let reply = table.write().unwrap().apply(1, command);
+            assert_eq!(reply, Ok(Reply::Replaced));
+        }
+        ended.store(true, Ordering::Relaxed);
+    });
+    let found = table.read().unwrap().look_up(eight.base()).unwrap();
+    assert_eq!(found.map(|route| route.hop), Some(via(changes)));
+}
+
+fn number(hop: Hop) -> u32 {
+    match hop {
+        Hop::Via(router) => u32::from(router),
+        Hop::Discard => u32::MAX,
+    }
+}
+
+/// Returns what a model's table answers for an address, as a comparison gives it.
+fn answer(model: &Model, by: By, address: u32) -> Answer {
+    match (model.best(address), by) {
+        (None, _) => Answer::NoRoute,
+        (Some(route), By::Hop) => Answer::Hop(route.hop),
+        (Some(route), By::Route) => Answer::Route(route),
+    }
+}
+
+/// Between adjacent boundaries of all prefixes, each table gives one answer.
+fn differences(old: &Model, new: &Model, by: By) -> Vec<(u32, u32, Answer, Answer)> {
+    let mut ends = BTreeSet::from([0, 1 << 32]);
+    for (prefix, _) in old.routes.keys().chain(new.routes.keys()) {
+        let base = u64::from(u32::from(prefix.base()));
+        ends.extend([base, base + (1 << (32 - prefix.len()))]);
+    }
+    let mut found: Vec<(u32, u32, Answer, Answer)> = Vec::new();
+    for (first, beyond) in ends.iter().zip(ends.iter().skip(1)) {
+        let (first, last) = (*first as u32, (*beyond - 1) as u32);
+        let sides = (answer(old, by, first), answer(new, by, first));
+        match found.last_mut() {
+            Some(one) if (one.2, one.3) == sides => one.1 = last,
+            _ => found.push((first, last, sides.0, sides.1)),
+        }
+    }
+    found.retain(|one| one.2 != one.3);
+    found
+}
+
+#[test]
+fn both_sides_of_each_difference() {
+    for seed in 0..40 {
+        let mut draw = Draw(1000 + seed);
+        let made = || Model {
+            limit: 99,
+            routes: BTreeMap::new(),
+        };
+        let mut models = [made(), made()];
+        let mut tables = [Table::new(99).unwrap(), Table::with_journal(99).unwrap()];
+        for _ in 0..[1, 4, 20][seed as usize % 3] {
+            let (feed, command) = (1 + draw.below(5), draw.command());
+            for side in 0..2 {
+                if draw.below(3) > 0 {
+                    let wanted = models[side].apply(feed, command);
+                    assert_eq!(tables[side].apply(feed, command), Ok(wanted));
+                }
+            }
+        }
+        for by in [By::Hop, By::Route] {
+            for (old, new) in [(0, 1), (1, 0), (0, 0)] {
+                let found: Vec<_> = tables[old]
+                    .differences(&tables[new], by)
+                    .map(Result::unwrap)
+                    .map(|one| (u32::from(one.first), u32::from(one.last), one.old, one.new))
+                    .collect();
+                assert_eq!(found, differences(&models[old], &models[new], by));
+            }
+        }
+    }
+}
+
+#[test]
+fn lists_at_page_boundaries() {
+    let all = all_addresses();
+    for size in [63, 64, 65, 255, 256, 257, 4095, 4096, 4097_u32] {
+        let mut table = Table::with_journal(1_000_000).unwrap();
+        let routes: Vec<Route> = (0..size)
+            .map(|k| Route {
+                prefix: Prefix::new(Ipv4Addr::from((10 << 24) + 4 * k), 30).unwrap(),
+                feed: 1 + k % 3,
+                pref: k,
+                hop: Hop::Via(Ipv4Addr::from(k)),
+            })
+            .collect();
+        for one in &routes {
+            let added = table.add(one.feed, one.prefix, one.pref, one.hop);
+            assert_eq!(added, Ok(Reply::Added));
+        }
+        assert_eq!(table.routes().unwrap(), routes);
+        let walked: Vec<Route> = table.routes_from(all, 0, 0).map(Result::unwrap).collect();
+        assert_eq!(walked, routes);
+        let within = Selection::of(Part::Within("10.0.0.0/8".parse().unwrap()));
+        assert_eq!(table.select(within).unwrap(), routes);
+        let asked: Vec<u32> = routes
+            .iter()
+            .map(|one| u32::from(one.prefix.base()) + 3)
+            .collect();
+        let wanted: Vec<Option<Route>> = routes.iter().copied().map(Some).collect();
+        assert_eq!(table.look_up_each(&asked).unwrap(), wanted);
+        let entries = table.journal().unwrap();
+        assert_eq!(entries.len(), size as usize);
+        for (entry, one) in entries.iter().zip(&routes) {
+            let command = Command::Add(one.prefix, one.pref, one.hop);
+            let wanted = (one.feed, command, Reply::Added);
+            assert_eq!((entry.feed, entry.command, entry.reply), wanted);
+        }
+    }
+}
+
+#[test]
+fn all_matches_at_page_boundaries() {
+    let (mut table, address) = (Table::new(99).unwrap(), Ipv4Addr::new(10, 0, 0, 0));
+    let mut listed = Vec::new();
+    for len in 0..=8 {
+        let prefix = Prefix::new(
+            if len < 5 {
+                Ipv4Addr::UNSPECIFIED
+            } else {
+                Ipv4Addr::from((10 << 24) >> (32 - len) << (32 - len))
+            },
+            len as u8,
+        )
+        .unwrap();
+        for feed in 1..=MAX_FEED {
+            let (pref, hop) = (feed % 7, Hop::Discard);
+            table.add(feed, prefix, pref, hop).unwrap();
+            listed.push(Route {
+                prefix,
+                feed,
+                pref,
+                hop,
+            });
+            if [63, 64, 65, 127, 128, 255, 256, 257, 576].contains(&listed.len()) {
+                let rank = |one: &Route| (32 - one.prefix.len(), one.pref, one.feed);
+                listed.sort_by_key(rank);
+                assert_eq!(table.look_up_all(address).unwrap(), listed);
+                let found = table.look_up_prefix(Prefix::from(address)).unwrap();
+                assert_eq!(found, listed.first().copied());
+            }
+        }
+    }
+}
+
+#[test]
+fn conventions_of_rust() {
+    let (ten, router) = ("10.0.0.0/8".parse().unwrap(), Ipv4Addr::new(192, 0, 2, 1));
+    let mut table = Table::new(1).unwrap();
+    assert_eq!(table.put(1, ten, 5, Hop::from(router)), Ok(Reply::Added));
+    assert_eq!(table.put(1, ten, 6, Hop::Discard), Ok(Reply::Replaced));
+    assert_eq!(table.routes().unwrap()[0].pref, 6);
+    assert_eq!(table.add(1, ten, 0, Hop::Discard), Err(Error::Exists));
+    let eleven = Prefix::try_from((Ipv4Addr::new(11, 0, 0, 0), 8)).unwrap();
+    assert_eq!(table.add(1, eleven, 0, Hop::Discard), Err(Error::Full));
+    assert_eq!(table.put(1, eleven, 0, Hop::Discard), Err(Error::Full));
+    assert_eq!(table.withdraw(1, eleven), Err(Error::Missing));
+    assert_eq!(table.replace(2, ten, 0, Hop::Discard), Err(Error::Missing));
+    for (base, len) in [
+        (Ipv4Addr::new(10, 0, 0, 1), 8),
+        (Ipv4Addr::new(10, 128, 0, 0), 8),
+    ] {
+        assert_eq!(Prefix::try_from((base, len)), Err(Error::Bits));
+    }
+    for (prefix, address, is_in) in [
+        (ten, Ipv4Addr::new(10, 255, 255, 255), true),
+        (ten, Ipv4Addr::new(11, 0, 0, 0), false),
+        (all_addresses(), Ipv4Addr::BROADCAST, true),
+        (Prefix::from(router), router, true),
+        (Prefix::from(router), Ipv4Addr::new(192, 0, 2, 0), false),
+    ] {
+        assert_eq!(prefix.contains(address), is_in);
+        assert_eq!(prefix.contains_prefix(Prefix::from(address)), is_in);
+    }
+    assert!(!ten.contains_prefix(all_addresses()) && ten.contains_prefix(ten));
+    let found = table.apply(1, Command::Lookup(ten.base())).unwrap();
+    let shown = "route 10.0.0.0/8 feed 1 pref 6 via discard";
+    assert_eq!(found.to_string(), shown);
+    assert_eq!(
+        (Hop::Discard.to_string(), Hop::Via(router).to_string()),
+        ("discard".to_string(), "192.0.2.1".to_string())
+    );
 }

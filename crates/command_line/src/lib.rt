@@ -1,7 +1,7 @@
-//! The command line: what the words ask for.
+//! The command line: its arguments are parsed into a request.
 //!
-//! [`read`] gives a [`Request`], or the text of a help or of a misuse. That limit and batch are at least 1, and the limit
-//! no more than a table takes, is in the type; all else is only tested.
+//! [`read`] returns a [`Request`], or the text of a help or of an error. Its type says that limit and batch are at least
+//! 1, and that the limit is at most [`MAX_ROUTES_PER_FEED`]. Everything else is only tested.
 //!
 //! ```
 //! match read(alloc, words)? {
@@ -11,156 +11,174 @@
 //! ```
 #![tactic(auto)]
 
+mod after_help;
 mod limits;
-mod notes;
 
 ghost use Rattle.std.specs.Prelude.{◌≤◌};
-ghost use Rattle.command_line.specs.declared.limits.TheConstants.{MOST_ROUTES};
+ghost use Rattle.command_line.specs.declared.limits.TheConstants.{MAX_ROUTES_PER_FEED};
 
+use after_help::{DIFF_NOTES, LOOKUP_NOTES, REPLAY_NOTES, RUN_NOTES, TABLE_NOTES};
 use clap::builder::ValueParser;
 use clap::error::ErrorKind;
 use clap::{Arg, ArgAction, ArgMatches, Command, Error};
-use limits::{UNSEEN_BATCH, UNSEEN_ROUTES, USUAL_BATCH, USUAL_ROUTES, limits};
-pub use limits::{MOST_AT_ONCE, MOST_FILES, MOST_ROUTES};
-use notes::{DIFF_NOTES, LOOKUP_NOTES, REPLAY_NOTES, RUN_NOTES, TABLE_NOTES};
+use limits::{DEFAULT_LIMIT, DEFAULT_QUERY_BATCH, DEFAULT_RUN_BATCH, UNSEEN_ROUTES, limits};
+pub use limits::{MAX_BATCH, MAX_FEED_FILES, MAX_ROUTES_PER_FEED};
 use std::alloc::{AllocError, AllocFailed, Global};
 
-/// The word for where packets go, which `diff` compares where the command line does not say.
+/// The value of `--by` for next hops, the default.
 const HOP: &str = "hop";
 
-/// The word for whole routes, which it may compare instead.
+/// The value of `--by` for whole routes.
 const ROUTE: &str = "route";
 
-/// What it may compare.
+/// The values of `--by`.
 const COMPARED: &[&str] = &[HOP, ROUTE];
 
-/// What the words of a command line ask for.
+/// The help of `--without`.
+const LEFT_OUT: &str = "Leave out feed F, a number or a name; may be given more than once";
+
+/// A parsed command line: one variant for each command.
 #[derive(Drop)]
 pub enum Request<'a> {
-    /// To run feed files.
+    /// Run feed files.
     Run(RunRequest<'a>),
-    /// To look addresses up in the table that feed files leave.
+    /// Look up addresses in the final table of feed files.
     Lookup(LookupRequest<'a>),
-    /// To list the routes of the table that feed files leave.
+    /// List the routes of the final table of feed files.
     Table(TableRequest<'a>),
-    /// To tell which addresses the tables of two sets of feed files answer otherwise.
+    /// List the addresses for which the tables of two sets of feed files differ.
     Diff(DiffRequest<'a>),
-    /// To show the steps of one schedule of the lock.
+    /// Print the steps of one schedule of the lock.
     Replay(ReplayRequest),
 }
 
-/// Which feed files to run.
+/// The feed files to run, with limit and batch.
 #[derive(Drop)]
 pub struct RunRequest<'a> {
-    /// How many routes a feed may have, 1 to [`MOST_ROUTES`].
+    /// Maximum number of routes per feed, 1 to [`MAX_ROUTES_PER_FEED`].
     pub limit: u32,
-    /// How many commands of a feed are asked at once, 1 to [`MOST_AT_ONCE`].
+    /// Maximum number of commands of a feed that are executed together, 1 to [`MAX_BATCH`].
     pub batch: u32,
     /// The names of the feed files, one or more.
     pub files: Vec<&'a str>,
     pub ghost some_routes: { 1 ≤ limit },
-    pub ghost few_routes: { limit ≤ MOST_ROUTES },
+    pub ghost few_routes: { limit ≤ MAX_ROUTES_PER_FEED },
     pub ghost batched: { 1 ≤ batch },
 }
 
-/// How routes are told.
+/// The output options of `lookup`, `table` and `diff`.
 #[derive(Clone, Copy)]
-pub struct Telling {
-    /// Whether a feed is told by its name, and not by its number.
+pub struct OutputOptions {
+    /// Print a feed's name instead of its number.
     pub names: bool,
-    /// Whether JSON objects are told, and not lines.
+    /// Print JSON objects instead of plain lines.
     pub json: bool,
 }
 
-/// Which addresses to look up, after which feed files.
+/// Feeds that the command line identifies, each by its number or its name, not yet resolved.
+#[derive(Drop)]
+pub struct NamedFeeds<'a> {
+    /// The selected feeds; if there are none, every feed is selected.
+    pub only: Vec<&'a str>,
+    /// The feeds that are left out.
+    pub without: Vec<&'a str>,
+}
+
+/// The addresses to look up, and the feed files.
 #[derive(Drop)]
 pub struct LookupRequest<'a> {
     /// The feed files.
     pub run: RunRequest<'a>,
-    /// The texts of the addresses that stand on the command line.
+    /// The feeds that are executed.
+    pub feeds: NamedFeeds<'a>,
+    /// The arguments of `--address`, not yet parsed.
     pub addresses: Vec<&'a str>,
-    /// The name of the file that has further addresses.
+    /// The name of the file with further addresses.
     pub more: Option<&'a str>,
-    /// Whether each is answered with every route that covers it.
+    /// Print every route that covers an address.
     pub all: bool,
-    /// How the answers are told.
-    pub telling: Telling,
+    /// The output options.
+    pub telling: OutputOptions,
 }
 
-/// Which routes to list, after which feed files.
+/// The routes to list, and the feed files.
 #[derive(Drop)]
 pub struct TableRequest<'a> {
     /// The feed files.
     pub run: RunRequest<'a>,
-    /// Whether only the best route of each prefix is listed.
+    /// The feeds whose routes are listed, and those that are left out.
+    pub feeds: NamedFeeds<'a>,
+    /// List only the best route of each prefix.
     pub only_best: bool,
-    /// To which prefixes the routes are that are listed.
-    pub part: AskedPart<'a>,
-    /// The number of the feed whose routes are listed, where not all are.
-    pub feed: Option<u32>,
-    /// Whether it is told how many there are, in place of each.
+    /// The prefixes whose routes are listed.
+    pub part: PrefixFilterArg<'a>,
+    /// Print the number of routes instead of the routes.
     pub count: bool,
-    /// How the routes are told.
-    pub telling: Telling,
+    /// The output options.
+    pub telling: OutputOptions,
 }
 
-/// A part of a table, each by the text of its prefix.
+/// A filter on prefixes, with its argument not yet parsed.
 #[derive(Clone, Copy)]
-pub enum AskedPart<'a> {
+pub enum PrefixFilterArg<'a> {
     /// The whole table.
     All,
-    /// What lies in this prefix.
+    /// This prefix and the longer ones inside it.
     Within(&'a str),
-    /// What covers this prefix.
+    /// This prefix and the shorter ones that contain it.
     Covering(&'a str),
-    /// This prefix alone.
+    /// Only this prefix.
     Exact(&'a str),
 }
 
-/// Which tables to compare.
+/// The two sets of feed files to compare.
 #[derive(Drop)]
 pub struct DiffRequest<'a> {
     /// The old feed files, and the limit and the batch of both runs.
     pub run: RunRequest<'a>,
+    /// The old feeds that are executed.
+    pub old_feeds: NamedFeeds<'a>,
     /// The names of the new feed files.
     pub new_files: Vec<&'a str>,
-    /// What of their answers is compared.
+    /// The new feeds that are executed.
+    pub new_feeds: NamedFeeds<'a>,
+    /// The part of an answer that is compared.
     pub by: ComparedBy,
-    /// How the ranges are told. Feeds that are told by name are compared by it.
-    pub telling: Telling,
+    /// The output options. With `names`, feeds with the same name on both sides count as the same feed.
+    pub telling: OutputOptions,
 }
 
-/// What `diff` compares of two answers.
+/// The part of an answer that `diff` compares.
 #[derive(Clone, Copy)]
 pub enum ComparedBy {
-    /// Where packets go.
+    /// The next hop.
     Hop,
-    /// The whole routes.
+    /// The whole route.
     Route,
 }
 
-/// Which schedule to show.
+/// The schedule to replay.
 #[derive(Drop)]
 pub struct ReplayRequest {
-    /// How many levels the tree has.
+    /// The number of levels of the tree.
     pub levels: u32,
     /// The place that takes each step.
     pub picks: Vec<u32>,
 }
 
-/// Why there is nothing to do.
+/// The reason why `read` returns no request.
 #[derive(Drop)]
 pub enum Refusal {
-    /// Help or the version was asked for: its text.
+    /// Help or the version was requested: its text.
     Shown(String),
-    /// The words are no command line: the fault's text.
-    Misused(String),
-    /// More than one part of a table is asked for.
-    TwoParts,
-    /// `clap` took the words for something that is not known here. That is a fault of this crate, and no words are known
-    /// for which it is so.
+    /// The command line is invalid: the error's text.
+    Usage(String),
+    /// More than one of `--within`, `--covering` and `--exact` was given.
+    ConflictingFilters,
+    /// `clap` accepted arguments that this crate doesn't expect. This would be a bug of this crate; no such arguments are
+    /// known.
     Unknown,
-    /// Memory was refused.
+    /// Out of memory.
     Memory,
 }
 
@@ -176,7 +194,7 @@ impl<T: Drop> From<AllocFailed<T>> for Refusal {
     }
 }
 
-/// Reads a command line, the program's name first.
+/// Parses a command line, whose first word is the program's name.
 pub fn read<'a>(alloc: Global, words: &'a [String]) -> Result<Request<'a>, Refusal> {
     match program(alloc)?.try_get_matches_from(words) {
         Ok(matches) => request_of(alloc, &matches),
@@ -200,13 +218,13 @@ fn refusal_of(alloc: Global, error: &Error) -> Refusal {
         return Refusal::Memory;
     }
     match error.to_string(alloc) {
-        Ok(text) if error.use_stderr() => Refusal::Misused(text),
+        Ok(text) if error.use_stderr() => Refusal::Usage(text),
         Ok(text) => Refusal::Shown(text),
         Err(_) => Refusal::Memory,
     }
 }
 
-/// What a first word asks for: its name, what the help says of it, and what may follow, in the order of the help text.
+/// A command: its name, its help texts and its parameters, in the order of the help.
 struct Subcommand {
     name: &'static str,
     about: &'static str,
@@ -214,28 +232,33 @@ struct Subcommand {
     parameters: &'static [Parameter],
 }
 
-/// All of them, in the order of the help text.
+/// The commands, in the order of the help.
 const SUBCOMMANDS: &[Subcommand] = &[
     Subcommand {
         name: "run",
-        about: "Run feed files, and print the reply to each command and the table",
+        about: "Run feed files and print the reply to each command and the final table",
         notes: RUN_NOTES,
         parameters: &[
-            Parameter::Limit(USUAL_ROUTES),
-            Parameter::Batch(USUAL_BATCH),
+            Parameter::Limit(DEFAULT_LIMIT),
+            Parameter::Batch,
             Parameter::Files,
         ],
     },
     Subcommand {
         name: "lookup",
-        about: "Run feed files, and answer for each address from the table that they leave",
+        about: "Run feed files and print the route that the final table has for each address",
         notes: LOOKUP_NOTES,
         parameters: &[
             Parameter::All,
+            Parameter::Feeds(
+                "feed",
+                "Execute only feed F, a number or a name; may be given more than once",
+            ),
+            Parameter::Feeds("without", LEFT_OUT),
             Parameter::Names,
             Parameter::Json,
             Parameter::Limit(UNSEEN_ROUTES),
-            Parameter::Batch(UNSEEN_BATCH),
+            Parameter::UnusedBatch,
             Parameter::Address,
             Parameter::Addresses,
             Parameter::Files,
@@ -243,46 +266,67 @@ const SUBCOMMANDS: &[Subcommand] = &[
     },
     Subcommand {
         name: "table",
-        about: "Run feed files, and print the routes of the table that they leave",
+        about: "Run feed files and print the routes of the final table",
         notes: TABLE_NOTES,
         parameters: &[
             Parameter::Within,
             Parameter::Covering,
             Parameter::Exact,
-            Parameter::Feed,
+            Parameter::Feeds(
+                "feed",
+                "Print only routes of feed F, a number or a name; may be given more than once",
+            ),
+            Parameter::Feeds("without", LEFT_OUT),
             Parameter::Best,
             Parameter::Count,
             Parameter::Names,
             Parameter::Json,
             Parameter::Limit(UNSEEN_ROUTES),
-            Parameter::Batch(UNSEEN_BATCH),
+            Parameter::UnusedBatch,
             Parameter::Files,
         ],
     },
     Subcommand {
         name: "diff",
-        about: "Run two sets of feed files, and print which addresses their tables answer otherwise",
+        about: "Run two sets of feed files and print the addresses for which their tables differ",
         notes: DIFF_NOTES,
         parameters: &[
             Parameter::By,
+            Parameter::Feeds(
+                "old-feed",
+                "Execute only old feed F; may be given more than once",
+            ),
+            Parameter::Feeds(
+                "old-without",
+                "Leave out old feed F; may be given more than once",
+            ),
+            Parameter::Feeds(
+                "new-feed",
+                "Execute only new feed F; may be given more than once",
+            ),
+            Parameter::Feeds(
+                "new-without",
+                "Leave out new feed F; may be given more than once",
+            ),
             Parameter::Names,
             Parameter::Json,
             Parameter::Limit(UNSEEN_ROUTES),
-            Parameter::Batch(UNSEEN_BATCH),
+            Parameter::UnusedBatch,
             Parameter::OldFiles,
             Parameter::NewFiles,
         ],
     },
     Subcommand {
         name: "replay",
-        about: "Show the atomic steps of the lock for one schedule, one a line",
+        about: "Print the atomic steps of the lock for one schedule, one per line",
         notes: REPLAY_NOTES,
         parameters: &[Parameter::Levels, Parameter::Picks],
     },
 ];
 
 impl Subcommand {
-    /// Adds the parameters by one call: at each early exit the prover goes through all that is dropped.
+    /// Returns the command for `clap`. The parameters are added by one call, because at each early exit the prover goes
+    /// through everything that is dropped.
     fn command<'a>(&self, alloc: Global) -> Result<Command<'a>, AllocError> {
         let parameters = self.parameters.iter();
         let args = parameters
@@ -295,7 +339,7 @@ impl Subcommand {
     }
 }
 
-/// What may follow a first word.
+/// An option or argument of a command.
 enum Parameter {
     All,
     Address,
@@ -303,16 +347,18 @@ enum Parameter {
     Within,
     Covering,
     Exact,
-    Feed,
+    /// An option that identifies feeds, with its name and help.
+    Feeds(&'static str, &'static str),
     Best,
     Count,
     By,
     Names,
     Json,
-    /// And how many routes a feed may have where the command line does not say.
+    /// With the default.
     Limit(&'static str),
-    /// And how many are asked at once where the command line does not say.
-    Batch(&'static str),
+    Batch,
+    /// The same option where it has no effect.
+    UnusedBatch,
     Files,
     OldFiles,
     NewFiles,
@@ -333,30 +379,38 @@ impl Parameter {
             Parameter::Within => part(
                 alloc,
                 "within",
-                "Print only the routes to this prefix and to longer ones in it",
+                "Print only routes to PREFIX and to longer prefixes inside it",
             ),
             Parameter::Covering => part(
                 alloc,
                 "covering",
-                "Print only the routes to this prefix and to shorter ones that it lies in",
+                "Print only routes to PREFIX and to shorter prefixes that contain it",
             ),
-            Parameter::Exact => part(alloc, "exact", "Print only the routes to this prefix"),
-            Parameter::Feed => feed(alloc),
+            Parameter::Exact => part(alloc, "exact", "Print only routes to PREFIX"),
+            Parameter::Feeds(name, help) => feeds(alloc, name, help),
             Parameter::Best => flag(alloc, "best", "Print only the best route of each prefix"),
             Parameter::Count => flag(
                 alloc,
                 "count",
-                "Print how many routes there are, of each feed and each length",
+                "Print the number of routes instead: in all, per feed and per length",
             ),
             Parameter::By => by(alloc),
             Parameter::Names => flag(
                 alloc,
                 "names",
-                "Tell feeds by name, a file's without folder and .feed, not by number",
+                "Print feed names (FILE without directory and .feed) instead of numbers",
             ),
-            Parameter::Json => flag(alloc, "json", "Print JSON objects, one a line"),
+            Parameter::Json => flag(alloc, "json", "Print JSON, one object per line"),
             Parameter::Limit(unless_given) => limit(alloc, unless_given),
-            Parameter::Batch(unless_given) => batch(alloc, unless_given),
+            Parameter::Batch => {
+                let help =
+                    limits!(text "Execute up to K commands of a feed together, 1 to " most_at_once);
+                batch(alloc, help, DEFAULT_RUN_BATCH)
+            }
+            Parameter::UnusedBatch => {
+                let help = limits!(text "Accepted as by run, 1 to " most_at_once "; has no effect");
+                batch(alloc, help, DEFAULT_QUERY_BATCH)
+            }
             Parameter::Files => files(alloc),
             Parameter::OldFiles => old_files(alloc),
             Parameter::NewFiles => new_files(alloc),
@@ -374,11 +428,11 @@ fn program<'a>(alloc: Global) -> Result<Command<'a>, AllocError> {
     Ok(program)
 }
 
-/// The program without its subcommands.
+/// Returns the program without its commands.
 fn bare_program<'a>(alloc: Global) -> Command<'a> {
     Command::new(alloc, "yarib")
         .version("0.1.0")
-        .about("One IPv4 routing table, learned from route feeds, whose answers are proved")
+        .about("An IPv4 routing table with proved answers")
         .subcommand_required(true)
         .arg_required_else_help(true)
 }
@@ -387,34 +441,36 @@ fn address<'a>(alloc: Global) -> Arg<'a> {
     option(
         alloc,
         "address",
-        "An address to look up; may be given again",
+        "Address to look up; may be given more than once",
     )
     .value_name("ADDR")
     .action(ArgAction::Append)
 }
 
 fn addresses<'a>(alloc: Global) -> Arg<'a> {
-    let help = "A file of further addresses, one a line";
+    let help = "File with further addresses, one per line";
     option(alloc, "addresses", help).value_name("FILE")
 }
 
-/// An option that takes nothing.
+/// Returns an option without a value.
 fn flag<'a>(alloc: Global, name: &'a str, help: &'a str) -> Arg<'a> {
     option(alloc, name, help).action(ArgAction::SetTrue)
 }
 
-/// An option that takes a prefix.
+/// Returns an option whose value is a prefix.
 fn part<'a>(alloc: Global, name: &'a str, help: &'a str) -> Arg<'a> {
     option(alloc, name, help).value_name("PREFIX")
 }
 
-fn feed<'a>(alloc: Global) -> Arg<'a> {
-    let help = "Print only the routes of feed F, the F-th file";
-    number(alloc, "feed", "F", 1, MOST_FILES as u64, help)
+/// Returns an option that identifies a feed, and may be given more than once.
+fn feeds<'a>(alloc: Global, name: &'a str, help: &'a str) -> Arg<'a> {
+    option(alloc, name, help)
+        .value_name("F")
+        .action(ArgAction::Append)
 }
 
 fn by<'a>(alloc: Global) -> Arg<'a> {
-    let help = "What is compared: where packets go, or whole routes";
+    let help = "Compare next hops, or whole routes";
     option(alloc, "by", help)
         .value_name("WHAT")
         .value_parser(ValueParser::Names(COMPARED))
@@ -422,18 +478,17 @@ fn by<'a>(alloc: Global) -> Arg<'a> {
 }
 
 fn limit<'a>(alloc: Global, unless_given: &'a str) -> Arg<'a> {
-    let help = limits!(text "How many routes a feed may have, 1 to " most_routes);
-    number(alloc, "limit", "K", 1, u64::from(MOST_ROUTES), help).default_value(unless_given)
+    let help = limits!(text "Maximum number of routes per feed, 1 to " most_routes);
+    number(alloc, "limit", "K", 1, u64::from(MAX_ROUTES_PER_FEED), help).default_value(unless_given)
 }
 
-fn batch<'a>(alloc: Global, unless_given: &'a str) -> Arg<'a> {
-    let help = limits!(text "How many commands of a feed are asked at once, 1 to " most_at_once);
-    number(alloc, "batch", "K", 1, u64::from(MOST_AT_ONCE), help).default_value(unless_given)
+fn batch<'a>(alloc: Global, help: &'a str, unless_given: &'a str) -> Arg<'a> {
+    number(alloc, "batch", "K", 1, u64::from(MAX_BATCH), help).default_value(unless_given)
 }
 
 fn files<'a>(alloc: Global) -> Arg<'a> {
     let help =
-        limits!(text "Feed files, 1 to " most_files ": one command a line; /dev/stdin may be one");
+        limits!(text "Feed files, 1 to " most_files ": one command per line; /dev/stdin may be one");
     file_names(alloc, "files", "FILE", help)
 }
 
@@ -448,7 +503,7 @@ fn new_files<'a>(alloc: Global) -> Arg<'a> {
 }
 
 fn levels<'a>(alloc: Global) -> Arg<'a> {
-    let help = "How many levels the tree has, 1 to 6";
+    let help = "Number of levels of the tree, 1 to 6";
     number(alloc, "levels", "L", 0, 255, help).required(true)
 }
 
@@ -460,12 +515,12 @@ fn picks<'a>(alloc: Global) -> Arg<'a> {
         .help("The place that takes the next step")
 }
 
-/// An option of this long name.
+/// Returns an option with this long name.
 fn option<'a>(alloc: Global, name: &'a str, help: &'a str) -> Arg<'a> {
     Arg::new(alloc, name).long(name).help(help)
 }
 
-/// An option that takes a number from the least to the most.
+/// Returns an option whose value is a number from `least` to `most`.
 fn number<'a>(
     alloc: Global,
     name: &'a str,
@@ -479,7 +534,7 @@ fn number<'a>(
         .value_parser(ValueParser::unsigned(least, most))
 }
 
-/// The names of files, at least one.
+/// Returns an argument of one or more file names.
 fn file_names<'a>(alloc: Global, name: &'a str, value_name: &'a str, help: &'a str) -> Arg<'a> {
     Arg::new(alloc, name)
         .value_name(value_name)
@@ -491,38 +546,39 @@ fn file_names<'a>(alloc: Global, name: &'a str, value_name: &'a str, help: &'a s
 fn lookup_request<'a>(alloc: Global, matches: &ArgMatches<'a>) -> Result<Request<'a>, Refusal> {
     Ok(Request::Lookup(LookupRequest {
         run: run_request(alloc, matches)?,
+        feeds: feeds_of(alloc, matches, "feed", "without")?,
         addresses: texts_of(alloc, matches, "address")?,
         more: matches.get_str("addresses"),
         all: matches.get_flag("all"),
-        telling: telling_of(matches),
+        telling: output_options_of(matches),
     }))
 }
 
 fn table_request<'a>(alloc: Global, matches: &ArgMatches<'a>) -> Result<Request<'a>, Refusal> {
     Ok(Request::Table(TableRequest {
         run: run_request(alloc, matches)?,
+        feeds: feeds_of(alloc, matches, "feed", "without")?,
         only_best: matches.get_flag("best"),
         part: part_of(matches)?,
-        feed: matches.get_one::<u32>("feed"),
         count: matches.get_flag("count"),
-        telling: telling_of(matches),
+        telling: output_options_of(matches),
     }))
 }
 
-fn part_of<'a>(matches: &ArgMatches<'a>) -> Result<AskedPart<'a>, Refusal> {
+fn part_of<'a>(matches: &ArgMatches<'a>) -> Result<PrefixFilterArg<'a>, Refusal> {
     let within = matches.get_str("within");
     let covering = matches.get_str("covering");
     match (within, covering, matches.get_str("exact")) {
-        (None, None, None) => Ok(AskedPart::All),
-        (Some(prefix), None, None) => Ok(AskedPart::Within(prefix)),
-        (None, Some(prefix), None) => Ok(AskedPart::Covering(prefix)),
-        (None, None, Some(prefix)) => Ok(AskedPart::Exact(prefix)),
-        _ => Err(Refusal::TwoParts),
+        (None, None, None) => Ok(PrefixFilterArg::All),
+        (Some(prefix), None, None) => Ok(PrefixFilterArg::Within(prefix)),
+        (None, Some(prefix), None) => Ok(PrefixFilterArg::Covering(prefix)),
+        (None, None, Some(prefix)) => Ok(PrefixFilterArg::Exact(prefix)),
+        _ => Err(Refusal::ConflictingFilters),
     }
 }
 
-fn telling_of(matches: &ArgMatches<'_>) -> Telling {
-    Telling {
+fn output_options_of(matches: &ArgMatches<'_>) -> OutputOptions {
+    OutputOptions {
         names: matches.get_flag("names"),
         json: matches.get_flag("json"),
     }
@@ -532,9 +588,11 @@ fn diff_request<'a>(alloc: Global, matches: &ArgMatches<'a>) -> Result<Request<'
     let by = compared_by(matches)?;
     Ok(Request::Diff(DiffRequest {
         run: run_request(alloc, matches)?,
+        old_feeds: feeds_of(alloc, matches, "old-feed", "old-without")?,
         new_files: texts_of(alloc, matches, "new")?,
+        new_feeds: feeds_of(alloc, matches, "new-feed", "new-without")?,
         by,
-        telling: telling_of(matches),
+        telling: output_options_of(matches),
     }))
 }
 
@@ -546,7 +604,7 @@ fn compared_by(matches: &ArgMatches<'_>) -> Result<ComparedBy, Refusal> {
     }
 }
 
-/// The texts that were given for the argument, in order.
+/// Returns the values of the argument, in order.
 fn texts_of<'a>(
     alloc: Global,
     matches: &ArgMatches<'a>,
@@ -558,11 +616,23 @@ fn texts_of<'a>(
     }
 }
 
-/// The feed files, the limit and the batch, whose bounds `clap` has seen to.
+/// Returns the feeds that two options identify: the selected ones, and those that are left out.
+fn feeds_of<'a>(
+    alloc: Global,
+    matches: &ArgMatches<'a>,
+    only: &str,
+    without: &str,
+) -> Result<NamedFeeds<'a>, AllocError> {
+    let only = texts_of(alloc, matches, only)?;
+    let without = texts_of(alloc, matches, without)?;
+    Ok(NamedFeeds { only, without })
+}
+
+/// Returns the feed files, the limit and the batch, whose bounds `clap` has checked.
 fn run_request<'a>(alloc: Global, matches: &ArgMatches<'a>) -> Result<RunRequest<'a>, Refusal> {
     let limit = number_of(matches, "limit")?;
     let batch = number_of(matches, "batch")?;
-    if limit < 1 || limit > MOST_ROUTES || batch < 1 {
+    if limit < 1 || limit > MAX_ROUTES_PER_FEED || batch < 1 {
         return Err(Refusal::Unknown);
     }
     let files = texts_of(alloc, matches, "files")?;
@@ -573,7 +643,7 @@ fn run_request<'a>(alloc: Global, matches: &ArgMatches<'a>) -> Result<RunRequest
     })
 }
 
-/// The number that was given for the argument, or its default.
+/// Returns the number that was given for the option, or its default.
 fn number_of(matches: &ArgMatches<'_>, name: &str) -> Result<u32, Refusal> {
     matches.get_one::<u32>(name).ok_or(Refusal::Unknown)
 }
@@ -584,7 +654,7 @@ fn replay_request<'a>(alloc: Global, matches: &ArgMatches<'_>) -> Result<Request
     Ok(Request::Replay(ReplayRequest { levels, picks }))
 }
 
-/// The places that were picked, in order; each text is a number, as `clap` has seen to.
+/// Returns the picked places, in order. `clap` has checked that each text is a number.
 fn picked(alloc: Global, matches: &ArgMatches<'_>) -> Result<Vec<u32>, Refusal> {
     let mut picks = Vec::new(alloc);
     if let Some(texts) = matches.get_strs("picks") {

@@ -1,8 +1,7 @@
-//! What the command line takes at most, and what it takes where it doesn't say: each number once, for the checks and for
-//! the texts of the help.
+//! Limits and defaults of the command line: each number is written once, for the checks and for the help texts.
 
-/// `limits!(number NAME)` is the number of that name; `limits!(text ..)` is a text out of literals and of such names, in
-/// whose place their numbers stand.
+/// `limits!(number NAME)` expands to the number of that name; `limits!(text ..)` expands to a text made of literals and of
+/// such names, which are replaced by their numbers.
 macro_rules! limits {
     (number $name:ident) => {
         limits!(@ number [] $name)
@@ -35,23 +34,23 @@ macro_rules! limits {
 
 pub(crate) use limits;
 
-/// The most routes that one feed may have.
-pub const MOST_ROUTES: u32 = limits!(number most_routes);
+/// The maximum of `--limit`, the number of routes per feed.
+pub const MAX_ROUTES_PER_FEED: u32 = limits!(number most_routes);
 
-/// How many commands of a feed are asked at once at most.
-pub const MOST_AT_ONCE: u32 = limits!(number most_at_once);
+/// The maximum of `--batch`, the number of commands of a feed that are executed together.
+pub const MAX_BATCH: u32 = limits!(number most_at_once);
 
-/// The most feed files of one run.
-pub const MOST_FILES: usize = limits!(number most_files);
+/// The maximum number of feed files of a run.
+pub const MAX_FEED_FILES: usize = limits!(number most_files);
 
-/// How many routes one feed of `run` may have, if the command line does not say.
-pub(crate) const USUAL_ROUTES: &str = limits!(text usual_routes);
+/// The default of `--limit` for `run`.
+pub(crate) const DEFAULT_LIMIT: &str = limits!(text usual_routes);
 
-/// How many routes one feed of `lookup`, `table` and `diff` may have, if it does not say: a full Internet table fits.
+/// The default of `--limit` for `lookup`, `table` and `diff`: a full Internet table fits.
 pub(crate) const UNSEEN_ROUTES: &str = limits!(text most_routes);
 
-/// How many commands of a feed `run` asks at once, where the command line does not say.
-pub(crate) const USUAL_BATCH: &str = "1";
+/// The default of `--batch` for `run`.
+pub(crate) const DEFAULT_RUN_BATCH: &str = "1";
 
-/// How many `lookup`, `table` and `diff` ask at once, where it does not say: no order shows in what they write.
-pub(crate) const UNSEEN_BATCH: &str = "256";
+/// The default of `--batch` for `lookup`, `table` and `diff`, on whose output it has no effect.
+pub(crate) const DEFAULT_QUERY_BATCH: &str = "256";

@@ -1,5 +1,5 @@
--- Examples by which the definitions of rt_feed are tested, each under a line with the definition's name. Both sides are
--- computed, and what a relation or a law says is spelled out for some values.
+-- Examples that test the definitions of rt_feed, each below a line with the definition's name. Both sides are computed;
+-- relations and laws are spelled out for some values.
 use Rattle.std.proofs.Common.{◌≡◌, ◌≢◌, ℕ, ◌+◌, true, false, List, [], ◌∷◌, ◌++◌, length, map, slice_index, eqb, Some, None, Ok, Err, inl, inr, codes, refl}
 use Rattle.std.proofs.Common.{sym, ap, ◌∙◌, subst, arith}
 use Rattle.std.proofs.lemmas.Bool.{or_parts, eqb-false}
@@ -35,10 +35,10 @@ use Rattle.rt_feed.specs.CommandText.{space, words, route_words, command_text, H
 use Rattle.rt_feed.specs.Grammar.{prefix, preference, hop, address, hash, is_skipped, fields, purge_kinds, kinds_after, IsOfKind, IsFaultOf}
 use Rattle.rt_feed.specs.Grammar.{IsFirstFault, IsFaultAfter, IsFaultOfFields, AnswersLine}
 use Rattle.rt_feed.specs.Addresses.{AnswersAddressLine, addresses_said, faults_said, faulty_lines, SaysAddresses}
-use Rattle.rt_feed.specs.Lines.{lf, CutsLine, TellsTwo, IsBody, LineOutcome, skipped, faulty, asked}
-use Rattle.rt_feed.specs.Lines.{reading, heading, LinesSay, LinesBecome, Becomes, line_answer, command_answer, numbered, report_lines, asked_by, asked_of}
+use Rattle.rt_feed.specs.Lines.{lf, CutsLine, HasVersion2Header, IsBody, LineOutcome, skipped, faulty, asked}
+use Rattle.rt_feed.specs.Lines.{reading, heading, LinesParseAs, LinesYield, TextYields, line_answer, command_answer, numbered, report_lines, command_of, commands_of}
 use Rattle.rt_feed.specs.Reports.{is_refusal, is_fault, has_refusal, has_fault}
-use Rattle.rt_feed.specs.Visits.{concatenated, AreOneList, piece_of, IsCut}
+use Rattle.rt_feed.specs.Visits.{concatenated, AreOneList, piece_of, IsSplitInto}
 use Rattle.rt_feed.specs.Printed.{hop_text, route_text, reply_text, fault_text, answer_text, line_text, report_text, row_text, count_text, rows_text}
 use Rattle.rt_feed.specs.Printed.{table_text, found_text, reason_text, also_text, all_found_text}
 use Rattle.std.specs.Prelude.{◌<◌, ◌-◌, ◌^◌, ◌%◌, Option, decimal}
@@ -50,7 +50,7 @@ use Rattle.rt_feed.specs.declared.labels.Labelling.TheVariants.{Names, Files, Na
 use Rattle.rt_feed.specs.declared.styles.Form.{Form}
 use Rattle.rt_feed.specs.declared.styles.Form.TheVariants.{Numbers, Labels, Json}
 use Rattle.rt_feed.specs.Json.{escaped, json_string, hop_members, route_object}
-use Rattle.rt_feed.specs.Labels.{base_name, without_feed, feed_name, label_by, labelled, number_in, number_beside}
+use Rattle.rt_feed.specs.Labels.{base_name, without_feed, feed_name, label_by, labelled, number_in, paired_number}
 use Rattle.rt_feed.specs.Styles.{StyleContents, label_of, row_as, address_head, found_as, all_found_as}
 
 -- the address 192.0.2.1, and the command of the first line of examples/first.feed
@@ -354,14 +354,14 @@ a_comment_of_129_bytes_is_E8 : AnswersAddressLine
     (Err fault.LineLength)
 a_comment_of_129_bytes_is_E8 = inl (omega arith, refl)
 
--- a text without LF is a line's
+-- a text without LF may be a line
 unbroken : (text : List ℕ) → list_any (λ byte. eqb byte lf) text ≡ false → All (λ byte. byte ≢ lf) text
 unbroken [] none = All-nil (λ byte. byte ≢ lf)
 unbroken (byte ∷ text) none =
     let parts = or_parts (eqb byte lf) (list_any (λ byte. eqb byte lf) text) none in
     All-cons (λ byte. byte ≢ lf) byte text (eqb-false byte lf parts.0) (unbroken text parts.1)
 
--- no LF stands in the empty text
+-- the empty text has no LF
 no_end : (line rest : List ℕ) → [] ≢ line ++ lf ∷ rest
 no_end [] rest h = cc
 no_end (byte ∷ line) rest h = cc
@@ -379,14 +379,14 @@ nothing_has_no_line line rest h = elim h.ended [
   | inr whole ↦ whole.1 (sym whole.0)
 ]
 
--- TellsTwo
-the_first_line_and_no_more : TellsTwo (codes "version 2\npurge") (codes "purge")
+-- HasVersion2Header
+the_first_line_and_no_more : HasVersion2Header (codes "version 2\npurge") (codes "purge")
 the_first_line_and_no_more = record { unbroken = unbroken (codes "version 2") refl; ended = inl refl }
 
-a_text_of_that_line_alone : TellsTwo (codes "version 2") []
+a_text_of_that_line_alone : HasVersion2Header (codes "version 2") []
 a_text_of_that_line_alone = record { unbroken = unbroken (codes "version 2") refl; ended = inr (refl, (λ e. cc), refl) }
 
-not_with_a_space_behind : (rest : List ℕ) → ¬ TellsTwo (codes "version 2 \npurge") rest
+not_with_a_space_behind : (rest : List ℕ) → ¬ HasVersion2Header (codes "version 2 \npurge") rest
 not_with_a_space_behind rest h = elim h.ended [
   | inl ended ↦ let tenth : 32 ≡ 10 = ap (λ text. slice_index text 9) ended in omega (arith, tenth)
   | inr whole ↦ let tenth : 32 ≡ 0 = ap (λ text. slice_index text 9) whole.0 in omega (arith, tenth)
@@ -441,15 +441,15 @@ each_line_has_its_number :
     ∷ record { number = 4; answer = answer.Refused } ∷ []
 each_line_has_its_number = refl
 
--- asked_by
-a_refused_command_was_asked : asked_by (asked Dump outcome.Refused) ≡ (Dump, outcome.Refused) ∷ []
+-- command_of
+a_refused_command_was_asked : command_of (asked Dump outcome.Refused) ≡ (Dump, outcome.Refused) ∷ []
 a_refused_command_was_asked = refl
 
-a_faulty_line_asked_nothing : asked_by (faulty fault.Hop) ≡ []
+a_faulty_line_asked_nothing : command_of (faulty fault.Hop) ≡ []
 a_faulty_line_asked_nothing = refl
 
--- asked_of
-the_commands_alone : asked_of (skipped ∷ faulty fault.Command ∷ asked Dump (outcome.Did (Dumped 0)) ∷ []) ≡ (Dump, outcome.Did (Dumped 0)) ∷ []
+-- commands_of
+the_commands_alone : commands_of (skipped ∷ faulty fault.Command ∷ asked Dump (outcome.Did (Dumped 0)) ∷ []) ≡ (Dump, outcome.Did (Dumped 0)) ∷ []
 the_commands_alone = refl
 
 -- is_refusal
@@ -472,7 +472,7 @@ a_reply_is_no_fault = refl
 a_refused_command_is_no_fault : is_fault answer.Refused ≡ false
 a_refused_command_is_no_fault = refl
 
--- a piece at the front is whole where another follows
+-- a piece before another one is whole
 first_is_whole : {X : Type 0} (size : ℕ) (piece other : List X) (more whole : List (List X)) (last : List X)
     → All (λ piece. length piece ≡ size) whole → piece ∷ other ∷ more ≡ whole ++ piece_of last → length piece ≡ size
 first_is_whole size piece other more [] [] full same = cc
@@ -490,8 +490,8 @@ a_piece_by_itself = refl
 no_piece_that_is_empty : piece_of {X = ℕ} [] ≡ []
 no_piece_that_is_empty = refl
 
--- IsCut
-three_in_pieces_of_two : IsCut {X = ℕ} 2 (1 ∷ 2 ∷ 3 ∷ []) ((1 ∷ 2 ∷ []) ∷ (3 ∷ []) ∷ [])
+-- IsSplitInto
+three_in_pieces_of_two : IsSplitInto {X = ℕ} 2 (1 ∷ 2 ∷ 3 ∷ []) ((1 ∷ 2 ∷ []) ∷ (3 ∷ []) ∷ [])
 three_in_pieces_of_two = record {
   whole = (1 ∷ 2 ∷ []) ∷ [];
   last = 3 ∷ [];
@@ -501,7 +501,7 @@ three_in_pieces_of_two = record {
   is_cut = refl;
 }
 
-two_in_one_piece_of_two : IsCut {X = ℕ} 2 (1 ∷ 2 ∷ []) ((1 ∷ 2 ∷ []) ∷ [])
+two_in_one_piece_of_two : IsSplitInto {X = ℕ} 2 (1 ∷ 2 ∷ []) ((1 ∷ 2 ∷ []) ∷ [])
 two_in_one_piece_of_two = record {
   whole = (1 ∷ 2 ∷ []) ∷ [];
   last = [];
@@ -511,7 +511,7 @@ two_in_one_piece_of_two = record {
   is_cut = refl;
 }
 
-not_a_short_piece_before_another : ¬ IsCut {X = ℕ} 2 (1 ∷ 2 ∷ 3 ∷ []) ((1 ∷ []) ∷ (2 ∷ 3 ∷ []) ∷ [])
+not_a_short_piece_before_another : ¬ IsSplitInto {X = ℕ} 2 (1 ∷ 2 ∷ 3 ∷ []) ((1 ∷ []) ∷ (2 ∷ 3 ∷ []) ∷ [])
 not_a_short_piece_before_another h = let two = first_is_whole 2 (1 ∷ []) (2 ∷ 3 ∷ []) [] h.whole h.last h.full h.is_cut in cc
 
 -- hop_text
@@ -604,11 +604,11 @@ a_table_of_two :
 unfolding digits address_text prefix_text count_text row_text route_text
 a_table_of_two = refl
 
--- what became of a line whose command was answered
+-- the outcome of a line whose command was answered
 abbrev did : Cmd → Reply → LineOutcome
 did cmd reply = asked cmd (outcome.Did reply)
 
--- the three files of the tutorial, and what became of their lines
+-- the three files of the tutorial, and the outcomes of their lines
 abbrev pub north : List ℕ
 north =
     codes "# Has a way to all of 10.0.0.0/8, and a better one to a part of it.\n"
@@ -642,11 +642,11 @@ abbrev pub east_read : List LineOutcome
 east_read = skipped ∷ did (Add ten_9_16 10 Discard) Added ∷ did (Add ten_3_16 10 (via_192_0_2 3)) Added ∷ did (Withdraw ten_3_16) Withdrawn
     ∷ did (Lookup at_10_9_0_1) (Found (route_via ten_9_16 3 10 Discard)) ∷ []
 
--- a line that an LF ends is cut there
+-- a line is split off at the LF that ends it
 cut : (line rest : List ℕ) → list_any (λ byte. eqb byte lf) line ≡ false → CutsLine (line ++ lf ∷ rest) line rest
 cut line rest none = record { unbroken = unbroken line none; ended = inl refl }
 
--- each of these lines is read as its outcome says, and the text that they are with an LF behind each
+-- each of these lines is read as its outcome says; and the text of the lines, with an LF after each
 abbrev AreRead : Version → List (List ℕ) → List LineOutcome → Type 0
 AreRead version [] outcomes = outcomes ≡ []
 AreRead version (line ∷ lines) [] = ⊥
@@ -657,7 +657,7 @@ text_of [] = []
 text_of (line ∷ lines) = line ++ lf ∷ text_of lines
 
 become : (version : Version) (lines : List (List ℕ)) (outcomes : List LineOutcome) → list_any (λ line. list_any (λ byte. eqb byte lf) line) lines ≡ false
-    → AreRead version lines outcomes → LinesBecome version (text_of lines) outcomes []
+    → AreRead version lines outcomes → LinesYield version (text_of lines) outcomes []
 become version [] [] none are = refl
 become version [] (outcome ∷ outcomes) none are = absurd cc
 become version (line ∷ lines) [] none are = absurd are
@@ -665,14 +665,14 @@ become version (line ∷ lines) (outcome ∷ outcomes) none (answers, are) =
     let parts = or_parts (list_any (λ byte. eqb byte lf) line) (list_any (λ line. list_any (λ byte. eqb byte lf) line) lines) none in
     (line, text_of lines, cut line (text_of lines) parts.0, answers, become version lines outcomes parts.1 are)
 
--- LinesBecome
-lines_of_north : LinesBecome One north north_read []
+-- LinesYield
+lines_of_north : LinesYield One north north_read []
 unfolding digits address_text prefix_text
 lines_of_north = become One (codes "# Has a way to all of 10.0.0.0/8, and a better one to a part of it." ∷ codes "add 10.0.0.0/8 50 192.0.2.1"
     ∷ codes "add 10.1.0.0/16 10 192.0.2.1" ∷ codes "lookup 10.1.2.3" ∷ [])
     north_read refl ((omega arith, refl), (((omega arith, omega arith), refl), (((omega arith, omega arith), refl), ((omega arith, refl), refl))))
 
-lines_of_south : LinesBecome Two south_lines south_read []
+lines_of_south : LinesYield Two south_lines south_read []
 unfolding digits address_text prefix_text
 lines_of_south = become Two (codes "# Loses its neighbour, takes back all that it said, and comes up again with one way." ∷ codes "add 10.0.0.0/8 20 192.0.2.2"
     ∷ codes "add 10.2.0.0/16 20 192.0.2.2" ∷ codes "purge" ∷ codes "add 10.0.0.0/8 30 192.0.2.2" ∷ [])
@@ -690,43 +690,43 @@ lines_of_south = become Two (codes "# Loses its neighbour, takes back all that i
       ),
     )
 
-lines_of_east : LinesBecome Two east_lines east_read []
+lines_of_east : LinesYield Two east_lines east_read []
 unfolding digits address_text prefix_text
 lines_of_east = become Two (codes "# Discards what nobody is to reach, and takes back one way." ∷ codes "add 10.9.0.0/16 10 discard"
     ∷ codes "add 10.3.0.0/16 10 192.0.2.3" ∷ codes "withdraw 10.3.0.0/16" ∷ codes "lookup 10.9.0.1" ∷ [])
     east_read refl ((omega arith, refl), (((omega arith, refl), refl), (((omega arith, omega arith), refl), ((tt, refl), ((omega arith, refl), refl)))))
 
-no_line_left_out : ¬ LinesBecome One (codes "dump\n") [] []
+no_line_left_out : ¬ LinesYield One (codes "dump\n") [] []
 no_line_left_out same = cc
 
--- north's first byte is none of `version 2`
-north_tells_no_version : (rest : List ℕ) → ¬ TellsTwo north rest
+-- north's first byte isn't that of `version 2`
+north_tells_no_version : (rest : List ℕ) → ¬ HasVersion2Header north rest
 north_tells_no_version rest h = elim h.ended [
   | inl ended ↦ let first : 35 ≡ 118 = ap (λ text. slice_index text 0) ended in omega (arith, first)
   | inr whole ↦ let first : 35 ≡ 118 = ap (λ text. slice_index text 0) whole.0 in omega (arith, first)
 ]
 
--- Becomes
-pub what_north_becomes : Becomes north north_read []
+-- TextYields
+pub what_north_becomes : TextYields north north_read []
 what_north_becomes = record { version = One; lines = north; read = north_read; body = (north_tells_no_version, refl); become = lines_of_north; joined = refl }
 
-pub what_south_becomes : Becomes south (skipped ∷ south_read) []
+pub what_south_becomes : TextYields south (skipped ∷ south_read) []
 what_south_becomes = record
     { version = Two; lines = south_lines; read = south_read; body = cut (codes "version 2") south_lines refl; become = lines_of_south; joined = refl }
 
-pub what_east_becomes : Becomes east (skipped ∷ east_read) []
+pub what_east_becomes : TextYields east (skipped ∷ east_read) []
 what_east_becomes = record
     { version = Two; lines = east_lines; read = east_read; body = cut (codes "version 2") east_lines refl; become = lines_of_east; joined = refl }
 
--- a text of addresses, whose last line goes without an LF
+-- a text of addresses, whose last line has no LF
 abbrev pub asked_text : List ℕ
 asked_text = codes "# Two are asked.\n192.0.2.1\n10\n\n10.1.2.3"
 
 abbrev pub asked_read : List (Result (Option Addr) LineFault)
 asked_read = Ok None ∷ Ok (Some at_192_0_2_1) ∷ Err fault.Text ∷ Ok None ∷ Ok (Some at_10_1_2_3) ∷ []
 
--- LinesSay
-what_its_lines_say : LinesSay AnswersAddressLine asked_text asked_read []
+-- LinesParseAs
+what_its_lines_say : LinesParseAs AnswersAddressLine asked_text asked_read []
 unfolding digits address_text
 what_its_lines_say =
     let last : CutsLine (codes "10.1.2.3") (codes "10.1.2.3") [] =
@@ -827,7 +827,7 @@ in_the_second_of_two :
     × (has_fault (record { number = 1; answer = answer.Refused } ∷ []) ≡ false)
 in_the_second_of_two = (refl, refl)
 
--- a gate that holds whatever visits there are says nothing of what it has answered
+-- a gate that holds any visits at all says nothing about its answers
 not_any_visits : ¬ AreOneList (λ visits. Unit {0})
 not_any_visits h = let none_is_one = h [] (((Dump, Dumped 0) ∷ []) ∷ []) tt tt in cc
 
@@ -846,7 +846,7 @@ an_answer_of_each_kind :
 unfolding digits address_text prefix_text answered_text route_text
 an_answer_of_each_kind = (refl, refl, refl)
 
--- the addresses from 10.1.2.3 to 10.9.0.1, which had a way and now have none
+-- the addresses from 10.1.2.3 to 10.9.0.1, which had a next hop and now have none
 abbrev range_without_way : Difference
 range_without_way = record { first = at_10_1_2_3; last = at_10_9_0_1; old = answered.Hop (Via at_192_0_2_1); new = answered.NoRoute }
 
@@ -970,10 +970,10 @@ the_first_of_the_name_or_another :
 unfolding feed_name
 the_first_of_the_name_or_another = (refl, refl, refl)
 
--- number_beside
+-- paired_number
 its_partners_or_behind_them_all :
-    (number_beside (codes "a.feed" ∷ codes "b.feed" ∷ []) 1 (codes "new/b.feed") ≡ 2)
-    × (number_beside (codes "a.feed" ∷ codes "b.feed" ∷ []) 3 (codes "c.feed") ≡ 5)
+    (paired_number (codes "a.feed" ∷ codes "b.feed" ∷ []) 1 (codes "new/b.feed") ≡ 2)
+    × (paired_number (codes "a.feed" ∷ codes "b.feed" ∷ []) 3 (codes "c.feed") ≡ 5)
 unfolding feed_name
 its_partners_or_behind_them_all = (refl, refl)
 
@@ -982,7 +982,7 @@ feeds_have_their_labels :
     (one two : List ℕ) → (label_of (one ∷ two ∷ []) 1 ≡ one) × (label_of (one ∷ two ∷ []) 2 ≡ two) × (label_of (one ∷ two ∷ []) 3 ≡ [])
 feeds_have_their_labels one two = (refl, refl, refl)
 
--- objects that tell two feeds by their numbers
+-- objects with the numbers of two feeds
 abbrev objects_of_two : StyleContents
 objects_of_two = record { form = Json; labels = codes "1" ∷ codes "2" ∷ [] }
 

@@ -1,8 +1,8 @@
--- Examples by which the definitions of rt_run are tested, each under a line with the definition's name. Both sides are
--- computed, but for the texts that are written for numbers, which have one spelling each.
+-- Examples that test the definitions of rt_run, each below a line with the definition's name. Both sides are computed,
+-- except for the texts of numbers, which have one spelling each.
 use Rattle.std.proofs.Common.{◌≡◌, ◌≢◌, ℕ, zero, suc, ◌+◌, ◌≤◌, ◌==◌, ◌&&◌, nat_le, max, Bool, true, false, if◌then◌else◌, Some, None, Ok, Err}
-use Rattle.std.proofs.Common.{List, [], ◌∷◌, ◌++◌, length, map, filter, take, drop, inl, inr, codes, refl, sym, ap, ◌∙◌, subst, arith, append-nil}
-use Rattle.std.specs.List.{All, list_any, list_all}
+use Rattle.std.proofs.Common.{List, [], ◌∷◌, ◌++◌, length, map, filter, take, drop, get_or, inl, inr, codes, refl, sym, ap, ◌∙◌, subst, arith, append-nil}
+use Rattle.std.specs.List.{All, Contains, list_any, list_all}
 use Rattle.std.proofs.lemmas.Bool.{and_parts, eqb-true, eqb-false, leb-true}
 use Rattle.std.proofs.lemmas.List.Elements.{All-nil, All-cons}
 use Rattle.std.specs.Fmt.{digits}
@@ -20,32 +20,32 @@ use Rattle.rt_rib.specs.LookUp.{look_up, look_up_all}
 use Rattle.table_examples.proofs.Rib.{entry, at_10_1_2_3, at_10_9_0_1, ten_1_16, ten_9_16, via_192_0_2, route_via}
 use Rattle.table_examples.proofs.Cidr.{ten_8}
 use Rattle.table_examples.proofs.Rib.{tutorial, the_journal_of_the_tutorial, the_table_of_the_tutorial}
-use Rattle.rt_shared.specs.Visits.{Uncut, NoneBy, Since, visit_of, entries}
+use Rattle.rt_shared.specs.Visits.{IsContiguousIn, NoneBy, Since, visit_of, entries}
 use Rattle.rt_shared.specs.declared.outcome.Outcome.{Outcome}
 use Rattle.rt_shared.specs.declared.outcome.Outcome.TheVariants.{Did, Refused}
 use Rattle.rt_feed.specs.declared.parse.LineFault.TheVariants as fault
 use Rattle.rt_feed.specs.declared.versions.Version.TheVariants.{One}
 use Rattle.rt_feed.specs.declared.report.Answer.{Answer}
 use Rattle.rt_feed.specs.declared.report.Answer.TheVariants as answer
-use Rattle.rt_feed.specs.Lines.{TellsTwo, CutsLine, skipped, faulty, asked, LineOutcome, Becomes, asked_of, report_lines}
+use Rattle.rt_feed.specs.Lines.{HasVersion2Header, CutsLine, skipped, faulty, asked, LineOutcome, TextYields, commands_of, report_lines}
 use Rattle.rt_feed.specs.Reports.{has_refusal, has_fault}
-use Rattle.rt_feed.specs.Visits.{IsCut, concatenated}
+use Rattle.rt_feed.specs.Visits.{IsSplitInto, concatenated}
 use Rattle.rt_feed.specs.Printed.{reply_text, answer_text, line_text, route_text, row_text, count_text, table_text, found_text, also_text, reason_text}
 use Rattle.rt_feed.specs.declared.faults.RunFault.TheVariants as run
 use Rattle.feed_examples.proofs.Feed.{at_192_0_2_1, asked_text, two_are_asked_and_a_line_is_faulty}
 use Rattle.feed_examples.proofs.Feed.{north, north_read, south, south_read, east, east_read, what_north_becomes, what_south_becomes, what_east_becomes}
 use Rattle.rt_diff.specs.declared.comparison.Difference.{Difference}
 use Rattle.rt_feed.specs.DifferenceText.{SideStylesContents}
-use Rattle.rt_diff.specs.Answers.{by_own}
-use Rattle.rt_diff.specs.declared.table_answers.By.TheVariants as by
+use Rattle.rt_diff.specs.Answers.{own_numbers}
+use Rattle.rt_diff.specs.declared.table_answers.CompareBy.TheVariants as by
 use Rattle.table_examples.proofs.Diff.{a_table_and_itself_have_none}
-use Rattle.rt_run.specs.DiffText.{AskedDiff, differ_status, IsDiffText}
-use Rattle.rt_run.specs.declared.compared.DiffSummary.{DiffSummary}
+use Rattle.rt_run.specs.DiffText.{DiffContents, differ_status, IsDiffText}
+use Rattle.rt_run.specs.declared.comparisons.DiffSummary.{DiffSummary}
 use Rattle.ya_lock.specs.Lock.{LockId}
 use Rattle.rt_shared.specs.Table.{SharedId, HeldPass, Settles}
 use Rattle.rt_run.specs.declared.faults.AppFault.TheVariants.{Run, Replay, Write}
-use Rattle.rt_run.specs.AskedRun.{AskedRun}
-use Rattle.rt_run.specs.RunText.{Explains, ExplainsFrom, IsHistory, reports_of, reports_text, some_refused, status_where, reports_status, IsRunText, Leaves}
+use Rattle.rt_run.specs.RunContents.{RunContents}
+use Rattle.rt_run.specs.RunText.{Explains, ExplainsFrom, IsJournalOfRun, reports_of, reports_text, some_refused, status_where, reports_status, IsRunText, WritesOrFails}
 use Rattle.rt_run.proofs.Lists.{cut-joined}
 use Rattle.ya_replay.specs.ReplayText.{inside_text}
 use Rattle.rt_run.specs.Replayed.{IsReplayText, LeavesReplay}
@@ -54,17 +54,20 @@ use Rattle.rt_feed.specs.declared.styles.Form.TheVariants.{Numbers}
 use Rattle.rt_feed.specs.Styles.{StyleContents, row_as, found_as, all_found_as}
 use Rattle.rt_feed.specs.Counts.{totals_as, count_as, counts_as}
 use Rattle.rt_run.specs.TableText.{answers_text, all_answers_text, routes_text, counts_text, was_full, was_existing, was_missing, faults_of, tally_of}
-use Rattle.rt_run.specs.TableText.{has_refused, has_left_out, tallies_status, LeavesTable, IsShown, IsLookup}
+use Rattle.rt_run.specs.TableText.{has_refused, has_rejected, tallies_status, LeavesTable, IsQueryOutput, IsLookupOutput}
 use Rattle.rt_run.specs.SameTable.{table_alone, LeavesAlone, IsUnion, IsAnsweredAlone}
-use Rattle.rt_diff.specs.declared.table_answers.By.{By}
-use Rattle.rt_rib.specs.declared.selection.Part.TheVariants as part
+use Rattle.rt_run.specs.ChosenFeeds.{is_selected, is_left_out, texts_kept, routes_of_selected}
+use Rattle.rt_run.specs.LeftOut.{AreWithout, LosesLeftOut}
+use Rattle.rt_run.proofs.KeptTexts.{are_without}
+use Rattle.rt_diff.specs.declared.table_answers.CompareBy.{CompareBy}
+use Rattle.rt_rib.specs.declared.selection.PrefixFilter.TheVariants as part
 
 -- table_alone
-what_south_leaves : table_alone 65536 2 (asked_of south_read) ≡ route_via ten_8 2 30 (via_192_0_2 2) ∷ []
+what_south_leaves : table_alone 65536 2 (commands_of south_read) ≡ route_via ten_8 2 30 (via_192_0_2 2) ∷ []
 unfolding table_alone table_after
 what_south_leaves = refl
 
-its_own_limit : table_alone 1 2 (asked_of east_read) ≡ route_via ten_9_16 2 10 Discard ∷ []
+its_own_limit : table_alone 1 2 (commands_of east_read) ≡ route_via ten_9_16 2 10 Discard ∷ []
 unfolding table_alone table_after
 its_own_limit = refl
 
@@ -94,6 +97,76 @@ of_no_text = record {
 no_route_that_no_text_leaves : (r : Route) → ¬ IsUnion [] 65536 (r ∷ [])
 no_route_that_no_text_leaves r h =
     let leaves = (h.contains r).0 (0, omega arith, refl) in no_text_leaves_none leaves.0 r leaves.1
+
+-- texts_kept
+the_middle_one_is_left_out : texts_kept (is_left_out [] (2 ∷ [])) 1 (north ∷ south ∷ east ∷ []) ≡ north ∷ [] ∷ east ∷ []
+the_middle_one_is_left_out = refl
+
+-- is_left_out
+selected_but_left_out : is_left_out (1 ∷ 2 ∷ []) (2 ∷ []) 2 ≡ true
+selected_but_left_out = refl
+
+neither_of_the_two_selected : is_left_out (1 ∷ 3 ∷ []) [] 2 ≡ true
+neither_of_the_two_selected = refl
+
+-- is_selected
+the_second_of_the_two : is_selected (1 ∷ 3 ∷ []) 3 ≡ true
+the_second_of_the_two = refl
+
+every_feed_if_none_is_named : is_selected [] 7 ≡ true
+every_feed_if_none_is_named = refl
+
+-- three texts of which the second is left out
+abbrev three_texts : List (List ℕ)
+three_texts = (1 ∷ []) ∷ (2 ∷ []) ∷ (3 ∷ []) ∷ []
+
+abbrev without_two : List (List ℕ)
+without_two = (1 ∷ []) ∷ [] ∷ (3 ∷ []) ∷ []
+
+abbrev only_two : ℕ → Bool
+only_two = is_left_out [] (2 ∷ [])
+
+-- AreWithout
+the_others_stay : (k : ℕ) → only_two (k + 1) ≡ false → get_or without_two k [] ≡ get_or three_texts k []
+the_others_stay zero stays = refl
+the_others_stay (suc zero) stays = cc
+the_others_stay (suc (suc k)) stays = refl
+
+the_second_is_empty : (k : ℕ) → only_two (k + 1) ≡ true → get_or without_two k [] ≡ []
+the_second_is_empty zero leaves = cc
+the_second_is_empty (suc zero) leaves = refl
+the_second_is_empty (suc (suc zero)) leaves = cc
+the_second_is_empty (suc (suc (suc k))) leaves = refl
+
+three_without_the_second : AreWithout only_two three_texts without_two
+three_without_the_second = record { as_many = refl; others = the_others_stay; empty = the_second_is_empty }
+
+not_if_it_is_read : ¬ AreWithout only_two three_texts three_texts
+not_if_it_is_read h = let read = h.empty 1 refl in cc
+
+not_if_another_is_left_out_too : ¬ AreWithout only_two three_texts ((1 ∷ []) ∷ [] ∷ [] ∷ [])
+not_if_another_is_left_out_too h = let other = h.others 2 refl in cc
+
+not_if_the_third_becomes_the_second : ¬ AreWithout only_two three_texts ((1 ∷ []) ∷ (3 ∷ []) ∷ [])
+not_if_the_third_becomes_the_second h = let count = h.as_many in cc
+
+-- the tutorial's files, of which south is left out: its route is gone, and that of north stays
+abbrev the_three : List (List ℕ)
+the_three = north ∷ south ∷ east ∷ []
+
+-- LosesLeftOut
+south_is_gone : LosesLeftOut → (union rest : List Route) → IsUnion the_three 65536 union → IsUnion (texts_kept only_two 1 the_three) 65536 rest
+    → ¬ Contains rest (route_via ten_8 2 30 (via_192_0_2 2))
+south_is_gone law union rest of_all of_rest has =
+    let both = (law only_two the_three (texts_kept only_two 1 the_three) 65536 union rest (are_without only_two the_three) of_all of_rest
+    (route_via ten_8 2 30 (via_192_0_2 2))).0 has in
+    cc
+
+north_stays : LosesLeftOut → (union rest : List Route) → IsUnion the_three 65536 union → IsUnion (texts_kept only_two 1 the_three) 65536 rest
+    → Contains rest (route_via ten_8 1 50 (via_192_0_2 1))
+north_stays law union rest of_all of_rest =
+    (law only_two the_three (texts_kept only_two 1 the_three) 65536 union rest (are_without only_two the_three) of_all of_rest
+    (route_via ten_8 1 50 (via_192_0_2 1))).1 ((of_all.contains (route_via ten_8 1 50 (via_192_0_2 1))).1 (0, a_route_of_north), refl)
 
 -- IsAnsweredAlone
 as_if_there_were_no_other : IsAnsweredAlone 1 2 ((Add ten_8 5 Discard, Did Added) ∷ [])
@@ -160,25 +233,39 @@ abbrev plain : StyleContents
 plain = record { form = Numbers; labels = [] }
 
 -- routes_text
-all_of_them : routes_text plain (record { part = part.All; only_best = false; feed = None }) two_to_ten_8 ≡ codes "10.0.0.0/8 feed 2 pref 30 via discard\n10.0.0.0/8 feed 1 pref 50 via discard\n"
+all_of_them : routes_text plain (record { part = part.All; only_best = false; feed = None }) [] two_to_ten_8 ≡ codes "10.0.0.0/8 feed 2 pref 30 via discard\n10.0.0.0/8 feed 1 pref 50 via discard\n"
 unfolding digits address_text prefix_text row_text row_as route_text
 all_of_them = refl
 
-only_the_best : routes_text plain (record { part = part.All; only_best = true; feed = None }) two_to_ten_8 ≡ codes "10.0.0.0/8 feed 2 pref 30 via discard\n"
+only_the_best : routes_text plain (record { part = part.All; only_best = true; feed = None }) [] two_to_ten_8 ≡ codes "10.0.0.0/8 feed 2 pref 30 via discard\n"
 unfolding digits address_text prefix_text row_text row_as route_text
 only_the_best = refl
 
-only_a_feeds : routes_text plain (record { part = part.Exact ten_8; only_best = false; feed = Some 1 }) two_to_ten_8 ≡ codes "10.0.0.0/8 feed 1 pref 50 via discard\n"
+only_a_feeds : routes_text plain (record { part = part.Exact ten_8; only_best = false; feed = Some 1 }) [] two_to_ten_8 ≡ codes "10.0.0.0/8 feed 1 pref 50 via discard\n"
 unfolding digits address_text prefix_text row_text row_as route_text
 only_a_feeds = refl
 
+only_those_of_the_feeds_that_are_best :
+    routes_text plain (record { part = part.All; only_best = true; feed = None }) (1 ∷ 2 ∷ []) two_to_ten_8 ≡ codes "10.0.0.0/8 feed 2 pref 30 via discard\n"
+unfolding digits address_text prefix_text row_text row_as route_text
+only_those_of_the_feeds_that_are_best = refl
+
+none_if_the_best_is_anothers : routes_text plain (record { part = part.All; only_best = true; feed = None }) (1 ∷ []) two_to_ten_8 ≡ []
+none_if_the_best_is_anothers = refl
+
+-- routes_of_selected
+of_two_of_three_feeds :
+    routes_of_selected (1 ∷ 3 ∷ []) (route_via ten_8 1 1 Discard ∷ route_via ten_8 2 1 Discard ∷ route_via ten_8 3 1 Discard ∷ [])
+    ≡ route_via ten_8 1 1 Discard ∷ route_via ten_8 3 1 Discard ∷ []
+of_two_of_three_feeds = refl
+
 -- counts_text
-all_in_numbers : counts_text plain (record { part = part.All; only_best = false; feed = None }) two_to_ten_8
+all_in_numbers : counts_text plain (record { part = part.All; only_best = false; feed = None }) [] two_to_ten_8
     ≡ codes "routes 2 prefixes 1\nfeed 1 routes 1\nfeed 2 routes 1\nlength 8 routes 2\n"
 unfolding counts_as totals_as count_as digits
 all_in_numbers = refl
 
-only_the_best_in_numbers : counts_text plain (record { part = part.All; only_best = true; feed = None }) two_to_ten_8
+only_the_best_in_numbers : counts_text plain (record { part = part.All; only_best = true; feed = None }) [] two_to_ten_8
     ≡ codes "routes 1 prefixes 1\nfeed 2 routes 1\nlength 8 routes 1\n"
 unfolding counts_as totals_as count_as digits
 only_the_best_in_numbers = refl
@@ -199,7 +286,7 @@ all_that_cover_each :
 unfolding digits address_text prefix_text look_up_all all_found_as found_text also_text reason_text reply_text route_text
 all_that_cover_each = refl
 
--- an answer of each kind that a tally tells apart
+-- an answer of each kind that a tally distinguishes
 abbrev each_kind : List Answer
 each_kind = answer.Did Full ∷ answer.Did Exists ∷ answer.Did Missing ∷ answer.Did Added ∷ answer.Refused ∷ answer.Fault fault.Hop ∷ []
 
@@ -230,7 +317,7 @@ faults_and_an_add_over_the_limit :
     ≡ record { faulty = record { count = 2; first = Some (1, fault.Hop) }; full = 1; existing = 0; missing = 0; refused = 0 }
 faults_and_an_add_over_the_limit = refl
 
--- an add of a prefix that is there, and two commands about one that is not
+-- an add of a prefix that exists, and two commands about one that is missing
 found_otherwise :
     tally_of (report_lines 1 (asked Dump (Did Exists) ∷ asked Dump (Did Missing) ∷ skipped ∷ asked Dump (Did Missing) ∷ []))
     ≡ record { faulty = record { count = 0; first = None }; full = 0; existing = 1; missing = 2; refused = 0 }
@@ -253,14 +340,14 @@ a_refusal_alone :
     × (has_refused (tally_of (report_lines 1 (faulty fault.Hop ∷ asked Dump (Did Full) ∷ []))) ≡ false)
 a_refusal_alone = (refl, refl)
 
--- has_left_out
-a_faulty_line_is_left_out : has_left_out (tally_of (report_lines 1 (faulty fault.Hop ∷ []))) ≡ true
+-- has_rejected
+a_faulty_line_is_left_out : has_rejected (tally_of (report_lines 1 (faulty fault.Hop ∷ []))) ≡ true
 a_faulty_line_is_left_out = refl
 
-an_add_over_the_limit_is_left_out : has_left_out (tally_of (report_lines 1 (asked Dump (Did Full) ∷ []))) ≡ true
+an_add_over_the_limit_is_left_out : has_rejected (tally_of (report_lines 1 (asked Dump (Did Full) ∷ []))) ≡ true
 an_add_over_the_limit_is_left_out = refl
 
-all_else_is_not : has_left_out (tally_of (report_lines 1 (skipped ∷ asked Dump Refused ∷ asked Dump (Did Exists) ∷ asked Dump (Did Missing) ∷ []))) ≡ false
+all_else_is_not : has_rejected (tally_of (report_lines 1 (skipped ∷ asked Dump Refused ∷ asked Dump (Did Exists) ∷ asked Dump (Did Missing) ∷ []))) ≡ false
 all_else_is_not = refl
 
 -- tallies_status
@@ -293,7 +380,7 @@ lawful = record { answered = answered }
 abbrev NoLF : ℕ → Type 0
 NoLF byte = byte ≢ 10
 
--- its first line ends at the LF, and does not tell version 2
+-- its first line ends at the LF, and isn't `version 2`
 cut_after_dump : CutsLine text (codes "dump") []
 cut_after_dump = record {
   unbroken =
@@ -303,29 +390,29 @@ cut_after_dump = record {
   ended = inl refl;
 }
 
-of_version_1 : (rest : List ℕ) → ¬ TellsTwo text rest
+of_version_1 : (rest : List ℕ) → ¬ HasVersion2Header text rest
 of_version_1 rest h = elim h.ended [
   | inl ended ↦ cc
   | inr whole ↦ cc
 ]
 
--- entries of a feed, each a visit of its own, lie uncut among those of the others
+-- entries of a feed, each as its own visit, are uncut among the entries of the others
 abbrev alone : List Entry → List (List Entry)
 alone [] = []
 alone (e ∷ entries) = (e ∷ []) ∷ alone entries
 
 behind_another : (feed : ℕ) (e : Entry) (visits : List (List Entry)) (journal : List Entry) → e.feed ≢ feed
-    → Uncut feed visits journal → Uncut feed visits (e ∷ journal)
+    → IsContiguousIn feed visits journal → IsContiguousIn feed visits (e ∷ journal)
 behind_another feed e [] journal other none = All-cons (λ e. e.feed ≢ feed) e journal other none
 behind_another feed e (visit ∷ visits) journal other (before, rest, same, none, own, uncut) =
     (e ∷ before, rest, ap (λ entries. e ∷ entries) same, All-cons (λ e. e.feed ≢ feed) e before other none, own, uncut)
 
-each_alone : (feed : ℕ) (journal : List Entry) → Uncut feed (alone (filter (λ e. e.feed == feed) journal)) journal
+each_alone : (feed : ℕ) (journal : List Entry) → IsContiguousIn feed (alone (filter (λ e. e.feed == feed) journal)) journal
 each_alone feed [] = All-nil (λ e. e.feed ≢ feed)
 each_alone feed (e ∷ journal) = by (e.feed == feed) refl (each_alone feed journal)
   where
-    by : (own : Bool) → (e.feed == feed) ≡ own → Uncut feed (alone (filter (λ e. e.feed == feed) journal)) journal
-        → Uncut feed (alone (if own then e ∷ filter (λ e. e.feed == feed) journal else filter (λ e. e.feed == feed) journal)) (e ∷ journal)
+    by : (own : Bool) → (e.feed == feed) ≡ own → IsContiguousIn feed (alone (filter (λ e. e.feed == feed) journal)) journal
+        → IsContiguousIn feed (alone (if own then e ∷ filter (λ e. e.feed == feed) journal else filter (λ e. e.feed == feed) journal)) (e ∷ journal)
     by true is uncut = (
       [],
       journal,
@@ -345,7 +432,7 @@ by_range last (e ∷ entries) all =
     let both = and_parts (nat_le 1 e.feed) (nat_le e.feed last) parts.0 in
     All-cons (λ (e : Entry). (1 ≤ e.feed) × (e.feed ≤ last)) e entries (leb-true 1 e.feed both.0, leb-true e.feed last both.1) (by_range last entries parts.1)
 
--- a list cut into pieces of one
+-- a list divided into pieces of one
 abbrev singles : {X : Type 0} → List X → List (List X)
 singles xs = map (λ x. x ∷ []) xs
 
@@ -357,7 +444,7 @@ singles_joined : {X : Type 0} (xs : List X) → xs ≡ concatenated (singles xs)
 singles_joined [] = refl
 singles_joined (x ∷ xs) = ap (λ rest. x ∷ rest) (singles_joined xs)
 
-cut_in_ones : {X : Type 0} (xs : List X) → IsCut 1 xs (singles xs)
+cut_in_ones : {X : Type 0} (xs : List X) → IsSplitInto 1 xs (singles xs)
 cut_in_ones xs = record {
   whole = singles xs;
   last = [];
@@ -367,8 +454,8 @@ cut_in_ones xs = record {
   is_cut = sym (append-nil (singles xs));
 }
 
--- IsHistory
-the_history_of_a_dump : IsHistory (text ∷ []) 1 1 (dumped ∷ []) (lines ∷ [])
+-- IsJournalOfRun
+the_history_of_a_dump : IsJournalOfRun (text ∷ []) 1 1 (dumped ∷ []) (lines ∷ [])
 the_history_of_a_dump = record {
   lawful = lawful;
   explained = (
@@ -381,8 +468,8 @@ the_history_of_a_dump = record {
         become = (codes "dump", [], cut_after_dump, (tt, refl), refl);
         joined = refl;
       };
-      pieces = asked_of lines ∷ [];
-      cut = cut_in_ones (asked_of lines);
+      pieces = commands_of lines ∷ [];
+      cut = cut_in_ones (commands_of lines);
       uncut = each_alone 1 (dumped ∷ []);
     },
     tt,
@@ -401,15 +488,15 @@ the_run_of_a_dump = record {
   is_status = refl;
 }
 
--- the lines of a text are explained, one command at a time, where their entries are the feed's in the tutorial
-one_by_one : (feed : ℕ) (text : List ℕ) (lines : List LineOutcome) → Becomes text lines []
-    → map (entries feed) (map visit_of (singles (asked_of lines))) ≡ alone (filter (λ e. e.feed == feed) tutorial)
+-- the lines of a text are explained, one command at a time, if their entries are the feed's in the tutorial
+one_by_one : (feed : ℕ) (text : List ℕ) (lines : List LineOutcome) → TextYields text lines []
+    → map (entries feed) (map visit_of (singles (commands_of lines))) ≡ alone (filter (λ e. e.feed == feed) tutorial)
     → Explains 1 feed tutorial text lines
 one_by_one feed text lines becomes same = record {
   becomes = becomes;
-  pieces = singles (asked_of lines);
-  cut = cut_in_ones (asked_of lines);
-  uncut = subst (λ visits. Uncut feed visits tutorial) (sym same) (each_alone feed tutorial);
+  pieces = singles (commands_of lines);
+  cut = cut_in_ones (commands_of lines);
+  uncut = subst (λ visits. IsContiguousIn feed visits tutorial) (sym same) (each_alone feed tutorial);
 }
 
 -- Explains
@@ -425,11 +512,11 @@ the_lines_of_east = one_by_one 3 east (skipped ∷ east_read) what_east_becomes 
 the_same_lines_in_pieces_of_two : Explains 2 1 tutorial north north_read
 the_same_lines_in_pieces_of_two = record {
   becomes = what_north_becomes;
-  pieces = take 2 (asked_of north_read) ∷ drop 2 (asked_of north_read) ∷ [];
+  pieces = take 2 (commands_of north_read) ∷ drop 2 (commands_of north_read) ∷ [];
   cut = record {
-    whole = take 2 (asked_of north_read) ∷ [];
-    last = drop 2 (asked_of north_read);
-    full = All-cons (λ piece. length piece ≡ 2) (take 2 (asked_of north_read)) [] refl (All-nil (λ piece. length piece ≡ 2));
+    whole = take 2 (commands_of north_read) ∷ [];
+    last = drop 2 (commands_of north_read);
+    full = All-cons (λ piece. length piece ≡ 2) (take 2 (commands_of north_read)) [] refl (All-nil (λ piece. length piece ≡ 2));
     fewer = omega arith;
     is_joined = refl;
     is_cut = refl;
@@ -445,8 +532,8 @@ the_same_lines_in_pieces_of_two = record {
   );
 }
 
--- what was cut is its pieces, one after another
-joined_again : {X : Type 0} (size : ℕ) (xs : List X) (pieces : List (List X)) → IsCut size xs pieces → concatenated pieces ≡ xs
+-- the pieces of a list, one after another, are the list
+joined_again : {X : Type 0} (size : ℕ) (xs : List X) (pieces : List (List X)) → IsSplitInto size xs pieces → concatenated pieces ≡ xs
 joined_again size xs pieces cut = ap concatenated cut.is_cut ∙ (cut-joined cut.whole cut.last ∙ sym cut.is_joined)
 
 -- a command that was answered in a piece has its entry
@@ -454,10 +541,10 @@ rest_is_none : (before rest : List Entry) → [] ≡ before ++ rest → [] ≡ r
 rest_is_none [] rest same = same
 rest_is_none (x ∷ before) rest same = cc
 
-no_entry : (pieces : List (List (Cmd × Outcome))) → concatenated pieces ≡ asked_of lines → ¬ Uncut 1 (map (entries 1) (map visit_of pieces)) []
+no_entry : (pieces : List (List (Cmd × Outcome))) → concatenated pieces ≡ commands_of lines → ¬ IsContiguousIn 1 (map (entries 1) (map visit_of pieces)) []
 no_entry [] all uncut = cc
 no_entry ([] ∷ pieces) all (before, rest, same, none, own, more) =
-    no_entry pieces all (subst (Uncut 1 (map (entries 1) (map visit_of pieces))) (sym (rest_is_none before rest same)) more)
+    no_entry pieces all (subst (IsContiguousIn 1 (map (entries 1) (map visit_of pieces))) (sym (rest_is_none before rest same)) more)
 no_entry ((one ∷ piece) ∷ pieces) all (before, rest, same, none, own, more) =
     let first : one ≡ (Dump, Did (Dumped 0)) = cc in
     let is = subst (λ (o : Cmd × Outcome). [] ≡ before ++ (entries 1 (visit_of (o ∷ piece)) ++ rest)) first same in
@@ -465,11 +552,11 @@ no_entry ((one ∷ piece) ∷ pieces) all (before, rest, same, none, own, more) 
 
 -- Explains
 not_by_an_empty_journal : ¬ Explains 1 1 [] text lines
-not_by_an_empty_journal h = no_entry h.pieces (joined_again 1 (asked_of lines) h.pieces h.cut) h.uncut
+not_by_an_empty_journal h = no_entry h.pieces (joined_again 1 (commands_of lines) h.pieces h.cut) h.uncut
 
 not_in_fewer_pieces_than_hold_all : ¬ ((h : Explains 1 1 (dumped ∷ []) text lines) × (h.pieces ≡ []))
 not_in_fewer_pieces_than_hold_all (h, none) =
-    let all : [] ≡ asked_of lines = subst (λ pieces. concatenated pieces ≡ asked_of lines) none (joined_again 1 (asked_of lines) h.pieces h.cut) in cc
+    let all : [] ≡ commands_of lines = subst (λ pieces. concatenated pieces ≡ commands_of lines) none (joined_again 1 (commands_of lines) h.pieces h.cut) in cc
 
 -- ExplainsFrom
 each_by_its_feed : ExplainsFrom 1 1 tutorial (north ∷ south ∷ east ∷ []) (north_read ∷ (skipped ∷ south_read) ∷ (skipped ∷ east_read) ∷ [])
@@ -484,7 +571,7 @@ no_text_left_out :
     (batch feed : ℕ) (journal : List Entry) (text : List ℕ) (texts : List (List ℕ)) → ¬ ExplainsFrom batch feed journal (text ∷ texts) []
 no_text_left_out batch feed journal its_text texts h = h
 
--- what the tutorial shows of its run
+-- the output of the tutorial's run
 abbrev the_tutorials_page : List ℕ
 the_tutorials_page =
     codes "1:2 added\n1:3 added\n1:4 route 10.1.0.0/16 feed 1 pref 10 via 192.0.2.1\n"
@@ -493,8 +580,8 @@ the_tutorials_page =
     ++ codes "table 4\n10.0.0.0/8 feed 2 pref 30 via 192.0.2.2\n10.0.0.0/8 feed 1 pref 50 via 192.0.2.1\n"
     ++ codes "10.1.0.0/16 feed 1 pref 10 via 192.0.2.1\n10.9.0.0/16 feed 3 pref 10 via discard\n"
 
--- IsHistory
-the_history_of_the_tutorial : IsHistory (north ∷ south ∷ east ∷ []) 65536 1 tutorial (north_read ∷ (skipped ∷ south_read) ∷ (skipped ∷ east_read) ∷ [])
+-- IsJournalOfRun
+the_history_of_the_tutorial : IsJournalOfRun (north ∷ south ∷ east ∷ []) 65536 1 tutorial (north_read ∷ (skipped ∷ south_read) ∷ (skipped ∷ east_read) ∷ [])
 the_history_of_the_tutorial = record {
   lawful = the_journal_of_the_tutorial;
   explained = each_by_its_feed;
@@ -531,57 +618,57 @@ no_run_has_status_1 : (texts : List (List ℕ)) (limit batch : ℕ) (bytes : Lis
 no_run_has_status_1 texts limit batch bytes h =
     none_is_1 (list_any has_refusal (reports_of h.outcomes)) (list_any has_fault (reports_of h.outcomes)) h.is_status
 
--- Leaves
-behind_what_the_writer_had : Leaves (IsRunText (text ∷ []) 1 1) (Some (codes "x")) (Some (codes "x1:1 dumped 0\ntable 0\n")) (Ok 0)
+-- WritesOrFails
+behind_what_the_writer_had : WritesOrFails (IsRunText (text ∷ []) 1 1) (Some (codes "x")) (Some (codes "x1:1 dumped 0\ntable 0\n")) (Ok 0)
 behind_what_the_writer_had = (codes "1:1 dumped 0\ntable 0\n", the_run_of_a_dump, refl)
 
 nothing_but_the_text_of_a_run :
-    (texts : List (List ℕ)) (limit batch : ℕ) (new : List ℕ) (status : ℕ) → Leaves (IsRunText texts limit batch) (Some []) (Some new) (Ok status)
+    (texts : List (List ℕ)) (limit batch : ℕ) (new : List ℕ) (status : ℕ) → WritesOrFails (IsRunText texts limit batch) (Some []) (Some new) (Ok status)
     → IsRunText texts limit batch new status
 nothing_but_the_text_of_a_run texts limit batch new status (bytes, is, same) =
     let all : bytes ≡ new = sym same in subst (λ b. IsRunText texts limit batch b status) all is
 
-nothing_where_it_was_refused : Leaves (IsRunText [] 1 1) (Some (codes "x")) (Some (codes "x")) (Err (Run run.NoText))
+nothing_where_it_was_refused : WritesOrFails (IsRunText [] 1 1) (Some (codes "x")) (Some (codes "x")) (Err (Run run.NoText))
 nothing_where_it_was_refused = ((λ same. cc), refl)
 
-a_beginning_where_it_could_not_be_written : Leaves (IsRunText (text ∷ []) 1 1) (Some []) (Some (codes "1:1 dum")) (Err Write)
+a_beginning_where_it_could_not_be_written : WritesOrFails (IsRunText (text ∷ []) 1 1) (Some []) (Some (codes "1:1 dum")) (Err Write)
 a_beginning_where_it_could_not_be_written = (codes "1:1 dumped 0\ntable 0\n", 0, the_run_of_a_dump, record { count = 7; within = omega arith; appended = refl })
 
 a_beginning_of_whatever_was_to_be_written :
     (texts : List (List ℕ)) (limit batch status : ℕ) → IsRunText texts limit batch (codes "table 0\n") status
-    → Leaves (IsRunText texts limit batch) (Some (codes "x")) (Some (codes "xtab")) (Err Write)
+    → WritesOrFails (IsRunText texts limit batch) (Some (codes "x")) (Some (codes "xtab")) (Err Write)
 a_beginning_of_whatever_was_to_be_written texts limit batch status is =
     (codes "table 0\n", status, is, record { count = 3; within = omega arith; appended = refl })
 
-never_as_F2 : ¬ Leaves (IsRunText (text ∷ []) 1 1) (Some []) (Some []) (Err (Run run.FeedCount))
+never_as_F2 : ¬ WritesOrFails (IsRunText (text ∷ []) 1 1) (Some []) (Some []) (Err (Run run.FeedCount))
 never_as_F2 h = h.0 refl
 
-nothing_else_as_F1 : ¬ Leaves (IsRunText [] 1 1) (Some []) (Some (codes "x")) (Err (Run run.NoText))
+nothing_else_as_F1 : ¬ WritesOrFails (IsRunText [] 1 1) (Some []) (Some (codes "x")) (Err (Run run.NoText))
 nothing_else_as_F1 h = let same = h.1 in cc
 
-nothing_else_as_F3 : ¬ Leaves (IsRunText (text ∷ []) 1 1) (Some []) (Some (codes "x")) (Err (Run run.Memory))
+nothing_else_as_F3 : ¬ WritesOrFails (IsRunText (text ∷ []) 1 1) (Some []) (Some (codes "x")) (Err (Run run.Memory))
 nothing_else_as_F3 h = let same = h.1 in cc
 
-never_as_a_replay : ¬ Leaves (IsRunText (text ∷ []) 1 1) (Some []) (Some []) (Err (Replay replay.Place))
+never_as_a_replay : ¬ WritesOrFails (IsRunText (text ∷ []) 1 1) (Some []) (Some []) (Err (Replay replay.Place))
 never_as_a_replay h = h
 
-nothing_lost_where_it_could_not_be_written : ¬ Leaves (IsRunText (text ∷ []) 1 1) (Some (codes "x")) (Some []) (Err Write)
+nothing_lost_where_it_could_not_be_written : ¬ WritesOrFails (IsRunText (text ∷ []) 1 1) (Some (codes "x")) (Some []) (Err Write)
 nothing_lost_where_it_could_not_be_written (bytes, status, is, begins) = let lost : [] ≡ 120 ∷ take begins.count bytes = begins.appended in cc
 
-never_without_a_text : ¬ Leaves (IsRunText (text ∷ []) 1 1) (Some []) (Some []) (Ok 0)
+never_without_a_text : ¬ WritesOrFails (IsRunText (text ∷ []) 1 1) (Some []) (Some []) (Ok 0)
 never_without_a_text (bytes, is, same) =
     let none : [] ≡ bytes = same in
     nothing_printed_is_no_run (text ∷ []) 1 1 0 (subst (λ b. IsRunText (text ∷ []) 1 1 b 0) (sym none) is)
 
--- what each text of the tutorial became
+-- the outcomes of each text of the tutorial
 abbrev the_tutorials_outcomes : List (List LineOutcome)
 the_tutorials_outcomes = north_read ∷ (skipped ∷ south_read) ∷ (skipped ∷ east_read) ∷ []
 
--- runs of these texts, with a limit and a batch of 1, and that of the tutorial
-abbrev one_by_one_of : List (List ℕ) → AskedRun
+-- runs of these texts, with a limit and a batch of 1, and the run of the tutorial
+abbrev one_by_one_of : List (List ℕ) → RunContents
 one_by_one_of texts = record { texts = texts; limit = 1; batch = 1 }
 
-abbrev the_tutorials_run : AskedRun
+abbrev the_tutorials_run : RunContents
 the_tutorials_run = record { texts = north ∷ south ∷ east ∷ []; limit = 65536; batch = 1 }
 
 -- LeavesTable
@@ -596,22 +683,22 @@ what_the_tutorial_leaves summary tallied status = record {
   summed = record { tallied = tallied; is_status = status ∙ ap tallies_status (sym tallied) };
 }
 
--- IsShown
+-- IsQueryOutput
 what_is_told_of_the_tutorial :
     (text_of : List Route → List ℕ) (summary : RunSummary) → summary.tallies.items ≡ map tally_of (reports_of the_tutorials_outcomes)
-    → summary.status ≡ 0 → IsShown the_tutorials_run text_of (text_of (table_of_journal 65536 tutorial)) summary
+    → summary.status ≡ 0 → IsQueryOutput the_tutorials_run text_of (text_of (table_of_journal 65536 tutorial)) summary
 what_is_told_of_the_tutorial text_of summary tallied status = record {
   table = table_of_journal 65536 tutorial;
   leaves = what_the_tutorial_leaves summary tallied status;
   shown = refl;
 }
 
-its_status_is_told : (bytes : List ℕ) (summary : RunSummary) → summary.status ≡ 1 → ¬ IsShown (one_by_one_of (text ∷ [])) table_text bytes summary
+its_status_is_told : (bytes : List ℕ) (summary : RunSummary) → summary.status ≡ 1 → ¬ IsQueryOutput (one_by_one_of (text ∷ [])) table_text bytes summary
 its_status_is_told bytes summary one h =
     let tallies = summary.tallies.items in
-    none_is_1 (list_any has_refused tallies) (list_any has_left_out tallies) (sym one ∙ h.leaves.summed.is_status)
+    none_is_1 (list_any has_refused tallies) (list_any has_rejected tallies) (sym one ∙ h.leaves.summed.is_status)
 
-no_table_untold : (bytes : List ℕ) (summary : RunSummary) → summary.tallies.items ≡ [] → ¬ IsShown (one_by_one_of (text ∷ [])) table_text bytes summary
+no_table_untold : (bytes : List ℕ) (summary : RunSummary) → summary.tallies.items ≡ [] → ¬ IsQueryOutput (one_by_one_of (text ∷ [])) table_text bytes summary
 no_table_untold bytes summary none h = by h.leaves.outcomes h.leaves.history.explained h.leaves.summed.tallied
   where
     by : (outcomes : List (List LineOutcome)) → ExplainsFrom 1 1 h.leaves.journal (text ∷ []) outcomes
@@ -619,26 +706,26 @@ no_table_untold bytes summary none h = by h.leaves.outcomes h.leaves.history.exp
     by [] explained same = explained
     by (one ∷ others) explained same = let some : [] ≡ tally_of (report_lines 1 one) ∷ map tally_of (reports_of others) = sym none ∙ same in cc
 
--- where there is no text there is no feed, and no entry
+-- without texts there is neither a feed nor an entry
 nobody_asks : (journal : List Entry) → All (λ (e : Entry). (1 ≤ e.feed) × (e.feed ≤ 0)) journal → journal ≡ []
 nobody_asks [] all = refl
 nobody_asks (e ∷ journal) all = let its = all 0 e (omega arith) in absurd (omega (arith, its.0, its.1))
 
--- how many routes there are, as a byte
+-- the number of routes, as a byte
 abbrev length_text : List Route → List ℕ
 length_text table = length table ∷ []
 
--- IsShown
-no_route_of_no_text : (summary : RunSummary) → ¬ IsShown (one_by_one_of []) length_text (1 ∷ []) summary
+-- IsQueryOutput
+no_route_of_no_text : (summary : RunSummary) → ¬ IsQueryOutput (one_by_one_of []) length_text (1 ∷ []) summary
 unfolding table_of_journal
 no_route_of_no_text summary h =
     let no_entries = nobody_asks h.leaves.journal h.leaves.history.no_other in
     let none : ◌≡◌ {A = List ℕ} (1 ∷ []) (0 ∷ []) = h.shown ∙ ap length_text (h.leaves.left ∙ ap (table_of_journal 1) no_entries) in cc
 
--- IsLookup
+-- IsLookupOutput
 the_named_one_before_the_two_of_the_text :
     (summary : RunSummary) → summary.tallies.items ≡ map tally_of (reports_of the_tutorials_outcomes) → summary.status ≡ 0
-    → IsLookup the_tutorials_run (at_10_9_0_1 ∷ []) asked_text (answers_text plain)
+    → IsLookupOutput the_tutorials_run (at_10_9_0_1 ∷ []) asked_text (answers_text plain)
     (answers_text plain (at_10_9_0_1 ∷ at_192_0_2_1 ∷ at_10_1_2_3 ∷ []) (table_of_journal 65536 tutorial))
     (record { status = 2; run = summary; faulty = record { count = 1; first = Some (3, fault.Text) } })
 the_named_one_before_the_two_of_the_text summary tallied status = record {
@@ -648,40 +735,40 @@ the_named_one_before_the_two_of_the_text summary tallied status = record {
   is_status = rw status refl;
 }
 
--- Leaves
+-- WritesOrFails
 nothing_but_what_is_told :
-    (request : AskedRun) (text_of : List Route → List ℕ) (new : List ℕ) (summary : RunSummary)
-    → Leaves (IsShown request text_of) (Some []) (Some new) (Ok summary) → IsShown request text_of new summary
+    (request : RunContents) (text_of : List Route → List ℕ) (new : List ℕ) (summary : RunSummary)
+    → WritesOrFails (IsQueryOutput request text_of) (Some []) (Some new) (Ok summary) → IsQueryOutput request text_of new summary
 nothing_but_what_is_told request text_of new summary (bytes, is, same) =
-    let all : bytes ≡ new = sym same in subst (λ b. IsShown request text_of b summary) all is
+    let all : bytes ≡ new = sym same in subst (λ b. IsQueryOutput request text_of b summary) all is
 
 no_table_in_place_of_what_the_writer_had :
-    (summary : RunSummary) → ¬ Leaves (IsShown (one_by_one_of (text ∷ [])) table_text) (Some (codes "x")) (Some []) (Ok summary)
+    (summary : RunSummary) → ¬ WritesOrFails (IsQueryOutput (one_by_one_of (text ∷ [])) table_text) (Some (codes "x")) (Some []) (Ok summary)
 no_table_in_place_of_what_the_writer_had summary (bytes, is, same) = let lost : [] ≡ 120 ∷ bytes = same in cc
 
-no_table_where_it_was_refused : Leaves (IsShown (one_by_one_of []) table_text) (Some (codes "x")) (Some (codes "x")) (Err (Run run.NoText))
+no_table_where_it_was_refused : WritesOrFails (IsQueryOutput (one_by_one_of []) table_text) (Some (codes "x")) (Some (codes "x")) (Err (Run run.NoText))
 no_table_where_it_was_refused = ((λ same. cc), refl)
 
-no_other_bytes_as_F1 : ¬ Leaves (IsShown (one_by_one_of []) table_text) (Some []) (Some (codes "x")) (Err (Run run.NoText))
+no_other_bytes_as_F1 : ¬ WritesOrFails (IsQueryOutput (one_by_one_of []) table_text) (Some []) (Some (codes "x")) (Err (Run run.NoText))
 no_other_bytes_as_F1 h = let same = h.1 in cc
 
-no_other_bytes_as_F3 : ¬ Leaves (IsShown (one_by_one_of (text ∷ [])) table_text) (Some []) (Some (codes "x")) (Err (Run run.Memory))
+no_other_bytes_as_F3 : ¬ WritesOrFails (IsQueryOutput (one_by_one_of (text ∷ [])) table_text) (Some []) (Some (codes "x")) (Err (Run run.Memory))
 no_other_bytes_as_F3 h = let same = h.1 in cc
 
-a_table_is_never_refused_as_F2 : ¬ Leaves (IsShown (one_by_one_of (text ∷ [])) table_text) (Some []) (Some []) (Err (Run run.FeedCount))
+a_table_is_never_refused_as_F2 : ¬ WritesOrFails (IsQueryOutput (one_by_one_of (text ∷ [])) table_text) (Some []) (Some []) (Err (Run run.FeedCount))
 a_table_is_never_refused_as_F2 h = h.0 refl
 
-nor_as_a_replay : ¬ Leaves (IsShown (one_by_one_of (text ∷ [])) table_text) (Some []) (Some []) (Err (Replay replay.Place))
+nor_as_a_replay : ¬ WritesOrFails (IsQueryOutput (one_by_one_of (text ∷ [])) table_text) (Some []) (Some []) (Err (Replay replay.Place))
 nor_as_a_replay h = h
 
 a_beginning_of_it_where_it_could_not_be_written :
-    (request : AskedRun) (text_of : List Route → List ℕ) (summary : RunSummary) → IsShown request text_of (codes "table 0\n") summary
-    → Leaves (IsShown request text_of) (Some (codes "x")) (Some (codes "xtab")) (Err Write)
+    (request : RunContents) (text_of : List Route → List ℕ) (summary : RunSummary) → IsQueryOutput request text_of (codes "table 0\n") summary
+    → WritesOrFails (IsQueryOutput request text_of) (Some (codes "x")) (Some (codes "xtab")) (Err Write)
 a_beginning_of_it_where_it_could_not_be_written request text_of summary is =
     (codes "table 0\n", summary, is, record { count = 3; within = omega arith; appended = refl })
 
 no_bytes_lost_where_the_table_could_not_be_written :
-    ¬ Leaves (IsShown (one_by_one_of (text ∷ [])) table_text) (Some (codes "x")) (Some []) (Err Write)
+    ¬ WritesOrFails (IsQueryOutput (one_by_one_of (text ∷ [])) table_text) (Some (codes "x")) (Some []) (Err Write)
 no_bytes_lost_where_the_table_could_not_be_written (bytes, summary, is, begins) = let lost : [] ≡ 120 ∷ take begins.count bytes = begins.appended in cc
 
 -- IsReplayText
@@ -715,13 +802,13 @@ no_byte_lost_where_its_text_could_not_be_written (its_text, is, begins) = let lo
 some_range_or_none : (d : Difference) → (differ_status [] ≡ 0) × (differ_status (d ∷ []) ≡ 1) × (differ_status (d ∷ d ∷ []) ≡ 1)
 some_range_or_none d = (refl, refl, refl)
 
--- AskedDiff
-what_a_comparison_is_asked : (way : By) (numbers : List ℕ) (told : SideStylesContents) (asked : AskedDiff) → asked ≡ record { by = way; numbers = numbers; styles = told }
+-- DiffContents
+what_a_comparison_is_asked : (way : CompareBy) (numbers : List ℕ) (told : SideStylesContents) (asked : DiffContents) → asked ≡ record { by = way; numbers = numbers; styles = told }
     → (asked.by ≡ way) × (asked.numbers ≡ numbers) × (asked.styles ≡ told)
-what_a_comparison_is_asked way numbers told terms is = (ap (λ (a : AskedDiff). a.by) is, ap (λ (a : AskedDiff). a.numbers) is, ap (λ (a : AskedDiff). a.styles) is)
+what_a_comparison_is_asked way numbers told terms is = (ap (λ (a : DiffContents). a.by) is, ap (λ (a : DiffContents). a.numbers) is, ap (λ (a : DiffContents). a.styles) is)
 
--- a comparison of whole routes, feeds told by their own numbers
-abbrev whole_routes : SideStylesContents → AskedDiff
+-- a comparison of whole routes, with each feed's own number
+abbrev whole_routes : SideStylesContents → DiffContents
 whole_routes styles = record { by = by.Route; numbers = []; styles = styles }
 
 -- IsDiffText
@@ -735,7 +822,7 @@ nothing_is_written_of_a_run_and_itself styles old new old_tallied old_status new
   old_left = what_the_tutorial_leaves old old_tallied old_status;
   new_left = what_the_tutorial_leaves new new_tallied new_status;
   list = [];
-  differences = a_table_and_itself_have_none (by_own (table_of_journal 65536 tutorial));
+  differences = a_table_and_itself_have_none (own_numbers (table_of_journal 65536 tutorial));
   printed = refl;
   is_status = rw old_status (rw new_status refl);
 }
@@ -745,7 +832,7 @@ differ_is_0_or_1 [] = omega arith
 differ_is_0_or_1 (d ∷ list) = omega arith
 
 never_status_2_of_two_runs_without_faults :
-    (terms : AskedDiff) (old new : AskedRun) (bytes : List ℕ) (given : DiffSummary) → given.old.status ≡ 0 → given.new.status ≡ 0
+    (terms : DiffContents) (old new : RunContents) (bytes : List ℕ) (given : DiffSummary) → given.old.status ≡ 0 → given.new.status ≡ 0
     → given.status ≡ 2 → ¬ IsDiffText terms old new bytes given
 never_status_2_of_two_runs_without_faults terms old new bytes given old_status new_status status is = by (differ_status is.list) (differ_is_0_or_1 is.list) told
   where
@@ -757,7 +844,7 @@ never_status_2_of_two_runs_without_faults terms old new bytes given old_status n
     by (suc zero) small same = cc
     by (suc (suc n)) small same = absurd (omega (arith, small))
 
--- entries of which none is this feed's, by their numbers
+-- entries of other feeds only, by their numbers
 none_of : (feed : ℕ) (entries : List Entry) → list_all (λ e. if e.feed == feed then false else true) entries ≡ true → NoneBy feed entries
 none_of feed [] all = All-nil (λ (e : Entry). e.feed ≢ feed)
 none_of feed (e ∷ entries) all =
@@ -768,7 +855,7 @@ none_of feed (e ∷ entries) all =
     is_false true none = cc
     is_false false none = refl
 
--- the tutorial's shared table, and a pass of one of its four feeds that has seen so many entries
+-- the tutorial's shared table, and a pass of one of its four feeds that has seen `count` entries
 abbrev the_tutorials_table : LockId → SharedId
 the_tutorials_table lock = record { lock = lock; limit = 65536; feeds = 4 }
 

@@ -1,4 +1,4 @@
--- Examples by which the definitions of rt_shared are tested, each under a line with the definition's name. Both sides
+-- Examples that test the definitions of rt_shared, each below a line with the definition's name. Both sides
 -- are computed.
 use Rattle.std.proofs.Common.{◌≡◌, ◌≢◌, ℕ, zero, suc, ◌+◌, ◌≤◌, ◌⊎◌, inl, inr, ⊎_elim, Some, List, [], ◌∷◌, ◌++◌, refl, sym, ap, subst, arith}
 use Rattle.std.specs.Prelude as std
@@ -24,7 +24,7 @@ use Rattle.table_examples.proofs.Rib.{at_10_1_2_3, route_via, entry, empty_book,
 use Rattle.rt_rib.proofs.Promised.{IsLawfulJournal-nil, IsLawfulJournal-push}
 use Rattle.rt_shared.specs.declared.lent.Lent.{Lent}
 use Rattle.rt_shared.specs.declared.outcome.Outcome.TheVariants.{Did, Refused}
-use Rattle.rt_shared.specs.Visits.{AllBy, NoneBy, Since, Visit, reply_to, visit_of, entries, answered, MakesVisit, Uncut}
+use Rattle.rt_shared.specs.Visits.{AllBy, NoneBy, Since, AnsweredBatch, reply_to, visit_of, entries, answered, CommitsBatch, IsContiguousIn}
 use Rattle.rt_shared.specs.Table.{SharedId, HeldPass, feed_of, HasSameBounds, GrowsByOthers, GrowsByFeed}
 use Rattle.rt_shared.specs.Headline.{Act, entry_of, journal_of, IsSequential, IsRunTo, NoTwoInside, HasAllMade, FindsBest}
 use Rattle.rt_shared.specs.Moments.{Moment, BookInSlot, IsAtRest, MeetsHeadline}
@@ -57,8 +57,8 @@ others_have_come = record { others = dump 2 ∷ []; grown = refl; by_others = no
 not_its_own : (feed : ℕ) → ¬ Since feed [] (dump feed ∷ [])
 not_its_own feed h = let same : h.others ≡ dump feed ∷ [] = sym h.grown in h.by_others 0 (dump feed) (rw same (omega arith)) (rw same refl)
 
--- Visit
-a_command_and_its_reply : Visit
+-- AnsweredBatch
+a_command_and_its_reply : AnsweredBatch
 a_command_and_its_reply = (Dump, Dumped 0) ∷ []
 
 -- reply_to
@@ -80,7 +80,7 @@ as_entries_of_feed_64 = refl
 what_was_refused_has_no_entry : answered 1 (Dump ∷ Purge ∷ Purge ∷ []) (Did (Dumped 0) ∷ Refused ∷ Did (Purged 0) ∷ []) ≡ dump 1 ∷ purge 1 ∷ []
 what_was_refused_has_no_entry = refl
 
--- an entry of feed 2 stands between the two
+-- an entry of feed 2 is between the two
 no_piece : (before rest : List Entry) → dump 1 ∷ dump 2 ∷ purge 1 ∷ [] ≡ before ++ (dump 1 ∷ purge 1 ∷ rest) → ¬ NoneBy 1 before
 no_piece [] rest same free =
     let second : dump 2 ≡ purge 1 = cc in
@@ -88,11 +88,11 @@ no_piece [] rest same free =
     omega (arith, feeds)
 no_piece (e ∷ before) rest same free = let first : e ≡ dump 1 = cc in free 0 e (omega arith) (ap (λ (one : Entry). one.feed) first)
 
--- Uncut
-in_one_piece : Uncut 1 ((dump 1 ∷ purge 1 ∷ []) ∷ []) (dump 2 ∷ dump 1 ∷ purge 1 ∷ dump 2 ∷ [])
+-- IsContiguousIn
+in_one_piece : IsContiguousIn 1 ((dump 1 ∷ purge 1 ∷ []) ∷ []) (dump 2 ∷ dump 1 ∷ purge 1 ∷ dump 2 ∷ [])
 in_one_piece = (dump 2 ∷ [], dump 2 ∷ [], refl, none_by_1, both_by_1, none_by_1)
 
-in_two_visits : Uncut 1 ((dump 1 ∷ []) ∷ (purge 1 ∷ []) ∷ []) (dump 1 ∷ dump 2 ∷ purge 1 ∷ [])
+in_two_visits : IsContiguousIn 1 ((dump 1 ∷ []) ∷ (purge 1 ∷ []) ∷ []) (dump 1 ∷ dump 2 ∷ purge 1 ∷ [])
 in_two_visits = (
   [],
   dump 2 ∷ purge 1 ∷ [],
@@ -102,7 +102,7 @@ in_two_visits = (
   (dump 2 ∷ [], [], refl, none_by_1, All-cons (λ e. e.feed ≡ 1) (purge 1) [] refl (All-nil (λ e. e.feed ≡ 1)), All-nil (λ e. e.feed ≢ 1)),
 )
 
-one_between : ¬ Uncut 1 ((dump 1 ∷ purge 1 ∷ []) ∷ []) (dump 1 ∷ dump 2 ∷ purge 1 ∷ [])
+one_between : ¬ IsContiguousIn 1 ((dump 1 ∷ purge 1 ∷ []) ∷ []) (dump 1 ∷ dump 2 ∷ purge 1 ∷ [])
 one_between h = no_piece h.0 h.1 h.2 h.3
 
 -- HeldPass
@@ -117,7 +117,7 @@ the_first_place_is_feed_1s = refl
 the_last_place_is_feed_64s : entry_of 63 (Dump, Dumped 0) ≡ dump 64
 the_last_place_is_feed_64s = refl
 
--- feed 1 puts a route in and feed 2 looks an address up, where both compete for the lock
+-- feed 1 adds a route and feed 2 looks an address up, while both compete for the lock
 abbrev its_route : Route
 its_route = route_via ten_8 1 5 Discard
 
@@ -157,7 +157,7 @@ a_run_in_which_both_are_answered = (
 no_tree_of_no_level : (world : World Act) → ¬ IsRunTo 1 0 world
 no_tree_of_no_level world h = omega (arith, h.0)
 
--- feed 1 adds a route where no feed may have any
+-- feed 1 adds a route, but no feed may have any
 abbrev one_too_many : List (Event Act)
 one_too_many = Steps 0 ∷ Steps 0 ∷ Steps 0 ∷ Steps 0 ∷ Appends 0 (Add ten_8 5 Discard, Full) ∷ []
 
@@ -177,12 +177,12 @@ a_run_of_two_levels = (omega arith, Steps 3 ∷ [], runs 2 (IsSequential 1) (Ste
 nobody_at_the_start : NoTwoInside opening_world
 nobody_at_the_start p q one other = cc
 
--- a world in which these are the processes, and nothing was made
+-- a world with these processes, and nothing made
 abbrev world_of : (ℕ → Process) → World Act
 world_of processes =
     record { state = record { words = λ word. 0; processes = processes }; content = []; copies = λ place. []; doing = λ place. []; made = λ place. [] }
 
--- place 0 alone is inside
+-- only place 0 is inside
 abbrev first_inside : ℕ → Process
 first_inside zero = Inside
 first_inside (suc place) = Idle
@@ -300,8 +300,8 @@ by_the_second_place = record {
   by_feed = All-cons (λ e. e.feed ≡ 2) (dump 2) [] refl (All-nil (λ e. e.feed ≡ 2));
 }
 
--- MakesVisit
-a_dump_by_itself : MakesVisit 1 2 [] (Dump ∷ []) (Did (Dumped 0) ∷ []) (dump 2 ∷ [])
+-- CommitsBatch
+a_dump_by_itself : CommitsBatch 1 2 [] (Dump ∷ []) (Did (Dumped 0) ∷ []) (dump 2 ∷ [])
 a_dump_by_itself = record {
   found = [];
   since = record { others = []; grown = refl; by_others = All-nil (λ e. e.feed ≢ 2) };
@@ -317,7 +317,7 @@ moment homes = record { words = []; homes = homes; views = Seated 0 Idle new 0 �
 abbrev at_rest : Moment
 at_rest = moment (some (Some dumped) ∷ [])
 
--- seat 0 has given the book and made the pass of the first place, and is still to make the second's
+-- seat 0 has given the book and made the pass of the first place, and is still to make the pass of the second
 abbrev half_made : List (Option (std.Option Lent)) → Lent → Moment
 half_made homes given = record { words = []; homes = homes; views = HandingOut 1 given ∷ Seated 0 Idle given 0 ∷ [] }
 
@@ -336,7 +336,7 @@ none_to_make homes (suc zero) place given (first, at, far) =
     let same : Seated 1 Idle dumped 3 ≡ HandingOut first given = some-injective _ _ at in cc
 none_to_make homes (suc (suc seat)) place given (first, at, far) = some-ne-none (HandingOut first given) (sym at)
 
--- what each seat shows
+-- the view of each seat
 seen_by : (homes : List (Option (std.Option Lent))) (seat place : ℕ) (process : Process) (seen : Lent) → HasProcess (moment homes) seat place process seen
     → (Idle ≡ process) × Since (feed_of place) seen.book.journal (dump 2 ∷ [])
 seen_by homes zero place process seen has =
@@ -375,12 +375,12 @@ the_dump_was_seen_by_its_feed = record {
 not_where_one_is_inside : ¬ IsAtRest (record { words = []; homes = some (Some dumped) ∷ []; views = Seated 1 Inside dumped 3 ∷ [] }) dumped
 not_where_one_is_inside h = h.nobody 0 1 dumped (Seated 1 Inside dumped 3, refl, (refl, refl, refl))
 
--- the book has an entry of feed 2, of which the pass of feed 2 knows nothing
+-- the book has an entry of feed 2 that the pass of feed 2 hasn't seen
 not_where_its_own_entry_is_unseen : ¬ IsAtRest (record { words = []; homes = some (Some dumped) ∷ []; views = Seated 1 Idle new 0 ∷ [] }) dumped
 not_where_its_own_entry_is_unseen h =
     not_its_own 2 (h.since 0 1 new (inl (Idle, (λ inside. cc), (Seated 1 Idle new 0, refl, (refl, refl, refl)))))
 
--- nor an entry of feed 2 behind what was given while the pass of feed 2 is still to be made
+-- nor an entry of feed 2 after the given journal, while the pass of feed 2 is still to be made
 nor_behind_what_was_given : ¬ IsAtRest (half_made (some (Some dumped) ∷ []) new) dumped
 nor_behind_what_was_given h = not_its_own 2 (h.since 0 1 new (inr (1, refl, omega arith)))
 

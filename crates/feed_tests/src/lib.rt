@@ -1,4 +1,4 @@
-//! The tests of `rt_shared`, `rt_feed` and `rt_run`, which stand on one another. They are a crate of their own, since a
+//! The tests of `rt_shared`, `rt_feed` and `rt_run`, which depend on one another. They are in a separate crate, since a
 //! crate with tests is proved once more for them.
 #![tactic(auto)]
 

@@ -1,4 +1,5 @@
-//! Runs and replays over writers that stumble, take little or count their calls, and what the program's work is refused for.
+//! Runs and replays over writers that stumble, accept little or count their calls, and the texts of the
+//! program's faults.
 use rt_cidr::{OUTPUT_BYTES, put};
 use rt_feed::RunFault;
 use rt_run::{AppFault, replay_text, run_texts};
@@ -38,8 +39,8 @@ static FAULTS: [(AppFault, &str, &str); 7] = [
     (AppFault::Write, "cannot write", "Write"),
 ];
 
-/// Fails where `Display` or `Debug` shows another text for an `AppFault`.
-/// Fails where `Write` shows `not written`.
+/// Catches another text of `Display` or `Debug` for an `AppFault`.
+/// Catches a `Write` that shows `not written`.
 #[test]
 fn faults_have_their_texts(rt: HostRuntime) {
     assert!(rt; misshown(rt.alloc(), &FAULTS) == Ok(None));
@@ -52,14 +53,14 @@ fn no_text_is_refused(rt: HostRuntime) {
     assert!(rt; status == Err(AppFault::Run(RunFault::NoText)) && out.is_empty());
 }
 
-/// A text, and what a run of it prints.
+/// A text, and the output of its run.
 #[derive(Drop)]
 struct WorkedRun {
     texts: [Vec<u8>; 1],
     output: Vec<u8>,
 }
 
-/// One route and so many look-ups of it, which are answered in 70 bytes and more each.
+/// Returns a text of one route and `look_ups` look-ups of it, each with an answer of 70 bytes and more, and its output.
 fn looked_up(rt: &impl Abort, alloc: Global, look_ups: usize) -> WorkedRun {
     let mut text = Vec::new(alloc);
     let mut output = Vec::new(alloc);
@@ -70,7 +71,7 @@ fn looked_up(rt: &impl Abort, alloc: Global, look_ups: usize) -> WorkedRun {
     }
 }
 
-/// Writes the text and what is printed.
+/// Writes the text and its output.
 fn write_run(
     alloc: Global,
     text: &mut Vec<u8>,
@@ -90,7 +91,8 @@ fn write_run(
 
 const ROUTE: &str = "100.100.100.0/24 feed 1 pref 4294967295 via 100.100.100.100\n";
 
-/// Runs the text over a writer with this fault after so many bytes, which are all that is written: a beginning of the output.
+/// Runs the text over a writer with this error after `room` bytes. Asserts that only these bytes are written, a prefix
+/// of the output.
 fn run_stops<R: Threads + Wait + Sync + Abort>(
     rt: &R,
     alloc: Global,
@@ -115,11 +117,11 @@ fn replay_stops(rt: &impl Abort, alloc: Global, room: usize, fault: io::Error) {
     assert!(rt; stopped, "a replay after {room} bytes: {fault:?}");
 }
 
-/// Within a buffer: the fault comes while it still fills.
+/// Within a buffer: the error comes while it still fills.
 const WITHIN: usize = OUTPUT_BYTES / 2;
 
-/// Fails where the buffer is flushed again after `WouldBlock`.
-/// Fails where what it still holds is written after `StorageFull`.
+/// Catches a buffer that is flushed again after `WouldBlock`.
+/// Catches a buffer whose remaining bytes are written after `StorageFull`.
 #[test]
 fn a_fault_of_any_kind_ends_the_output(rt: HostRuntime) {
     let alloc = rt.alloc();
@@ -133,7 +135,7 @@ fn a_fault_of_any_kind_ends_the_output(rt: HostRuntime) {
     }
 }
 
-/// The first bytes, of three lines, those about the end of a buffer, and some others.
+/// Returns true for the first bytes, of three lines, those about the end of a buffer, and some others.
 fn is_tried(room: usize) -> bool {
     let past = room % OUTPUT_BYTES;
     room < 200 || past < 4 || past >= OUTPUT_BYTES - 4 || past % 1_999 == 0
@@ -154,8 +156,8 @@ fn stops_everywhere<R: Threads + Wait + Sync + Abort>(
     }
 }
 
-/// How many bytes a call takes, and what the fault is. Whoever tries again after `Interrupted`, as std's `write_all` does,
-/// is seen by it.
+/// The number of bytes that a call accepts, and the error. They catch a retry after `Interrupted`, as in
+/// std's `write_all`.
 static WAYS: [(usize, ErrorKind); 5] = [
     (1, ErrorKind::Interrupted),
     (1_000, ErrorKind::BrokenPipe),
@@ -164,12 +166,12 @@ static WAYS: [(usize, ErrorKind); 5] = [
     (usize::MAX, ErrorKind::BrokenPipe),
 ];
 
-/// How many look-ups fill more than three buffers.
+/// A number of look-ups that fill more than three buffers.
 const THREE_BUFFERS: usize = 4_000;
 
-/// Fails where `run_texts` gives another fault than `Write` where the writer fails.
-/// Fails where a byte more is written after the fault: `after 0 bytes`.
-/// Fails where `put`, and so `run_texts`, tries again after `Interrupted`, as std's `write_all` does.
+/// Catches a `run_texts` that returns another fault than `Write` if the writer fails.
+/// Catches a byte that is written after the error: `after 0 bytes`.
+/// Catches a `put`, and so a `run_texts`, that tries again after `Interrupted`, as std's `write_all` does.
 #[test]
 fn a_fault_in_any_buffer_leaves_a_beginning(rt: HostRuntime) {
     for look_ups in [1, THREE_BUFFERS] {
@@ -180,23 +182,23 @@ fn a_fault_in_any_buffer_leaves_a_beginning(rt: HostRuntime) {
     }
 }
 
-/// Greater than the length of the output below, and prime: multiples of it leave each remainder once, now here, now there.
+/// A prime above the length of the output below: its multiples leave each remainder once, now here, now there.
 const STRIDE: usize = 104_729;
 
-/// How many look-ups fill more than one buffer, and fewer bytes than the stride.
+/// A number of look-ups that fill more than one buffer, and fewer bytes than the stride.
 const ONE_BUFFER: usize = 920;
 
-/// Whether twenty seconds haven't passed.
+/// Returns true until twenty seconds have passed.
 fn is_early<R: Clock>(rt: &R, start: Instant) -> bool {
     start
         .elapsed(rt)
         .is_ok_and(|past| past < Duration::from_secs(20))
 }
 
-/// Lets the writer fail after each count of bytes of an output of more than one buffer, now near its beginning, now near its
-/// end; on a busy machine after as many of them as begin in twenty seconds.
-/// Fails where `run_texts` gives another fault than `Write` where the writer fails.
-/// Fails where a byte more is written after the fault: `after 0 bytes`.
+/// Lets the writer fail after each count of bytes of an output of more than one buffer, now near its beginning, now
+/// near its end; on a busy machine only after those counts that begin in twenty seconds.
+/// Catches a `run_texts` that returns another fault than `Write` if the writer fails.
+/// Catches a byte that is written after the error: `after 0 bytes`.
 #[test]
 fn a_fault_after_any_number_of_bytes_leaves_a_beginning(rt: HostRuntime) {
     let worked = looked_up(&rt, rt.alloc(), ONE_BUFFER);
@@ -215,7 +217,7 @@ fn a_fault_after_any_number_of_bytes_leaves_a_beginning(rt: HostRuntime) {
     assert!(rt; tried > 100, "{tried} of {len}");
 }
 
-/// Runs the text over a writer that takes so many bytes a call, and tells how often it was called.
+/// Runs the text over a writer that accepts `at_once` bytes a call, and returns the number of calls.
 fn calls_of<R: Threads + Wait + Sync + Abort>(
     rt: &R,
     alloc: Global,
@@ -229,10 +231,10 @@ fn calls_of<R: Threads + Wait + Sync + Abort>(
     out.calls
 }
 
-/// Fails where `put` returns `WriteZero` at once.
-/// Fails where `put` takes each write for a whole one: `1 at once`.
-/// Fails where `run_texts` passes on each line by itself, or flushes the writer.
-/// Fails where the buffer is passed on between the reports and the table.
+/// Catches a `put` that returns `WriteZero` at once.
+/// Catches a `put` that takes each write for a whole one: `1 at once`.
+/// Catches a `run_texts` that passes on each line by itself, or flushes the writer.
+/// Catches a buffer that is passed on between the reports and the table.
 #[test]
 fn all_is_written_in_as_few_calls_as_take_it(rt: HostRuntime) {
     let worked = looked_up(&rt, rt.alloc(), THREE_BUFFERS);

@@ -1,4 +1,4 @@
-//! Tables at work on threads, whose settled journal is answered anew, entry by entry.
+//! Tables at work on threads, whose settled journal is then answered again, entry by entry.
 ghost use Rattle.std.specs.Prelude.{◌≡◌, ◌≤◌};
 ghost use Rattle.rt_rib.specs.Book.{IsLimit};
 
@@ -12,7 +12,7 @@ use std::sync::Wait;
 use std::thread;
 use std::thread::Threads;
 
-/// Whether the book answers the entries' commands in this order with these replies.
+/// Returns true if the book answers the entries' commands in this order with these replies.
 fn answers_so(book: &mut Book<Global>, entries: &[Entry]) -> bool {
     for entry in entries {
         if !feed_ok(entry.feed) || book.apply(entry.feed, entry.cmd) != Ok(entry.reply) {
@@ -22,8 +22,8 @@ fn answers_so(book: &mut Book<Global>, entries: &[Entry]) -> bool {
     true
 }
 
-/// Whether one table alone, with nobody else, answers the journal's commands in this order with these replies, and has
-/// then the routes of the book.
+/// Returns true if a single table, without other users, answers the journal's commands in this order with these
+/// replies, and then has the routes of the book.
 fn is_explained(rt: &impl Abort, alloc: Global, limit: u32, book: &Book<Global>) -> bool
     requires { IsLimit limit }
 {
@@ -34,7 +34,7 @@ fn is_explained(rt: &impl Abort, alloc: Global, limit: u32, book: &Book<Global>)
     is_answered && routes.as_slice() == listed.as_slice()
 }
 
-/// Whether the entries of each of the feeds are so many.
+/// Returns true if each of the feeds has `each` entries.
 fn have_entries(book: &Book<Global>, feeds: u32, each: usize) -> bool {
     for feed in 1..=feeds {
         let mut count = 0usize;
@@ -50,7 +50,7 @@ fn have_entries(book: &Book<Global>, feeds: u32, each: usize) -> bool {
     true
 }
 
-/// The j-th command of a feed: each kind in turn, over a few prefixes, none of them another feed's.
+/// Returns the j-th command of a feed: each kind in turn, over a few prefixes, none of them another feed's.
 fn cmd_of(feed: u32, j: u32) -> Result<Cmd, TextFault> {
     let prefix = Prefix::new(
         feed.wrapping_shl(24)
@@ -78,7 +78,7 @@ fn cmd_of(feed: u32, j: u32) -> Result<Cmd, TextFault> {
     })
 }
 
-/// Lets the pass's feed make its commands, so many at a time.
+/// Executes the commands of the pass's feed, `batch` at a time.
 fn run_batches<R: Wait, const L: u32>(
     rt: &R,
     alloc: Global,
@@ -96,7 +96,7 @@ fn run_batches<R: Wait, const L: u32>(
     }
 }
 
-/// Makes 60 commands of the pass's feed, so many at a time.
+/// Executes 60 commands of the pass's feed, `batch` at a time.
 fn run_feed<R: Wait, const L: u32>(
     rt: &R,
     alloc: Global,
@@ -117,7 +117,7 @@ fn run_feed<R: Wait, const L: u32>(
     run_batches(rt, alloc, table, pass, &cmds, batch);
 }
 
-/// The book of a table whose feeds each run on a thread of their own.
+/// Returns the book of a table whose feeds each run on their own thread.
 fn by_all<R: Threads + Wait + Sync, const L: u32>(
     rt: &R,
     alloc: Global,
@@ -140,7 +140,8 @@ fn by_all<R: Threads + Wait + Sync, const L: u32>(
     Ok(table.settle(rt, passes))
 }
 
-/// Each of the feeds, so many as the tree has places, has made its commands, and one table alone explains them all.
+/// Asserts that each of the feeds, one for each place of the tree, has executed its commands, and that a single table
+/// explains them all.
 fn assert_explained<R: Threads + Wait + Sync + Abort, const L: u32>(
     rt: &R,
     alloc: Global,
@@ -153,7 +154,7 @@ fn assert_explained<R: Threads + Wait + Sync + Abort, const L: u32>(
     assert!(rt; is_explained(rt, alloc, 4, &book), "batches of {batch}");
 }
 
-/// Fails where `SharedRib::new` always returns `Refused`.
+/// Catches a `SharedRib::new` that always returns `Refused`.
 #[test]
 fn a_thread_for_each_place(rt: HostRuntime) {
     for batch in [1usize, 3, 7] {

@@ -1,4 +1,4 @@
--- A reader may go to another thread.
+-- A reader may be sent to another thread.
 use denote.Param.Send.{IsSend, IsSync, sendable}
 use Rattle.std.proofs.Crossing.{send, sync, frees, crosses}
 use Rattle.left_right.proofs.reader.Reader.TheSendSync as reader

@@ -1,4 +1,4 @@
--- That a step which shows what is there, or one table more, keeps the rule of what is shown.
+-- A step that shows the current table, or one table more, keeps the invariant on what is shown.
 use Rattle.std.proofs.Common.{◌≡◌, ℕ, ◌≢◌, List, [], ◌∷◌, ◌++◌, refl, sym, subst, ap, ◌∙◌, ⊎_elim}
 use Rattle.std.proofs.lemmas.List.{append-nil, append_assoc}
 use mathlib.Core.Option.{some}
@@ -13,12 +13,12 @@ use Rattle.fib_readers.specs.inside.Published.{IsPublished}
 begin_same : (tables : List (List Route)) → BeginWith tables tables
 begin_same tables = ([], sym (append-nil tables))
 
--- and goes on so
+-- each list with one more table begins with the same tables as before
 begin_more : (tables seen : List (List Route)) (table : List Route) → BeginWith tables seen → BeginWith (tables ++ table ∷ []) seen
 begin_more tables seen table begins =
     (begins.0 ++ table ∷ [], ap (λ (ts : List (List Route)). ts ++ table ∷ []) begins.1 ∙ append_assoc seen begins.0 (table ∷ []))
 
--- one who has seen nothing yet
+-- a party that has seen nothing yet
 pub admitted : (table : List Route) (views : List (List (List Route))) → IsPublished table views → IsPublished table (views ++ [] ∷ [])
 admitted table views is = (
   is.0,
@@ -27,7 +27,7 @@ admitted table views is = (
       ⊎_elim (is.2 seat seen) (λ (e : [] ≡ seen). subst (λ (s : List (List Route)). BeginWith is.0 s) e (is.0, refl)) (at_snoc views [] seen seat there),
 )
 
--- the first table, of which nobody has seen anything yet
+-- the first table, when no party has seen anything yet
 pub first_shown : (table : List Route) → IsPublished table ([] ∷ [])
 first_shown table = (
   table ∷ [],
@@ -39,7 +39,7 @@ first_shown table = (
 
 module _ (seat : ℕ) (seen : List (List Route)) (table : List Route) (views : List (List (List Route))) (is : IsPublished table views)
     (there : get_elem? views seat ≡ some seen) where
-  -- one who looks at what is there
+  -- a party that looks at the current table
   pub looked : IsPublished table (set views seat is.0) × BeginWith is.0 seen × EndIn is.0 table
   looked = (
     (
@@ -52,7 +52,7 @@ module _ (seat : ℕ) (seen : List (List Route)) (table : List Route) (views : L
     is.1,
   )
 
-  -- one who shows another table
+  -- a party that shows another table
   pub shown : (next : List Route) → IsPublished next (set views seat (is.0 ++ next ∷ [])) × BeginWith (is.0 ++ next ∷ []) seen × EndIn (is.0 ++ next ∷ []) next
   shown next =
       let all : List (List Route) = is.0 ++ next ∷ [] in (

@@ -1,4 +1,4 @@
--- A forwarding table with readers beside its writer: which tables were published.
+-- The tables that were published, with a writer and readers of a forwarding table.
 use Rattle.std.specs.Prelude.{◌≡◌, List, [], ◌∷◌, ◌++◌}
 use Rattle.rt_rib.specs.declared.routes.Route.{Route}
 
@@ -10,7 +10,7 @@ BeginWith tables seen = (rest : List (List Route)) × (tables ≡ seen ++ rest)
 abbrev pub EndIn : List (List Route) → List Route → Type 0
 EndIn tables table = (before : List (List Route)) × (tables ≡ before ++ table ∷ [])
 
--- what a writer or a reader knows: the table that is found, and those that were published until then
+-- the knowledge of a writer or a reader: the table that is found, and those that were published until then
 pub record Found : Type 0 where
   pub table : List Route
   pub published : List (List Route)

@@ -1,2 +1,2 @@
--- What no public clause speaks of: the rule of what is shown.
+-- Definitions that no public clause uses: the invariant on what is shown.
 pub mod Published

@@ -1,4 +1,4 @@
-//! A forwarding table that readers on other threads ask while its writer makes the next: no reader waits.
+//! A forwarding table that readers on other threads query while its writer builds the next one: no reader waits.
 //!
 //! ```
 //! let writer = FibWriter::new(alloc, Fib::new(alloc, &book)?, 2)?;
@@ -7,11 +7,11 @@
 //! let (writer, done) = writer.publish(&rt, alloc, Fib::new(alloc, &book)?);
 //! ```
 //!
-//! It stands on the toolchain's `left_right`, and shows whole tables. A reader that enters finds the last of the tables that were
-//! published until then, and these begin with all that it has seen before (`specs/Readers.antt`): the rule that the writer keeps
-//! with each step says so (`specs/inside/Published.antt`).
+//! It is built on the toolchain's `left_right`, and publishes whole tables. A reader that enters finds the last of the
+//! tables published until then, and these begin with all that it has seen before (`specs/Readers.antt`). This follows
+//! from an invariant that the writer keeps with each step (`specs/inside/Published.antt`).
 #![tactic(auto)]
 
 mod readers;
 
-pub use readers::{FibReader, FibReading, FibWriter};
+pub use readers::{FibReadGuard, FibReader, FibWriter};

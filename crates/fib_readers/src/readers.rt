@@ -1,4 +1,4 @@
-//! A forwarding table with readers beside its writer: no reader waits, and each finds the table that was published last.
+//! A forwarding table with a writer and readers: no reader waits, and each finds the table that was published last.
 ghost use Rattle.std.specs.Prelude.{◌≡◌, ◌<◌, ◌^◌, [], IfOk, OnOk, OnErr, MatchResult, length, map};
 ghost use Rattle.std.specs.Arc.{arc_value};
 ghost use Rattle.rt_rib.specs.LookUp.{look_up};
@@ -17,13 +17,13 @@ use std::fmt;
 use std::marker::Model;
 use std::sync::{Arc, Wait};
 
-/// A forwarding table that is shown. The writer and its readers own it together: the last of them gives its memory back.
+/// A forwarding table that readers can find. The writer and its readers own it together: the last of them frees it.
 #[derive(Drop)]
 pub(crate) struct Shown {
     pub(crate) fib: Arc<Fib<Global>, Global>,
 }
 
-/// One that is published takes the place of the one before.
+/// A table that is published replaces the previous one.
 impl Absorb<Shown> for Shown {
     type State = [Route; 0];
 
@@ -37,7 +37,8 @@ impl Absorb<Shown> for Shown {
     }
 }
 
-/// The rule of what is shown. What one knows are the tables that it has seen published; no value of it is made.
+/// The invariant on what is shown. What a writer or reader knows is the list of tables that it has seen published; no
+/// value of it is ever made.
 pub(crate) struct Publishes;
 
 impl Protocol<Shown, [[Route; 0]; 0]> for Publishes {
@@ -46,15 +47,16 @@ impl Protocol<Shown, [[Route; 0]; 0]> for Publishes {
     ghost first = { [] };
 }
 
-/// Who enters or publishes has then seen all that was published until then, and what is there is the last of it.
+/// After entering or publishing, one has seen all that was published until then, and the table shown is the last of it.
 pub(crate) struct Sees;
 
 impl Outcome<Shown, [[Route; 0]; 0]> for Sees {
     ghost then = { λ seen _ shown published. BeginWith published seen × EndIn published (arc_value shown.fib) };
 }
 
-/// The writer of a forwarding table that readers ask meanwhile. Contracts see the table that readers find now, and the tables that
-/// it has seen published. It stays on the thread that made it, and is not let go of, but ended by `end`.
+/// The writer of a forwarding table that readers query meanwhile. Contracts see the table that readers find now, and
+/// the tables that the writer has seen published. It stays on the thread that made it, and isn't dropped, but ended by
+/// `end`.
 pub struct FibWriter {
     writer: Writer<Shown, Shown, [[Route; 0]; 0], Publishes, Global>,
 }
@@ -68,7 +70,8 @@ impl Model for FibWriter {
     ghost view = { λ w. record { table = arc_value w.writer.desk.shown.value.fib; published = w.writer.desk.place.me.0.client } };
 }
 
-/// A reader that reads nothing now; it may go to a thread of its own. Contracts see the tables that it has seen published.
+/// A reader that reads nothing now; it may be sent to another thread. Contracts see the tables that it has seen
+/// published.
 #[derive(Drop)]
 pub struct FibReader {
     reader: Reader<Shown, [[Route; 0]; 0], Publishes, Global>,
@@ -83,13 +86,13 @@ impl Model for FibReader {
     ghost view = { λ r. r.reader.place.me.0.client };
 }
 
-/// A reader with the table that it found, which stays the same until it is left. The writer waits for it where it publishes twice
-/// more, so it isn't kept for long.
-pub struct FibReading {
+/// A reader with the table that it found, which stays the same until the reader leaves it. If the writer publishes
+/// twice more, it waits for this reader, so it shouldn't be kept for long.
+pub struct FibReadGuard {
     reading: Reading<Shown, [[Route; 0]; 0], Publishes, Global>,
 }
 
-impl Model for FibReading {
+impl Model for FibReadGuard {
     ghost use Rattle.std.specs.Arc.{arc_value};
     ghost use Rattle.fib_readers.specs.Readers.{Found};
 
@@ -98,7 +101,7 @@ impl Model for FibReading {
     ghost view = { λ r. record { table = arc_value r.reading.part.value.fib; published = r.reading.place.me.0.client } };
 }
 
-/// Shows no table: one may be read now.
+/// Shows no table, since one may be in use.
 impl fmt::Debug for FibWriter {
     fn fmt<W: fmt::Write>(&self, f: &mut fmt::Formatter<W>) -> fmt::Result {
         f.debug_struct("FibWriter").finish_non_exhaustive()
@@ -106,7 +109,8 @@ impl fmt::Debug for FibWriter {
 }
 
 impl FibWriter {
-    /// The writer of this forwarding table, with room for so many readers at once. M1: `Refused` where memory was refused.
+    /// Returns the writer of this forwarding table, with room for `readers` readers at once. Error M1 (`Refused`) if
+    /// memory runs out.
     pub fn new(alloc: Global, fib: Fib<Global>, readers: usize) -> Result<FibWriter, Refused>
         requires { (0 < readers) × (readers < 2 ^ 32) }
         ensures table { IfOk result (λ writer. writer.table ≡ fib) }
@@ -122,7 +126,7 @@ impl FibWriter {
         Ok(FibWriter { writer })
     }
 
-    /// Another reader, which has seen nothing yet. M1: `Refused` where each place for a reader is found in use.
+    /// Returns another reader, which has seen nothing yet. Error M1 (`Refused`) if each place for a reader is in use.
     pub fn reader(&self) -> Result<FibReader, Refused>
         ensures { IfOk result (λ reader. reader ≡ []) }
     {
@@ -131,8 +135,9 @@ impl FibWriter {
         })
     }
 
-    /// Shows readers this forwarding table at one step: who enters from then on finds it. It waits for readers that are still
-    /// where they were before the last call. M1: `Refused` where memory was refused, and then readers find what they found.
+    /// Publishes this forwarding table in a single step: every reader that enters from then on finds it. Waits for
+    /// readers that have been reading since before the previous call. Error M1 (`Refused`) if memory runs out; readers
+    /// then find what they found before.
     pub fn publish<R: Wait>(
         self,
         rt: &R,
@@ -164,7 +169,7 @@ impl FibWriter {
     }
 }
 
-/// Shows no table: it has none now.
+/// Shows no table, since it has none now.
 impl fmt::Debug for FibReader {
     fn fmt<W: fmt::Write>(&self, f: &mut fmt::Formatter<W>) -> fmt::Result {
         f.debug_struct("FibReader").finish_non_exhaustive()
@@ -172,37 +177,38 @@ impl fmt::Debug for FibReader {
 }
 
 impl FibReader {
-    /// Takes the table that was published last, without waiting for anybody: it is the last of those that were published, and
-    /// these begin with those that this reader has seen. The reader comes back where the writer has ended.
-    pub fn enter(self) -> Result<FibReading, FibReader>
+    /// Returns the reader with the table that was published last, without waiting for anybody. The table is the last of
+    /// those that were published, and these begin with those that this reader has seen. If the writer has ended,
+    /// returns the reader as the error.
+    pub fn enter(self) -> Result<FibReadGuard, FibReader>
         ensures { MatchResult result
             (λ reading. BeginWith reading.published self × EndIn reading.published reading.table)
             (λ reader. reader ≡ self) }
     {
         let Self { reader } = self;
         match reader.enter_as::<Sees>() {
-            Ok(reading) => Ok(FibReading { reading }),
+            Ok(reading) => Ok(FibReadGuard { reading }),
             Err(reader) => Err(FibReader { reader }),
         }
     }
 }
 
 /// Shows nothing of its table.
-impl fmt::Debug for FibReading {
+impl fmt::Debug for FibReadGuard {
     fn fmt<W: fmt::Write>(&self, f: &mut fmt::Formatter<W>) -> fmt::Result {
-        f.debug_struct("FibReading").finish_non_exhaustive()
+        f.debug_struct("FibReadGuard").finish_non_exhaustive()
     }
 }
 
-impl FibReading {
-    /// The answer to a look-up of the address in the table that was found.
+impl FibReadGuard {
+    /// Returns the answer to a look-up of the address in the table that was found.
     pub fn look_up(&self, addr: Addr) -> Option<Route>
         ensures { result ≡ look_up addr self.now.table }
     {
         self.reading.get().fib.look_up(addr)
     }
 
-    /// The answer to a look-up of each address, in order, as `Fib::look_up_each` has them.
+    /// Replaces each answer by the look-up of the address with the same index, as `Fib::look_up_each` does.
     pub fn look_up_each(&self, addresses: &[Addr], answers: &mut [Option<Route>])
         requires { length answers.old ≡ length addresses.now }
         ensures { answers.new ≡ map (λ addr. look_up addr self.now.table) addresses.now }
@@ -210,7 +216,7 @@ impl FibReading {
         self.reading.get().fib.look_up_each(addresses, answers);
     }
 
-    /// Leaves the table, and has seen what was published.
+    /// Leaves the table, and returns the reader, which has seen what was published.
     pub fn leave(self) -> FibReader
         ensures { result ≡ self.published }
     {

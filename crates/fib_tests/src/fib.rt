@@ -1,4 +1,4 @@
-//! A forwarding table beside a plain list of its book's routes, by each address of small universes.
+//! Compares a forwarding table with a plain list of its book's routes, at each address of small universes.
 mod plain;
 mod readers;
 mod refusals;
@@ -17,22 +17,22 @@ use test_support::Dice;
 /// The first addresses of the universes: at the beginning of all addresses, somewhere among them, and at their end.
 static UNIVERSES: [u32; 3] = [0, 0x0a00_0000, 0xffff_fc00];
 
-/// How many addresses each of them has, in four blocks.
+/// Says how many addresses each of them has, in four blocks.
 const SIZE: u32 = 1024;
 
-/// The prefix of that length that covers the address.
+/// Returns the prefix of that length that covers the address.
 fn around(rt: &impl Abort, addr: u32, len: u8) -> Prefix {
     let past = 32u8.saturating_sub(len);
     let base = (u64::from(addr) >> past) << past;
     Prefix::new(base as u32, len).expect(rt, "no prefix")
 }
 
-/// A length from 22 on.
+/// Returns a random length from 22 on.
 fn long_len(dice: &mut Dice) -> u8 {
     22 + dice.roll(11) as u8
 }
 
-/// A length from 24 on, seldom one from 12 on, and very seldom any.
+/// Returns a random length: mostly from 24 on, seldom from 12 on, and very seldom any.
 fn any_len(dice: &mut Dice) -> u8 {
     match dice.roll(10_000) {
         0 => dice.roll(33) as u8,
@@ -41,20 +41,20 @@ fn any_len(dice: &mut Dice) -> u8 {
     }
 }
 
-/// An address of one of the universes.
+/// Returns a random address of one of the universes.
 fn any_addr(dice: &mut Dice) -> u32 {
     let first = UNIVERSES[dice.roll(3)];
     first.wrapping_add(dice.roll(1024) as u32)
 }
 
-/// An address at an edge of a block. So a block has few answers, and a change takes little time.
+/// Returns a random address at an edge of a block. So a block has few answers, and a change takes little time.
 fn edge_addr(dice: &mut Dice) -> u32 {
     let first = UNIVERSES[dice.roll(3)];
     let block = first.wrapping_add(dice.roll(4) as u32 * 256);
     block.wrapping_add(dice.roll(2) as u32 * 255)
 }
 
-/// A prefix around an address of one of the universes.
+/// Returns a random prefix around an address of one of the universes.
 fn any_prefix(rt: &impl Abort, dice: &mut Dice) -> Prefix {
     let addr = any_addr(dice);
     let len = match dice.roll(10) {
@@ -64,7 +64,7 @@ fn any_prefix(rt: &impl Abort, dice: &mut Dice) -> Prefix {
     around(rt, addr, len)
 }
 
-/// A command of this prefix: three of ten withdraw, and one asks.
+/// Returns a random command of this prefix: three of ten withdraw, and one looks up.
 fn cmd_of(dice: &mut Dice, prefix: Prefix) -> Cmd {
     let pref = dice.roll(3) as u32;
     let hop = Hop::Via(Addr(dice.roll(4) as u32));
@@ -78,7 +78,7 @@ fn cmd_of(dice: &mut Dice, prefix: Prefix) -> Cmd {
     }
 }
 
-/// A command of a prefix around an edge of a block.
+/// Returns a random command of a prefix around an edge of a block.
 fn any_cmd(rt: &impl Abort, dice: &mut Dice) -> Cmd {
     let addr = edge_addr(dice);
     let len = any_len(dice);

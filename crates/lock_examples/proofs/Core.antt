@@ -1,5 +1,5 @@
--- Examples by which the definitions of ya_core are tested, each under a line with the definition's name. Both sides are
--- computed, and what a relation or a law says is spelled out for some values.
+-- Examples that test the definitions of ya_core, each below a line with the definition's name. Both sides are computed;
+-- relations and laws are spelled out for some values.
 use Rattle.std.proofs.Common.{◌≡◌, ◌≢◌, ℕ, zero, suc, ◌+◌, ◌^◌, ◌<◌, ◌≤◌, Bool, true, false, if◌then◌else◌, List, [], ◌∷◌, ◌++◌, ◌==◌, ◌&&◌, Some, None}
 use Rattle.std.proofs.Common.{ltb, inl, inr, map, refl, ap, sym, subst, ◌∙◌, arith}
 use Rattle.std.specs.Prelude.{Option}
@@ -18,14 +18,14 @@ use Rattle.ya_core.specs.Steps.{State, StepsTo, LeadTo, Accesses, opening, entry
 use Rattle.ya_core.specs.Steps.{next_of, value_of}
 use Rattle.ya_core.specs.WalkerModel.{walk, due_of, due, CanStand, cost_of_word, cost_of, walk_after, MayFind, MayBeTold, WalkLeadsTo, BeginsEntry, Walk}
 use Rattle.ya_core.specs.WalkerModel.{BeginsExit, FitsAccess, FitsDue, op_of_access, op_at_rest, op_of_due, op_of, entry_behind}
-use Rattle.ya_core.specs.WalkerModel.{exit_behind, most_of, most_remote, is_waiting, ComesBefore, ComesFurther, MovesOn}
+use Rattle.ya_core.specs.WalkerModel.{exit_behind, most_of, most_remote, is_waiting, IsEarlierPoint, Advances, AdvancesOrSpins}
 use Rattle.ya_core.specs.WalkerModel.{IsWalk, OpIsWithin, AccessIsWithin}
-use Rattle.ya_core.specs.Progress.{SomeoneGoesOn, CanLeadTo, SomeoneGoesOnIn, Announces, Wins, Neither, is_entering, is_to_announce, deed_of, announces}
+use Rattle.ya_core.specs.Progress.{SomeoneGoesOn, CanLeadTo, SomeoneGoesOnIn, Announces, Wins, Neither, is_entering, is_to_announce, event_kind, announces}
 use Rattle.ya_core.specs.Progress.{LevelStep, LevelSees, HasNotWon, is_rival, is_win, times_overtaken}
 use Rattle.ya_core.specs.Fairness.{PickLeadsTo, IsRunOfSchedule, IsFair, PicksEachAgain, Eventually, is_on_way_in, is_on_way_out}
 use Rattle.ya_core.specs.PassageCounts.{cost_of_pick, remote_accesses}
 use Rattle.ya_core.specs.Worlds.{Marked, World, Event, Steps, Appends, WorldSteps, WorldAppends, IsInside, IsReached, Runs, Happens, any_entry, is_inside}
-use Rattle.ya_core.specs.Worlds.{opening_world, entries_of, TellsInside, places_of, FollowsFrom, EachMayFollow}
+use Rattle.ya_core.specs.Worlds.{opening_world, entries_of, ReportsInside, places_of, FollowsFrom, EachMayFollow}
 use Rattle.ya_core.specs.RealTime.{KeepsRealTimeOrder}
 use Rattle.ya_core.proofs.Content.{entries_of-marked_other}
 use Rattle.std.specs.Prelude.{◌-◌, length}
@@ -128,17 +128,17 @@ anothers_costs_one = refl
 of_each_kind : map (cost_of_word 3) (C 1 1 0 ∷ T 1 1 ∷ P 1 3 ∷ P 3 1 ∷ []) ≡ 1 ∷ 1 ∷ 0 ∷ 1 ∷ []
 of_each_kind = refl
 
--- deed_of
-e2_announces : deed_of 1 (Entering 1 E2) (Entering 1 E3) ≡ Announces
+-- event_kind
+e2_announces : event_kind 1 (Entering 1 E2) (Entering 1 E3) ≡ Announces
 e2_announces = refl
 
-who_leaves_the_way_in_has_won : deed_of 1 (Entering 1 E4) (Entering 2 E1) ≡ Wins
+who_leaves_the_way_in_has_won : event_kind 1 (Entering 1 E4) (Entering 2 E1) ≡ Wins
 who_leaves_the_way_in_has_won = refl
 
-who_waits_does_neither : deed_of 1 (Entering 1 E8) (Entering 1 E8) ≡ Neither
+who_waits_does_neither : event_kind 1 (Entering 1 E8) (Entering 1 E8) ≡ Neither
 who_waits_does_neither = refl
 
-at_another_level_it_does_neither : deed_of 2 (Entering 1 E4) Inside ≡ Neither
+at_another_level_it_does_neither : event_kind 2 (Entering 1 E4) Inside ≡ Neither
 at_another_level_it_does_neither = refl
 
 -- is_rival
@@ -627,7 +627,7 @@ then_or_later = (3, omega arith, refl)
 not_earlier : ¬ Eventually 4 (λ time. time ≡ 3)
 not_earlier h = omega (arith, h.1, h.2)
 
--- whether two words are one
+-- true if the two words are equal
 abbrev same_word : Word → Word → Bool
 same_word (C h n s) (C k m d) = h == k && (n == m && s == d)
 same_word (T h n) (T k m) = h == k && n == m
@@ -653,7 +653,7 @@ same_word-one (T h n) (P k m) same = cc
 same_word-one (P h n) (C k m d) same = cc
 same_word-one (P h n) (T k m) same = cc
 
--- all words after an access, and all processes after one of them went on
+-- all words after an access, and all processes after one of them is replaced
 abbrev words_after : Access → (Word → ℕ) → Word → ℕ
 words_after (Load named) words word = words word
 words_after (Store named value) words word = if same_word word named then value else words word
@@ -674,7 +674,7 @@ set-itself place one all = ap (λ c. if c then one else all place) (eq-eqb place
 set-other : {A : Type 0} (place : ℕ) (one : A) (all : ℕ → A) (other : ℕ) → other ≢ place → set place one all other ≡ all other
 set-other place one all other apart = ap (λ c. if c then one else all other) (ne_eqb other place apart)
 
--- the state after a step of the place, which stands at this process
+-- the state after the place makes this access and gets this process
 abbrev gone : ℕ → State → Access → Process → State
 gone place s access next = record { words = words_after access s.words; processes = set place next s.processes }
 
@@ -713,7 +713,7 @@ place_1_steps = (after 1 1 opening, steps_to 1 1 opening (omega arith))
 no_place_outside_of_the_tree : (s : State) → ¬ StepsTo 1 2 opening s
 no_place_outside_of_the_tree s h = omega (arith, h.in_tree)
 
--- the state after these places stepped, one after another
+-- the state after these places have stepped, one after another
 abbrev all_after : ℕ → List ℕ → State → State
 all_after levels [] s = s
 all_after levels (place ∷ places) s = all_after levels places (after levels place s)
@@ -727,7 +727,7 @@ leads_to levels [] s within = refl
 leads_to levels (place ∷ places) s within =
     (after levels place s, steps_to levels place s within.0, leads_to levels places (after levels place s) within.1)
 
--- place 2 is none of a tree of one level, and stays idle
+-- place 2 is outside the tree of one level, so it stays idle
 stays_idle : (places : List ℕ) (s t : State) → s.processes 2 ≡ Idle → LeadTo 1 s places t → t.processes 2 ≡ Idle
 stays_idle [] s t idle same = ap (λ (state : State). state.processes 2) same ∙ idle
 stays_idle (place ∷ places) s t idle (next, step, rest) =
@@ -771,7 +771,7 @@ one_that_has_begun_goes_on = record {
 nobody_where_all_are_idle : ¬ SomeoneGoesOn 1 opening
 nobody_where_all_are_idle h = h.busy refl
 
--- a state that no run reaches: place 0 waits, and no other takes part
+-- a state that no run reaches: place 0 waits, and all others are idle
 abbrev one_waits : ℕ → Process
 one_waits zero = Entering 1 E10
 one_waits (suc place) = Idle
@@ -799,11 +799,11 @@ a_claim_and_then_an_announcement = (
 no_win_by_the_first_step : ¬ LevelSees 1 1 opening (record { place = 0; deed = Wins } ∷ [])
 no_win_by_the_first_step h = let deed = h.2 in cc
 
--- what a level sees of the steps of these places
+-- the level's view of the steps of these places
 abbrev seen_of : ℕ → ℕ → List ℕ → State → List LevelStep
 seen_of levels level [] s = []
 seen_of levels level (place ∷ places) s =
-    record { place = place; deed = deed_of level (s.processes place) ((after levels place s).processes place) }
+    record { place = place; deed = event_kind level (s.processes place) ((after levels place s).processes place) }
     ∷ seen_of levels level places (after levels place s)
 
 sees : (levels level : ℕ) (places : List ℕ) (s : State) → AllIn levels places → LevelSees levels level s (seen_of levels level places s)
@@ -811,7 +811,7 @@ sees levels level [] s within = tt
 sees levels level (place ∷ places) s within =
     (after levels place s, steps_to levels place s within.0, refl, sees levels level places (after levels place s) within.1)
 
--- a step of place 0 that does neither
+-- a step of place 0 that neither announces nor wins
 abbrev neither : LevelStep
 neither = record { place = 0; deed = Neither }
 
@@ -898,7 +898,7 @@ unfair_to_place_1 states run fair =
     let begun : (states 1).processes 1 ≡ Entering 1 E2 = first in
     let again = fair 1 1 (λ idle. cc) in not_place_1_again again.0 again.1 again.2
 
--- a program that ends: place 0 goes inside and out again, in six steps, and then nobody is picked
+-- a program that ends: place 0 goes inside and out again in six steps; after that no place is picked
 abbrev is_passing : ℕ → Bool
 is_passing (suc (suc (suc (suc (suc (suc time)))))) = false
 is_passing time = true
@@ -986,7 +986,7 @@ those_before_and_that_of_the_last_pick :
     → remote_accesses 1 2 schedule states 4 ≡ remote_accesses 1 2 schedule states 3 + cost_of_pick 1 2 (states 3) (schedule 3)
 those_before_and_that_of_the_last_pick schedule states = refl
 
--- places 0 and 1 in turn
+-- places 0 and 1 step in turn
 abbrev alternately : ℕ → ℕ
 alternately zero = 0
 alternately (suc zero) = 1
@@ -1102,13 +1102,13 @@ both_compete =
     ∷ Steps 1 ∷ Steps 1 ∷ Steps 1 ∷ Steps 1 ∷ Steps 0 ∷ Steps 0 ∷ Steps 0
     ∷ Steps 1 ∷ Steps 1 ∷ Steps 1 ∷ Appends 1 8 ∷ Steps 1 ∷ Steps 1 ∷ []
 
--- whether both places are inside once these have stepped
+-- true if both places are inside after these steps
 abbrev both_inside : (levels p q : ℕ) → List ℕ → Bool
 both_inside levels p q picks =
     let s = (follow {X = ℕ} levels (map (λ place. Steps place) picks) opening_world).state in
     is_inside (s.processes p) && is_inside (s.processes q)
 
--- Under each of these schedules two are inside by the step relation with one mistake in it.
+-- Each of these schedules brings two places inside if the step relation has one mistake.
 
 -- entry_access
 one_alone_whose_claim_comes_before_its_turn : both_inside 1 0 1 (0 ∷ 1 ∷ 1 ∷ 1 ∷ 1 ∷ 0 ∷ 0 ∷ 0 ∷ 0 ∷ []) ≡ false
@@ -1191,7 +1191,7 @@ one_inside_goes_on = record {
 nobody_at_the_start : ¬ SomeoneGoesOnIn 1 (opening_world {X = ℕ})
 nobody_at_the_start h = h.busy refl
 
--- the world of that state
+-- the world with that state
 abbrev stuck_world : World ℕ
 stuck_world = stepped 0 opening_world stuck false false
 
@@ -1215,19 +1215,19 @@ both_make_an_entry_where_they_compete = (
   refl,
 )
 
--- what is so of places 0 and 1 and of all others is so of each
+-- a property of places 0 and 1 and of all others holds for each place
 each_place : (A : ℕ → Type 0) → A 0 → A 1 → ((place : ℕ) → A (suc (suc place))) → (place : ℕ) → A place
 each_place A first second others zero = first
 each_place A first second others (suc zero) = second
 each_place A first second others (suc (suc place)) = others place
 
--- what places 0 and 1 made
+-- the entries that places 0 and 1 made, by place
 abbrev of_two : List ℕ → List ℕ → ℕ → List ℕ
 of_two first second zero = first
 of_two first second (suc zero) = second
 of_two first second (suc (suc place)) = []
 
--- a world with this content, in which they made these
+-- a world with this content, where places 0 and 1 made these entries
 abbrev made_by_both : List (Marked ℕ) → List ℕ → List ℕ → World ℕ
 made_by_both content first second =
     record { state = opening; content = content; copies = λ _. []; doing = λ _. []; made = of_two first second }
@@ -1411,48 +1411,48 @@ at_e8_and_e10_alone :
     ≡ false ∷ false ∷ true ∷ false ∷ true ∷ false ∷ false ∷ []
 at_e8_and_e10_alone = refl
 
--- ComesBefore
-by_levels_and_then_by_points : ComesBefore 0 9 1 0 × ComesBefore 1 3 1 4
+-- IsEarlierPoint
+by_levels_and_then_by_points : IsEarlierPoint 0 9 1 0 × IsEarlierPoint 1 3 1 4
 by_levels_and_then_by_points = (inl (omega arith), inr (refl, omega arith))
 
-not_the_same_and_none_of_a_lower_level : (¬ ComesBefore 1 3 1 3) × (¬ ComesBefore 1 3 0 9)
+not_the_same_and_none_of_a_lower_level : (¬ IsEarlierPoint 1 3 1 3) × (¬ IsEarlierPoint 1 3 0 9)
 not_the_same_and_none_of_a_lower_level = (λ h. neither_way 1 3 1 3 h (omega arith) (λ _. omega arith), λ h. neither_way 1 3 0 9 h (omega arith) (λ e. absurd cc))
   where
     neither_way :
-        (levels points more next : ℕ) → ComesBefore levels points more next → more ≤ levels
+        (levels points more next : ℕ) → IsEarlierPoint levels points more next → more ≤ levels
         → (levels ≡ more → next ≤ points) → ⊥
     neither_way levels points more next (inl fewer) least none = omega (arith, fewer, least)
     neither_way levels points more next (inr h) least none = omega (arith, h.1, none h.0)
 
--- ComesFurther
+-- Advances
 from_the_way_in_to_no_way_out_nor_back :
     (levels level other : ℕ) (point : EntryPoint) (exit : ExitPoint)
-    → (¬ ComesFurther levels (Entering level point) Idle) × (¬ ComesFurther levels (Entering level point) (Leaving other exit))
-    × (¬ ComesFurther levels Idle Inside) × (¬ ComesFurther levels Idle (Leaving level exit)) × (¬ ComesFurther levels Idle Idle)
-    × (¬ ComesFurther levels Inside Idle) × (¬ ComesFurther levels Inside (Entering level point)) × (¬ ComesFurther levels Inside Inside)
-    × (¬ ComesFurther levels (Leaving level exit) Inside) × (¬ ComesFurther levels (Leaving level exit) (Entering other point))
+    → (¬ Advances levels (Entering level point) Idle) × (¬ Advances levels (Entering level point) (Leaving other exit))
+    × (¬ Advances levels Idle Inside) × (¬ Advances levels Idle (Leaving level exit)) × (¬ Advances levels Idle Idle)
+    × (¬ Advances levels Inside Idle) × (¬ Advances levels Inside (Entering level point)) × (¬ Advances levels Inside Inside)
+    × (¬ Advances levels (Leaving level exit) Inside) × (¬ Advances levels (Leaving level exit) (Entering other point))
 from_the_way_in_to_no_way_out_nor_back levels level other point exit =
     (λ h. h, λ h. h, λ h. h, λ h. h, λ h. h, λ h. h, λ h. h, λ h. h, λ h. h, λ h. h)
 
--- MovesOn
-to_the_next_point : MovesOn (walk 1 0 (Entering 1 E2) false 1) (walk 1 0 (Entering 1 E3) false 2)
+-- AdvancesOrSpins
+to_the_next_point : AdvancesOrSpins (walk 1 0 (Entering 1 E2) false 1) (walk 1 0 (Entering 1 E3) false 2)
 to_the_next_point = inl (inr (refl, omega arith))
 
-to_the_next_level : MovesOn (walk 2 0 (Entering 1 E4) false 2) (walk 2 0 (Entering 2 E1) false 3)
+to_the_next_level : AdvancesOrSpins (walk 2 0 (Entering 1 E4) false 2) (walk 2 0 (Entering 2 E1) false 3)
 to_the_next_level = inl (inl (omega arith))
 
-and_on_the_way_out_to_the_one_below : MovesOn (walk 2 0 (Leaving 2 X2) false 6) (walk 2 0 (Leaving 1 X1) false 7)
+and_on_the_way_out_to_the_one_below : AdvancesOrSpins (walk 2 0 (Leaving 2 X2) false 6) (walk 2 0 (Leaving 1 X1) false 7)
 and_on_the_way_out_to_the_one_below = inl (inl (omega arith))
 
-or_it_waits : MovesOn (walk 1 0 (Entering 1 E8) false 6) (walk 1 0 (Entering 1 E8) false 6)
+or_it_waits : AdvancesOrSpins (walk 1 0 (Entering 1 E8) false 6) (walk 1 0 (Entering 1 E8) false 6)
 or_it_waits = inr (refl, refl)
 
-no_point_twice_without_waiting : ¬ MovesOn (walk 1 0 (Entering 1 E9) false 6) (walk 1 0 (Entering 1 E9) false 7)
+no_point_twice_without_waiting : ¬ AdvancesOrSpins (walk 1 0 (Entering 1 E9) false 6) (walk 1 0 (Entering 1 E9) false 7)
 no_point_twice_without_waiting (inl (inl fewer)) = omega (arith, fewer)
 no_point_twice_without_waiting (inl (inr h)) = omega (arith, h.1)
 no_point_twice_without_waiting (inr h) = let waits_there = h.0 in cc
 
-not_back_from_where_it_waits : ¬ MovesOn (walk 1 0 (Entering 1 E10) false 6) (walk 1 0 (Entering 1 E8) false 6)
+not_back_from_where_it_waits : ¬ AdvancesOrSpins (walk 1 0 (Entering 1 E10) false 6) (walk 1 0 (Entering 1 E8) false 6)
 not_back_from_where_it_waits (inl (inl fewer)) = omega (arith, fewer)
 not_back_from_where_it_waits (inl (inr h)) = omega (arith, h.1)
 not_back_from_where_it_waits (inr h) = let same = h.1 in cc
@@ -1516,7 +1516,7 @@ at_level_1_to_4_of_three :
     ∷ (Holding ∷ Holding ∷ Holding ∷ Away ∷ []) ∷ (Holding ∷ Releasing ∷ Away ∷ Away ∷ []) ∷ []
 at_level_1_to_4_of_three = refl
 
--- every phase, and rival 3 where one is known
+-- every phase, with rival 3 if the phase has a rival
 abbrev phases : List Phase
 phases =
     Away ∷ Named ∷ Announced ∷ Waiting E4 ∷ Waiting (E5 3) ∷ Waiting (E6 3) ∷ Waiting (E7 3) ∷ Waiting E8 ∷ Waiting E9 ∷ Waiting E10
@@ -1740,7 +1740,7 @@ the_start_is_sound = record {
   };
 }
 
--- a state, a world and a machine with something else in each part
+-- a state, a world and a machine whose parts all differ
 abbrev all_inside : State
 all_inside = record { words = λ word. 9; processes = λ place. Inside }
 
@@ -1786,14 +1786,14 @@ from_its_parts = refl
 an_entry_of_place_3 : Marked ℕ
 an_entry_of_place_3 = (3, 7)
 
--- TellsInside
-all_are_inside_not_one : ¬ TellsInside all_inside (Some 0)
+-- ReportsInside
+all_are_inside_not_one : ¬ ReportsInside all_inside (Some 0)
 all_are_inside_not_one h = let same = (h 1).1 refl in cc
 
-nobody_is_at_the_start : TellsInside opening None
+nobody_is_at_the_start : ReportsInside opening None
 nobody_is_at_the_start place = (λ same. cc, λ inside. cc)
 
-not_place_0_at_the_start : ¬ TellsInside opening (Some 0)
+not_place_0_at_the_start : ¬ ReportsInside opening (Some 0)
 not_place_0_at_the_start h = let inside = (h 0).0 refl in cc
 
 -- places_of
@@ -1804,7 +1804,7 @@ who_steps_in_order = refl
 those_of_place_1 : entries_of {X = ℕ} 1 ((0, 7) ∷ (1, 8) ∷ (1, 9) ∷ []) ≡ 8 ∷ 9 ∷ []
 those_of_place_1 = refl
 
--- an entry that tells how many are before it
+-- the entry is the number of entries before it
 abbrev tells_count : List (Marked ℕ) → Marked ℕ → Type 0
 tells_count before entry = length before ≡ entry.1
 
@@ -1888,5 +1888,3 @@ some_state_is_the_last = (after 2 3 opening, one_step_of_place_3)
 
 none_where_a_step_has_no_place : (step : Step) → ¬ Replays 2 opening [] (step ∷ [])
 none_where_a_step_has_no_place step h = h.1
-
--- the same of any place, level, word and process

@@ -1,6 +1,6 @@
--- Examples by which the definitions of ya_lock are tested, each under a line with the definition's name. Both sides are
--- computed, and what a relation says is spelled out for some values. The value that the lock lends is a number here,
--- which others can only raise.
+-- Examples that test the definitions of ya_lock, each below a line with the definition's name. Both sides are computed;
+-- relations are spelled out for some values. The value that the lock lends is a number here, which other places can
+-- only raise.
 use Rattle.std.proofs.Common.{◌≡◌, ◌≢◌, ℕ, zero, suc, ◌+◌, ◌<◌, ◌≤◌, inl, inr, List, [], ◌∷◌, ◌++◌, ◌∙◌, refl, sym, ap, subst, arith, None, Some, replicate, set}
 use Rattle.std.specs.Prelude as std
 use Rattle.std.specs.Prelude.{IsTrue, ◌-◌, true, false}
@@ -75,8 +75,8 @@ while_it_hands_out_the_passes = tt
 a_seated_process_makes_none : ¬ IsMaking {V = ℕ} (Seated 0 Idle 7 0)
 a_seated_process_makes_none h = h
 
--- moments of a table of one level, all words of whose tree are 0: both places are away; place 0 is inside and place 1
--- waits; place 1 waits, and nobody is inside
+-- three states of a table of one level with every word of the tree 0: both places are away; place 0 is inside and place
+-- 1 waits; place 1 waits and no place is inside
 abbrev moment : List (Option (std.Option ℕ)) → List (View ℕ) → State (std.Option ℕ) (View ℕ)
 moment homes views = record { words = set (replicate 41 0) (making_index 1) 1; homes = homes; views = views }
 
@@ -110,7 +110,7 @@ place_1_is = (Entering 1 E8, λ same. cc, seat_1_has_place_1)
 in_another_seat_it_is : IsAway first_seat_away 0 1 7
 in_another_seat_it_is = (Idle, λ same. cc, (Seated 1 Idle 7 0, refl, (refl, refl, refl)))
 
--- the seat's view is this one
+-- the seat has this view
 is_view : (s : State (std.Option ℕ) (View ℕ)) (seat : ℕ) (view : View ℕ) (place : ℕ) (process : Process) (value : ℕ)
     → (has : HasProcess s seat place process value) → get_elem? s.views seat ≡ some view → IsOf view place process value
 is_view s seat view place process value has found =
@@ -120,7 +120,7 @@ place_0_is_not : ¬ IsAway one_inside 0 0 7
 place_0_is_not (process, away, has) =
     let is = is_view one_inside 0 (Seated 0 Inside 7 3) 0 process 7 has refl in away (sym is.1)
 
--- what each seat shows where both are away
+-- the only processes and values of the seats if both places are away
 away_both : (seat place : ℕ) (process : Process) (value : ℕ) → HasProcess both_away seat place process value
     → (seat ≡ place) × (Idle ≡ process) × (value ≤ 7)
 away_both zero place process value has =
@@ -169,7 +169,7 @@ one_that_waits_for_nobody h =
         one_that_waits_for_a_1_does_not (subst (GoesOn stuck 1 1) (sym is.1) (subst (λ q. GoesOn stuck 1 q process) (sym is.0) goes_on))
     alone (suc seat) place process value has goes_on = some-ne-none has.0 (sym has.1)
 
--- the same, and place 0 is away
+-- the same, with place 0 away
 abbrev stuck_beside_one_away : State (std.Option ℕ) (View ℕ)
 stuck_beside_one_away = moment (some (Some 7) ∷ []) (Seated 1 (Entering 1 E8) 5 4 ∷ Seated 0 Idle 7 0 ∷ [])
 
@@ -219,7 +219,7 @@ not_two_that_found_two_values : ¬ OneInside (moment (none ∷ []) (Seated 0 Ins
 not_two_that_found_two_values h =
     let same = h 0 1 0 1 7 8 (Seated 0 Inside 7 3, refl, (refl, refl, refl)) (Seated 1 Inside 8 4, refl, (refl, refl, refl)) in omega (arith, same)
 
--- no seat makes passes where both are away
+-- no seat makes passes if both places are away
 no_maker : (seat : ℕ) (view : View ℕ) → get_elem? both_away.views seat ≡ some view → ¬ IsMaking view
 no_maker zero view at making = subst IsMaking (sym (some-injective (Seated 0 Idle 7 0) view at)) making
 no_maker (suc zero) view at making = subst IsMaking (sym (some-injective (Seated 1 Idle 5 0) view at)) making
@@ -237,7 +237,7 @@ just_given homes = moment homes (HandingOut 0 7 ∷ [])
 the_pass_of_place_1 : IsToMake (half_made (none ∷ [])) 0 1 7
 the_pass_of_place_1 = (1, refl, omega arith)
 
--- the seat's view says so
+-- the seat still makes only passes of places from its view's first one on
 to_make_by : (s : State (std.Option ℕ) (View ℕ)) (seat place given first value : ℕ) → get_elem? s.views seat ≡ some (HandingOut first value)
     → IsToMake s seat place given → first ≤ place
 to_make_by s seat place given first value at (other, there, far) =
@@ -300,7 +300,7 @@ nobody_inside_before_a_pass (suc seat) place value has = some-ne-none has.0 (sym
 not_out_before_any_pass_was_made : ¬ IsInSlot (just_given (none ∷ []))
 not_out_before_any_pass_was_made h = let home = h.1 once_it_was_given nobody_inside_before_a_pass in let out = home.1 in cc
 
--- what others may have made of a number while a place was away
+-- the changes that others may make to a number while a place is away
 abbrev raised : ℕ → ℕ → ℕ → Type 0
 raised place seen now = seen ≤ now
 
@@ -325,7 +325,7 @@ not_below_what_one_inside_found h =
     let away = h 1 1 5 4 (inl (Idle, λ same. cc, (Seated 1 Idle 5 0, refl, (refl, refl, refl)))) in
     let fresh = away.1 0 0 (Seated 0 Inside 4 3, refl, (refl, refl, refl)) in omega (arith, fresh)
 
--- what others may have made of it while place 1 was away
+-- the changes that others may make to it while place 1 is away
 abbrev raised_without_1 : ℕ → ℕ → ℕ → Type 0
 raised_without_1 place seen now = place ≡ 1 → seen ≤ now
 
@@ -364,7 +364,7 @@ not_by_two h = let same = h.one_maker 0 1 Making Making refl tt refl tt in omega
 not_by_two_of_which_one_hands_out : ¬ IsMadeByOne (moment (some None ∷ []) (Making ∷ HandingOut 1 7 ∷ [])) 1
 not_by_two_of_which_one_hands_out h = let same = h.one_maker 0 1 Making (HandingOut 1 7) refl tt refl tt in omega (arith, same)
 
--- a table of which nobody has begun to make the passes
+-- a table whose passes have not been begun
 abbrev unmade : State (std.Option ℕ) (View ℕ)
 unmade = record { words = replicate 41 0; homes = some None ∷ []; views = Unused ∷ [] }
 
@@ -443,7 +443,7 @@ not_two_of_the_core h =
     let second = h.2 1 0 Inside 7 (Seated 0 Inside 7 0, refl, (refl, refl, refl)) in
     let both : Idle ≡ Inside = sym first ∙ second in cc
 
--- a word C names place 1, of which no seat has the process
+-- a word C names place 1, and no seat has the process of place 1
 abbrev claimed : State (std.Option ℕ) (View ℕ)
 claimed = record { words = replicate 8 0 ++ 2 ∷ replicate 32 0; homes = some (Some 7) ∷ []; views = Seated 0 Idle 7 0 ∷ [] }
 
@@ -479,7 +479,7 @@ not_where_two_are_inside h = not_two h.exclusion
 no_seat_has_one_inside : (s : State (std.Option ℕ) (View ℕ)) → NoneInside s → (seat place value : ℕ) → ¬ HasProcess s seat place Inside value
 no_seat_has_one_inside s h = h
 
--- both places are away, and the row is as long as a lock's
+-- both places are away, and the row has the length of a lock's row
 abbrev both_made : State (std.Option ℕ) (View ℕ)
 both_made = record {
   words = set (replicate 64 0) (making_index 1) 1;
@@ -487,7 +487,7 @@ both_made = record {
   views = Seated 0 Idle 7 0 ∷ Seated 1 Idle 5 0 ∷ [];
 }
 
--- the seat of each of the two places, and what all seats together show
+-- the seat of each of the two places, and the view of all seats together
 abbrev seats : ℕ → Option ℕ
 seats zero = some 0
 seats (suc zero) = some 1
@@ -496,7 +496,7 @@ seats (suc (suc place)) = none
 abbrev both_are_away : GlobalView ℕ
 both_are_away = record { seat_of = seats; processes = λ place. Idle; maker = none; content = some 7 }
 
--- both passes were made, each has seen a value of its own, and a third is in the slot
+-- both passes were made, each with a seen value of its own, and a third value is in the slot
 abbrev both_have_seen : {V : Type 0} → V → V → V → State (std.Option V) (View V)
 both_have_seen first second now = record {
   words = both_made.words;
@@ -566,8 +566,8 @@ not_in_a_row_without_bells : ¬ Rule raised 1 both_away
 unfolding making_index count_of_words
 not_in_a_row_without_bells h = let wide : 41 ≡ 64 = h.1.wide in omega (arith, wide)
 
--- the pass of place 1, which has entered never; its guard, which found 9 after three remote accesses; and the pass again,
--- once the guard left 8
+-- the pass of place 1, which has never entered; its guard, which found 9 after three remote accesses; and the pass
+-- again after the guard left 8
 abbrev a_new_pass : LockId → IdlePass ℕ
 a_new_pass lock = new_pass lock 1 7
 
@@ -698,7 +698,7 @@ nor_with_one_that_is_not_inside slots = cc
 it_has_claimed_its_leaf : process_after 1 both_made 0 Idle ≡ Entering 1 E2
 it_has_claimed_its_leaf = refl
 
--- both passes, and place 1 has raised what it saw while place 0 claimed its leaf
+-- both passes after place 0 claimed its leaf, with the given view for the seat of place 1
 abbrev once_claimed : View ℕ → State (std.Option ℕ) (View ℕ)
 once_claimed other = record { words = set both_made.words 0 1; homes = both_made.homes; views = Seated 0 (Entering 1 E2) 7 1 ∷ other ∷ [] }
 

@@ -1,4 +1,4 @@
--- Examples by which the definitions of ya_replay are tested, each under a line with the definition's name. Both sides
+-- Examples that test the definitions of ya_replay, each below a line with the definition's name. Both sides
 -- are computed.
 use Rattle.std.proofs.Common.{◌≡◌, ℕ, true, false, Some, None, List, [], ◌∷◌, ◌++◌, map, codes, refl}
 use Rattle.std.specs.Fmt.{digits}
@@ -28,7 +28,7 @@ a_store_and_a_load : map sign_text (true ∷ false ∷ []) ≡ codes " := " ∷ 
 unfolding sign_text
 a_store_and_a_load = refl
 
--- the four steps by which place 0 comes inside where nobody competes
+-- the four steps that bring place 0 inside without competition
 abbrev four_steps : List Step
 four_steps =
     record { place = 0; word = C 1 0 0; store = true; value = 1; mark = Plain } ∷ record { place = 0; word = T 1 0; store = true; value = 1; mark = Plain }

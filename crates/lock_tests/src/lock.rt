@@ -1,4 +1,4 @@
-//! Locks at work: values that go in and come out, threads that count and that sleep, and passes that are confirmed.
+//! Locks at work: values that go in and come out, threads that count and sleep, and passes that are confirmed.
 ghost use Rattle.std.specs.Prelude.{◌≡◌, ◌≤◌, All};
 
 mod marks;
@@ -30,7 +30,7 @@ impl Kept for Number {
     ghost since_done = { λ _ _ _ _ _ _ _ _. tt };
 }
 
-/// A lock and its passes.
+/// Returns a lock and its passes.
 fn made<R: Abort, V: Kept + Drop, const L: u32>(
     rt: &R,
     alloc: Global,
@@ -45,7 +45,7 @@ fn made<R: Abort, V: Kept + Drop, const L: u32>(
     }
 }
 
-/// A lock with the passes of its first place and of its last, which meet at the root alone.
+/// Returns a lock with the passes of its first place and of its last, which meet only at the root.
 fn ends<R: Abort, V: Kept + Drop, const L: u32>(
     rt: &R,
     alloc: Global,
@@ -81,7 +81,7 @@ fn hands_back_what_it_refuses(rt: HostRuntime) {
     }
 }
 
-/// Fails where a flag or a mutex beside the tree, which `tools/accesses` finds, is one for all locks.
+/// Catches a flag or a mutex next to the tree, which `tools/accesses` finds, that all locks share.
 #[test]
 fn two_locks_are_open_at_once(rt: HostRuntime) {
     let (one, _, pass) = ends::<_, _, 2>(&rt, rt.alloc(), Number(7));
@@ -106,8 +106,8 @@ fn a_pass_is_confirmed_while_the_other_place_is_inside(rt: HostRuntime) {
     assert_same(&rt, "left", value.0, 8);
 }
 
-/// Enters with the last pass, confirms all others under its guard, and closes the lock. How many were confirmed, and
-/// the marks.
+/// Enters with the last pass, confirms all others under its guard, and closes the lock. Returns the number of confirmed
+/// passes, and the marks.
 fn settle<R: Wait + Abort, const L: u32>(
     rt: &R,
     lock: TreeLock<Marks, L>,
@@ -125,8 +125,8 @@ fn settle<R: Wait + Abort, const L: u32>(
     (others, lock.close(guard))
 }
 
-/// Lets so many threads, or one for each place where those are fewer, make so many marks each, and settles the lock:
-/// how many passes were confirmed, and the marks.
+/// Lets `threads` threads, or one for each place if there are fewer places, make `times` marks each, and settles the
+/// lock. Returns the number of confirmed passes, and the marks.
 fn by_all<R: Threads + Wait + Clock + Sync + Abort, const L: u32>(
     rt: &R,
     alloc: Global,
@@ -151,7 +151,7 @@ fn by_all<R: Threads + Wait + Clock + Sync + Abort, const L: u32>(
     settle(rt, lock, passes)
 }
 
-/// Each of the places has made so many marks, none of them was lost, and nobody else has made one.
+/// Asserts that each of the places has made `times` marks, that none was lost, and that no other place has made one.
 fn assert_counts(rt: &impl Abort, marks: &Marks, places: usize, times: usize) {
     for place in 0..places {
         assert_same(rt, "marks of a place", marks.count(place), times);
@@ -159,8 +159,8 @@ fn assert_counts(rt: &impl Abort, marks: &Marks, places: usize, times: usize) {
     assert_same(rt, "marks", marks.len(), places.wrapping_mul(times));
 }
 
-/// So many threads, or one for each place where those are fewer, make so many marks each. Then one pass is inside, and
-/// all others are confirmed.
+/// Lets `threads` threads, or one for each place if there are fewer places, make `times` marks each. Then one pass is
+/// inside, and all others are confirmed.
 fn all_count<R: Threads + Wait + Clock + Sync + Abort, const L: u32>(
     rt: &R,
     alloc: Global,
@@ -176,7 +176,7 @@ fn all_count<R: Threads + Wait + Clock + Sync + Abort, const L: u32>(
     assert_counts(rt, &marks, places, times);
 }
 
-/// So many threads at each height, from 1 to 6 levels, make so many marks each.
+/// Lets `threads` threads at each height, from 1 to 6 levels, make that height's number of marks each.
 fn all_count_at_each_height<R: Threads + Wait + Clock + Sync + Abort>(
     rt: &R,
     alloc: Global,
@@ -197,21 +197,21 @@ fn two_threads_count(rt: HostRuntime) {
     all_count::<_, 1>(&rt, rt.alloc(), 2, 1_000, Hold::Nothing);
 }
 
-/// Fails where `TreeLock::new` always gives the value back, as all tests here do.
-/// Fails where `enter` waits forever at some number of levels, or `spin` never loads.
+/// Catches a `TreeLock::new` that always gives the value back, as all tests here do.
+/// Catches an `enter` that waits forever at some number of levels, or a `spin` that never loads.
 #[test]
 fn a_thread_for_each_place_counts(rt: HostRuntime) {
     let times = [500, 300, 200, 100, 50, 25];
     all_count_at_each_height(&rt, rt.alloc(), 64, times, Hold::Nothing);
 }
 
-/// Passes that have never entered.
+/// Confirms passes that have never entered.
 #[test]
 fn an_open_guard_keeps_no_other_pass_from_being_confirmed(rt: HostRuntime) {
     all_count_at_each_height(&rt, rt.alloc(), 64, [0; 6], Hold::Nothing);
 }
 
-/// Fails where a bell isn't rung after x3: it hangs.
+/// Catches a bell that isn't rung after x3: the test hangs.
 #[test]
 fn threads_that_sleep_are_woken(rt: HostRuntime) {
     for (threads, times) in [(2, 100), (8, 25), (64, 4)] {
@@ -219,9 +219,9 @@ fn threads_that_sleep_are_woken(rt: HostRuntime) {
     }
 }
 
-/// Fails where a bell isn't rung after x3: it hangs.
-/// Fails where a place parks on its bell without a second look, or a waker wakes and stores no 0: it hangs in most of
-/// its runs.
+/// Catches a bell that isn't rung after x3: the test hangs.
+/// Catches a place that parks on its bell without a second look, or a waker that wakes and stores no 0: the test hangs
+/// in most of its runs.
 #[test]
 fn no_wake_is_lost(rt: HostRuntime) {
     for (threads, times) in [(2, 4_000), (8, 400), (64, 40)] {

@@ -1,4 +1,4 @@
-//! Numbers of words against figures worked out by hand, and the machine against a second one.
+//! Numbers of words against results worked out by hand, and the machine against a second one.
 mod second_machine;
 
 use crate::assert_same;
@@ -23,7 +23,7 @@ fn words_have_their_numbers(rt: HostRuntime) {
     assert_same(&rt, "numbers", numbers, [0, 29, 30, 44, 45, 108]);
 }
 
-/// Levels, and how many places and words a tree of so many has.
+/// Levels, and the numbers of places and words of a tree of that many.
 static SIZES: [(u32, usize, usize); 6] = [
     (1, 2, 5),
     (2, 4, 17),
@@ -63,7 +63,7 @@ fn a_place_alone_makes_few_remote_accesses(rt: HostRuntime) {
     assert_same(&rt, "way out", walker.remote(), 20);
 }
 
-/// Tells a walker that is idle or inside to go on.
+/// Begins the entry or exit of a walker that is idle or inside.
 fn begin(walker: &mut Walker) {
     match walker.op() {
         Op::Idle => walker.begin_entry(),
@@ -72,7 +72,7 @@ fn begin(walker: &mut Walker) {
     }
 }
 
-/// Lets the walker load and store until it asks for nothing more, and gives what it asks for then.
+/// Lets the walker load and store until it requests no access, and returns its request then.
 fn walk(rt: &impl Abort, walker: &mut Walker, words: &mut [u64]) -> Op {
     for _ in 0..1000 {
         match walker.op() {
@@ -93,7 +93,7 @@ fn walk(rt: &impl Abort, walker: &mut Walker, words: &mut [u64]) -> Op {
     walker.op()
 }
 
-/// Fails where `Machine::new` always returns want of memory.
+/// Catches a `Machine::new` that always returns `NoMemory`.
 #[test]
 #[tactic(auto, using(std::proofs::lemmas::Nat::pow_pos))]
 fn four_steps_lead_a_place_inside(rt: HostRuntime) {
@@ -108,7 +108,7 @@ fn four_steps_lead_a_place_inside(rt: HostRuntime) {
     assert!(rt; machine.inside() == Some(0));
 }
 
-/// Levels and a pick behind that of place 0, which are refused so.
+/// Levels, a pick after place 0, and the fault of both picks.
 static REFUSED: [(u32, u32, ReplayFault); 4] = [
     (7, 200, ReplayFault::Levels),
     (0, 0, ReplayFault::Levels),
@@ -133,11 +133,11 @@ static FAULTS: [(ReplayFault, &str, &str); 3] = [
     (ReplayFault::Memory, "fault P3", "Memory"),
 ];
 
-/// Want of memory, its text and its name.
+/// The memory error, its text and its name.
 static NO_MEMORY: [(NoMemory, &str, &str); 1] = [(NoMemory, "out of memory", "NoMemory")];
 
-/// Fails where `Display` or `Debug` shows another text for a `ReplayFault` or for `NoMemory`.
-/// Fails where `Display` shows `memory was refused`.
+/// Catches another text of `Display` or `Debug` for a `ReplayFault` or for `NoMemory`.
+/// Catches a `Display` that shows `memory was refused`.
 #[test]
 fn faults_have_their_texts(rt: HostRuntime) {
     assert_same(&rt, "fault", misshown(rt.alloc(), &FAULTS), Ok(None));
@@ -153,7 +153,7 @@ impl Accept for Anything {
     ghost ok = { λ before entry. Unit {0} };
 }
 
-/// The laws hold at types that there are.
+/// Calls the laws with existing types.
 #[test]
 fn laws_can_be_called() {
     laws::soundness();
@@ -170,7 +170,7 @@ fn laws_can_be_called() {
     laws::real_time::<u64>();
 }
 
-/// So many picks by lot among these places.
+/// Returns 2,000 random picks among these places.
 fn picks_among(rt: &impl Abort, alloc: Global, places: &[u32], seed: u64) -> Vec<u32> {
     assert!(rt; !places.is_empty());
     let mut dice = Dice(seed);
@@ -182,7 +182,7 @@ fn picks_among(rt: &impl Abort, alloc: Global, places: &[u32], seed: u64) -> Vec
     picks
 }
 
-/// Replays 2,000 picks by lot among these places, and lets a second machine take the same steps.
+/// Replays 2,000 random picks among these places, and compares the steps with those of a second machine.
 fn compare(rt: &impl Abort, alloc: Global, levels: u32, places: &[u32], seed: u64) {
     let picks = picks_among(rt, alloc, places, seed);
     let steps = replay(alloc, levels, &picks).expect(rt, "no fault");
@@ -190,7 +190,7 @@ fn compare(rt: &impl Abort, alloc: Global, levels: u32, places: &[u32], seed: u6
     compare_steps(rt, &picks, &steps, &mut second);
 }
 
-/// The steps are those of the second machine for these picks.
+/// Asserts that the steps are those of the second machine for these picks.
 fn compare_steps(rt: &impl Abort, picks: &[u32], steps: &[Step], second: &mut SecondMachine) {
     assert_same(rt, "steps", steps.len(), picks.len());
     for (step, pick) in steps.iter().zip(picks) {
@@ -198,7 +198,7 @@ fn compare_steps(rt: &impl Abort, picks: &[u32], steps: &[Step], second: &mut Se
     }
 }
 
-/// All places of the greatest tree.
+/// Returns all places of the largest tree.
 fn all_places() -> [u32; 64] {
     let mut places = [0; 64];
     for place in 0..64usize {
@@ -207,9 +207,9 @@ fn all_places() -> [u32; 64] {
     places
 }
 
-/// 200 schedules of 2,000 picks among all places against a second machine.
-/// Fails where `Machine::new` or `replay` always returns want of memory.
-/// Fails where the store that wakes a rival, e7 of the tree, is of 2, not of 1: 2, instead of 1.
+/// Compares 200 schedules of 2,000 picks among all places with a second machine.
+/// Catches a `Machine::new` or `replay` that always returns out of memory.
+/// Catches a store that wakes a rival, e7 of the tree, with 2 instead of 1: 2, instead of 1.
 #[test]
 fn a_second_machine_takes_the_same_steps(rt: HostRuntime) {
     let places = all_places();

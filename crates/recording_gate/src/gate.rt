@@ -1,4 +1,4 @@
-//! The gate, whose replies are all alike.
+//! The gate, whose replies are all the same.
 ghost use Rattle.std.specs.Prelude.{◌≡◌, ◌++◌, ◌∷◌, []};
 ghost use Rattle.std.proofs.Common.{sym, ◌∙◌, append-nil};
 ghost use Rattle.rt_shared.specs.Visits.{reply_to};
@@ -10,13 +10,13 @@ use rt_rib::{Cmd, Refused, Reply};
 use std::marker::Model;
 use std::sync::Wait;
 
-/// How many commands a gate answers.
+/// The number of commands that a gate answers.
 const ROOM: usize = 8;
 
-/// What each command is answered.
+/// The reply to each command.
 const REPLY: Reply = Reply::Dumped(0);
 
-/// Commands with their replies, in order, which contracts see it as.
+/// Commands with their replies, in order; contracts see it as this list.
 #[derive(Drop)]
 struct Answered {
     commands: [(Cmd, Reply); ROOM],
@@ -25,10 +25,10 @@ struct Answered {
 
 impl Model for Answered {
     ghost use Rattle.std.specs.Prelude.{◌≤◌, take};
-    ghost use Rattle.rt_shared.specs.Visits.{Visit};
+    ghost use Rattle.rt_shared.specs.Visits.{AnsweredBatch};
     ghost use Rattle.recording_gate.specs.declared.gate.TheConstants.{ROOM};
 
-    ghost Value = { Visit };
+    ghost Value = { AnsweredBatch };
 
     ghost view = { λ a. take a.count a.commands };
 
@@ -36,7 +36,7 @@ impl Model for Answered {
 }
 
 impl Answered {
-    /// Answers a command more, or refuses it where there is no room.
+    /// Answers one more command, or refuses it if the list is full.
     fn serve(&mut self, cmd: Cmd) -> Outcome
         ensures { self.new ≡ self.old ++ reply_to cmd result }
     {
@@ -49,8 +49,8 @@ impl Answered {
     }
 }
 
-/// Answers each command alike, and remembers it, where its judge admits the call; one that it has no room for is
-/// refused. It takes no memory of its own.
+/// Answers each command with the same reply, and remembers it, if its judge admits the call. A command beyond its room
+/// is refused. Doesn't allocate itself.
 #[derive(Drop)]
 pub struct Recorder<J: Judge + Drop> {
     judge: J,
@@ -58,7 +58,7 @@ pub struct Recorder<J: Judge + Drop> {
 }
 
 impl<J: Judge + Drop> Recorder<J> {
-    /// A gate that has answered nothing.
+    /// Returns a gate that has answered nothing.
     pub fn new(judge: J) -> Recorder<J> {
         Recorder {
             judge,
@@ -69,12 +69,12 @@ impl<J: Judge + Drop> Recorder<J> {
         }
     }
 
-    /// What says which calls it answers.
+    /// Returns its judge, which decides on its calls.
     pub fn judge(&self) -> &J {
         &self.judge
     }
 
-    /// The commands that it has answered, in order, each with its reply.
+    /// Returns the commands that it has answered, in order, each with its reply.
     pub fn answered(&self) -> &[(Cmd, Reply)] {
         &self.answered.commands[..self.answered.count]
     }

@@ -1,16 +1,16 @@
-//! What a recording gate answers.
+//! The decision on the calls of a recording gate.
 
-/// What a gate is asked in one call.
+/// The commands of one call of a gate.
 #[derive(Clone, Copy)]
 pub enum Asked {
-    /// A command alone.
+    /// A single command.
     One,
-    /// So many commands at once.
+    /// A batch with this number of commands.
     Batch(usize),
 }
 
-/// Says which calls a recording gate answers.
+/// Decides which calls a recording gate answers.
 pub trait Judge {
-    /// Whether the call is answered.
+    /// Returns true if the call is answered.
     fn admits(&mut self, asked: Asked) -> bool;
 }

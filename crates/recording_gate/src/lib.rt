@@ -1,5 +1,5 @@
-//! A gate that takes no memory and records what it has answered, for tests and benches of feeds: whoever uses it says
-//! which calls it answers.
+//! A gate that doesn't allocate and records its answers, for tests and benches of feeds; its user decides which calls
+//! it answers.
 #![tactic(auto)]
 
 mod gate;

@@ -1,15 +1,15 @@
-//! The program `yarib`: feed files in; out come replies and the sorted table, answers to addresses, routes or what two
-//! tables answer otherwise; or the steps of the lock for a schedule.
+//! The program `yarib`: it executes feed files and prints replies and the sorted table, the result of a query, or the
+//! differences between two tables. It also prints the steps of the lock for a schedule.
 //!
-//! [`run_words`] is the program over its words. It has the command line read by `command_line`, reads the files, calls
-//! `rt_run` for what is asked, and turns each outcome into an exit status and a text on standard error: all here is only
-//! tested. What is written of the files' bytes, and of a replay, is proved in `rt_run`. Where standard error is a
-//! terminal, `main` also starts a thread that says there how far a run has come ([`ProgressLine`]).
+//! [`run_words`] is the program over its arguments. It parses them with `command_line`, reads the files, calls `rt_run`, and
+//! turns each result into an exit status and messages on standard error. All of this is only tested. The output for the
+//! files' bytes, and for a replay, is proved in `rt_run`. If standard error is a terminal, `main` also starts a thread that
+//! reports the progress of a run there ([`ProgressLine`]).
 #![tactic(auto)]
 
 mod program;
 
-use program::{Stop, run_words, run_words_beside};
+use program::{ProgramError, run_words, run_words_beside};
 pub use rt_run::{AppFault, replay_text, run_texts};
 use std::alloc::Global;
 use std::io::{self, IsTerminal, Write};
@@ -26,7 +26,7 @@ fn main(rt: HostRuntime) -> ExitCode {
     let (mut out, mut err) = (io::writer(&stdout), io::writer(&stderr));
     let words = match read_words(&rt, alloc) {
         Ok(words) => words,
-        Err(fault) => return ExitCode::from(Stop::of_words(&fault).end(&mut err)),
+        Err(fault) => return ExitCode::from(ProgramError::of_words(&fault).end(&mut err)),
     };
     let words = words.as_slice();
     if !stderr.is_terminal() {
@@ -37,8 +37,7 @@ fn main(rt: HostRuntime) -> ExitCode {
     ExitCode::from(status)
 }
 
-/// Carries out the words, while a thread says on the terminal how far a run has come. Where no thread can be made,
-/// nothing is said.
+/// Runs the program while a thread reports its progress on the terminal. If no thread can be created, nothing is reported.
 fn run_on_terminal<R, T, O, E>(
     rt: &R,
     words: &[String],

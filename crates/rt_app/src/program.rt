@@ -1,34 +1,42 @@
-//! The program over its words: reads the files and runs them.
+//! The program over its arguments: reads the files and runs them.
 
-mod comparing;
-mod showing;
-mod stops;
+mod comparisons;
+mod feed_choice;
+mod prefixes;
+mod program_error;
+mod queries;
 mod styles;
-mod telling;
+mod warnings;
 
 ghost use Rattle.std.specs.Prelude.{◌≡◌, ◌≤◌, length, vec_len, IfOk};
-ghost use Rattle.rt_rib.specs.declared.limits.TheConstants.{MOST_FEEDS};
+ghost use Rattle.rt_rib.specs.declared.limits.TheConstants.{MAX_FEEDS};
 
 use command_line::{Refusal, ReplayRequest, Request, RunRequest};
+use program_error::NO_MEMORY;
+pub(crate) use program_error::ProgramError;
 use rt_cidr::put;
-use rt_run::{AppFault, MOST_TEXTS, Status, replay_text, run_texts};
+use rt_run::{AppFault, FeedChoice, MAX_FEED_FILES, Status, replay_text, run_texts};
 use std::alloc::Global;
 use std::fs;
 use std::io::Write;
 use std::rt::Files;
 use std::sync::Wait;
 use std::thread::Threads;
-use stops::NO_MEMORY;
-pub(crate) use stops::Stop;
 use terminal_line::{ProgressLine, Screen, Stage};
 
-// The command line takes as many files, and of each as many routes, as a table does.
-const _: () = prove!(command_line::MOST_FILES == MOST_TEXTS);
+// The command line's maximum numbers of files and of routes per feed are a table's.
+const _: () = prove!(command_line::MAX_FEED_FILES == MAX_FEED_FILES);
 
-const _: () = prove!(command_line::MOST_ROUTES == rt_rib::MOST_ROUTES);
+const _: () = prove!(command_line::MAX_ROUTES_PER_FEED == rt_rib::MAX_ROUTES_PER_FEED);
 
-/// The program over its words, its name first: does what they ask, writes results to `out` and the text of a fault
-/// to `err`, and gives the exit status. A fault of `err` itself is dropped.
+/// The choice that leaves no feed out.
+const EVERY_FEED: FeedChoice<'static> = FeedChoice {
+    only: &[],
+    without: &[],
+};
+
+/// Runs the program with its arguments, of which the first is its name. Writes results to `out` and messages to `err`, and
+/// returns the exit status. Errors of `err` itself are ignored.
 pub fn run_words<R: Files + Threads + Wait + Sync + AllocGlobal, O: Write, E: Write>(
     rt: &R,
     alloc: Global,
@@ -39,7 +47,7 @@ pub fn run_words<R: Files + Threads + Wait + Sync + AllocGlobal, O: Write, E: Wr
     run_words_beside(rt, alloc, words, &ProgressLine::new(false), out, err)
 }
 
-/// Does what `run_words` does beside a line on `err`, which another thread may write (`ProgressLine::keep`).
+/// Runs the program as `run_words` does, while another thread may write a progress line on `err` (`ProgressLine::keep`).
 pub fn run_words_beside<R, O, E>(
     rt: &R,
     alloc: Global,
@@ -62,7 +70,7 @@ where
     status
 }
 
-/// What the program works with: the system, its memory, and both outputs.
+/// The program's environment: the system, its memory, and both outputs.
 #[derive(Drop)]
 struct Program<'a, R, O, E> {
     rt: &'a R,
@@ -90,7 +98,7 @@ impl<'a, R, O, E> Program<'a, R, O, E> {
 }
 
 impl<R: Files + Threads + Wait + Sync + AllocGlobal, O: Write, E: Write> Program<'_, R, O, E> {
-    fn carry_out<'w>(&mut self, words: &'w [String]) -> Result<u8, Stop<'w>> {
+    fn carry_out<'w>(&mut self, words: &'w [String]) -> Result<u8, ProgramError<'w>> {
         match command_line::read(self.alloc, words) {
             Ok(Request::Run(request)) => self.run_files(&request),
             Ok(Request::Lookup(request)) => self.show_answers(&request),
@@ -98,15 +106,15 @@ impl<R: Files + Threads + Wait + Sync + AllocGlobal, O: Write, E: Write> Program
             Ok(Request::Diff(request)) => self.compare(&request),
             Ok(Request::Replay(request)) => show_replay(self.alloc, &request, self.out),
             Err(Refusal::Shown(text)) => show_text(text.as_bytes(), self.out),
-            Err(Refusal::Misused(text)) => Err(Stop::Misused(text)),
-            Err(Refusal::TwoParts) => Err(Stop::TwoParts),
-            Err(Refusal::Unknown) => Err(Stop::Unknown),
+            Err(Refusal::Usage(text)) => Err(ProgramError::Usage(text)),
+            Err(Refusal::ConflictingFilters) => Err(ProgramError::ConflictingFilters),
+            Err(Refusal::Unknown) => Err(ProgramError::Unknown),
             Err(Refusal::Memory) => Err(NO_MEMORY),
         }
     }
 
-    fn run_files<'w>(&mut self, request: &RunRequest<'w>) -> Result<u8, Stop<'w>> {
-        let texts = self.read_feeds(request.files.as_slice())?;
+    fn run_files<'w>(&mut self, request: &RunRequest<'w>) -> Result<u8, ProgramError<'w>> {
+        let texts = self.read_feeds(request.files.as_slice(), EVERY_FEED)?;
         let (texts, batch) = (texts.as_slice(), request.batch as usize);
         let mut out = self.screen.beside(texts.len(), self.out);
         Ok(run_texts(self.rt, self.alloc, texts, request.limit, batch, &mut out)?)
@@ -114,31 +122,47 @@ impl<R: Files + Threads + Wait + Sync + AllocGlobal, O: Write, E: Write> Program
 }
 
 impl<R: Files + Wait + AllocGlobal, O, E: Write> Program<'_, R, O, E> {
-    /// The texts of the feed files, of which none is read where there are more than a run takes.
-    fn read_feeds<'w>(&mut self, names: &[&'w str]) -> Result<Vec<Vec<u8>>, Stop<'w>>
-        ensures { IfOk result (λ texts. vec_len texts ≤ MOST_FEEDS) }
+    /// Returns the texts of the feed files, and an empty text for each feed that is left out. Reads none of the files if there
+    /// are more than a run accepts, and no file of a feed that is left out.
+    fn read_feeds<'w>(
+        &mut self,
+        names: &[&'w str],
+        choice: FeedChoice<'_>,
+    ) -> Result<Vec<Vec<u8>>, ProgramError<'w>>
+        ensures { IfOk result (λ texts. vec_len texts ≤ MAX_FEEDS) }
     {
-        if names.len() > MOST_TEXTS {
-            return Err(Stop::TooMany);
+        if names.len() > MAX_FEED_FILES {
+            return Err(ProgramError::TooMany);
         }
-        self.read_files(names)
+        self.read_files(names, choice)
     }
 
-    fn read_files<'w>(&mut self, names: &[&'w str]) -> Result<Vec<Vec<u8>>, Stop<'w>>
+    fn read_files<'w>(
+        &mut self,
+        names: &[&'w str],
+        choice: FeedChoice<'_>,
+    ) -> Result<Vec<Vec<u8>>, ProgramError<'w>>
+        requires { length names.now ≤ MAX_FEEDS }
         ensures { IfOk result (λ texts. vec_len texts ≡ length names.entry.now) }
     {
         let mut texts = Vec::new(self.alloc);
         for name in names {
             self.screen.set(Stage::Reading(texts.len(), names.len()));
-            texts.push(self.read_file(name)?)?;
+            let feed = texts.len() as u32 + 1;
+            let text = if choice.leaves_out(feed) {
+                Vec::new(self.alloc)
+            } else {
+                self.read_file(name)?
+            };
+            texts.push(text)?;
         }
         Ok(texts)
     }
 
-    fn read_file<'w>(&self, name: &'w str) -> Result<Vec<u8>, Stop<'w>> {
+    fn read_file<'w>(&self, name: &'w str) -> Result<Vec<u8>, ProgramError<'w>> {
         match fs::read(self.rt, name) {
             Ok(text) => Ok(text),
-            Err(fault) => Err(Stop::of_file(name, &fault)),
+            Err(fault) => Err(ProgramError::of_file(name, &fault)),
         }
     }
 }
@@ -147,13 +171,13 @@ fn show_replay<'w, O: Write>(
     alloc: Global,
     request: &ReplayRequest,
     out: &mut O,
-) -> Result<u8, Stop<'w>> {
+) -> Result<u8, ProgramError<'w>> {
     Ok(replay_text(alloc, request.levels, request.picks.as_slice(), out)?)
 }
 
-fn show_text<'w, O: Write>(text: &[u8], out: &mut O) -> Result<u8, Stop<'w>> {
+fn show_text<'w, O: Write>(text: &[u8], out: &mut O) -> Result<u8, ProgramError<'w>> {
     match put(out, text) {
         Ok(()) => Ok(Status::Done as u8),
-        Err(_) => Err(Stop::Fault(AppFault::Write)),
+        Err(_) => Err(ProgramError::Fault(AppFault::Write)),
     }
 }

@@ -1,4 +1,4 @@
--- What a buffer over a writer shows of its contents, and what that says of the writer below.
+-- The contents of a buffer over a writer, and what they imply for the writer below.
 use Rattle.std.proofs.Common.{◌≡◌, ℕ, ◌+◌, ◌-◌, ◌<◌, ◌≤◌, List, [], ◌∷◌, ◌++◌, length, take, drop, Option, Some, None}
 use Rattle.std.proofs.Common.{Bool, true, false, nat_le, arith, refl, sym, ap, ◌∙◌, subst, length-append, length-take}
 use Rattle.std.proofs.Common.{append_assoc, append-nil, take-append-drop}
@@ -17,7 +17,7 @@ is_enough xs ys less = cases (nat_le (length xs) (length ys)) refl
     cases true is = is
     cases false is = grind (arith, nat_tests)
 
--- what a known writer below holds, where a new buffer over it gained a text and is asked again
+-- the contents of a known writer below, after a new buffer over it gained a text
 record Shows (name name' : ℕ) (began : List ℕ) (below : Option (List ℕ)) (held text : List ℕ) : Type 0 where
   bytes : List ℕ
   is_below : below ≡ Some bytes
@@ -49,7 +49,7 @@ shows name name' xs b c held text gains = cases b c (rw (is_enough xs xs (omega 
               parts = rest ∙ ap (λ bytes. bytes ++ text) (append-nil xs);
             }
 
--- the longer of two beginnings is the shorter one and more of the text
+-- if two lists are initial parts of the same list, the longer one is the shorter one followed by the start of `text`
 begins_so : (xs ys held text : List ℕ) → ys ++ held ≡ xs ++ text → length xs ≤ length ys → ys ≡ xs ++ take (length ys - length xs) text
 begins_so xs ys held text parts longer =
     let more : length ys ≡ length xs + (length ys - length xs) = omega (arith, longer) in
@@ -57,7 +57,7 @@ begins_so xs ys held text parts longer =
     ∙ take-append-add xs text (length ys - length xs)
 
 module _ (name name' : ℕ) (a b c d : Option (List ℕ)) (held text : List ℕ) (same : name ≡ name' → d ≡ c) where
-  -- a beginning of what a new buffer was given lies in the writer below, where a part of it is held
+  -- the writer below received an initial part of what a new buffer was given, if the buffer still holds some of it
   pub stops_held : Appends (buffered name a a []) (buffered name' b c held) text → 0 < length held → 0 < length text → AppendsBeginning a d text
   stops_held gains some given = cases a gains
     where
@@ -71,7 +71,7 @@ module _ (name name' : ℕ) (a b c d : Option (List ℕ)) (held text : List ℕ)
                 (sym (same is.one ∙ is.is_below)) (begins_so xs is.bytes held text is.parts is.longer);
           }
 
-  -- a beginning of it lies there, too, where a fault let the buffer have no more than a beginning
+  -- the same if after an error the buffer itself only received an initial part
   pub stops : AppendsBeginning (buffered name a a []) (buffered name' b c held) text → AppendsBeginning a d text
   stops begun = cases a begun
     where

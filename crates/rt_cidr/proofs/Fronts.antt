@@ -1,4 +1,4 @@
--- A reader's piece at the front of a text is the only one there, and pieces are joined at a mark in one way.
+-- A reader's piece at the front of a text is unique, and pieces are joined at a mark in only one way.
 use Rattle.std.proofs.Common.{◌≡◌, ◌≢◌, ℕ, ◌+◌, ◌*◌, ◌^◌, ◌<◌, ◌≤◌, List, [], ◌∷◌, ◌++◌, length, get_or, take, drop}
 use Rattle.std.proofs.Common.{refl, sym, ap, ◌∙◌, arith, append_assoc, take-append-drop, length-take-le, get_or-drop}
 use Rattle.std.proofs.Common.{add-zero, append-nil, inl, inr, lit≤, Result, Ok, Err, Some, None}
@@ -12,7 +12,7 @@ use Rattle.rt_cidr.specs.Text.{dot, slash, IsDecimal, IsOctetText, IsAddressText
 use Rattle.rt_cidr.specs.inside.Front.{capped, StartsBy, LeadingDigits, IsCappedDecimal, IsJoined, IsHalfText, ReadsPair}
 use Rattle.rt_cidr.proofs.Digits.{cut_once}
 
--- a text has no such piece at its front
+-- no such piece is at the front of the text
 abbrev pub NoFront : (List ℕ → ℕ → Type 0) → List ℕ → Type 0
 NoFront IsText text = (n : ℕ) (rest : List ℕ) → ¬ (StartsBy IsText text n rest)
 
@@ -20,7 +20,7 @@ NoFront IsText text = (n : ℕ) (rest : List ℕ) → ¬ (StartsBy IsText text n
 abbrev pub IsReadOnce : (List ℕ → ℕ → Type 0) → Type 0
 IsReadOnce IsText = (text : List ℕ) (n m : ℕ) (rest others : List ℕ) → StartsBy IsText text n rest → StartsBy IsText text m others → (n ≡ m) × (rest ≡ others)
 
--- a text has at most one piece of digits at its front, with one number
+-- at most one piece of digits is at the front of a text, with one number
 pub digits_read_once : (IsText : List ℕ → ℕ → Type 0) →
     ((text : List ℕ) (n : ℕ) → IsText text n → AllDigits 10 text) →
     ((text : List ℕ) (n m : ℕ) → IsText text n → IsText text m → n ≡ m) → IsReadOnce IsText
@@ -39,7 +39,7 @@ decimal_read_once =
     (λ text n m h k. h.is_value ∙ ap capped (sym h.spelled.value ∙ k.spelled.value) ∙ sym k.is_value)
 
 module _ (text : List ℕ) (value len : ℕ) (front : LeadingDigits text value len) where
-  -- the digits at the front are the piece that a decimal there would be
+  -- the digits at the front are the piece of any decimal there
   front_piece : (n : ℕ) (rest : List ℕ) (h : StartsBy IsCappedDecimal text n rest) → h.piece ≡ take len text
   front_piece n rest h =
       let ends : 10 ≤ digit_value (get_or (drop len text) 0 0) = rw (get_or-drop len text 0 0, add-zero) front.ends in
@@ -49,18 +49,18 @@ module _ (text : List ℕ) (value len : ℕ) (front : LeadingDigits text value l
   front_length : (n : ℕ) (rest : List ℕ) (h : StartsBy IsCappedDecimal text n rest) → length h.piece ≡ len
   front_length n rest h = ap length (front_piece n rest h) ∙ length-take-le len text front.within
 
-  -- no digit, no decimal
+  -- without a digit there is no decimal
   pub no_digit : len ≡ 0 → NoFront IsCappedDecimal text
   no_digit none n rest h = omega (arith, front_length n rest h, h.is_piece.spelled.digits.0)
 
-  -- a zero before more digits, no decimal
+  -- with a zero before more digits there is no decimal
   pub leading_zero : (1 < length (take len text)) × (get_or (take len text) 0 0 ≡ 48) →
       NoFront IsCappedDecimal text
   leading_zero zero n rest h =
       let alone = rw (front_piece n rest h) at h.is_piece.spelled.no_leading_zero in
       omega (arith, zero.0, alone zero.1)
 
-  -- else the digits are a decimal
+  -- in all other cases the digits are a decimal
   pub decimal_at_front : 0 < len → ¬ ((1 < length (take len text)) × (get_or (take len text) 0 0 ≡ 48)) →
       StartsBy IsCappedDecimal text value (drop len text)
   decimal_at_front some plain =
@@ -83,7 +83,7 @@ module _ (text : List ℕ) (value len : ℕ) (front : LeadingDigits text value l
         ends = rw (get_or-drop len text 0 0, add-zero) front.ends;
       }
 
--- what is one kind of piece, and so another, begins a text as the other kind too
+-- if every text of one kind is also of another kind, so is every piece at the front of a text
 front_as : (IsText IsOther : List ℕ → ℕ → Type 0) → ((text : List ℕ) (n : ℕ) → IsText text n → IsOther text n) →
     (text : List ℕ) (n : ℕ) (rest : List ℕ) → StartsBy IsText text n rest → StartsBy IsOther text n rest
 front_as IsText IsOther also text n rest h = record {
@@ -93,14 +93,14 @@ front_as IsText IsOther also text n rest h = record {
   ends = h.ends;
 }
 
--- an octet is a decimal, which the cap leaves as it is
+-- an octet is a decimal, which the cap doesn't change
 pub octet_is_decimal : (text : List ℕ) (n : ℕ) (rest : List ℕ) → StartsBy IsOctetText text n rest →
     StartsBy IsCappedDecimal text n rest
 octet_is_decimal =
     front_as IsOctetText IsCappedDecimal
     (λ text n h. record { n = n; spelled = h.spelled; is_value = let fits : n < 256 = h.fits in omega arith })
 
--- a larger decimal is none
+-- a decimal of 256 or more isn't an octet
 pub no_octet : (text : List ℕ) (value : ℕ) (after : List ℕ) → StartsBy IsCappedDecimal text value after →
     256 ≤ value → NoFront IsOctetText text
 no_octet text value after read large n rest h =
@@ -161,7 +161,7 @@ module _ (IsHigh IsLow : List ℕ → ℕ → Type 0) (mark scale : ℕ) (mark_e
     ends = two.ends;
   }
 
-  -- nothing is read where the high piece, the mark or the low piece is missing
+  -- nothing is read if the high piece, the mark or the low piece is missing
   pub no_high : NoFront IsHigh text → NoFront (IsJoined IsHigh IsLow mark scale) text
   no_high none n rest h = let parts = opened n rest h in none parts.high _ parts.is_high
 
@@ -190,7 +190,7 @@ module _ (IsHigh IsLow : List ℕ → ℕ → Type 0) (mark scale : ℕ) (mark_e
       let low = low_once second.after first.low second.low rest others (rw same at first.is_low) second.is_low in
       (first.value ∙ rw (high.0, low.0) (sym second.value), low.1)
 
--- joined pieces are read in one way where each of them is
+-- joined pieces are read in only one way if each of them is
 pub joined_read_once : (IsHigh IsLow : List ℕ → ℕ → Type 0) (mark scale : ℕ) → 10 ≤ digit_value mark →
     IsReadOnce IsHigh → IsReadOnce IsLow → IsReadOnce (IsJoined IsHigh IsLow mark scale)
 joined_read_once IsHigh IsLow mark scale ends high low text = joined_once_here IsHigh IsLow mark scale ends text high low
@@ -268,13 +268,13 @@ module _ (IsText : List ℕ → ℕ → Type 0) (text : List ℕ) where
   pub front_of_whole : (n : ℕ) → IsText text n → StartsBy IsText text n []
   front_of_whole n h = record { piece = text; is_piece = h; joined = sym (append-nil text); ends = lit≤ tt }
 
-  -- a piece after which nothing stands is the whole text
+  -- a piece with nothing after it is the whole text
   pub whole_of_front : (n : ℕ) (rest : List ℕ) → StartsBy IsText text n rest → length rest < 1 → IsText text n
   whole_of_front n rest h none =
       let whole : text ≡ h.piece = h.joined ∙ ap (λ t. h.piece ++ t) (nil_from_length rest (omega arith)) ∙ append-nil h.piece in
       rw whole h.is_piece
 
-  -- where something stands after the piece, or there is no piece, the whole text is none
+  -- if something follows the piece, or there is no piece, the whole text isn't one
   pub no_whole_before : IsReadOnce IsText → (n : ℕ) (rest : List ℕ) → StartsBy IsText text n rest →
       1 ≤ length rest → (m : ℕ) → ¬ (IsText text m)
   no_whole_before once n rest h more m whole =
@@ -283,11 +283,11 @@ module _ (IsText : List ℕ → ℕ → Type 0) (text : List ℕ) where
   pub no_whole : NoFront IsText text → (m : ℕ) → ¬ (IsText text m)
   no_whole none m whole = none m [] (front_of_whole m whole)
 
--- a number below the cap stays as it is
+-- the cap doesn't change a number below it
 pub capped_decimal : (text : List ℕ) (n : ℕ) → n < 2 ^ 32 → IsDecimal text n → IsCappedDecimal text n
 capped_decimal text n small h = record { n = n; spelled = h; is_value = omega arith }
 
--- a decimal is read where it fits 32 bits
+-- a decimal is read if it fits 32 bits
 pub decimal_that_fits : {E : Type 0} (text : List ℕ) (value : ℕ) (r : Result ℕ E) →
     IsCappedDecimal text value → OkIff r (value < 2 ^ 32) value → ReadsDecimal text (result_ok r)
 decimal_that_fits text value (Ok n) h fits =
@@ -329,7 +329,7 @@ pair_of_pieces text other after address len one marked two = (
   two.is_value,
 )
 
--- where something stands after the decimal the text is of no pair
+-- if something follows the decimal, the text denotes no pair
 pub no_pair_before : (text other after rest : List ℕ) (address len : ℕ) →
     StartsBy IsAddressText text address other → other ≡ slash ∷ after →
     StartsBy IsCappedDecimal after len rest → 1 ≤ length rest → ReadsPair text None

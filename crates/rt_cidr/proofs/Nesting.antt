@@ -1,4 +1,4 @@
--- How prefixes lie to one another: those that cover one address are nested, and containing is covering whole.
+-- How prefixes relate: those that cover the same address are nested, and containing means covering all addresses.
 use Rattle.std.proofs.Common.{◌≡◌, ℕ, ◌+◌, ◌-◌, ◌*◌, ◌/◌, ◌%◌, ◌^◌, ◌<◌, ◌≤◌, inl, inr, sym, ap, ◌∙◌, lit≤, arith, IsTrue, ◌↔◌, le-leb, eq-eqb, eqb-true}
 use Rattle.std.proofs.Math.Nat.{sub-zero, pow-le-pow_right, mul-le-mul_right, mul-le-mul_left}
 use Rattle.std.proofs.lemmas.Bool.{and_parts, and_from, leb-true, cases_lt}
@@ -15,7 +15,7 @@ size_grows m n le short =
     let split : 32 - m ≡ (32 - n) + (n - m) = omega arith in
     ap (λ k. 2 ^ k) split ∙ pow-add 2 (32 - n) (n - m)
 
--- what shares the first n bits shares the first m
+-- two addresses that share the first n bits share the first m
 fewer_bits : (m n a b : ℕ) → m ≤ n → n ≤ 32 → a / size_of n ≡ b / size_of n → a / size_of m ≡ b / size_of m
 fewer_bits m n a b le short same =
     let split : (32 - n) + (n - m) ≡ 32 - m = omega arith in
@@ -25,14 +25,14 @@ fewer_bits m n a b le short same =
 covered : (p : Prefix) (a : Addr) → IsTrue (covers p a) → a.0 / size_of p.len ≡ p.base / size_of p.len
 covered p a h = eqb-true _ _ h
 
--- of two prefixes that cover one address the longer is contained in the shorter
+-- if two prefixes cover the same address, the shorter contains the longer
 pub covering_are_nested : (p q : Prefix) (a : Addr) → IsTrue (covers p a) → IsTrue (covers q a) →
     p.len ≤ q.len → IsTrue (contains p q)
 covering_are_nested p q a by_p by_q le =
     let shared = fewer_bits p.len q.len a.0 q.base le q.is_prefix.short (covered q a by_q) in
     and_from _ _ (le-leb _ _ le) (eq-eqb _ _ (sym shared ∙ covered p a by_p))
 
--- of two that cover one address and are equally long each is the other
+-- two prefixes that cover the same address and are equally long are equal
 pub covering_are_same : (p q : Prefix) (a : Addr) → IsTrue (covers p a) → IsTrue (covers q a) → p.len ≡ q.len → p ≡ q
 covering_are_same p q a by_p by_q len =
     let one = covered p a by_p in
@@ -42,14 +42,14 @@ covering_are_same p q a by_p by_q len =
     let q_clear = rw (sym len) at q.is_prefix.clear in
     same_prefix p q (omega (arith, div-add-mod' p.base (size_of p.len), div-add-mod' q.base (size_of p.len))) len
 
--- a prefix contains another exactly where it covers all that the other covers
+-- a prefix covers all addresses that a prefix in it covers
 contains_covers : (p q : Prefix) → IsTrue (contains p q) → (a : Addr) → IsTrue (covers q a) → IsTrue (covers p a)
 contains_covers p q h a by_q =
     let (longer, base) = and_parts _ _ h in
     let shared = fewer_bits p.len q.len a.0 q.base (leb-true _ _ longer) q.is_prefix.short (covered q a by_q) in
     eq-eqb _ _ (shared ∙ eqb-true _ _ base)
 
--- a block that begins below a multiple of its size ends there at the latest
+-- a block that begins below a multiple of its size ends there or earlier
 block_ends : (size count base : ℕ) → base % size ≡ 0 → base < size * count → base + size ≤ size * count
 block_ends size count base clear below =
     let place = div-add-mod' base size in
@@ -65,7 +65,7 @@ last_fits q =
     let ends = block_ends (size_of q.len) (2 ^ q.len) q.base q.is_prefix.clear (omega (arith, q.is_prefix.fits)) in
     omega arith
 
--- a longer length has blocks of at most half the size
+-- the blocks of a longer length have at most half the size
 halved : (m n : ℕ) → m < n → n ≤ 32 → 2 * size_of n ≤ size_of m
 halved m n lt short =
     let some : 1 ≤ n - m = omega arith in

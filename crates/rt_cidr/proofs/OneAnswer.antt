@@ -1,4 +1,4 @@
--- Each text has one answer, and the text that is written for a value has that value.
+-- Each text has one answer, and the text written for a value denotes that value.
 use Rattle.std.proofs.Common.{◌≡◌, ℕ, ◌^◌, ◌<◌, List, Option, Some, None, Result, Ok, Err, decimal, refl, sym, ap, ◌∙◌, arith}
 use Rattle.rt_cidr.specs.declared.address.Addr.{Addr}
 use Rattle.rt_cidr.specs.declared.prefixes.Prefix.{Prefix}
@@ -33,7 +33,7 @@ address_one_answer text (Ok a) (Err Bits) _ two = absurd two
 address_one_answer text (Err Text) (Err Length) _ two = absurd two
 address_one_answer text (Err Text) (Err Bits) _ two = absurd two
 
--- a pair that is too long, or has bits past its length, is no prefix's
+-- the length of a prefix isn't too long, and its base has no bit set past it
 not_too_long : (q : Prefix) (len : ℕ) → q.len ≡ len → ¬ (32 < len)
 not_too_long q len same long = omega (arith, q.is_prefix.short)
 
@@ -56,7 +56,7 @@ pair_one_answer base len (Ok p) (Err Text) _ two = absurd two
 pair_one_answer base len (Err Length) (Err Text) _ two = absurd two
 pair_one_answer base len (Err Bits) (Err Text) _ two = absurd two
 
--- what a text with a pair answers is what the pair answers
+-- the answer for a text that denotes a pair is the answer for the pair
 pub pair_answer : (text : List ℕ) (address len : ℕ) → IsPrefixText text address len →
     (answer : Result Prefix TextFault) → ReadsPrefix text answer → AnswersPair address len answer
 pair_answer text address len h (Ok q) reads = pair_one_value text q.base address q.len len reads h
@@ -69,7 +69,7 @@ pair_answer text address len h (Err Bits) reads =
     let same = pair_one_value text other address n len other_text h in
     (rw same.1 at short, rw (same.0, same.1) at none)
 
--- each answer but the first fault tells that there is a pair
+-- every answer except the first fault implies that the text denotes a pair
 pub prefix_one_answer : (text : List ℕ) (one two : Result Prefix TextFault) → ReadsPrefix text one →
     ReadsPrefix text two → one ≡ two
 prefix_one_answer text (Ok q) two one h =
@@ -85,7 +85,7 @@ prefix_one_answer text (Err Text) (Ok q) one h = absurd (one q.base q.len h)
 prefix_one_answer text (Err Text) (Err Length) one h = absurd (one h.0 h.1 h.2)
 prefix_one_answer text (Err Text) (Err Bits) one h = absurd (one h.0 h.1 h.2)
 
--- what is written is read again
+-- reading what is written returns the same value
 pub decimal_again : (n : ℕ) (answer : Option ℕ) → n < 2 ^ 32 → ReadsDecimal (decimal n) answer → answer ≡ Some n
 decimal_again n answer small h = decimal_one_answer (decimal n) answer (Some n) h (decimal_is_decimal n (omega arith), small)
 

@@ -1,16 +1,16 @@
--- What this crate promises to those above it, beside the contracts of its functions: lemmas that their proofs may
--- cite. No other file of this folder is part of the promise.
+-- The lemmas of this crate that proofs of the crates above may cite, besides the contracts of its functions. No other
+-- file of this directory is part of its interface.
 
 -- a prefix covers some address
 pub use Rattle.rt_cidr.proofs.Ranges.{size_pos}
 -- how a short text grows piece by piece
 pub use Rattle.rt_cidr.proofs.ShortTexts.{prepending}
--- how long the texts of numbers, addresses and prefixes are at most
+-- the maximum lengths of the texts of numbers, addresses and prefixes
 pub use Rattle.rt_cidr.proofs.ShortTexts.{length-decimal, length-address_text, length-prefix_text}
--- what is in a writer after one text and then another, and after a fault
+-- the contents of a writer after one text and then another, and after an error
 pub use Rattle.rt_cidr.proofs.Outputs.{appends_after, begins_after, begins_longer}
--- what is in a writer when text went to it through a buffer
+-- the contents of a writer when text was written to it through a buffer
 pub use Rattle.rt_cidr.proofs.Buffers.{stops, stops_held}
--- what is written for a number, an address and a prefix is its text, and a text is of one pair
+-- the text written for a number, an address and a prefix denotes it, and a text denotes at most one pair
 pub use Rattle.rt_cidr.proofs.Texts.{decimal_is_decimal, decimal_one_number, address_text_is_address, pair_one_value}
 pub use Rattle.rt_cidr.proofs.OneAnswer.{prefix_is_written}

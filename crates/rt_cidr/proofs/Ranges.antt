@@ -8,7 +8,7 @@ use Rattle.rt_cidr.specs.declared.prefixes.Prefix.{Prefix}
 use Rattle.rt_cidr.specs.Cidr.{size_of, IsPrefix}
 use Rattle.rt_cidr.specs.Prefix.{covers, contains}
 
--- a pair is a prefix in one way
+-- that a pair is a prefix has only one proof
 pub IsPrefix-prop : (base len : ℕ) → IsProp (IsPrefix base len)
 IsPrefix-prop base len = hlevel props
 
@@ -20,7 +20,7 @@ pair_same base len one two = ap (λ (h : IsPrefix base len). let p : Prefix = re
   is_prefix = h;
 } in p) (IsPrefix-prop base len one two)
 
--- two prefixes of equal base and equal length are equal
+-- two prefixes with the same base and length are equal
 pub same_prefix : (p q : Prefix) → p.base ≡ q.base → p.len ≡ q.len → p ≡ q
 same_prefix p q base len =
     let Base : ℕ → Type 0 = λ b. (h : IsPrefix b p.len) → ◌≡◌ {A = Prefix} p (record { base = b; len = p.len; is_prefix = h }) in
@@ -31,7 +31,7 @@ same_prefix p q base len =
 pub size_pos : (len : ℕ) → 0 < size_of len
 size_pos len = pow_pos (32 - len)
 
--- a number has the quotient of a multiple exactly where it lies in the multiple's block
+-- a number has the same quotient as a multiple if and only if it is in the multiple's block
 pub same_quotient_is_in_block : (size base a : ℕ) → 0 < size → base % size ≡ 0 → a / size ≡ base / size →
     (base ≤ a) × (a < base + size)
 same_quotient_is_in_block size base a some clear same =
@@ -54,7 +54,7 @@ covers_range p a = (
   λ h. eq-eqb _ _ (in_block_is_same_quotient (size_of p.len) p.base a.0 (size_pos p.len) p.is_prefix.clear h.0 h.1),
 )
 
--- a prefix contains those that are no shorter and whose base lies there
+-- a prefix contains those that aren't shorter and whose base is in its range
 pub contains_range : (p q : Prefix) →
     IsTrue (contains p q) ↔ ((p.len ≤ q.len) × (p.base ≤ q.base) × (q.base < p.base + size_of p.len))
 contains_range p q =

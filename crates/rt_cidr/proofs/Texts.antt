@@ -1,4 +1,4 @@
--- Each text is of one number, address or pair, each of these has one text, and what is written is that text.
+-- A text denotes at most one number, address or pair, each of these has at most one text, and the printers write it.
 use Rattle.std.proofs.Common.{◌≡◌, ◌≢◌, ℕ, ◌+◌, ◌*◌, ◌/◌, ◌%◌, ◌^◌, ◌<◌, ◌≤◌, inl, inr, List, [], ◌∷◌, length, decimal, refl, sym, ap, ◌∙◌, drop, lit≤}
 use Rattle.std.proofs.Common.{subst, arith}
 use Rattle.std.proofs.Math.Nat.{pow-suc, pow-le-pow_right, mul-le-mul_right}
@@ -13,14 +13,14 @@ use Rattle.rt_cidr.specs.inside.Front.{StartsBy}
 use Rattle.rt_cidr.proofs.Digits.{digit_value-digit}
 use Rattle.rt_cidr.proofs.Fronts.{address_read_once, four_octets, front_of_whole}
 
--- two digits of one value are one digit
+-- two digits with the same value are equal
 same_digit : (c d : ℕ) → digit_value c < 10 → digit_value d < 10 → digit_value c ≡ digit_value d → c ≡ d
 same_digit c d one two e =
     let c_in = digit_from_value c one in
     let d_in = digit_from_value d two in
     omega (arith, digit_value-digit c one, digit_value-digit d two)
 
--- equally many digits of one value are the same digits
+-- two lists of digits with the same length and value are equal
 same_digits : (a b : ℕ) (xs ys : List ℕ) → length xs ≡ length ys → AllDigits 10 xs → AllDigits 10 ys →
     digits_value_after 10 a xs ≡ digits_value_after 10 b ys → (a ≡ b) × (xs ≡ ys)
 same_digits a b [] [] e all_x all_y v = (v, refl)
@@ -33,14 +33,14 @@ same_digits a b (x ∷ xs) (y ∷ ys) e all_x all_y v =
     let first = same_digit x y all_x.0 all_y.0 (omega arith) in
     (omega arith, rw (first, rest))
 
--- digits that follow n have at least its value, moved up
+-- appending digits to n gives at least n, shifted by their number
 moved_up : (n : ℕ) (xs : List ℕ) → n * 10 ^ length xs ≤ digits_value_after 10 n xs
 moved_up n [] = omega arith
 moved_up n (x ∷ xs) =
     let more = moved_up (n * 10 + digit_value x) xs in
     rw (pow-suc 10 (length xs)) (omega arith)
 
--- a numeral that does not begin with zero is no longer than any other of its value
+-- a decimal is at most as long as any other of the same value
 no_longer : (s t : List ℕ) (n : ℕ) → IsDecimal s n → IsDecimal t n → length s ≤ length t
 no_longer [] t n one two = omega arith
 no_longer (c ∷ cs) t n one two = elim (cases_lt (length t) (length (c ∷ cs))) [
@@ -57,7 +57,7 @@ no_longer (c ∷ cs) t n one two = elim (cases_lt (length t) (length (c ∷ cs))
       absurd (omega (arith, one.value, two.value))
 ]
 
--- each number has one decimal, each decimal one number
+-- a text is the decimal of at most one number, and a number has at most one decimal
 pub decimal_one_number : (text : List ℕ) (m n : ℕ) → IsDecimal text m → IsDecimal text n → m ≡ n
 decimal_one_number text m n one two = sym one.value ∙ two.value
 
@@ -66,7 +66,7 @@ decimal_one_text s t n one two =
     let same : length s ≡ length t = omega (arith, no_longer s t n one two, no_longer t s n two one) in
     (same_digits 0 0 s t same one.digits.1 two.digits.1 (one.value ∙ sym two.value)).1
 
--- each address has one text, each text at most one address
+-- an address has at most one text, and a text denotes at most one address
 pub address_one_number : (text : List ℕ) (m n : ℕ) → IsAddressText text m → IsAddressText text n → m ≡ n
 address_one_number text m n one two =
     (address_read_once text m n [] [] (front_of_whole IsAddressText text m one) (front_of_whole IsAddressText text n two)).0
@@ -83,7 +83,7 @@ address_one_text s t n one two =
     let fourth = same_octet_text _ _ _ _ one.is_fourth two.is_fourth (omega (arith, value)) in
     one.joined ∙ rw (first, second, third, fourth) (sym two.joined)
 
--- each pair has one text, each text at most one pair
+-- a pair has at most one text, and a text denotes at most one pair
 pub pair_one_value : (text : List ℕ) (a b m n : ℕ) → IsPrefixText text a m → IsPrefixText text b n → (a ≡ b) × (m ≡ n)
 pair_one_value text a b m n one two =
     let parts = address_read_once text a b (slash ∷ one.len_part) (slash ∷ two.len_part) (front text a m one) (front text b n two) in
@@ -98,7 +98,7 @@ pub pair_one_text : (s t : List ℕ) (address len : ℕ) → IsPrefixText s addr
 pair_one_text s t address len one two =
     one.joined ∙ rw (address_one_text _ _ address one.is_address two.is_address, decimal_one_text _ _ len one.is_len two.is_len) (sym two.joined)
 
--- what is written is the text
+-- the text that is written denotes the value
 pub decimal_is_decimal : (n : ℕ) → n < 2 ^ 64 → IsDecimal (decimal n) n
 decimal_is_decimal n fits =
     let (numeral, value) = decimal_is_IsNumeral n fits in

@@ -1,7 +1,7 @@
 -- Prefixes as pairs of numbers: a base address and a length (RFC 4632, section 3.1).
 use Rattle.std.specs.Prelude.{◌≡◌, ℕ, ◌-◌, ◌%◌, ◌^◌, ◌<◌, ◌≤◌}
 
--- how many addresses share their first `len` bits
+-- the number of addresses that share their first `len` bits
 abbrev pub size_of : ℕ → ℕ
 size_of len = 2 ^ (32 - len)
 

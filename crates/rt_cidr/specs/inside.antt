@@ -1,2 +1,2 @@
--- What no public clause speaks of: the words of private contracts, of invariants and of proofs.
+-- Definitions that no public clause uses: those of private contracts, of invariants and of proofs.
 pub mod Front

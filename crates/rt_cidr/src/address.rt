@@ -1,4 +1,4 @@
-//! IPv4 addresses: their text read, and put in front of a short text.
+//! IPv4 addresses: parsing and printing.
 ghost use Rattle.std.specs.Prelude.{◌≡◌, ◌++◌};
 ghost use Rattle.rt_cidr.specs.Output.{WritesText};
 ghost use Rattle.rt_cidr.specs.ShortText.{FitsInShortText};
@@ -20,8 +20,8 @@ pub struct Addr(pub u32);
 impl Addr {
     ghost use Rattle.rt_cidr.specs.Reading.{ReadsAddress};
 
-    /// The address of which this is the text: four octets joined by dots, each a decimal of at most 255 without a
-    /// leading zero. Any other text is refused with E3 (`Text`).
+    /// Parses an address: four octets joined by dots, each a decimal of at most 255 without a leading zero. Any other
+    /// text is error E3 (`Text`).
     pub fn parse(text: &[u8]) -> Result<Addr, TextFault>
         ensures { ReadsAddress text.now result }
     {
@@ -34,7 +34,7 @@ impl Addr {
         Ok(Addr(address))
     }
 
-    /// Puts the address's text in front: its four octets joined by dots.
+    /// Prepends the address's text: its four octets joined by dots.
     #[tactic(auto, using(crate::proofs::ShortTexts::prepending), unfolding(crate::specs::Text::address_text))]
     pub fn prepend_to(&self, text: &mut ShortText)
         requires room { FitsInShortText (address_text self.now.0) text.old }
@@ -49,8 +49,8 @@ impl Addr {
         text.prepend_decimal(u64::from((self.0 >> 24) % 256));
     }
 
-    /// Writes the address's text: its four octets joined by dots. A fault is the writer's, as `put` hands it on; what
-    /// was written is then a beginning of the text.
+    /// Writes the address's text: its four octets joined by dots. Fails if the writer does, as [`put`] describes; only
+    /// an initial part of the text was then written.
     #[tactic(auto, using(crate::proofs::ShortTexts::lengths))]
     pub fn write_to<W: Write>(&self, w: &mut W) -> Result<(), io::Error>
         ensures { WritesText (W.contents w.old) (W.contents w.new) (address_text self.now.0) result }
@@ -87,7 +87,7 @@ impl FromStr for Addr {
     }
 }
 
-/// The address at the front of the text: two halves joined by a dot.
+/// Reads the address at the front of the text (two halves joined by a dot); returns it with the rest of the text.
 pub(crate) fn read_address(text: &[u8]) -> Option<(u32, &[u8])>
     ensures { ReadsFront IsAddressText text.now result }
 {
@@ -96,7 +96,7 @@ pub(crate) fn read_address(text: &[u8]) -> Option<(u32, &[u8])>
     Some((high << 16 | low, rest))
 }
 
-/// Two octets joined by a dot, as a number of 16 bits.
+/// Reads two octets joined by a dot as a 16-bit number.
 fn read_half(text: &[u8]) -> Option<(u32, &[u8])>
     ensures { ReadsFront IsHalfText text.now result }
 {
@@ -115,7 +115,7 @@ fn read_octet(text: &[u8]) -> Option<(u32, &[u8])>
     Some((value as u32, rest))
 }
 
-/// What follows the mark at the front of the text.
+/// Returns the rest of the text after the mark at its front.
 pub(crate) fn after_mark(text: &[u8], mark: u8) -> Option<&[u8]>
     ensures { ReadsMark mark text.now result }
 {

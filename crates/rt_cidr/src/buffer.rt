@@ -1,4 +1,4 @@
-//! A writer that gathers text, so that it goes out in few large writes.
+//! A writer that collects text and passes it on in few large writes.
 ghost use Rattle.std.specs.Prelude.{◌≡◌, ℕ, ◌+◌, ◌<◌, ◌≤◌, List, [], ◌++◌, drop, length, vec_len, vec_capacity, IfOk, OnOk, OnErr};
 ghost use Rattle.std.specs.Io.KnownBytes.{Keeps};
 ghost use Rattle.rt_cidr.specs.Output.{buffered};
@@ -11,10 +11,10 @@ use std::io::{self, Write};
 use std::marker::Model;
 use std::snapshot::Snapshot;
 
-/// How many bytes an output buffer holds at most.
+/// The maximum number of bytes that an output buffer holds.
 pub const OUTPUT_BYTES: usize = 65_536;
 
-/// All the memory of an output buffer. Contracts see the bytes that are held there.
+/// The memory of an output buffer. Contracts see the bytes that it holds.
 #[derive(Debug, Drop)]
 pub struct OutputRoom {
     bytes: Vec<u8>,
@@ -33,7 +33,7 @@ impl Model for OutputRoom {
 }
 
 impl OutputRoom {
-    /// Room that holds nothing. Refused only for want of memory.
+    /// Returns empty room. Fails only if memory runs out.
     pub fn new(alloc: Global) -> Result<OutputRoom, AllocError>
         ensures { IfOk result (λ room. room ≡ []) }
     {
@@ -47,21 +47,21 @@ impl OutputRoom {
         self.bytes.as_slice()
     }
 
-    /// How many bytes more it can hold.
+    /// Returns the number of bytes that still fit.
     fn room(&self) -> usize
         ensures { length self.now + result ≡ OUTPUT_BYTES }
     {
         OUTPUT_BYTES - self.bytes.len()
     }
 
-    /// How many bytes its memory has.
+    /// Returns the number of allocated bytes.
     pub fn capacity(&self) -> usize
         ensures { OUTPUT_BYTES ≤ result }
     {
         self.bytes.capacity()
     }
 
-    /// Puts the text at the end.
+    /// Appends the text.
     fn append(&mut self, text: &[u8])
         requires room { length self.old + length text.now ≤ OUTPUT_BYTES }
         ensures { self.new ≡ self.old ++ text.now }
@@ -71,7 +71,7 @@ impl OutputRoom {
         };
     }
 
-    /// Takes so many bytes out at the front.
+    /// Removes the first `count` bytes.
     fn remove_front(&mut self, count: usize)
         requires { count ≤ length self.old }
         ensures { self.new ≡ drop count self.old }
@@ -80,7 +80,7 @@ impl OutputRoom {
     }
 }
 
-/// Takes so many bytes out at the front.
+/// Removes the first `count` bytes.
 fn remove_front(bytes: &mut Vec<u8>, count: usize)
     requires { count ≤ vec_len bytes.old }
     ensures items { bytes.new.items ≡ drop count bytes.old.items }
@@ -92,22 +92,22 @@ fn remove_front(bytes: &mut Vec<u8>, count: usize)
     bytes.truncate(rest);
 }
 
-/// Text on its way to a writer, gathered so that it goes out in few large writes. It is a writer itself, and takes no
-/// memory. What a fault leaves unwritten stays held, so that after any fault what lies in the writer below is a beginning
-/// of what the buffer was given. What is held when it is dropped is never written: `flush` it first.
+/// Collects text for a writer, so that it is passed on in few large writes. An output buffer is a writer itself, and
+/// doesn't allocate. After an error it keeps the bytes that weren't written, so that the writer below has received an
+/// initial part of what the buffer was given. Dropping a buffer discards what it holds: call `flush` first.
 ///
-/// Its contents, where those of the writer are known, are what lies in the writer and then what it holds, behind two
-/// numbers by which a caller knows it again after a call that writes to any writer (`buffered`).
+/// If the writer's contents are known, the buffer's are known too: the writer's contents followed by the bytes held. In
+/// front of them are two numbers that identify the buffer after a call that writes to any writer (`buffered`).
 #[derive(Drop)]
 pub struct OutputBuffer<'w, W> {
     writer: &'w mut W,
     held: OutputRoom,
-    /// The writer when the buffer was made. It has no bytes: clauses alone read it.
+    /// The writer at the time when the buffer was made. Zero-sized; only contracts read it.
     began: Snapshot<W>,
 }
 
 impl<'w, W: Write> OutputBuffer<'w, W> {
-    /// A buffer over the writer.
+    /// Returns a buffer over the writer, which holds what the room holds.
     pub fn new(writer: &'w mut W, room: OutputRoom) -> OutputBuffer<'w, W>
         ensures over { (result.writer.ghost_name ≡ writer.entry.ghost_name) × (result.writer.now ≡ writer.entry.now) }
         ensures held { result.held ≡ room }
@@ -121,7 +121,7 @@ impl<'w, W: Write> OutputBuffer<'w, W> {
         }
     }
 
-    /// The writer. What is held is given up.
+    /// Returns the writer. Bytes still held are discarded.
     pub fn into_writer(self) -> &'w mut W
         ensures { (result.ghost_name ≡ self.entry.writer.ghost_name) × (result.now ≡ self.entry.writer.now) }
     {
@@ -133,7 +133,7 @@ impl<'w, W: Write> OutputBuffer<'w, W> {
         writer
     }
 
-    /// Writes what is held. What a fault leaves unwritten stays held.
+    /// Writes the bytes held. After an error, the bytes that weren't written are still held.
     fn send(&mut self) -> Result<(), io::Error>
         ensures kept { Keeps
             (buffered self.old.writer.ghost_name (W.contents self.old.began.value) (W.contents self.old.writer.now) self.old.held)
@@ -147,7 +147,7 @@ impl<'w, W: Write> OutputBuffer<'w, W> {
     }
 }
 
-/// Shows how many bytes are held, and neither these nor the writer.
+/// Shows the number of bytes held, but neither these bytes nor the writer.
 impl<'w, W> fmt::Debug for OutputBuffer<'w, W> {
     fn fmt<F: fmt::Write>(&self, f: &mut fmt::Formatter<F>) -> fmt::Result {
         f.debug_struct("OutputBuffer")
@@ -159,8 +159,8 @@ impl<'w, W> fmt::Debug for OutputBuffer<'w, W> {
 impl<'w, W: Write> Write for OutputBuffer<'w, W> {
     ghost contents = { λ b. buffered b.writer.ghost_name (W.contents b.began.value) (W.contents b.writer.now) b.held };
 
-    /// Takes all of the text where there is room for it, if need be once what is held was written. Of a text that is
-    /// longer than the whole buffer it takes what one `write` of the writer below takes.
+    /// Accepts all of the text if there is room for it, if necessary after writing the bytes held. If the text is
+    /// longer than the whole buffer, accepts what a single `write` of the writer below accepts.
     fn write(&mut self, text: &[u8]) -> io::Result<usize> {
         if self.held.room() < text.len() {
             self.send()?;
@@ -172,8 +172,8 @@ impl<'w, W: Write> Write for OutputBuffer<'w, W> {
         Ok(text.len())
     }
 
-    /// Writes what is held. The writer below is not flushed. What a fault leaves unwritten stays held, and it is never
-    /// nothing.
+    /// Writes the bytes held, without flushing the writer below. After an error, the bytes that weren't written (at
+    /// least one) are still held.
     fn flush(&mut self) -> io::Result<()>
         ensures bytes { Keeps
             (buffered self.old.writer.ghost_name (W.contents self.old.began.value) (W.contents self.old.writer.now) self.old.held)

@@ -1,14 +1,13 @@
-//! Decimals: one or more digits, without a leading zero unless it is `0` alone.
+//! Decimals: one or more digits, without a leading zero except for `0` itself.
 ghost use Rattle.std.specs.Prelude.{◌≡◌, ◌<◌, length, slice_index, IsTrue, ◌↔◌};
 ghost use Rattle.rt_cidr.specs.Reading.{ReadsDecimal};
 ghost use Rattle.rt_cidr.specs.Text.{zero_digit};
 ghost use Rattle.rt_cidr.specs.inside.Front.{ReadsFront, IsCappedDecimal, LeadingDigits};
 
-/// From here on a value is no longer told from larger ones.
+/// Values from here on aren't distinguished.
 const CAP: u64 = 1 << 32;
 
-/// The number, 0 to 4294967295, whose decimal the whole text is, if there is one: digits alone, no sign and no space, and
-/// no leading zero unless it is `0`.
+/// Parses a decimal of at most 4294967295: only digits, no sign, no space, and no leading zero except for `0` itself.
 pub fn decimal_u32(text: &[u8]) -> Option<u32>
     ensures { ReadsDecimal text.now result }
 {
@@ -19,8 +18,8 @@ pub fn decimal_u32(text: &[u8]) -> Option<u32>
     u32::try_from(value).ok()
 }
 
-/// The decimal at the front of the text, up to its first byte that is no digit, and what follows it. A value of 2^32 or
-/// more is given as 2^32.
+/// Reads the decimal at the front of the text, which ends before the first byte that isn't a digit; returns its value
+/// and the rest of the text. A value above 2^32 is returned as 2^32.
 pub(crate) fn read_decimal(text: &[u8]) -> Option<(u64, &[u8])>
     ensures { ReadsFront IsCappedDecimal text.now result }
 {
@@ -31,14 +30,14 @@ pub(crate) fn read_decimal(text: &[u8]) -> Option<(u64, &[u8])>
     Some((value, &text[len..]))
 }
 
-/// Whether the digits begin with a zero that doesn't stand alone.
+/// Returns true if the digits begin with a zero and there are at least two.
 fn has_leading_zero(digits: &[u8]) -> bool
     ensures { IsTrue result ↔ ((1 < length digits.now) × (slice_index digits.now 0 ≡ zero_digit)) }
 {
     matches!(digits, [b'0', _, ..])
 }
 
-/// The value of the digits at the front of the text, at most 2^32, and how many they are.
+/// Returns the value of the digits at the front of the text, at most 2^32, and their number.
 fn leading_digits(text: &[u8]) -> (u64, usize)
     ensures { LeadingDigits text.now result.0 result.1 }
 {

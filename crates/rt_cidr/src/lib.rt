@@ -1,7 +1,7 @@
-//! IPv4 addresses and prefixes, their text (RFC 4632, section 3.1), and the way in which text goes to a writer.
+//! IPv4 addresses and prefixes, their text form (RFC 4632, section 3.1), and writing text to a writer.
 //!
-//! A text is read whole and by one grammar: four octets joined by dots, and for a prefix a slash and the length, each
-//! number a decimal without a leading zero. What is written is that text again.
+//! A text is read as a whole, by one grammar: four octets joined by dots, and for a prefix also a slash and the length.
+//! Each number is a decimal without a leading zero. The printers write the same form.
 //!
 //! ```
 //! let block = Prefix::parse(b"192.0.2.0/24")?;
@@ -10,14 +10,15 @@
 //! }
 //! ```
 //!
-//! Contracts see an [`Addr`] as its 32 bits and a [`Prefix`] as its base and its length, with the fact that it is one.
-//! A [`ShortText`] is the list of its bytes: each printer puts its text in front, and asks for room by that text alone.
-//! An [`OutputBuffer`] is a writer over another one: its contents are what lies there and then what it holds.
+//! Contracts see an [`Addr`] as its 32 bits, and a [`Prefix`] as its base, its length and the fact that they form a
+//! prefix. A [`ShortText`] is the list of its bytes: each printer prepends its text, and only requires room for it. An
+//! [`OutputBuffer`] is a writer over another one: its contents are those of the other, followed by the bytes it holds.
 //!
-//! No call takes memory but `OutputRoom::new`. A writer may take any part of what it is given; that it never tells of
-//! more than that is a clause of std's `Write`, so an implementation that does is refused where it is written.
+//! Only `OutputRoom::new` allocates. A writer may accept any part of what it is given. A clause of std's `Write` says
+//! that it never reports more, so an implementation that does is rejected when it is proved.
 //!
-//! Only tested: which error a writer's fault is, that no writer is flushed, and that a buffer goes out in few writes.
+//! Only tested: which error is returned if the writer fails, that no writer is flushed, and that a buffer passes text
+//! on in few writes.
 #![tactic(auto)]
 
 mod address;

@@ -1,4 +1,4 @@
-//! IPv4 prefixes: what they cover and contain, their text read, and put in front of a short text.
+//! IPv4 prefixes: which addresses they cover, which prefixes they contain, parsing and printing.
 ghost use Rattle.std.specs.Prelude.{◌≡◌, ◌++◌};
 ghost use Rattle.rt_cidr.specs.Output.{WritesText};
 ghost use Rattle.rt_cidr.specs.ShortText.{FitsInShortText};
@@ -15,10 +15,10 @@ use std::io::{self, Write};
 use std::str::FromStr;
 use thiserror::Error;
 
-/// Why a text or a pair of numbers is no address or prefix.
+/// The reason why a text or a pair of numbers isn't an address or prefix.
 #[derive(Clone, Copy, PartialEq, Eq, Debug, Error)]
 pub enum TextFault {
-    /// E3: the text is not of the form.
+    /// E3: the text doesn't have the required form.
     #[error("the text is not of the form")]
     Text,
     /// E4: the length is over 32.
@@ -29,7 +29,7 @@ pub enum TextFault {
     Bits,
 }
 
-/// How many bits an address has, and so the longest length of a prefix.
+/// The number of bits of an address, and so the maximum length of a prefix.
 const MAX_LEN: u8 = 32;
 
 /// An IPv4 prefix (RFC 4632, section 3.1): a base address and a length of at most 32 bits.
@@ -45,8 +45,10 @@ impl Prefix {
     ghost use Rattle.rt_cidr.specs.Prefix.{covers, contains};
     ghost use Rattle.rt_cidr.specs.Reading.{AnswersPair, ReadsPrefix};
 
-    /// The prefix of this base and length. Refuses a length over 32 with E4 (`Length`), and then a base with a
-    /// bit set past the length with E5 (`Bits`).
+    /// Returns the prefix with this base and length.
+    ///
+    /// Errors, in this order: E4 (`Length`) if the length is over 32. E5 (`Bits`) if a bit of the base past the length
+    /// is set.
     pub fn new(base: u32, len: u8) -> Result<Prefix, TextFault>
         ensures { AnswersPair base len result }
     {
@@ -59,9 +61,10 @@ impl Prefix {
         Ok(Prefix { base, len })
     }
 
-    /// The prefix of which this is the text: an address, a slash and the length, a decimal without a leading zero. In
-    /// this order: a text that is not of this form is refused with E3 (`Text`), a length over 32, however long, with E4
-    /// (`Length`), and a bit set past the length with E5 (`Bits`).
+    /// Parses a prefix: an address, a slash and the length, a decimal without a leading zero.
+    ///
+    /// Errors, in this order: E3 (`Text`) if the text doesn't have this form. E4 (`Length`) if the length is over 32,
+    /// however long it is. E5 (`Bits`) if a bit past the length is set.
     pub fn parse(text: &[u8]) -> Result<Prefix, TextFault>
         ensures { ReadsPrefix text.now result }
     {
@@ -74,21 +77,21 @@ impl Prefix {
         Prefix::new(base, len as u8)
     }
 
-    /// The first address that the prefix covers.
+    /// Returns the first address that the prefix covers.
     pub fn base(&self) -> u32
         ensures { result ≡ self.now.base }
     {
         self.base
     }
 
-    /// How many leading bits the prefix fixes, 0 to 32.
+    /// Returns the number of leading bits that the prefix fixes, 0 to 32.
     pub fn len(&self) -> u8
         ensures { result ≡ self.now.len }
     {
         self.len
     }
 
-    /// Whether the prefix covers the address: both agree in the first `len` bits.
+    /// Returns true if the prefix covers the address: both agree in the first `len` bits.
     pub fn covers(&self, address: Addr) -> bool
         ensures { result ≡ covers self.now address }
     {
@@ -96,15 +99,15 @@ impl Prefix {
         address.0 as u64 >> past == self.base as u64 >> past
     }
 
-    /// Whether every address that the other prefix covers is covered by this one: the other is no shorter, and its
-    /// base is covered. A prefix contains itself.
+    /// Returns true if this prefix covers every address that the other covers: the other isn't shorter, and its base is
+    /// covered. A prefix contains itself.
     pub fn contains(&self, other: &Prefix) -> bool
         ensures { result ≡ contains self.now other.now }
     {
         other.len >= self.len && self.covers(Addr(other.base))
     }
 
-    /// Puts the prefix's text in front: its base, a slash and its length.
+    /// Prepends the prefix's text: its base, a slash and its length.
     #[tactic(auto, using(crate::proofs::ShortTexts::prepending), unfolding(crate::specs::Text::prefix_text))]
     pub fn prepend_to(&self, text: &mut ShortText)
         requires room { FitsInShortText (prefix_text self.now.base self.now.len) text.old }
@@ -115,8 +118,8 @@ impl Prefix {
         Addr(self.base).prepend_to(text);
     }
 
-    /// Writes the prefix's text: its base, a slash and its length. A fault is the writer's, as `put` hands it on; what
-    /// was written is then a beginning of the text.
+    /// Writes the prefix's text: its base, a slash and its length. Fails if the writer does, as [`put`] describes; only
+    /// an initial part of the text was then written.
     #[tactic(auto, using(crate::proofs::ShortTexts::lengths))]
     pub fn write_to<W: Write>(&self, w: &mut W) -> Result<(), io::Error>
         ensures { WritesText (W.contents w.old) (W.contents w.new) (prefix_text self.now.base self.now.len) result }
@@ -152,7 +155,7 @@ impl FromStr for Prefix {
     }
 }
 
-/// The address and the length that the whole text gives. A length of 2^32 or more is given as 2^32.
+/// Reads the whole text as an address, a slash and a length. A length above 2^32 is returned as 2^32.
 fn read_pair(text: &[u8]) -> Option<(u32, u64)>
     ensures { ReadsPair text.now result }
 {

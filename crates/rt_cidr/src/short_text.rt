@@ -1,14 +1,14 @@
-//! A short text, built from its back to its front: what every printer of the product writes a line with.
+//! A short text that is built from back to front; every printer of the product builds its lines with it.
 ghost use Rattle.std.specs.Prelude.{◌≡◌, ◌++◌, [], ◌≤◌, drop, decimal};
 ghost use Rattle.rt_cidr.specs.ShortText.{FitsInShortText};
 
 use std::marker::Model;
 
-/// How many bytes a short text has room for: more than the longest line that is printed.
+/// The capacity of a short text in bytes: more than the longest line that is printed.
 pub const SHORT_TEXT_BYTES: usize = 512;
 
-/// A text of at most 512 bytes, built from its back to its front, since the digits of a number come last digit first.
-/// Contracts see its bytes. No call takes memory.
+/// A text of at most 512 bytes, built from back to front, since the last digit of a number is computed first. Contracts
+/// see its bytes. No call allocates.
 #[derive(Debug, Drop)]
 pub struct ShortText {
     buf: [u8; SHORT_TEXT_BYTES],
@@ -27,7 +27,7 @@ impl Model for ShortText {
 }
 
 impl ShortText {
-    /// The text without a byte.
+    /// Returns the empty text.
     pub fn new() -> ShortText
         ensures { result ≡ [] }
     {
@@ -37,21 +37,21 @@ impl ShortText {
         }
     }
 
-    /// The text's bytes.
+    /// Returns the text's bytes.
     pub fn as_bytes(&self) -> &[u8]
         ensures { result.now ≡ self.now }
     {
         &self.buf[self.start..]
     }
 
-    /// Takes all bytes out.
+    /// Removes all bytes.
     pub fn clear(&mut self)
         ensures { self.new ≡ [] }
     {
         self.start = SHORT_TEXT_BYTES;
     }
 
-    /// Puts the bytes in front.
+    /// Prepends the bytes.
     pub fn prepend(&mut self, text: &[u8])
         requires room { FitsInShortText text.now self.old }
         ensures { self.new ≡ text.now ++ self.old }
@@ -61,7 +61,7 @@ impl ShortText {
         self.start = start;
     }
 
-    /// Puts the number's decimal in front.
+    /// Prepends the number in decimal.
     pub fn prepend_decimal(&mut self, n: u64)
         requires room { FitsInShortText (decimal n) self.old }
         ensures { self.new ≡ decimal n ++ self.old }

@@ -1,4 +1,4 @@
--- That two answers are equal, or not.
+-- Two answers are equal or not.
 use Rattle.std.proofs.Common.{◌≡◌, ◌⊎◌, inl, inr, refl, ap}
 use Rattle.std.proofs.lemmas.Bool.{cases_eq}
 use Rattle.std.specs.Coded.{Coded}
@@ -27,13 +27,13 @@ code_cases (gcons a b) (gcons c d) = elim (code_cases a c) [
   | inr other ↦ inr (λ e. let same : a ≡ c = cc in other same)
 ]
 
--- so are two values of a type that has codes
+-- two values of a type that has codes are equal or not
 coded_cases : {A : Type 0} → Coded A → (x y : A) → (x ≡ y) ⊎ (x ≡ y → ⊥)
 coded_cases c x y = elim (code_cases (c.code x) (c.code y)) [
   | inl same ↦ inl (c.inj x y same)
   | inr other ↦ inr (λ e. other (ap c.code e))
 ]
 
--- and two answers
+-- two answers are equal or not
 pub answer_cases : (x y : TableAnswer) → (x ≡ y) ⊎ (x ≡ y → ⊥)
 answer_cases = coded_cases answer.the_row.coded

@@ -1,4 +1,4 @@
--- That `==` of two answers says whether they are equal.
+-- `==` of two answers decides whether they are equal.
 use Rattle.std.proofs.Common.{◌≡◌, ap, refl, Decides}
 use Rattle.std.proofs.lemmas.Bool.Decides.{Decides-like}
 use Rattle.rt_cidr.specs.Laws.{SamePrefix}

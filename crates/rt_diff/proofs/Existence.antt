@@ -1,19 +1,19 @@
--- That two tables have a list of their differences: it grows from the last address to the first.
+-- Two tables have a list of their differences: it is built from the last address to the first.
 use Rattle.std.proofs.Common.{◌≡◌, ℕ, zero, suc, ◌+◌, ◌-◌, ◌^◌, ◌<◌, ◌≤◌, ◌⊎◌, inl, inr, List, [], ◌∷◌, sym, refl, ◌∙◌, subst, arith}
 use Rattle.std.proofs.lemmas.Bool.{cases_lt, cases_eq}
 use Rattle.std.proofs.lemmas.List.Elements.{All-weaker}
 use Rattle.rt_cidr.specs.declared.address.Addr.{Addr}
-use Rattle.rt_diff.specs.declared.table_answers.By.{By}
+use Rattle.rt_diff.specs.declared.table_answers.CompareBy.{CompareBy}
 use Rattle.rt_diff.specs.declared.comparison.Difference.{Difference}
-use Rattle.rt_diff.specs.Answers.{ToldTable, answer_of}
+use Rattle.rt_diff.specs.Answers.{RenumberedTable, answer_of}
 use Rattle.rt_diff.specs.Differences.{HasAnswers, IsAlike, IsNextDifference, HaveSameAnswers}
 use Rattle.rt_diff.specs.Laws.{HaveDifferences}
 use Rattle.rt_diff.specs.inside.Rest.{AreRest}
 use Rattle.rt_diff.proofs.Deciding.{answer_cases}
 use Rattle.rt_diff.proofs.Rest.{at, rest_none, rest_next, rest_behind, rest_first, rest_alike_all, whole}
 
-module _ (by : By) (old new : ToldTable) where
-  -- the list from the next address on is the list from this one on, where this one is alike
+module _ (by : CompareBy) (old new : RenumberedTable) where
+  -- if this address has the same answer in both tables, the list from the next address on is the list from this one on
   rest_alike : (from : ℕ) (list : List Difference) → IsAlike by old new (at from) → AreRest by old new (from + 1) list → AreRest by old new from list
   rest_alike from list alike are = record {
     onward = All-weaker (λ (d : Difference). from + 1 ≤ d.first.0) (λ (d : Difference). from ≤ d.first.0) (λ d behind. omega arith) list are.onward;
@@ -28,11 +28,11 @@ module _ (by : By) (old new : ToldTable) where
     fewest = are.fewest;
   }
 
-  -- the range of one address alone
+  -- the range of a single address
   abbrev alone : ℕ → Difference
   alone from = record { first = at from; last = at from; old = answer_of by (at from) old; new = answer_of by (at from) new }
 
-  -- is the first one there, where the next address has other answers
+  -- it is the first range there if the next address has other answers
   alone_first : (from : ℕ) → from < 2 ^ 32 → ¬ IsAlike by old new (at from)
       → ((addr : Addr) → addr.0 ≡ from + 1 → addr.0 < 2 ^ 32 → ¬ HasAnswers by old new addr (answer_of by (at from) old) (answer_of by (at from) new))
       → IsNextDifference by old new (at from) (alone from)
@@ -50,7 +50,7 @@ module _ (by : By) (old new : ToldTable) where
     longest = ends;
   }
 
-  -- a range that begins behind it and has its answers
+  -- a range that begins after this address and has its answers
   abbrev Joins : ℕ → Difference → Type 0
   Joins from d = (d.first.0 ≡ from + 1) × HaveSameAnswers (alone from) d
 
@@ -66,7 +66,7 @@ module _ (by : By) (old new : ToldTable) where
     | inr other ↦ inr (λ joins. other joins.0)
   ]
 
-  -- goes on from it
+  -- such a range extended to this address
   abbrev longer : ℕ → Difference → Difference
   longer from d = record { first = at from; last = d.last; old = d.old; new = d.new }
 
@@ -89,7 +89,7 @@ module _ (by : By) (old new : ToldTable) where
     longest = next.longest;
   }
 
-  -- else it ends there
+  -- if there is no such range, the answers end here
   ends_before : (from : ℕ) (d : Difference) → (Joins from d → ⊥) → ¬ IsAlike by old new (at from) → IsNextDifference by old new (at (from + 1)) d
       → (addr : Addr) → addr.0 ≡ from + 1 → addr.0 < 2 ^ 32 → ¬ HasAnswers by old new addr (answer_of by (at from) old) (answer_of by (at from) new)
   ends_before from d apart unlike next addr adjacent fits same = elim (cases_lt addr.0 d.first.0) [
@@ -99,7 +99,7 @@ module _ (by : By) (old new : ToldTable) where
         apart (omega (arith, next.onward), (sym same.0 ∙ answers.0, sym same.1 ∙ answers.1))
   ]
 
-  -- where this address is not alike, the list begins with a range more, or with one that begins here
+  -- if this address has different answers, the list begins with one more range, or with a range that begins here
   rest_unlike : (from : ℕ) (list : List Difference) → from < 2 ^ 32 → ¬ IsAlike by old new (at from) → AreRest by old new (from + 1) list
       → (more : List Difference) × AreRest by old new from more
   rest_unlike from [] fits unlike are = (
@@ -122,7 +122,7 @@ module _ (by : By) (old new : ToldTable) where
         )
       ]
 
-  -- the list from an address on, so many addresses before the end
+  -- the list from the address `count` before the end on
   rest_before_end : (count from : ℕ) → from + count ≡ 2 ^ 32 → (list : List Difference) × AreRest by old new from list
   rest_before_end zero from end = ([], rest_none by old new from (λ addr here fits. absurd (omega arith)))
   rest_before_end (suc count) from end =

@@ -1,15 +1,15 @@
--- How the list of all differences is made: of the first one from an address on, and of the list behind it.
+-- How the list of all differences is built: from the first one at or after an address, and from the list after it.
 use Rattle.std.proofs.Common.{◌≡◌, ℕ, ◌+◌, ◌^◌, ◌<◌, ◌≤◌, inl, inr, List, [], ◌∷◌, sym, ◌∙◌, arith}
 use Rattle.std.proofs.lemmas.Bool.{cases_lt}
 use Rattle.std.proofs.lemmas.List.Elements.{All-nil, All-cons, All-head, All-tail, All-weaker}
 use Rattle.std.proofs.lemmas.List.Kept.{AllPairs-cons}
 use Rattle.std.specs.List.{All}
 use Rattle.rt_cidr.specs.declared.address.Addr.{Addr}
-use Rattle.rt_diff.specs.declared.table_answers.By.{By}
+use Rattle.rt_diff.specs.declared.table_answers.CompareBy.{CompareBy}
 use Rattle.rt_diff.specs.declared.comparison.Difference.{Difference}
 use Rattle.rt_diff.specs.Differences.{IsAlike, IsWithin, IsDifference, IsNextDifference, HaveSameAnswers, AreDifferences}
 use Rattle.rt_diff.specs.inside.Rest.{AreRest}
-use Rattle.rt_diff.specs.Answers.{ToldTable, answer_of}
+use Rattle.rt_diff.specs.Answers.{RenumberedTable, answer_of}
 use Rattle.rt_diff.proofs.Deciding.{answer_cases}
 use Rattle.rt_diff.proofs.Lists.{Any-head, Any-tail, Any-cases, Any-none, All-any, AllPairs-head, AllPairs-tail, AllPairs-none}
 
@@ -23,8 +23,8 @@ Rises c d = c.last.0 < d.first.0
 abbrev IsApart : Difference → Difference → Type 0
 IsApart c d = c.last.0 + 1 ≡ d.first.0 → ¬ HaveSameAnswers c d
 
-module _ (by : By) (old new : ToldTable) where
-  -- there is no range where each address is alike
+module _ (by : CompareBy) (old new : RenumberedTable) where
+  -- there is no range if each address has the same answer in both tables
   pub rest_none : (from : ℕ) → ((addr : Addr) → from ≤ addr.0 → addr.0 < 2 ^ 32 → IsAlike by old new addr) → AreRest by old new from []
   rest_none from alike = record {
     onward = All-nil (λ (d : Difference). from ≤ d.first.0);
@@ -34,20 +34,20 @@ module _ (by : By) (old new : ToldTable) where
     fewest = AllPairs-none IsApart;
   }
 
-  -- and only there
+  -- and only then
   pub rest_alike_all : (from : ℕ) → AreRest by old new from [] → (addr : Addr) → from ≤ addr.0 → addr.0 < 2 ^ 32 → IsAlike by old new addr
   rest_alike_all from are addr here fits = elim (answer_cases (answer_of by addr old) (answer_of by addr new)) [
     | inl alike ↦ alike
     | inr unlike ↦ absurd (Any-none (λ (d : Difference). IsWithin d addr) (are.all addr here fits unlike))
   ]
 
-  -- a range ahead of one that has its answers is not adjacent to it
+  -- a range before one that has its answers isn't adjacent to it
   next_apart : (from : Addr) (d e : Difference) → IsNextDifference by old new from d → IsDifference by old new e → IsApart d e
   next_apart from d e next is adjacent same =
       let first = is.each e.first (omega arith, is.some) in
       next.longest e.first (sym adjacent) (omega (arith, is.some, is.fits)) (first.0 ∙ sym same.0, first.1 ∙ sym same.1)
 
-  -- the first range from an address on, and those behind it
+  -- the first range from an address on, and those after it
   pub rest_next : (from : Addr) (d : Difference) (rest : List Difference) → IsNextDifference by old new from d
       → AreRest by old new (d.last.0 + 1) rest → AreRest by old new from.0 (d ∷ rest)
   rest_next from d rest next are = record {
@@ -67,7 +67,7 @@ module _ (by : By) (old new : ToldTable) where
     fewest = AllPairs-cons IsApart d rest (All-weaker (IsDifference by old new) (IsApart d) (λ e is. next_apart from d e next is) rest are.each) are.fewest;
   }
 
-  -- the ranges behind the first one
+  -- the ranges after the first one
   pub rest_behind : (from : ℕ) (d : Difference) (rest : List Difference) → AreRest by old new from (d ∷ rest) → AreRest by old new (d.last.0 + 1) rest
   rest_behind from d rest are =
       let first = All-head (IsDifference by old new) d rest are.each in
@@ -85,13 +85,13 @@ module _ (by : By) (old new : ToldTable) where
         fewest = AllPairs-tail IsApart d rest are.fewest;
       }
 
-  -- what is known of a range behind another
+  -- what is known of a range after another
   record Follows (d e : Difference) : Type 0 where
     is : IsDifference by old new e
     rises : Rises d e
     apart : IsApart d e
 
-  -- it is so of each behind the first one
+  -- this holds for each range after the first one
   follow : (from : ℕ) (d : Difference) (rest : List Difference) → AreRest by old new from (d ∷ rest) → All (Follows d) rest
   follow from d rest are k e l = record {
     is = All-tail (IsDifference by old new) d rest are.each k e l;
@@ -107,7 +107,7 @@ module _ (by : By) (old new : ToldTable) where
       All-cons (λ (e : Difference). d.first.0 ≤ e.first.0) d rest (omega arith)
       (All-weaker (Rises d) (λ (e : Difference). d.first.0 ≤ e.first.0) (λ e rises. omega (arith, first.some)) rest (AllPairs-head Rises d rest are.rising))
 
-  -- and the first one is the first from that address on
+  -- and the first one of the list is the first from that address on
   pub rest_first : (from : Addr) (d : Difference) (rest : List Difference) → AreRest by old new from.0 (d ∷ rest) → IsNextDifference by old new from d
   rest_first from d rest are =
       let first = All-head (IsDifference by old new) d rest are.each in

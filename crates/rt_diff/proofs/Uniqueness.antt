@@ -1,17 +1,17 @@
--- That two tables have no other list of their differences.
+-- Two tables have only one list of their differences.
 use Rattle.std.proofs.Common.{◌≡◌, ◌+◌, ◌≤◌, inl, inr, List, [], ◌∷◌, sym, refl, ◌∙◌, subst, arith}
 use Rattle.std.proofs.lemmas.Bool.{cases_lt}
 use Rattle.rt_cidr.specs.declared.address.Addr.{Addr}
-use Rattle.rt_diff.specs.declared.table_answers.By.{By}
+use Rattle.rt_diff.specs.declared.table_answers.CompareBy.{CompareBy}
 use Rattle.rt_diff.specs.declared.comparison.Difference.{Difference}
-use Rattle.rt_diff.specs.Answers.{ToldTable}
+use Rattle.rt_diff.specs.Answers.{RenumberedTable}
 use Rattle.rt_diff.specs.Differences.{IsNextDifference, HaveSameAnswers}
 use Rattle.rt_diff.specs.Laws.{HaveOneList}
 use Rattle.rt_diff.specs.inside.Rest.{AreRest}
 use Rattle.rt_diff.proofs.Rest.{at, rest_behind, rest_first, rest_alike_all, from_whole}
 
-module _ (by : By) (old new : ToldTable) where
-  -- there is one first range from an address on
+module _ (by : CompareBy) (old new : RenumberedTable) where
+  -- the first range from an address on is unique
   begins_no_later : (from : Addr) (d e : Difference) → IsNextDifference by old new from d → IsNextDifference by old new from e → e.first.0 ≤ d.first.0
   begins_no_later from d e is also = elim (cases_lt d.first.0 e.first.0) [
     | inl before ↦
@@ -40,14 +40,14 @@ module _ (by : By) (old new : ToldTable) where
       omega (arith, ends_no_later from d e is also first (one, other), ends_no_later from e d also is (sym first) (sym one, sym other)) in
       λ i. record { first = at (first i); last = at (last i); old = one i; new = other i }
 
-  -- where no range is, none is the first
+  -- if there are no ranges, there is no first one
   no_next : (from : Addr) (d : Difference) → IsNextDifference by old new from d → AreRest by old new from.0 [] → ⊥
   no_next from d is none =
       let answers = is.difference.each d.first (omega arith, is.difference.some) in
       is.difference.differ
       (sym answers.0 ∙ rest_alike_all by old new from.0 none d.first is.onward (omega (arith, is.difference.some, is.difference.fits)) ∙ answers.1)
 
-  -- so of two lists the first ranges are one, and then the rest
+  -- hence two lists have the same first range, and then the same rest
   one_rest : (from : Addr) (one other : List Difference) → AreRest by old new from.0 one → AreRest by old new from.0 other → one ≡ other
   one_rest from [] [] is also = refl
   one_rest from [] (e ∷ other) is also =

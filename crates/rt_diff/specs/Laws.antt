@@ -1,15 +1,15 @@
--- What holds of any two tables.
+-- Theorems about any two tables.
 use Rattle.std.specs.Prelude.{◌≡◌, List}
-use Rattle.rt_diff.specs.declared.table_answers.By.{By}
+use Rattle.rt_diff.specs.declared.table_answers.CompareBy.{CompareBy}
 use Rattle.rt_diff.specs.declared.comparison.Difference.{Difference}
-use Rattle.rt_diff.specs.Answers.{ToldTable}
+use Rattle.rt_diff.specs.Answers.{RenumberedTable}
 use Rattle.rt_diff.specs.Differences.{AreDifferences}
 
 -- two tables have a list of their differences
 abbrev pub HaveDifferences : Type 0
-HaveDifferences = (by : By) (old new : ToldTable) → (list : List Difference) × AreDifferences by old new list
+HaveDifferences = (by : CompareBy) (old new : RenumberedTable) → (list : List Difference) × AreDifferences by old new list
 
--- and they have one
+-- and they have only one
 abbrev pub HaveOneList : Type 0
 HaveOneList =
-    (by : By) (old new : ToldTable) (one other : List Difference) → AreDifferences by old new one → AreDifferences by old new other → one ≡ other
+    (by : CompareBy) (old new : RenumberedTable) (one other : List Difference) → AreDifferences by old new one → AreDifferences by old new other → one ≡ other

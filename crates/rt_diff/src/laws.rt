@@ -1,7 +1,8 @@
-//! What holds of any two tables. Each function is a theorem: calling it makes its clause known, and it does nothing.
+//! Theorems about any two tables. Each function is a theorem: calling it makes its clause known to a proof, and does
+//! nothing.
 ghost use Rattle.rt_diff.specs.Laws.{HaveDifferences, HaveOneList};
 
-/// Two tables have one list of the ranges that they answer otherwise.
+/// Two tables have exactly one list of the ranges of addresses that have different answers in them.
 pub fn one_list()
     ensures there { HaveDifferences }
     ensures one { HaveOneList }

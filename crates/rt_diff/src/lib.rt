@@ -1,25 +1,26 @@
-//! Where two routing tables answer addresses otherwise: the ranges of addresses, each with its two answers.
+//! The differences of two routing tables: ranges of addresses that have different answers in them, with both answers.
+//! answers.
 //!
 //! ```
 //! let mut tables = Comparison::new(&old, &new, By::Hop);
 //! let mut next = tables.first_difference(Addr(0));
 //! while let Some(difference) = next {
 //!     // each address from difference.first to difference.last goes another way
-//!     next = tables.difference_behind(difference.last);
+//!     next = tables.difference_after(difference.last);
 //! }
 //! ```
 //!
-//! Contracts see of a book the routes that its journal leaves, and an answer is what a look-up finds there
-//! (`specs/Answers.antt`). Where the two tables number their feeds otherwise, [`Comparison::tell_new_by`] pairs them. These
-//! ranges are the one list in which the tables differ (`specs/Differences.antt`, [`laws`]). No call takes memory, and each
-//! takes time as the tables have borders in what it goes over, and no step for each address.
+//! Contracts see a book as the routes that its journal leaves, and an answer is the result of a look-up among them
+//! (`specs/Answers.antt`). If the two tables number their feeds differently, [`Comparison::renumber_new_feeds`] pairs them.
+//! These ranges are the only list of the tables' differences (`specs/Differences.antt`, [`laws`]). No call allocates.
+//! Each takes time in proportion to the tables' boundaries in what it visits, without a step for each address.
 #![tactic(auto)]
 
 mod comparison;
 pub mod laws;
 mod pieces;
+mod renumbered;
 mod table_answers;
-mod told;
 
 pub use comparison::{Comparison, Difference};
-pub use table_answers::{By, TableAnswer};
+pub use table_answers::{CompareBy, TableAnswer};

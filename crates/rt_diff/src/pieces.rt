@@ -1,20 +1,20 @@
-//! How both tables are gone over: piece by piece, each an answer and the last address that is known to have it.
+//! Visiting both tables interval by interval. A piece is an answer with the last address that is known to have it.
 ghost use Rattle.std.specs.Prelude.{◌≡◌, ◌≤◌, ◌↔◌, IsTrue};
 ghost use Rattle.rt_diff.specs.inside.Pieces.{IsPieceFrom, IsPieceAt, ArePieces, reach, AreBehind, FindsUnlike, IsEnd};
 
-use crate::table_answers::{By, TableAnswer, answer_by, is_same};
-use crate::told::ToldAnswers;
+use crate::renumbered::RenumberedLookups;
+use crate::table_answers::{CompareBy, TableAnswer, answer_by, is_same};
 use rt_cidr::Addr;
 use std::alloc::Allocator;
 
-/// What one table answers from some address on, up to a last one.
+/// A table's answer from some address on, up to a last address.
 #[derive(Clone, Copy)]
 pub(crate) struct Piece {
     pub(crate) answer: TableAnswer,
     pub(crate) last: Addr,
 }
 
-/// What both tables answer from this address on.
+/// The answers of both tables from this address on.
 #[derive(Clone, Copy)]
 pub(crate) struct Pieces {
     pub(crate) from: Addr,
@@ -23,21 +23,21 @@ pub(crate) struct Pieces {
 }
 
 impl Pieces {
-    /// The last address that both pieces reach.
+    /// Returns the last address that both pieces reach.
     fn reach(&self) -> Addr
         ensures { result.0 ≡ reach self.now }
     {
         Addr(self.old.last.0.min(self.new.last.0))
     }
 
-    /// Whether both tables answer alike.
+    /// Returns true if both tables give the same answer.
     fn is_alike(&self) -> bool
         ensures { IsTrue result ↔ (self.now.old.answer ≡ self.now.new.answer) }
     {
         is_same(&self.old.answer, &self.new.answer)
     }
 
-    /// Whether these go on as the others do.
+    /// Returns true if both answers are those of the other pieces.
     fn goes_on(&self, first: &Pieces) -> bool
         ensures { IsTrue result ↔ ((self.now.old.answer ≡ first.now.old.answer) × (self.now.new.answer ≡ first.now.new.answer)) }
     {
@@ -45,22 +45,26 @@ impl Pieces {
     }
 }
 
-/// The piece of the table that begins at the address.
-fn piece_at<A: Allocator + Copy>(table: &mut ToldAnswers<'_, A>, by: By, addr: Addr) -> Piece
+/// Returns the table's piece that begins at the address.
+fn piece_at<A: Allocator + Copy>(
+    table: &mut RenumberedLookups<'_, A>,
+    by: CompareBy,
+    addr: Addr,
+) -> Piece
     ensures kept { table.new ≡ table.old }
     ensures piece { IsPieceAt by table.old addr result }
 {
-    let (found, last) = table.until(addr);
+    let (found, last) = table.lookup_range(addr);
     Piece {
         answer: answer_by(by, found),
         last,
     }
 }
 
-/// The table's piece at the address: this one, if it reaches so far.
+/// Returns the table's piece at the address: the given one if it reaches the address.
 fn piece_on<A: Allocator + Copy>(
-    table: &mut ToldAnswers<'_, A>,
-    by: By,
+    table: &mut RenumberedLookups<'_, A>,
+    by: CompareBy,
     piece: Piece,
     addr: Addr,
 ) -> Piece
@@ -74,11 +78,11 @@ fn piece_on<A: Allocator + Copy>(
     piece_at(table, by, addr)
 }
 
-/// The pieces of both tables at the address.
+/// Returns the pieces of both tables at the address.
 fn pieces_at<A: Allocator + Copy>(
-    old: &mut ToldAnswers<'_, A>,
-    new: &mut ToldAnswers<'_, A>,
-    by: By,
+    old: &mut RenumberedLookups<'_, A>,
+    new: &mut RenumberedLookups<'_, A>,
+    by: CompareBy,
     from: Addr,
 ) -> Pieces
     ensures old { old.new ≡ old.old }
@@ -93,11 +97,12 @@ fn pieces_at<A: Allocator + Copy>(
     }
 }
 
-/// The pieces behind the address that both reach. A table is asked anew only where its piece has ended.
+/// Returns the pieces after the last address that both reach, if it isn't the last of all. Looks up the answer only in
+/// a table whose piece has ended.
 fn pieces_behind<A: Allocator + Copy>(
-    old: &mut ToldAnswers<'_, A>,
-    new: &mut ToldAnswers<'_, A>,
-    by: By,
+    old: &mut RenumberedLookups<'_, A>,
+    new: &mut RenumberedLookups<'_, A>,
+    by: CompareBy,
     pieces: &Pieces,
 ) -> Option<Pieces>
     requires { ArePieces by old.old new.old pieces.now }
@@ -113,11 +118,11 @@ fn pieces_behind<A: Allocator + Copy>(
     })
 }
 
-/// The first pieces from the address on whose answers differ.
+/// Returns the first pieces at or after the address whose answers differ.
 pub(crate) fn first_unlike<A: Allocator + Copy>(
-    old: &mut ToldAnswers<'_, A>,
-    new: &mut ToldAnswers<'_, A>,
-    by: By,
+    old: &mut RenumberedLookups<'_, A>,
+    new: &mut RenumberedLookups<'_, A>,
+    by: CompareBy,
     from: Addr,
 ) -> Option<Pieces>
     ensures old { old.new ≡ old.old }
@@ -131,11 +136,11 @@ pub(crate) fn first_unlike<A: Allocator + Copy>(
     Some(pieces)
 }
 
-/// The last address up to which both tables answer as these pieces do.
+/// Returns the last address such that both tables give the answers of these pieces up to it.
 pub(crate) fn last_of<A: Allocator + Copy>(
-    old: &mut ToldAnswers<'_, A>,
-    new: &mut ToldAnswers<'_, A>,
-    by: By,
+    old: &mut RenumberedLookups<'_, A>,
+    new: &mut RenumberedLookups<'_, A>,
+    by: CompareBy,
     first: &Pieces,
 ) -> Addr
     requires { ArePieces by old.old new.old first.now }

@@ -1,42 +1,42 @@
-//! What a table answers an address: plain data, as callers see it.
+//! A table's answers for an address: plain data, as callers see it.
 ghost use Rattle.std.specs.Prelude.{◌≡◌, ◌↔◌, IsTrue};
 ghost use Rattle.rt_diff.specs.Answers.{answer_by};
 
 use rt_cidr::laws::same_prefix;
 use rt_rib::{Hop, Route};
 
-/// By what answers are told apart.
+/// The part of an answer that is compared.
 #[derive(Clone, Copy, PartialEq, Eq, Debug)]
-pub enum By {
-    /// By where packets go, whichever route sends them there.
+pub enum CompareBy {
+    /// The next hop, whichever route it belongs to.
     Hop,
-    /// By the whole route: its prefix, feed, preference and next hop.
+    /// The whole route: its prefix, feed, preference and next hop.
     Route,
 }
 
-/// What a table answers an address.
+/// A table's answer for an address.
 #[derive(Clone, Copy, PartialEq, Eq, Debug)]
 pub enum TableAnswer {
-    /// No route covers it.
+    /// No route covers the address.
     NoRoute,
-    /// Its packets go there.
+    /// The next hop of its packets.
     Hop(Hop),
-    /// This is the best route of the longest prefix that covers it.
+    /// The best route of the longest prefix that covers the address.
     Route(Route),
 }
 
-/// The answer that what was found makes.
-pub(crate) fn answer_by(by: By, found: Option<Route>) -> TableAnswer
+/// Returns the answer for the result of a look-up.
+pub(crate) fn answer_by(by: CompareBy, found: Option<Route>) -> TableAnswer
     ensures { result ≡ answer_by by found }
 {
     match (by, found) {
         (_, None) => TableAnswer::NoRoute,
-        (By::Hop, Some(route)) => TableAnswer::Hop(route.hop),
-        (By::Route, Some(route)) => TableAnswer::Route(route),
+        (CompareBy::Hop, Some(route)) => TableAnswer::Hop(route.hop),
+        (CompareBy::Route, Some(route)) => TableAnswer::Route(route),
     }
 }
 
-/// Whether two answers are the same.
+/// Returns true if two answers are the same.
 pub(crate) fn is_same(one: &TableAnswer, other: &TableAnswer) -> bool
     ensures { IsTrue result ↔ (one.now ≡ other.now) }
 {

@@ -27,13 +27,13 @@ use Rattle.rt_feed.proofs.Printing.{hop_fits}
 pub line-from_words : (line : List ℕ) (cmd : Cmd) → fields line ≡ words cmd → line ≡ command_text cmd
 line-from_words line cmd is = sym (join_with_byte-slice_split space line) ∙ ap (join_with_byte space) is
 
--- a text is no longer one
+-- a text differs from any longer text
 shorter : (text longer : List ℕ) → length text < length longer → bytes_eq text longer ≡ false
 shorter text [] short = absurd (omega (arith, short))
 shorter [] (byte ∷ longer) short = refl
 shorter (a ∷ text) (b ∷ longer) short = rw (shorter text longer (omega (arith, short)), and-false) refl
 
--- a text of fewer than three bytes is no command's name
+-- a text of fewer than three bytes is not a command's name
 pub too_short : (version : Version) (name : List ℕ) → length name < 3 → kinds_after version name ≡ None
 too_short version name short = simp (
   shorter name (codes "add") (omega (arith, short)),
@@ -53,7 +53,7 @@ abbrev NoSpaces : List (List ℕ) → Type 0
 NoSpaces [] = Unit {0}
 NoSpaces (word ∷ words) = NoSpace word × NoSpaces words
 
--- such words, joined by spaces, are the fields of what they make
+-- the fields of such words, joined by spaces, are the words
 fields-joined : (word : List ℕ) (more : List (List ℕ)) → NoSpaces (word ∷ more) → fields (join_with_byte space (word ∷ more)) ≡ word ∷ more
 fields-joined word [] none = slice_split_none _ word (is_unspaced word none.0)
 fields-joined word (next ∷ more) none =
@@ -126,7 +126,7 @@ length-route p pref next fits =
       hop_fits next,
     )
 
--- a command's text is no longer than a line may be
+-- a command's text is at most as long as a line may be
 pub length-command_text : (version : Version) (cmd : Cmd) → HasCommand version cmd → length (command_text cmd) ≤ LINE_BYTES
 length-command_text version (Add p pref hop) fits = omega (arith, length-route p pref hop fits.0)
 length-command_text version (Replace p pref hop) fits = omega (arith, length-route p pref hop fits.0)
@@ -151,7 +151,7 @@ first_digit =
     (λ n one rest. omega arith)
     (λ n digits more first rest. rw append_assoc (first ((48 + n % 10) ∷ rest)))
 
--- so a line that begins with one is not skipped
+-- so a line that begins with a decimal is not skipped
 not_skipped-decimal : (n : ℕ) → n < 2 ^ 64 → (rest : List ℕ) → is_skipped (decimal n ++ rest) ≡ false
 not_skipped-decimal =
     decimal_by_steps (λ n digits. (rest : List ℕ) → is_skipped (digits ++ rest) ≡ false)

@@ -1,4 +1,4 @@
--- How long the parts of what is counted are at most, and what is told of each number.
+-- The maximum lengths of the parts of a count's text, and the texts of each number.
 use Rattle.std.proofs.Common.{◌≡◌, ◌==◌, ℕ, zero, suc, ◌+◌, ◌<◌, ◌≤◌, inl, inr, false, List, [], ◌++◌, length, codes, decimal, refl, arith, rules, length-append, subst, add-one, Option, Result, Err}
 use Rattle.std.specs.Prelude.{◌≢◌}
 use Rattle.std.proofs.lemmas.Bool.{cases_lt}
@@ -21,7 +21,7 @@ totals_line_fits form routes prefixes =
     let back = either_fits form (codes "\n") (codes "}\n") in
     simp length-append (omega arith)
 
--- the totals are their parts
+-- the text of the totals is its parts
 pub totals_parts : (form : Form) (routes prefixes : ℕ) → totals_line form routes prefixes ≡ totals_as form routes prefixes
 unfolding totals_line totals_as
 totals_parts Numbers routes prefixes = refl
@@ -49,19 +49,19 @@ parts_by Json kind name count some = rw some refl
 not_zero : (count : ℕ) → count ≢ 0 → (count == 0) ≡ false
 not_zero count some = search rules
 
--- what is told of a count is its parts
+-- the text of a count is its parts
 pub count_parts : (form : Form) (kind name : List ℕ) (count : ℕ) → count ≢ 0
     → either form [] (codes "{\"") ++ (kind ++ (either form (codes " ") (codes "\":") ++ (name ++ count_tail form count))) ≡ count_as form kind name count
 count_parts form kind name count some = parts_by form kind name count (not_zero count some)
 
--- nothing is told where nothing is counted
+-- the text of the count 0 is empty
 pub count_none : (form : Form) (kind name : List ℕ) → count_as form kind name 0 ≡ []
 unfolding count_as
 count_none Numbers kind name = refl
 count_none Labels kind name = refl
 count_none Json kind name = refl
 
--- what is told of a number is put behind what is told of those below it
+-- the text of a number is appended to the texts of those below it
 pub each_next : (a b c : Option (List ℕ)) (tell : ℕ → List ℕ) (n : ℕ) → Appends a b (each_below tell n) → Appends b c (tell n)
     → Appends a c (each_below tell (n + 1))
 each_next a b c tell n first second = rw (add-one n) (appends_after a b c (each_below tell n) (tell n) first second)
@@ -76,7 +76,7 @@ each_begins a b c tell n (suc bound) below first second = elim (cases_lt n bound
       subst (λ (m : ℕ). AppendsBeginning a c (each_below tell m ++ tell m)) same (begins_after a b c (each_below tell n) (tell n) first second)
 ]
 
--- a fault within what is told of a number is one within what is told of all below a greater one
+-- an error within the text of a number is one within the texts of all numbers below a higher one
 pub each_stops : {T E : Type 0} (a b c : Option (List ℕ)) (tell : ℕ → List ℕ) (n bound : ℕ) (result : Result T E) (fault : E) → result ≡ Err fault → n < bound
     → Appends a b (each_below tell n) → AppendsBeginning b c (tell n) → WritesText a c (each_below tell bound) result
 each_stops a b c tell n bound result fault failed below first second =

@@ -1,4 +1,4 @@
--- How long the line of a range and its two answers is at most.
+-- The maximum length of the line of a range and its two answers.
 use Rattle.std.proofs.Common.{◌≤◌, length, decimal, lit≤, arith, length-append}
 use Rattle.std.proofs.lemmas.Fmt.{length-decimal-le}
 use Rattle.rt_cidr.specs.declared.prefixes.Prefix.{Prefix}
@@ -14,7 +14,7 @@ use Rattle.rt_feed.specs.Printed.{route_text}
 use Rattle.rt_feed.specs.DifferenceText.{way_text, answered_text, difference_text}
 use Rattle.rt_feed.proofs.Printing.{hop_fits}
 
--- the length of a prefix has two digits at most
+-- the length of a prefix has at most two digits
 prefix_fits : (prefix : Prefix) → length (prefix_text prefix.base prefix.len) ≤ 18
 unfolding prefix_text
 prefix_fits prefix =

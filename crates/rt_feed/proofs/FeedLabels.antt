@@ -19,7 +19,7 @@ starts_by path false none = no_slash path none
 pub starts : (path : List ℕ) → base_name path ≡ (if list_any (λ b. b == slash) path then base_name path else path)
 starts path = starts_by path _ refl
 
--- one path more has its label behind the others
+-- one more path has its label after the others
 labelled-more : {X : Type 0} (tell : ℕ → List ℕ → X) (feed : ℕ) (paths : List (List ℕ)) (path : List ℕ)
     → labelled tell feed (paths ++ path ∷ []) ≡ labelled tell feed paths ++ tell (feed + length paths) path ∷ []
 labelled-more tell feed [] path = ap (λ n. tell n path ∷ []) (omega arith)
@@ -27,7 +27,7 @@ labelled-more tell feed (first ∷ paths) path =
     ap (λ rest. tell feed first ∷ rest)
     (labelled-more tell (suc feed) paths path ∙ ap (λ n. labelled tell (suc feed) paths ++ tell n path ∷ []) (omega arith))
 
--- so the first paths of a list, in whatever they lie, have one label more than those before the last of them
+-- so the first i + 1 paths of a list have one more label than the first i, for any field that holds the path
 one_more : {P X : Type 0} (path_of : P → List ℕ) (tell : ℕ → List ℕ → X) (paths : List P) (i : ℕ) (none : P) → i < length paths
     → labelled tell 1 (map path_of (take (i + 1) paths)) ≡ labelled tell 1 (map path_of (take i paths)) ++ tell (i + 1) (path_of (get_or paths i none)) ∷ []
 one_more path_of tell paths i none here =
@@ -39,7 +39,7 @@ one_more path_of tell paths i none here =
     ∙ (labelled-more tell 1 (map path_of (take i paths)) (path_of path)
     ∙ ap (λ n. labelled tell 1 (map path_of (take i paths)) ++ tell n (path_of path) ∷ []) (omega (arith, counted)))
 
--- it is so of labels in whatever they lie
+-- the same for labels in any field
 pub labels_more : {P V X : Type 0} (path_of : P → List ℕ) (label_in : V → X) (tell : ℕ → List ℕ → X) (paths : List P) (i : ℕ) (none : P)
     (labels labels' : List V) (label : V) → i < length paths → labels' ≡ labels ++ label ∷ []
     → label_in label ≡ tell (i + 1) (path_of (get_or paths i none)) → map label_in labels ≡ labelled tell 1 (map path_of (take i paths))
@@ -48,7 +48,7 @@ labels_more {P} {V} {X} path_of label_in tell paths i none labels labels' label 
     ap (map label_in) pushed ∙ (map-append label_in labels (label ∷ []) ∙ (ap (λ l. l ++ label_in label ∷ []) so_far
     ∙ (ap (λ t. labelled tell 1 (map path_of (take i paths)) ++ t ∷ []) told ∙ sym (one_more path_of tell paths i none here))))
 
--- and of what is told itself
+-- the same for the values of `tell`
 pub numbers_more : {P X : Type 0} (path_of : P → List ℕ) (tell : ℕ → List ℕ → X) (paths : List P) (i : ℕ) (none : P)
     (numbers numbers' : List X) (number : X) → i < length paths → numbers' ≡ numbers ++ number ∷ []
     → number ≡ tell (i + 1) (path_of (get_or paths i none)) → numbers ≡ labelled tell 1 (map path_of (take i paths))

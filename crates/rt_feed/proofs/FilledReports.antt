@@ -11,7 +11,7 @@ use Rattle.rt_feed.specs.Reports.{is_fault, NumbersRise}
 use Rattle.rt_feed.specs.Lines.{command_answer}
 use Rattle.rt_feed.specs.inside.Filling.{filled}
 
--- where there are no outcomes the lines stay
+-- without outcomes the lines stay
 pub filled-none : (lines : List Line) → filled lines [] ≡ lines
 filled-none [] = refl
 filled-none (line ∷ lines) = refl
@@ -27,12 +27,12 @@ pub filled-given : (line : Line) (lines : List Line) (outcome : Outcome) (outcom
     → filled (line ∷ lines) (outcome ∷ outcomes) ≡ record line { answer = command_answer outcome } ∷ filled lines outcomes
 filled-given line lines outcome outcomes is = rw is refl
 
--- where no outcome is left all lines stay
+-- without outcomes left all lines stay
 pub fills_none : (lines : List Line) (index : ℕ) → take index lines ++ filled (drop index lines) [] ≡ lines
 fills_none lines index = rw (filled-none, take-append-drop) refl
 
 module _ (lines : List Line) (index : ℕ) (d : Line) (here : index < length lines) where
-  -- the lines up to an index and the one there
+  -- the lines up to an index and the line there
   one_more : (rest : List Line) → take (index + 1) lines ++ rest ≡ take index lines ++ get_or lines index d ∷ rest
   one_more rest = rw (add-one index, take-suc lines index d here) (append_assoc (take index lines) (get_or lines index d ∷ []) rest)
 
@@ -71,7 +71,7 @@ number-filled (line ∷ lines) (outcome ∷ outcomes) (suc i) d = elim (cases_Bo
   | inr other ↦ rw (filled-given line lines outcome outcomes other) (number-filled lines outcomes i d)
 ]
 
--- and so does how many lines there are
+-- and so does the number of lines
 pub length-filled : (lines : List Line) (outcomes : List Outcome) → length (filled lines outcomes) ≡ length lines
 length-filled [] outcomes = refl
 length-filled (line ∷ lines) [] = refl
@@ -80,7 +80,7 @@ length-filled (line ∷ lines) (outcome ∷ outcomes) = elim (cases_Bool (is_fau
   | inr other ↦ rw (filled-given line lines outcome outcomes other) (ap suc (length-filled lines outcomes))
 ]
 
--- the lines of which those from an index on were given outcomes
+-- the lines, after those from an index on were given outcomes
 refilled : ℕ → List Line → List Outcome → List Line
 refilled first lines outcomes = take first lines ++ filled (drop first lines) outcomes
 
@@ -97,7 +97,7 @@ length-refilled zero lines outcomes = length-filled lines outcomes
 length-refilled (suc first) [] outcomes = refl
 length-refilled (suc first) (line ∷ lines) outcomes = ap suc (length-refilled first lines outcomes)
 
--- so they rise as before
+-- so the numbers still rise
 pub numbers_rise-refilled : (first : ℕ) (lines lines' : List Line) (outcomes : List Outcome) → NumbersRise lines
     → lines' ≡ take first lines ++ filled (drop first lines) outcomes → NumbersRise lines'
 unfolding refilled

@@ -1,4 +1,4 @@
--- Visits that lie uncut in a journal, as the journal grows.
+-- Visits that are uncut in a journal, while the journal grows.
 use Rattle.std.proofs.Common.{◌≡◌, ℕ, List, [], ◌∷◌, ◌++◌, map, zip, sym, subst, append-nil}
 use Rattle.std.proofs.lemmas.List.{map-append}
 use Rattle.std.proofs.lemmas.List.Elements.{All-nil}
@@ -8,33 +8,33 @@ use Rattle.rt_shared.specs.declared.outcome.Outcome.{Outcome}
 use Rattle.std.specs.declared.result.Result.{Result}
 use Rattle.std.specs.Prelude.{IfOk, OnOk, OnErr, Ok, Err}
 use Rattle.rt_shared.specs.Table.{HeldPass}
-use Rattle.rt_shared.specs.Visits.{Uncut, Visit, visit_of, entries, MakesVisit}
+use Rattle.rt_shared.specs.Visits.{IsContiguousIn, AnsweredBatch, visit_of, entries, CommitsBatch}
 use Rattle.rt_shared.proofs.Promised.{uncut_visit, uncut_by_visit}
 
--- a visit to the shared table lies uncut behind the others
-uncut_entries : (limit feed : ℕ) (seen now : List Entry) (cmds : List Cmd) (outcomes : List Outcome) (visits : List Visit)
-    → MakesVisit limit feed seen cmds outcomes now
-    → Uncut feed (map (entries feed) visits) seen → Uncut feed (map (entries feed) (visits ++ visit_of (zip cmds outcomes) ∷ [])) now
+-- a visit to the shared table is uncut after the others
+uncut_entries : (limit feed : ℕ) (seen now : List Entry) (cmds : List Cmd) (outcomes : List Outcome) (visits : List AnsweredBatch)
+    → CommitsBatch limit feed seen cmds outcomes now
+    → IsContiguousIn feed (map (entries feed) visits) seen → IsContiguousIn feed (map (entries feed) (visits ++ visit_of (zip cmds outcomes) ∷ [])) now
 uncut_entries limit feed seen now cmds outcomes visits visit uncut =
     rw map-append (uncut_by_visit limit feed (map (entries feed) visits) seen now cmds outcomes uncut visit)
 
 -- a visit of the pass of a gate
 pub gate_visit : (limit : ℕ) (inside old new : HeldPass) (cmds : List Cmd) (outcomes : List Outcome) → inside ≡ old → new.feed ≡ inside.feed
-    → MakesVisit limit inside.feed inside.seen cmds outcomes new.seen
-    → (visits : List Visit) → Uncut old.feed (map (entries old.feed) visits) old.seen
-    → Uncut new.feed (map (entries new.feed) (visits ++ visit_of (zip cmds outcomes) ∷ [])) new.seen
+    → CommitsBatch limit inside.feed inside.seen cmds outcomes new.seen
+    → (visits : List AnsweredBatch) → IsContiguousIn old.feed (map (entries old.feed) visits) old.seen
+    → IsContiguousIn new.feed (map (entries new.feed) (visits ++ visit_of (zip cmds outcomes) ∷ [])) new.seen
 gate_visit limit inside old new cmds outcomes is feed visit visits held =
     rw feed (uncut_entries limit inside.feed inside.seen new.seen cmds outcomes visits visit
-    (subst (λ (p : HeldPass). Uncut p.feed (map (entries p.feed) visits) p.seen) (sym is) held))
+    (subst (λ (p : HeldPass). IsContiguousIn p.feed (map (entries p.feed) visits) p.seen) (sym is) held))
 
 -- an empty visit changes nothing
 pub gate_empty : (inside old new : HeldPass) → inside ≡ old → new ≡ inside
-    → (visits : List Visit) → Uncut old.feed (map (entries old.feed) visits) old.seen → Uncut new.feed (map (entries new.feed) (visits ++ [] ∷ [])) new.seen
+    → (visits : List AnsweredBatch) → IsContiguousIn old.feed (map (entries old.feed) visits) old.seen → IsContiguousIn new.feed (map (entries new.feed) (visits ++ [] ∷ [])) new.seen
 gate_empty inside old new is same visits held =
-    rw (same, is, map-append) (subst (Uncut old.feed (map (entries old.feed) visits ++ [] ∷ [])) (append-nil old.seen)
+    rw (same, is, map-append) (subst (IsContiguousIn old.feed (map (entries old.feed) visits ++ [] ∷ [])) (append-nil old.seen)
     (uncut_visit old.feed (map (entries old.feed) visits) old.seen [] held (All-nil _)))
 
--- what follows from a value holds where there is one
+-- a consequence of a value holds if there is a value
 pub if_ok : {A E : Type 0} {P Q : A → Type 0} → ((a : A) → P a → Q a) → (r : Result A E) → IfOk r P → IfOk r Q
 if_ok gives (Ok a) is = gives a is
 if_ok gives (Err e) is = is

@@ -1,8 +1,8 @@
 pub mod Promised
 pub mod CutBytes
 pub mod CommandWords
-pub mod LinesSay
-pub mod LinesBecome
+pub mod LinesParseAs
+pub mod LinesYield
 pub mod FilledReports
 pub mod RunSteps
 pub mod GateVisits

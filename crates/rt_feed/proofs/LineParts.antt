@@ -1,4 +1,5 @@
--- What is in a writer after several texts, of which a fault may have come in one; and how long the parts of a line are at most.
+-- The contents of a writer after several texts, with a possible error within one; and the maximum lengths of the parts
+-- of a line.
 use Rattle.std.proofs.Common.{◌≡◌, ℕ, ◌+◌, ◌≤◌, List, [], ◌∷◌, ◌++◌, length, codes, Option, Some, None, Result, Err, append_assoc, append-nil, refl, ap, ◌∙◌, arith, length-append}
 use Rattle.std.proofs.lemmas.Result.{on_ok_weaker, on_err_weaker}
 use Rattle.std.specs.Io.KnownBytes.{Appends}
@@ -21,37 +22,37 @@ use Rattle.rt_feed.proofs.DifferenceLines.{way_fits}
 use Rattle.rt_feed.proofs.Printing.{hop_fits, reason_fits}
 
 module _ {T E : Type 0} (a b c : Option (List ℕ)) where
-  -- a whole text, and then what of another one is written
+  -- a whole text, and then the written part of another one
   pub writes_after : (xs ys : List ℕ) (result : Result T E) → Appends a b xs → WritesText b c ys result → WritesText a c (xs ++ ys) result
   writes_after xs ys result first second = record {
     ok = on_ok_weaker result (appends_after a b c xs ys first) second.ok;
     err = on_err_weaker result (begins_after a b c xs ys first) second.err;
   }
 
-  -- a whole text, and a fault within the second of three
+  -- a whole text, and an error within the second of three
   pub stops_after : (xs ys zs : List ℕ) (fault : E) → Appends a b xs → AppendsBeginning b c ys → WritesText {T = T} a c (xs ++ (ys ++ zs)) (Err fault)
   stops_after xs ys zs fault first second = record { ok = tt; err = begins_after a b c xs (ys ++ zs) first (begins_longer b c ys zs second) }
 
--- a fault within a text is one within a longer one
+-- an error within a text is an error within a longer one
 pub stops_within : {T E : Type 0} (a c : Option (List ℕ)) (xs ys : List ℕ) (fault : E) → AppendsBeginning a c xs → WritesText {T = T} a c (xs ++ ys) (Err fault)
 stops_within a c xs ys fault first = record { ok = tt; err = begins_longer a c xs ys first }
 
--- what was put in front of nothing is all
+-- a text in front of the empty text is the whole text
 pub alone : {new old : List ℕ} (text : List ℕ) → new ≡ text ++ old → old ≡ [] → new ≡ text
 alone text put none = put ∙ (ap (λ (xs : List ℕ). text ++ xs) none ∙ append-nil text)
 
--- a list of no length has no element
+-- a list of length 0 is empty
 pub none_in : {X : Type 0} (xs : List X) → length xs ≡ 0 → xs ≡ []
 none_in [] none = refl
 none_in (x ∷ xs) none = absurd (omega (arith, none))
 
--- a route between two texts is their parts
+-- a route between two texts, by its parts
 pub open_parts : (form : Form) (label : ℕ → List ℕ) (head : List ℕ) (r : Route) (tail : List ℕ)
     → (head ++ (route_front form r ++ label r.feed)) ++ (route_back form r ++ tail) ≡ head ++ (route_open form label r ++ tail)
 unfolding route_open
 open_parts form label head r tail = simp append_assoc
 
--- a row is its parts
+-- a row, by its parts
 pub row_parts : (form : Form) (label : ℕ → List ℕ) (r : Route)
     → route_open form label r ++ either form (codes "\n") (codes "}\n") ≡ row_as (by_label form) label r
 unfolding route_open route_front route_back route_object row_as
@@ -59,7 +60,7 @@ row_parts Numbers label r = simp append_assoc
 row_parts Labels label r = simp append_assoc
 row_parts Json label r = simp append_assoc
 
--- what a look-up found is its parts
+-- the text of a look-up result, by its parts
 pub found_parts : (form : Form) (label : ℕ → List ℕ) (addr : Addr) (r : Route)
     → asked_head form addr (codes " route ") ++ (route_open form label r ++ either form (codes "\n") (codes "}}\n")) ≡ found_as (by_label form) label addr (Some r)
 unfolding asked_head address_head route_open route_front route_back route_object found_as
@@ -67,7 +68,7 @@ found_parts Numbers label addr r = simp append_assoc
 found_parts Labels label addr r = simp append_assoc
 found_parts Json label addr r = simp append_assoc
 
--- and so is that it found nothing
+-- the text of a look-up without a result, by its parts
 pub none_parts : (form : Form) (label : ℕ → List ℕ) (addr : Addr)
     → asked_head form addr (codes " no route\n") ++ either form [] (codes "null}\n") ≡ found_as (by_label form) label addr None
 unfolding asked_head address_head found_as found_text reply_text
@@ -83,7 +84,7 @@ no_others_parts Numbers label addr = append-nil _
 no_others_parts Labels label addr = append-nil _
 no_others_parts Json label addr = simp append_assoc
 
--- on lines nothing stands around the routes that were left behind, and as an object the others
+-- lines have no text around the routes that lost; an object has the others in a list
 lines_around : (label : ℕ → List ℕ) (addr : Addr) (best : Route) (told : List ℕ)
     → (asked_head Labels addr (codes " route ") ++ (route_open Labels label best ++ codes "\n")) ++ (told ++ []) ≡ found_as Labels label addr (Some best) ++ told
 unfolding asked_head route_open route_front route_back found_as
@@ -95,7 +96,7 @@ object_around : (label : ℕ → List ℕ) (addr : Addr) (best : Route) (told : 
 unfolding asked_head address_head route_open route_front route_back route_object
 object_around label addr best told = simp append_assoc
 
--- all routes that cover an address are their parts
+-- the text of all routes that cover an address, by its parts
 pub others_parts : (form : Form) (label : ℕ → List ℕ) (addr : Addr) (best : Route) (others : List Route)
     → (asked_head form addr (codes " route ") ++ (route_open form label best ++ either form (codes "\n") (codes "},\"also\":[")))
     ++ (others_as form label addr best others ++ either form [] (codes "]}\n")) ≡ all_found_as (by_label form) label addr (best ∷ others)
@@ -107,7 +108,7 @@ others_parts Labels label addr best (r ∷ rs) = lines_around label addr best (o
 others_parts Json label addr best [] = object_around label addr best []
 others_parts Json label addr best (r ∷ rs) = object_around label addr best (others_as Json label addr best (r ∷ rs))
 
--- and each of them is its parts
+-- the text of each of them, by its parts
 pub other_parts : (form : Form) (label : ℕ → List ℕ) (addr : Addr) (best : Route) (comma : List ℕ) (r : Route)
     → either form (asked_head form addr (codes " also ")) comma ++ (route_open form label r ++ reason_end form best r) ≡ other_as form label addr best comma r
 unfolding asked_head route_open route_front route_back route_object reason_end other_as
@@ -115,7 +116,7 @@ other_parts Numbers label addr best comma r = simp append_assoc
 other_parts Labels label addr best comma r = simp append_assoc
 other_parts Json label addr best comma r = simp append_assoc
 
--- what an address is answered is its parts
+-- the answer for an address, by its parts
 pub no_answer_parts : (form : Form) (label : ℕ → List ℕ) → either form (codes "no route") (codes "null") ≡ answered_as (by_label form) label answered.NoRoute
 unfolding answered_as answered_text
 no_answer_parts Numbers label = refl
@@ -134,7 +135,7 @@ route_parts Numbers label r = simp (append_assoc, append-nil)
 route_parts Labels label r = simp (append_assoc, append-nil)
 route_parts Json label r = simp append_assoc
 
--- a range and its two answers are their parts
+-- a range and its two answers, by their parts
 range_parts : (form : Form) (d : Difference) (old new : List ℕ)
     → (range_front form d ++ old) ++ ((either form (codes " -> ") (codes ",\"new\":") ++ new) ++ either form (codes "\n") (codes "}\n")) ≡ range_as (by_label form) d old new
 unfolding range_front range_as
@@ -149,7 +150,7 @@ pub difference_parts : (styles : SideStylesContents) (d : Difference)
 difference_parts styles d =
     range_parts styles.form d (answered_as (by_label styles.form) (label_of styles.old_labels) d.old) (answered_as (by_label styles.form) (label_of styles.new_labels) d.new)
 
--- where feeds are told by their numbers, each text is the plain one
+-- with the feeds' numbers, each text is the plain one
 pub found_by_number : (label : ℕ → List ℕ) (addr : Addr) (found : Option Route) → found_as Numbers label addr found ≡ found_text addr found
 unfolding found_as
 found_by_number label addr found = refl
@@ -162,7 +163,7 @@ pub difference_by_number : (d : Difference) (old new : ℕ → List ℕ) → ran
 unfolding range_as answered_as difference_text
 difference_by_number d old new = refl
 
--- either text is no longer than both
+-- either text is at most as long as both together
 pub either_fits : (form : Form) (line object : List ℕ) → length (either form line object) ≤ length line + length object
 either_fits Numbers line object = omega arith
 either_fits Labels line object = omega arith

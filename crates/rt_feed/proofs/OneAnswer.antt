@@ -22,7 +22,7 @@ use Rattle.rt_feed.specs.Laws.{LineHasOneAnswer}
 use Rattle.rt_feed.proofs.PrefixFaults.{one_prefix_fault}
 use Rattle.rt_feed.proofs.CommandWords.{address-ne-discard, fields-command_text, length-command_text, not_skipped-command_text}
 
--- what rt_cidr promises of prefixes and addresses and their text
+-- the promises of rt_cidr on prefixes and addresses and their texts
 pub record Texts : Type 0 where
   pub prefix_written : WritesPrefix
   pub prefix_again : ReadsPrefixAgain
@@ -37,7 +37,7 @@ texts prefix_written prefix_again address_written address_again = record {
   address_again = address_again;
 }
 
--- two prefixes of one text are equal, and so are two addresses
+-- two prefixes with the same text are equal, and so are two addresses
 one_prefix : Texts → (p q : Prefix) → prefix_text p.base p.len ≡ prefix_text q.base q.len → p ≡ q
 one_prefix texts p q same =
     let read : ReadsPrefix (prefix_text q.base q.len) (Ok p) = subst (λ text. IsPrefixText text p.base p.len) same (texts.prefix_written p) in
@@ -54,7 +54,7 @@ one_hop texts version (Via a) Discard fits others same = absurd (address-ne-disc
 one_hop texts version Discard (Via b) fits others same = absurd (address-ne-discard b.0 others (sym same))
 one_hop texts version Discard Discard fits others same = refl
 
--- two commands with the same words are one
+-- two commands with the same words are equal
 one_command : Texts → (version : Version) (cmd other : Cmd) → HasCommand version cmd → HasCommand version other → words cmd ≡ words other → cmd ≡ other
 one_command texts version (Add p pref next) (Add q pref' next') fits fits' same =
     let head : prefix_text p.base p.len ≡ prefix_text q.base q.len = cc in
@@ -72,14 +72,14 @@ one_command texts version Dump Dump fits fits' same = refl
 one_command texts version Purge Purge fits fits' same = refl
 one_command texts version cmd other fits fits' same = absurd (omega (arith, ap (λ ws. length (slice_index_or ws 0 [])) same))
 
--- a field has one fault
+-- a field has only one fault
 one_fault : Texts → (kind : Kind) (field : List ℕ) (one two : LineFault) → IsFaultOf kind field one → IsFaultOf kind field two → one ≡ two
 one_fault texts prefix field one two is other = one_prefix_fault field one two is other
 one_fault texts preference field one two is other = is ∙ sym other
 one_fault texts (hop version) field one two is other = is ∙ sym other
 one_fault texts address field one two is other = is ∙ sym other
 
--- there is one first fault
+-- the first fault is unique
 one_first : Texts → (kinds : List Kind) (rest : List (List ℕ)) (one two : LineFault) → IsFirstFault kinds rest one → IsFirstFault kinds rest two → one ≡ two
 one_first texts [] rest one two is other = absurd is
 one_first texts (kind ∷ kinds) [] one two is other = absurd is
@@ -114,7 +114,7 @@ sound-purge : (answer : LineFault) → ¬ IsFaultOfFields Two (words Purge) answ
 sound-purge answer (inl (not, is)) = not refl
 sound-purge answer (inr (same, is)) = is
 
--- nor have a command's
+-- nor do a command's
 sound-words : (version : Version) (cmd : Cmd) → HasCommand version cmd → (answer : LineFault) → ¬ IsFaultOfFields version (words cmd) answer
 sound-words version (Add p pref a) fits answer is = sound-route version p pref a fits.0 fits.1 answer is
 sound-words version (Replace p pref a) fits answer is = sound-route version p pref a fits.0 fits.1 answer is

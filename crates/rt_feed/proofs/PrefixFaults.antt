@@ -1,4 +1,4 @@
--- A field that is no prefix has one fault, the one for which it was read as none.
+-- A field that isn't a prefix has one fault, the reason that the reader found.
 use Rattle.std.proofs.Common.{◌≡◌, ℕ, List, Err, subst, refl, arith}
 use Rattle.rt_cidr.specs.declared.prefixes.TextFault.{TextFault}
 use Rattle.rt_cidr.specs.declared.prefixes.TextFault.TheVariants.{Text, Length, Bits}
@@ -11,7 +11,7 @@ use Rattle.rt_feed.specs.declared.parse.LineFault.TheVariants as fault
 use Rattle.rt_feed.specs.Grammar.{prefix, IsOfKind, IsFaultOf}
 use Rattle.rt_feed.specs.inside.Fields.{prefix_fault, IsFaulty}
 
--- what is read as no prefix is none
+-- a field that the reader rejects isn't a prefix
 no_prefix : ReadsPrefixAgain → (field : List ℕ) (reason : TextFault) → ReadsPrefix field (Err reason) → ¬ IsOfKind prefix field
 no_prefix again field reason read (p, same) = let equal = again p (Err reason) (subst (λ text. ReadsPrefix text (Err reason)) same read) in cc
 
@@ -20,16 +20,16 @@ told field Text read = read
 told field Length read = read
 told field Bits read = read
 
--- and its fault is the one that was read
+-- and its fault is the reason that the reader found
 pub faulty-prefix : ReadsPrefixAgain → (field : List ℕ) (reason : TextFault) → ReadsPrefix field (Err reason)
     → IsFaulty prefix field (prefix_fault reason)
 faulty-prefix again field reason read = record { none = no_prefix again field reason read; told = told field reason read }
 
--- a text is of one pair
+-- a text is the text of only one pair
 one_pair : (text : List ℕ) (a b m n : ℕ) → IsPrefixText text a m → IsPrefixText text b n → m ≡ n
 one_pair text a b m n is other = (pair_one_value text a b m n is other).1
 
--- so a field that is no prefix has one fault
+-- so a field that isn't a prefix has one fault
 pub one_prefix_fault : (field : List ℕ) (one two : LineFault) → IsFaultOf prefix field one → IsFaultOf prefix field two → one ≡ two
 one_prefix_fault field fault.Text fault.Text is other = refl
 one_prefix_fault field fault.Text fault.PrefixLength is (a, m, pair, long) = absurd (is a m pair)

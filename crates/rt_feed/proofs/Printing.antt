@@ -1,4 +1,4 @@
--- How long a printed line is at most, and what is in a writer after several texts.
+-- The maximum length of a printed line, and the contents of a writer after several texts.
 use Rattle.std.proofs.Common.{◌≡◌, ℕ, suc, ◌+◌, ◌<◌, ◌≤◌, List, ◌∷◌, ◌++◌, length, take, drop, get_or, codes, [], Option, Result, Err, arith, length-append}
 use Rattle.std.proofs.Common.{append_assoc, sym, ap, ◌∙◌, append-nil, add-one}
 use Rattle.std.proofs.Math.Seq.{split_at, take-suc}
@@ -102,10 +102,10 @@ also_fits addr first r =
     let reason = reason_fits first r in
     simp length-append (omega arith)
 
--- of texts of which those before this one stand in a writer, behind a first text
+-- texts in order; those before this one are in a writer, after a first text
 module _ {X : Type 0} (head : List ℕ) (text : X → List ℕ) (xs : List X) (i : ℕ) (default x : X) (here : i < length xs) (is : x ≡ get_or xs i default)
     (a b c : Option (List ℕ)) (before : Appends a b (head ++ flat_map text (take i xs))) where
-  -- a fault within this one leaves a beginning of them all
+  -- an error within this one leaves a prefix of them all
   pub stops_in_one : {T E : Type 0} (result : Result T E) (fault : E) → result ≡ Err fault → AppendsBeginning b c (text x) → WritesText a c (head ++ flat_map text xs) result
   stops_in_one result fault failed begun =
       let rest = flat_map text (drop (suc i) xs) in
@@ -114,7 +114,7 @@ module _ {X : Type 0} (head : List ℕ) (text : X → List ℕ) (xs : List X) (i
       (ap (λ ys. head ++ ys) (flat_map-append text (take i xs) (x ∷ drop (suc i) xs)) ∙ simp append_assoc) in
       rw failed (record { ok = tt; err = rw whole (begins_longer a c _ rest (begins_after a b c _ (text x) before begun)) })
 
-  -- this one is put behind them
+  -- this one is appended to them
   pub appends_next : Appends b c (text x) → Appends a c (head ++ flat_map text (take (i + 1) xs))
   appends_next written =
       let next : flat_map text (take (i + 1) xs) ≡ flat_map text (take i xs) ++ text x =

@@ -1,4 +1,4 @@
--- A text of addresses, read line by line, and why it says one list of them.
+-- A text of addresses, read line by line, and the uniqueness of its list of addresses.
 use Rattle.std.proofs.Common.{◌≡◌, ℕ, suc, ◌+◌, ◌<◌, ◌≤◌, List, [], ◌∷◌, ◌++◌, length, Option, Some, None, Result, Ok, Err, refl, sym, ap, ◌∙◌, arith}
 use Rattle.std.proofs.Common.{add-zero, append-nil, length-append}
 use Rattle.std.proofs.lemmas.List.{map-id}
@@ -9,10 +9,10 @@ use Rattle.rt_feed.specs.Lines.{CutsLine}
 use Rattle.rt_feed.specs.Laws.{AddressLineHasOneAnswer, AddressTextHasOneReading}
 use Rattle.rt_feed.specs.Addresses.{AnswersAddressLine, SaysAddresses, addresses_said, faults_said, faulty_lines}
 use Rattle.rt_feed.specs.inside.ReadAddresses.{AreSaid, AreRead, PutsLine}
-use Rattle.rt_feed.proofs.LinesSay.{say-append, length-said}
+use Rattle.rt_feed.proofs.LinesParseAs.{say-append, length-said}
 use Rattle.rt_feed.proofs.OneCut.{say_alike}
 
--- what a line says
+-- the answer for a line
 abbrev Says : Type 0
 Says = Result (Option Addr) LineFault
 
@@ -23,7 +23,7 @@ addresses_said-append (Ok (Some addr) ∷ says) more = ap (λ (l : List Addr). a
 addresses_said-append (Ok None ∷ says) more = addresses_said-append says more
 addresses_said-append (Err fault ∷ says) more = addresses_said-append says more
 
--- and their faulty ones
+-- and their faulty lines
 faults_said-append : (number : ℕ) (says more : List Says)
     → faults_said number (says ++ more) ≡ faults_said number says ++ faults_said (number + length says) more
 faults_said-append number [] more = rw add-zero refl
@@ -41,7 +41,7 @@ faults-few number [] = omega arith
 faults-few number (Ok addr ∷ says) = omega (arith, faults-few (number + 1) says)
 faults-few number (Err fault ∷ says) = omega (arith, faults-few (number + 1) says)
 
--- so many they are
+-- their count is their number
 count-lines : (faults : List (ℕ × LineFault)) → (faulty_lines faults).count ≡ length faults
 count-lines [] = refl
 count-lines (one ∷ others) = refl
@@ -68,7 +68,7 @@ said_address says old new faulty faulty' addr are pushed same = record {
   faults = same ∙ (are.faults ∙ ap faulty_lines (sym (faults_said-append 1 says (Ok (Some addr) ∷ []) ∙ append-nil (faults_said 1 says))));
 }
 
--- one that is skipped
+-- one more line that is skipped
 pub said_nothing : (says : List Says) (old new : List Addr) (faulty faulty' : FaultyLines) → AreSaid says old faulty
     → new ≡ old → faulty' ≡ faulty → AreSaid (says ++ Ok None ∷ []) new faulty'
 said_nothing says old new faulty faulty' are kept same = record {
@@ -76,7 +76,7 @@ said_nothing says old new faulty faulty' are kept same = record {
   faults = same ∙ (are.faults ∙ ap faulty_lines (sym (faults_said-append 1 says (Ok None ∷ []) ∙ append-nil (faults_said 1 says))));
 }
 
--- one that is faulty
+-- one more line that is faulty
 pub said_fault : (says : List Says) (number : ℕ) (old new : List Addr) (faulty faulty' : FaultyLines) (fault : LineFault) → AreSaid says old faulty
     → number ≡ length says + 1 → new ≡ old
     → ((faults : List (ℕ × LineFault)) → faulty ≡ faulty_lines faults → faulty' ≡ faulty_lines (faults ++ (number, fault) ∷ []))
@@ -89,7 +89,7 @@ said_fault says number old new faulty faulty' fault are numbered kept put =
           ∙ (ap (λ n. faulty_lines (faults_said 1 says ++ (n, fault) ∷ [])) is ∙ ap faulty_lines (sym (faults_said-append 1 says (Err fault ∷ []))));
     }
 
--- the line after those that were read is taken in
+-- the line after those that were read is read
 pub read_more : (text rest line next : List ℕ) (number : ℕ) (old new : List Addr) (faulty faulty' : FaultyLines) → AreRead text rest number old faulty
     → CutsLine rest line next → PutsLine (number + 1) line old faulty new faulty'
     → AreRead text next (number + 1) new faulty'
@@ -102,13 +102,13 @@ read_more text rest line next number old new faulty faulty' read cut put =
       are_said = more.2;
     }
 
--- the lines read are no more than the text's bytes
+-- the number of lines read is at most the number of the text's bytes
 pub numbered-within : (text rest : List ℕ) (number : ℕ) (addresses : List Addr) (faulty : FaultyLines) → AreRead text rest number addresses faulty
     → number + length rest ≤ length text
 numbered-within text rest number addresses faulty read =
     omega (arith, read.counted, length-said AnswersAddressLine text rest read.says read.lines)
 
--- at the end all are read
+-- at the end all lines are read
 pub all_read : (text : List ℕ) (number : ℕ) (addresses : List Addr) (faulty : FaultyLines) → AreRead text [] number addresses faulty
     → SaysAddresses text addresses faulty
 all_read text number addresses faulty read = record { says = read.says; lines = read.lines; said = read.are_said.said; faults = read.are_said.faults }

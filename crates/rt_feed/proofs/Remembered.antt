@@ -1,15 +1,15 @@
--- What a gate of one's own holds that remembers the commands that it has answered, each with its reply.
+-- The visits held by a gate that remembers the commands that it has answered, each with its reply.
 use Rattle.std.proofs.Common.{◌≡◌, List, [], ◌∷◌, ◌++◌, length, zip, sym, ap, ◌∙◌, arith, append_assoc, append-nil, length-append}
 use Rattle.std.proofs.Common.{Result, Ok, Err, OnErr}
 use Rattle.rt_rib.specs.declared.commands.Cmd.{Cmd}
 use Rattle.rt_shared.specs.declared.outcome.Outcome.{Outcome}
-use Rattle.rt_shared.specs.Visits.{Visit, reply_to, visit_of}
+use Rattle.rt_shared.specs.Visits.{AnsweredBatch, reply_to, visit_of}
 use Rattle.rt_feed.specs.Visits.{concatenated}
 
--- one visit more is joined behind the others
-pub concatenated_more : (visits : List Visit) (v : Visit) → concatenated (visits ++ v ∷ []) ≡ concatenated visits ++ v
+-- one more visit is joined after the others
+pub concatenated_more : (visits : List AnsweredBatch) (v : AnsweredBatch) → concatenated (visits ++ v ∷ []) ≡ concatenated visits ++ v
 concatenated_more [] v = append-nil v
-concatenated_more (u ∷ visits) v = ap (λ (l : Visit). u ++ l) (concatenated_more visits v) ∙ sym (append_assoc u (concatenated visits) v)
+concatenated_more (u ∷ visits) v = ap (λ (l : AnsweredBatch). u ++ l) (concatenated_more visits v) ∙ sym (append_assoc u (concatenated visits) v)
 
 -- one command more
 pub visit_more : (cmds : List Cmd) (cmd : Cmd) (outcomes : List Outcome) (o : Outcome) → length outcomes ≡ length cmds
@@ -18,42 +18,42 @@ visit_more [] cmd [] o same = append-nil (reply_to cmd o)
 visit_more [] cmd (p ∷ outcomes) o same = absurd (omega arith)
 visit_more (c ∷ cmds) cmd [] o same = absurd (omega arith)
 visit_more (c ∷ cmds) cmd (p ∷ outcomes) o same =
-    ap (λ (l : Visit). reply_to c p ++ l) (visit_more cmds cmd outcomes o (omega arith))
+    ap (λ (l : AnsweredBatch). reply_to c p ++ l) (visit_more cmds cmd outcomes o (omega arith))
     ∙ sym (append_assoc (reply_to c p) (visit_of (zip cmds outcomes)) (reply_to cmd o))
 
--- a gate that has answered a visit more holds it besides
-pub gains_visit : (old new v : Visit) → new ≡ old ++ v → (visits : List Visit) → old ≡ concatenated visits → new ≡ concatenated (visits ++ v ∷ [])
-gains_visit old new v more visits held = more ∙ (ap (λ (l : Visit). l ++ v) held ∙ sym (concatenated_more visits v))
+-- a gate that has answered one more visit holds it after the others
+pub gains_visit : (old new v : AnsweredBatch) → new ≡ old ++ v → (visits : List AnsweredBatch) → old ≡ concatenated visits → new ≡ concatenated (visits ++ v ∷ [])
+gains_visit old new v more visits held = more ∙ (ap (λ (l : AnsweredBatch). l ++ v) held ∙ sym (concatenated_more visits v))
 
--- and one that has answered no more an empty one
-pub gains_nothing : (answered : Visit) (visits : List Visit) → answered ≡ concatenated visits → answered ≡ concatenated (visits ++ [] ∷ [])
+-- and a gate that has answered nothing more holds an empty visit after them
+pub gains_nothing : (answered : AnsweredBatch) (visits : List AnsweredBatch) → answered ≡ concatenated visits → answered ≡ concatenated (visits ++ [] ∷ [])
 gains_nothing answered = gains_visit answered answered [] (sym (append-nil answered))
 
-pub gains_still : (old new : Visit) → new ≡ old → (visits : List Visit) → old ≡ concatenated visits → new ≡ concatenated (visits ++ [] ∷ [])
+pub gains_still : (old new : AnsweredBatch) → new ≡ old → (visits : List AnsweredBatch) → old ≡ concatenated visits → new ≡ concatenated (visits ++ [] ∷ [])
 gains_still old new same visits held = same ∙ gains_nothing old visits held
 
--- the commands had these outcomes, and what was answered has those that had a reply
-pub record HasAnswered (cmds : List Cmd) (old : Visit) (before : List Outcome) (now : Visit) (after : List Outcome) : Type 0 where
+-- the commands had these outcomes, and the answers are those of the commands with a reply
+pub record HasAnswered (cmds : List Cmd) (old : AnsweredBatch) (before : List Outcome) (now : AnsweredBatch) (after : List Outcome) : Type 0 where
   pub outcomes : List Outcome
   pub each : length outcomes ≡ length cmds
   pub appended : after ≡ before ++ outcomes
   pub added : now ≡ old ++ visit_of (zip cmds outcomes)
 
 -- one more
-pub answered_more : (cmds : List Cmd) (cmd : Cmd) (old : Visit) (before : List Outcome) (now next : Visit) (after : List Outcome) (o : Outcome)
+pub answered_more : (cmds : List Cmd) (cmd : Cmd) (old : AnsweredBatch) (before : List Outcome) (now next : AnsweredBatch) (after : List Outcome) (o : Outcome)
     → HasAnswered cmds old before now after → next ≡ now ++ reply_to cmd o → HasAnswered (cmds ++ cmd ∷ []) old before next (after ++ o ∷ [])
 answered_more cmds cmd old before now next after o so_far more =
-    let v : Visit = visit_of (zip cmds so_far.outcomes) in let w : Visit = reply_to cmd o in
+    let v : AnsweredBatch = visit_of (zip cmds so_far.outcomes) in let w : AnsweredBatch = reply_to cmd o in
     record {
       outcomes = so_far.outcomes ++ o ∷ [];
       each = omega (arith, so_far.each, length-append so_far.outcomes (o ∷ []), length-append cmds (cmd ∷ []));
       appended = ap (λ (l : List Outcome). l ++ o ∷ []) so_far.appended ∙ append_assoc before so_far.outcomes (o ∷ []);
-      added = more ∙ (ap (λ (l : Visit). l ++ w) so_far.added ∙ (append_assoc old v w
-          ∙ ap (λ (l : Visit). old ++ l) (sym (visit_more cmds cmd so_far.outcomes o so_far.each))));
+      added = more ∙ (ap (λ (l : AnsweredBatch). l ++ w) so_far.added ∙ (append_assoc old v w
+          ∙ ap (λ (l : AnsweredBatch). old ++ l) (sym (visit_more cmds cmd so_far.outcomes o so_far.each))));
     }
 
--- a batch that was refused before any command was asked: nothing was put behind, and the visit is empty
-pub refuses_batch : {X E : Type 0} (r : Result X E) (answered : Visit) (before after : List Outcome) → after ≡ before
-    → OnErr r ((after ≡ before) × ((visits : List Visit) → answered ≡ concatenated visits → answered ≡ concatenated (visits ++ [] ∷ [])))
+-- a batch that was refused before any command was executed: no outcome was appended, and the visit is empty
+pub refuses_batch : {X E : Type 0} (r : Result X E) (answered : AnsweredBatch) (before after : List Outcome) → after ≡ before
+    → OnErr r ((after ≡ before) × ((visits : List AnsweredBatch) → answered ≡ concatenated visits → answered ≡ concatenated (visits ++ [] ∷ [])))
 refuses_batch (Ok x) answered before after e = tt
 refuses_batch (Err refused) answered before after e = (e, gains_nothing answered)

@@ -12,15 +12,15 @@ use Rattle.rt_feed.specs.declared.report.Line.{Line}
 use Rattle.rt_feed.specs.Reports.{is_fault}
 use Rattle.rt_feed.specs.declared.versions.Version.{Version}
 use Rattle.rt_feed.specs.declared.versions.Version.TheVariants.{One, Two}
-use Rattle.rt_feed.specs.Lines.{IsBody, CutsLine, LineOutcome, skipped, faulty, asked, reading, Becomes}
-use Rattle.rt_feed.specs.Lines.{heading, command_answer, line_answer, numbered, report_lines, asked_by, asked_of}
+use Rattle.rt_feed.specs.Lines.{IsBody, CutsLine, LineOutcome, skipped, faulty, asked, reading, TextYields}
+use Rattle.rt_feed.specs.Lines.{heading, command_answer, line_answer, numbered, report_lines, command_of, commands_of}
 use Rattle.rt_feed.specs.Grammar.{AnswersLine}
-use Rattle.rt_shared.specs.Visits.{Visit, visit_of}
+use Rattle.rt_shared.specs.Visits.{AnsweredBatch, visit_of}
 use Rattle.rt_feed.specs.Visits.{Gains, concatenated, piece_of, AnswersBatch}
 use Rattle.rt_feed.specs.inside.Filling.{filled}
-use Rattle.rt_feed.specs.FeedRuns.{RunsFeed, StopsWithin, IsTold}
+use Rattle.rt_feed.specs.FeedRuns.{RunsFeed, RunsPrefixOf, IsTold}
 use Rattle.rt_feed.specs.inside.FeedRuns.{AnswersWaiting, Gathers, HasRead, RunSoFar}
-use Rattle.rt_feed.proofs.LinesBecome.{becomes-push, becomes-at, becomes-alike, becomes-first, report_lines-append, report_lines-push, asked_of-append}
+use Rattle.rt_feed.proofs.LinesYield.{becomes-push, becomes-at, becomes-alike, becomes-first, report_lines-append, report_lines-push, commands_of-append}
 use Rattle.rt_feed.proofs.FilledReports.{filled-none, filled-fault, filled-given}
 
 -- pieces one after another
@@ -29,17 +29,17 @@ concatenated-append [] more = refl
 concatenated-append (piece ∷ pieces) more = ap (λ xs. piece ++ xs) (concatenated-append pieces more)
     ∙ sym (append_assoc piece (concatenated pieces) (concatenated more))
 
--- a piece by itself is joined to itself
+-- a single piece, joined, is itself
 concatenated-piece : {X : Type 0} (piece : List X) → concatenated (piece_of piece) ≡ piece
 concatenated-piece [] = refl
 concatenated-piece (x ∷ xs) = append-nil (x ∷ xs)
 
 -- no visit more
-pub gains_none : {G : Type 0} (holds : G → List Visit → Type 0) (g : G) → Gains holds g g []
+pub gains_none : {G : Type 0} (holds : G → List AnsweredBatch → Type 0) (g : G) → Gains holds g g []
 gains_none holds g visits held = rw (append-nil visits) held
 
 -- one visit after another
-gains_both : {G : Type 0} (holds : G → List Visit → Type 0) (a b c : G) (first second : List Visit) → Gains holds a b first → Gains holds b c second
+gains_both : {G : Type 0} (holds : G → List AnsweredBatch → Type 0) (a b c : G) (first second : List AnsweredBatch) → Gains holds a b first → Gains holds b c second
     → Gains holds a c (first ++ second)
 gains_both holds a b c first second one two visits held = rw (← append_assoc) (two (visits ++ first) (one visits held))
 
@@ -51,7 +51,7 @@ given (faulty fault ∷ lines) outcomes = faulty fault ∷ given lines outcomes
 given (asked cmd old ∷ lines) [] = asked cmd old ∷ lines
 given (asked cmd old ∷ lines) (outcome ∷ outcomes) = asked cmd outcome ∷ given lines outcomes
 
--- say what they said
+-- they have the same readings
 reading-given : (lines : List LineOutcome) (outcomes : List Outcome) → map reading (given lines outcomes) ≡ map reading lines
 unfolding given
 reading-given [] outcomes = refl
@@ -68,12 +68,12 @@ length-given (faulty fault ∷ lines) outcomes = ap suc (length-given lines outc
 length-given (asked cmd old ∷ lines) [] = refl
 length-given (asked cmd old ∷ lines) (outcome ∷ outcomes) = ap suc (length-given lines outcomes)
 
--- a command's answer is no fault
+-- a command's answer isn't a fault
 no_fault : (outcome : Outcome) → is_fault (command_answer outcome) ≡ false
 no_fault (Did reply) = refl
 no_fault Refused = refl
 
--- the report's lines for them are those that were given the outcomes
+-- the report's lines for them are the lines filled with the outcomes
 report_lines-given : (number : ℕ) (lines : List LineOutcome) (outcomes : List Outcome)
     → report_lines number (given lines outcomes) ≡ filled (report_lines number lines) outcomes
 unfolding given
@@ -88,25 +88,25 @@ report_lines-given number (asked cmd old ∷ lines) (outcome ∷ outcomes) =
     ∙ sym (filled-given (record { number = number; answer = command_answer old }) (report_lines (number + 1) lines) outcome outcomes (no_fault old))
 
 -- their outcomes are the ones given
-asked_of-given : (lines : List LineOutcome) (cmds : List Cmd) (outcomes : List Outcome) → asked_of lines ≡ map (λ cmd. (cmd, Refused)) cmds
+commands_of-given : (lines : List LineOutcome) (cmds : List Cmd) (outcomes : List Outcome) → commands_of lines ≡ map (λ cmd. (cmd, Refused)) cmds
     → length outcomes ≡ length cmds
-    → asked_of (given lines outcomes) ≡ zip cmds outcomes
+    → commands_of (given lines outcomes) ≡ zip cmds outcomes
 unfolding given
-asked_of-given [] [] [] is each = refl
-asked_of-given [] [] (outcome ∷ outcomes) is each = refl
-asked_of-given [] (cmd ∷ cmds) outcomes is each = absurd (cc)
-asked_of-given (skipped ∷ lines) cmds outcomes is each = asked_of-given lines cmds outcomes is each
-asked_of-given (faulty fault ∷ lines) cmds outcomes is each = asked_of-given lines cmds outcomes is each
-asked_of-given (asked cmd old ∷ lines) [] outcomes is each = absurd (cc)
-asked_of-given (asked cmd old ∷ lines) (c ∷ cmds) [] is each = absurd (omega (arith, each))
-asked_of-given (asked cmd old ∷ lines) (c ∷ cmds) (outcome ∷ outcomes) is each =
+commands_of-given [] [] [] is each = refl
+commands_of-given [] [] (outcome ∷ outcomes) is each = refl
+commands_of-given [] (cmd ∷ cmds) outcomes is each = absurd (cc)
+commands_of-given (skipped ∷ lines) cmds outcomes is each = commands_of-given lines cmds outcomes is each
+commands_of-given (faulty fault ∷ lines) cmds outcomes is each = commands_of-given lines cmds outcomes is each
+commands_of-given (asked cmd old ∷ lines) [] outcomes is each = absurd (cc)
+commands_of-given (asked cmd old ∷ lines) (c ∷ cmds) [] is each = absurd (omega (arith, each))
+commands_of-given (asked cmd old ∷ lines) (c ∷ cmds) (outcome ∷ outcomes) is each =
     let pair : (cmd, old) ≡ (c, Refused) = cc in
     let head : cmd ≡ c = ap (λ (p : Cmd × Outcome). p.0) pair in
-    let tail : asked_of lines ≡ map (λ cmd. (cmd, Refused)) cmds = cc in
-    ap (λ xs. (cmd, outcome) ∷ xs) (asked_of-given lines cmds outcomes tail (omega (arith, each))) ∙ ap (λ x. (x, outcome) ∷ zip cmds outcomes) head
+    let tail : commands_of lines ≡ map (λ cmd. (cmd, Refused)) cmds = cc in
+    ap (λ xs. (cmd, outcome) ∷ xs) (commands_of-given lines cmds outcomes tail (omega (arith, each))) ∙ ap (λ x. (x, outcome) ∷ zip cmds outcomes) head
 
--- where all are refused they stay as they wait
-given-refused : (lines : List LineOutcome) (cmds : List Cmd) → asked_of lines ≡ map (λ cmd. (cmd, Refused)) cmds
+-- if all are refused, the lines stay as they wait
+given-refused : (lines : List LineOutcome) (cmds : List Cmd) → commands_of lines ≡ map (λ cmd. (cmd, Refused)) cmds
     → given lines (map (λ cmd. Refused) cmds) ≡ lines
 unfolding given
 given-refused [] cmds is = refl
@@ -116,11 +116,11 @@ given-refused (asked cmd old ∷ lines) [] is = absurd (cc)
 given-refused (asked cmd old ∷ lines) (c ∷ cmds) is =
     let pair : (cmd, old) ≡ (c, Refused) = cc in
     let was : old ≡ Refused = ap (λ (p : Cmd × Outcome). p.1) pair in
-    let tail : asked_of lines ≡ map (λ cmd. (cmd, Refused)) cmds = cc in
+    let tail : commands_of lines ≡ map (λ cmd. (cmd, Refused)) cmds = cc in
     ap (λ ls. asked cmd Refused ∷ ls) (given-refused lines cmds tail) ∙ ap (λ o. asked cmd o ∷ lines) (sym was)
 
 -- a visit of some commands is a piece of them
-pub piece_asked : {G : Type 0} (holds : G → List Visit → Type 0) (old new : G) (cmds : List Cmd) (outcomes : List Outcome) → length outcomes ≡ length cmds
+pub piece_asked : {G : Type 0} (holds : G → List AnsweredBatch → Type 0) (old new : G) (cmds : List Cmd) (outcomes : List Outcome) → length outcomes ≡ length cmds
     → cmds ≢ []
     → Gains holds old new (visit_of (zip cmds outcomes) ∷ []) → Gains holds old new (map visit_of (piece_of (zip cmds outcomes)))
 piece_asked holds old new [] outcomes each some gained = absurd (some refl)
@@ -136,8 +136,8 @@ length-refusals : (cmds : List Cmd) → length (map (λ cmd. Refused) cmds) ≡ 
 length-refusals [] = refl
 length-refusals (cmd ∷ cmds) = ap suc (length-refusals cmds)
 
--- the commands that wait were refused in one empty visit
-pub refuses_waiting : {G : Type 0} (holds : G → List Visit → Type 0) (old new : G) (cmds : List Cmd) (first : ℕ) (report : List Line) → cmds ≢ []
+-- the commands that wait were refused, with one empty visit
+pub refuses_waiting : {G : Type 0} (holds : G → List AnsweredBatch → Type 0) (old new : G) (cmds : List Cmd) (first : ℕ) (report : List Line) → cmds ≢ []
     → Gains holds old new ([] ∷ []) → AnswersWaiting holds old new cmds first report report
 refuses_waiting holds old new cmds first report some gained =
     let outcomes = map (λ (cmd : Cmd). Refused) cmds in
@@ -149,8 +149,8 @@ refuses_waiting holds old new cmds first report some gained =
       reported = inr (refl, refl);
     }
 
--- they were answered in one visit, and the report has what became of them
-pub answers_waiting : {G : Type 0} (holds : G → List Visit → Type 0) (old new : G) (cmds : List Cmd) (first : ℕ) (report report' : List Line)
+-- they were answered in one visit, and the report has their outcomes
+pub answers_waiting : {G : Type 0} (holds : G → List AnsweredBatch → Type 0) (old new : G) (cmds : List Cmd) (first : ℕ) (report report' : List Line)
     (out : List Outcome) → cmds ≢ []
     → AnswersBatch holds old new cmds [] out → report' ≡ take first report ++ filled (drop first report) out
     → AnswersWaiting holds old new cmds first report report'
@@ -168,21 +168,21 @@ alone (first ∷ []) cmd one is = ap (λ c. c ∷ []) is
 alone (first ∷ second ∷ cmds) cmd one is = absurd (omega (arith, one))
 
 -- nothing waits
-pub none_waits : {G : Type 0} (holds : G → List Visit → Type 0) (gate : G) (first : ℕ) (report : List Line)
+pub none_waits : {G : Type 0} (holds : G → List AnsweredBatch → Type 0) (gate : G) (first : ℕ) (report : List Line)
     → AnswersWaiting holds gate gate [] first report report
 none_waits holds gate first report = record { outcomes = []; each = refl; gained = gains_none holds gate; reported = inr (refl, refl) }
 
--- the heading has no answer and asks nothing
+-- the heading has no answer and no command
 no_lines : (version : Version) → report_lines 1 (heading version) ≡ []
 no_lines One = refl
 no_lines Two = refl
 
-none_asked : (version : Version) → asked_of (heading version) ≡ []
+none_asked : (version : Version) → commands_of (heading version) ≡ []
 none_asked One = refl
 none_asked Two = refl
 
 -- before the first line
-pub nothing_read : {G : Type 0} (holds : G → List Visit → Type 0) (batch : ℕ) (text : List ℕ) (gate : G) (run : RunSoFar) → run.report ≡ [] → run.first ≡ 0
+pub nothing_read : {G : Type 0} (holds : G → List AnsweredBatch → Type 0) (batch : ℕ) (text : List ℕ) (gate : G) (run : RunSoFar) → run.report ≡ [] → run.first ≡ 0
     → run.gathered ≡ []
     → (lines : List ℕ) → IsBody text run.version lines → HasRead holds batch text lines (length (heading run.version)) gate gate run
 nothing_read holds batch text gate run report first gathered lines body = record {
@@ -201,11 +201,11 @@ nothing_read holds batch text gate run report first gathered lines body = record
   };
 }
 
--- one line more, whose command waits if it is one
-pub line_read : {G : Type 0} (holds : G → List Visit → Type 0) (batch : ℕ) (text rest line next : List ℕ) (earlier number : ℕ) (start gate : G)
+-- one more line, whose command waits if it has one
+pub line_read : {G : Type 0} (holds : G → List AnsweredBatch → Type 0) (batch : ℕ) (text rest line next : List ℕ) (earlier number : ℕ) (start gate : G)
     (run run' : RunSoFar) (outcome : LineOutcome) (more : List Cmd)
     → HasRead holds batch text rest earlier start gate run → number ≡ earlier + 1 → CutsLine rest line next → AnswersLine run.version line (reading outcome)
-    → asked_by outcome ≡ map (λ cmd. (cmd, Refused)) more → run'.report ≡ run.report ++ numbered number (line_answer outcome) → run'.first ≡ run.first
+    → command_of outcome ≡ map (λ cmd. (cmd, Refused)) more → run'.report ≡ run.report ++ numbered number (line_answer outcome) → run'.first ≡ run.first
     → run'.gathered ≡ run.gathered ++ more → run'.version ≡ run.version → HasRead holds batch text next number start gate run'
 line_read holds batch text rest line next earlier number start gate run run' outcome more so_far one_more cut reads asks reported first gathered version =
     let settled = so_far.settled in
@@ -227,32 +227,32 @@ line_read holds batch text rest line next earlier number start gate run run' out
       held = record {
         reported = rw (reported, so_far.held.reported, all, report_lines-push, ← count) refl;
         first = first ∙ so_far.held.first;
-        gathered = rw (asked_of-append, so_far.held.gathered, gathered, map-append, append-nil, asks) refl;
+        gathered = rw (commands_of-append, so_far.held.gathered, gathered, map-append, append-nil, asks) refl;
       };
     }
 
--- one line more, whose command waits now
-pub command_read : {G : Type 0} (holds : G → List Visit → Type 0) (batch : ℕ) (text rest line next : List ℕ) (earlier number : ℕ) (start gate : G)
+-- one more line, whose command waits now
+pub command_read : {G : Type 0} (holds : G → List AnsweredBatch → Type 0) (batch : ℕ) (text rest line next : List ℕ) (earlier number : ℕ) (start gate : G)
     (run run' : RunSoFar) (cmd : Cmd) → HasRead holds batch text rest earlier start gate run → number ≡ earlier + 1 → CutsLine rest line next
     → AnswersLine run.version line (Ok (Some cmd)) → Gathers number cmd run run' → HasRead holds batch text next number start gate run'
 command_read holds batch text rest line next earlier number start gate run run' cmd so_far one_more cut reads gathers =
     line_read holds batch text rest line next earlier number start gate run run' (asked cmd Refused) (cmd ∷ []) so_far one_more cut reads refl
     gathers.reported gathers.first gathers.gathered gathers.version
 
--- what the lines became, once those that waited have been asked
-record Settled {G : Type 0} (holds : G → List Visit → Type 0) (version : Version) (text rest : List ℕ) (number : ℕ) (start new : G)
+-- the outcomes of the lines, after those that waited have been executed
+record Settled {G : Type 0} (holds : G → List AnsweredBatch → Type 0) (version : Version) (text rest : List ℕ) (number : ℕ) (start new : G)
     (pieces : List (List (Cmd × Outcome))) (asked : List (Cmd × Outcome)) (report : List Line) : Type 0 where
   outcomes : List LineOutcome
-  becomes : Becomes text outcomes rest
+  becomes : TextYields text outcomes rest
   versioned : becomes.version ≡ version
   earlier : List LineOutcome
   headed : outcomes ≡ heading version ++ earlier
   counted : number ≡ length outcomes
   reported : report ≡ report_lines 1 outcomes
-  is_joined : asked_of outcomes ≡ concatenated pieces ++ asked
+  is_joined : commands_of outcomes ≡ concatenated pieces ++ asked
   gained : Gains holds start new (map visit_of (pieces ++ piece_of asked))
 
-settles : {G : Type 0} (holds : G → List Visit → Type 0) (batch : ℕ) (text rest : List ℕ) (number : ℕ) (start gate new : G) (run : RunSoFar)
+settles : {G : Type 0} (holds : G → List AnsweredBatch → Type 0) (batch : ℕ) (text rest : List ℕ) (number : ℕ) (start gate new : G) (run : RunSoFar)
     (report : List Line)
     → (read : HasRead holds batch text rest number start gate run) → (answers : AnswersWaiting holds gate new run.gathered run.first run.report report)
     → Settled holds run.version text rest number start new read.asked.pieces (zip run.gathered answers.outcomes) report
@@ -284,7 +284,7 @@ settles holds batch text rest number start gate new run report read answers =
         | inr same ↦ rw (same.0, read.held.reported)
             (ap (λ ls. report_lines 1 (settled ++ ls)) (sym (ap (given waiting) same.1 ∙ given-refused waiting cmds read.held.gathered)))
       ];
-      is_joined = rw (asked_of-append, read.asked.is_joined, asked_of-given waiting cmds outcomes read.held.gathered answers.each) refl;
+      is_joined = rw (commands_of-append, read.asked.is_joined, commands_of-given waiting cmds outcomes read.held.gathered answers.each) refl;
       gained = rw map-append (gains_both holds start gate new _ _ read.asked.gained answers.gained);
     }
 
@@ -293,7 +293,7 @@ some_first : {X : Type 0} (x : X) (xs : List X) → x ∷ xs ≢ []
 some_first x xs is = absurd (omega (arith, ap length is))
 
 -- one command was refused
-pub refuses_one : {G : Type 0} (holds : G → List Visit → Type 0) (old new : G) (cmd : Cmd) (first : ℕ) (report : List Line)
+pub refuses_one : {G : Type 0} (holds : G → List AnsweredBatch → Type 0) (old new : G) (cmd : Cmd) (first : ℕ) (report : List Line)
     → Gains holds old new ([] ∷ []) → AnswersWaiting holds old new (cmd ∷ []) first report report
 refuses_one holds old new cmd first report gained = refuses_waiting holds old new (cmd ∷ []) first report (some_first cmd []) gained
 
@@ -306,12 +306,12 @@ full_piece : {X : Type 0} (size : ℕ) (piece : List X) → length piece ≡ siz
 full_piece {X} size [] is = All-nil _
 full_piece {X} size (x ∷ xs) is = All-cons (λ (p : List X). length p ≡ size) (x ∷ xs) [] is (All-nil _)
 
--- as many pairs as elements
+-- the pairs are equal in number to the commands
 pairs : (cmds : List Cmd) (outcomes : List Outcome) → length outcomes ≡ length cmds → length (zip cmds outcomes) ≡ length cmds
 pairs cmds outcomes each = omega (arith, length-zip cmds outcomes, each)
 
--- a batch was asked: none of the lines read waits
-pub batch_asked : {G : Type 0} (holds : G → List Visit → Type 0) (batch : ℕ) (text rest : List ℕ) (number : ℕ) (start gate new : G) (run run' : RunSoFar)
+-- after a batch was executed, none of the lines read waits
+pub batch_asked : {G : Type 0} (holds : G → List AnsweredBatch → Type 0) (batch : ℕ) (text rest : List ℕ) (number : ℕ) (start gate new : G) (run run' : RunSoFar)
     → HasRead holds batch text rest number start gate run → length run.gathered ≡ batch
     → AnswersWaiting holds gate new run.gathered run.first run.report run'.report
     → run'.gathered ≡ [] → run'.first ≡ length run'.report → run'.version ≡ run.version → HasRead holds batch text rest number start new run'
@@ -337,8 +337,8 @@ batch_asked holds batch text rest number start gate new run run' read whole answ
       held = record { reported = rw append-nil done.reported; first = first ∙ ap length done.reported; gathered = rw emptied refl };
     }
 
--- the text was read to its end, and the last commands were asked
-pub all_asked : {G : Type 0} (holds : G → List Visit → Type 0) (batch : ℕ) (text : List ℕ) (number : ℕ) (start gate new : G) (run : RunSoFar)
+-- after the whole text was read, the last commands were executed
+pub all_asked : {G : Type 0} (holds : G → List AnsweredBatch → Type 0) (batch : ℕ) (text : List ℕ) (number : ℕ) (start gate new : G) (run : RunSoFar)
     (report : List Line)
     → HasRead holds batch text [] number start gate run → length run.gathered < batch
     → AnswersWaiting holds gate new run.gathered run.first run.report report
@@ -364,10 +364,10 @@ all_asked holds batch text number start gate new run report read few answers =
       reported = done.reported;
     }
 
--- the text was read so far, and no more is asked, though this line is next
-pub stopped : {G : Type 0} (holds : G → List Visit → Type 0) (batch : ℕ) (text rest line next : List ℕ) (number : ℕ) (start gate : G) (run : RunSoFar)
+-- the text was read up to this line, and no more is executed
+pub stopped : {G : Type 0} (holds : G → List AnsweredBatch → Type 0) (batch : ℕ) (text rest line next : List ℕ) (number : ℕ) (start gate : G) (run : RunSoFar)
     → HasRead holds batch text rest number start gate run → length run.gathered < batch → CutsLine rest line next → IsTold run.version line
-    → StopsWithin holds batch text start gate
+    → RunsPrefixOf holds batch text start gate
 stopped holds batch text rest line next number start gate run read few cut told =
     let first = becomes-first text rest read.settled read.earlier read.waiting read.becomes
     (read.headed ∙ ap (λ v. heading v ++ read.earlier) (sym read.versioned)) in

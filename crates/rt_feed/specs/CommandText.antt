@@ -19,7 +19,7 @@ space = 32
 abbrev pub route_words : Prefix → ℕ → Hop → List (List ℕ)
 route_words prefix pref hop = prefix_text prefix.base prefix.len ∷ decimal pref ∷ hop_text hop ∷ []
 
--- the command's name, and then what it takes, all numbers plain decimals
+-- the command's name, and then its fields, all numbers plain decimals
 abbrev pub words : Cmd → List (List ℕ)
 words (Add prefix pref hop) = codes "add" ∷ route_words prefix pref hop
 words (Replace prefix pref hop) = codes "replace" ∷ route_words prefix pref hop
@@ -32,12 +32,12 @@ words Purge = codes "purge" ∷ []
 abbrev pub command_text : Cmd → List ℕ
 command_text cmd = join_with_byte space (words cmd)
 
--- texts of this version have the next hop: `discard` came with version 2; an address has 32 bits, as its type says
+-- texts of this version may have the next hop: `discard` came with version 2; an address has 32 bits, as its type says
 abbrev pub HasHop : Version → Hop → Type 0
 HasHop version (Via address) = address.0 < 2 ^ 32
 HasHop version Discard = version ≡ Two
 
--- texts of this version have the command: `purge` came with version 2; a preference and an address have 32 bits
+-- texts of this version may have the command: `purge` came with version 2; a preference and an address have 32 bits
 abbrev pub HasCommand : Version → Cmd → Type 0
 HasCommand version (Add prefix pref hop) = (pref < 2 ^ 32) × HasHop version hop
 HasCommand version (Replace prefix pref hop) = (pref < 2 ^ 32) × HasHop version hop

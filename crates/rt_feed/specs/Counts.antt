@@ -1,45 +1,45 @@
--- How many routes there are, to how many prefixes, of each feed, and to prefixes of each length.
+-- The numbers of routes: in all, of their prefixes, of each feed, and to prefixes of each length.
 use Rattle.std.specs.Prelude.{ℕ, zero, suc, ◌+◌, ◌==◌, if◌then◌else◌, List, [], ◌++◌, length, codes, decimal, count_by}
 use Rattle.std.specs.List.{dedup}
 use Rattle.rt_cidr.specs.Prefix.{same_prefix}
-use Rattle.rt_rib.specs.declared.limits.TheConstants.{MOST_FEEDS}
+use Rattle.rt_rib.specs.declared.limits.TheConstants.{MAX_FEEDS}
 use Rattle.rt_rib.specs.declared.routes.Route.{Route}
 use Rattle.rt_rib.specs.Table.{count_of}
 use Rattle.rt_feed.specs.declared.styles.Form.{Form}
 use Rattle.rt_feed.specs.declared.styles.Form.TheVariants.{Numbers, Json}
 
--- to how many prefixes the routes are, where those to one stand together
+-- the number of prefixes of the routes, if routes to the same prefix are adjacent
 abbrev pub prefix_count : List Route → ℕ
 prefix_count routes = length (dedup (λ s r. same_prefix s.prefix r.prefix) routes)
 
--- how many of them are to prefixes of this length
+-- the number of routes to prefixes of this length
 abbrev pub length_count : ℕ → List Route → ℕ
 length_count len routes = count_by (λ r. r.prefix.len == len) routes
 
--- how many routes there are, and to how many prefixes
+-- the text of the numbers of routes and of prefixes
 unfoldable pub totals_as : Form → ℕ → ℕ → List ℕ
 totals_as Json routes prefixes = codes "{\"routes\":" ++ (decimal routes ++ (codes ",\"prefixes\":" ++ (decimal prefixes ++ codes "}\n")))
 totals_as form routes prefixes = codes "routes " ++ (decimal routes ++ (codes " prefixes " ++ (decimal prefixes ++ codes "\n")))
 
--- how many routes there are of what is of this kind and name; nothing where there are none
+-- the text of the number of routes of this kind and name, empty for 0
 unfoldable pub count_as : Form → List ℕ → List ℕ → ℕ → List ℕ
 count_as Json kind name count =
     if count == 0 then [] else codes "{\"" ++ (kind ++ (codes "\":" ++ (name ++ (codes ",\"routes\":" ++ (decimal count ++ codes "}\n")))))
 count_as form kind name count = if count == 0 then [] else kind ++ (codes " " ++ (name ++ (codes " routes " ++ (decimal count ++ codes "\n"))))
 
--- what stands for a feed: its number, or its label
+-- the text for a feed: its number, or its label
 abbrev pub feed_as : Form → (ℕ → List ℕ) → ℕ → List ℕ
 feed_as Numbers label feed = decimal feed
 feed_as form label feed = label feed
 
--- what is told of each number below this, from 0 on
+-- the texts of all numbers below this one, from 0 on
 abbrev pub each_below : (ℕ → List ℕ) → ℕ → List ℕ
 each_below tell zero = []
 each_below tell (suc n) = each_below tell n ++ tell n
 
--- all these numbers of routes; here `label` is that of each feed
+-- all these numbers of routes; here `label` gives the label of each feed
 unfoldable pub counts_as : Form → (ℕ → List ℕ) → List Route → List ℕ
 counts_as form label routes =
     totals_as form (length routes) (prefix_count routes)
-    ++ (each_below (λ feed. count_as form (codes "feed") (feed_as form label feed) (count_of feed routes)) (MOST_FEEDS + 1)
+    ++ (each_below (λ feed. count_as form (codes "feed") (feed_as form label feed) (count_of feed routes)) (MAX_FEEDS + 1)
     ++ each_below (λ len. count_as form (codes "length") (decimal len) (length_count len routes)) 33)

@@ -1,4 +1,4 @@
--- The text of what two tables answer otherwise.
+-- The text of the differences of two tables.
 use Rattle.std.specs.Prelude.{ℕ, List, [], ◌++◌, codes}
 use Rattle.std.specs.List.{flat_map}
 use Rattle.rt_cidr.specs.Text.{address_text}
@@ -13,12 +13,12 @@ use Rattle.rt_feed.specs.Printed.{route_text, route_line}
 use Rattle.rt_feed.specs.Json.{hop_members, route_object}
 use Rattle.rt_feed.specs.Styles.{label_of}
 
--- where packets go: `via ADDR`, or `discard`
+-- the next hop: `via ADDR`, or `discard`
 abbrev pub way_text : Hop → List ℕ
 way_text (Via address) = codes "via " ++ address_text address.0
 way_text Discard = codes "discard"
 
--- what an address is answered
+-- the answer for an address
 unfoldable pub answered_text : TableAnswer → List ℕ
 answered_text answered.NoRoute = codes "no route"
 answered_text (answered.Hop hop) = way_text hop
@@ -30,13 +30,13 @@ difference_text d =
     address_text d.first.0 ++ (codes "-" ++ (address_text d.last.0 ++ (codes " "
     ++ (answered_text d.old ++ (codes " -> " ++ (answered_text d.new ++ codes "\n"))))))
 
--- in which form two tables are told, and the labels of the feeds of each, the k-th of the feed that is told by number k
+-- the form of two printed tables, and the labels of the feeds of each, the k-th for the feed with the number k
 pub record SideStylesContents : Type 0 where
   pub form : Form
   pub old_labels : List (List ℕ)
   pub new_labels : List (List ℕ)
 
--- what an address is answered, where `label` is that of each feed of its table
+-- the answer for an address; `label` gives the label of each feed of its table
 unfoldable pub answered_as : Form → (ℕ → List ℕ) → TableAnswer → List ℕ
 answered_as Labels label (answered.Route r) = route_line (label r.feed) r
 answered_as Json label answered.NoRoute = codes "null"

@@ -1,4 +1,4 @@
--- The grammar of one line of a feed's text, without its LF: the command whose text it is, or the first fault that it has.
+-- The grammar of one line of a feed's text, without its LF: the command with this text, or the first fault.
 use Rattle.std.specs.Prelude.{◌≡◌, ◌≢◌, ℕ, ◌^◌, ◌<◌, ◌≤◌, ◌==◌, ◌⊎◌, ◌||◌, Bool, true, false, if◌then◌else◌}
 use Rattle.std.specs.Prelude.{List, [], ◌∷◌, length, codes, decimal, bytes_eq, Option, None, Some, Ok, Err}
 use Rattle.std.specs.declared.result.Result.{Result}
@@ -21,16 +21,16 @@ use Rattle.rt_feed.specs.Printed.{hop_text}
 abbrev pub hash : ℕ
 hash = 35
 
--- whether the line asks nothing: it is empty, or it is a comment
+-- true if the line has no command: it is empty, or it is a comment
 abbrev pub is_skipped : List ℕ → Bool
 is_skipped [] = true
 is_skipped (byte ∷ line) = byte == hash
 
--- the line cut at every space into its fields, of which any may be empty
+-- the fields of the line, which is split at every space; a field may be empty
 abbrev pub fields : List ℕ → List (List ℕ)
 fields line = slice_split (λ byte. byte == space) line
 
--- what a field after a command's name is to be; what a next hop may be, the text's version says
+-- the kind of a field after a command's name; the text's version determines the possible next hops
 pub data Kind : Type 0 where
   prefix : Kind
   preference : Kind
@@ -44,8 +44,8 @@ IsOfKind preference field = (pref : ℕ) × (pref < 2 ^ 32) × (field ≡ decima
 IsOfKind (hop version) field = (next : Hop) × HasHop version next × (field ≡ hop_text next)
 IsOfKind address field = (a : Addr) × (a.0 < 2 ^ 32) × (field ≡ address_text a.0)
 
--- the fault of a field that is not what it is to be; of one that is to be a prefix, that it is no pair's text, or what is
--- wrong with the pair
+-- the fault of a field of the wrong kind; for a prefix, that the field isn't the text of any pair, or the fault
+-- of its pair
 abbrev pub IsFaultOf : Kind → List ℕ → LineFault → Type 0
 IsFaultOf prefix field fault.Text = (base len : ℕ) → ¬ IsPrefixText field base len
 IsFaultOf prefix field fault.PrefixLength = (base len : ℕ) × IsPrefixText field base len × (32 < len)
@@ -56,18 +56,18 @@ IsFaultOf preference field answer = answer ≡ fault.Preference
 IsFaultOf (hop version) field answer = answer ≡ fault.Hop
 IsFaultOf address field answer = answer ≡ fault.Text
 
--- the fault of the first field, from the left, that is not what it is to be
+-- the fault of the first field, from the left, of the wrong kind
 abbrev pub IsFirstFault : List Kind → List (List ℕ) → LineFault → Type 0
 IsFirstFault (kind ∷ kinds) (field ∷ rest) answer =
     ((¬ IsOfKind kind field) × IsFaultOf kind field answer) ⊎ (IsOfKind kind field × IsFirstFault kinds rest answer)
 IsFirstFault kinds rest answer = ⊥
 
--- what follows `purge`, which is a command's name in version 2 alone
+-- the fields after `purge`, which is a command's name only in version 2
 abbrev pub purge_kinds : Version → Option (List Kind)
 purge_kinds One = None
 purge_kinds Two = Some []
 
--- what the fields after this one are to be, if it is a command's name
+-- the kinds of the fields after this one, if it is a command's name
 abbrev pub kinds_after : Version → List ℕ → Option (List Kind)
 kinds_after version name =
     if bytes_eq name (codes "add") || bytes_eq name (codes "replace") then Some (prefix ∷ preference ∷ hop version ∷ [])
@@ -77,8 +77,8 @@ kinds_after version name =
     else if bytes_eq name (codes "purge") then purge_kinds version
     else None
 
--- the fault after a first field: that it names no command; or, of the fields that follow and are to be these, that they
--- are not so many, or the first of theirs
+-- the fault after a first field: that it isn't a command's name; or else that the number of the fields after it is
+-- wrong, or the first fault of these fields
 abbrev pub IsFaultAfter : Option (List Kind) → List (List ℕ) → LineFault → Type 0
 IsFaultAfter None rest answer = answer ≡ fault.Command
 IsFaultAfter (Some kinds) rest answer =
@@ -90,8 +90,8 @@ abbrev pub IsFaultOfFields : Version → List (List ℕ) → LineFault → Type 
 IsFaultOfFields version [] answer = ⊥
 IsFaultOfFields version (name ∷ rest) answer = IsFaultAfter (kinds_after version name) rest answer
 
--- what a line of a text of this version says: it is the text of a command; it is skipped; or it has a fault: it is too
--- long, whatever it says, or else it is the first of its fields from the left
+-- the answer for a line of a text of this version: a command, if the line is its text; none, if the line is skipped; or
+-- a fault. The fault is that the line is too long, whatever it says, or else the first of its fields from the left
 abbrev pub AnswersLine : Version → List ℕ → Result (Option Cmd) LineFault → Type 0
 AnswersLine version line (Ok (Some cmd)) = HasCommand version cmd × (line ≡ command_text cmd)
 AnswersLine version line (Ok None) = (length line ≤ LINE_BYTES) × (is_skipped line ≡ true)

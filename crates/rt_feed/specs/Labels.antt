@@ -1,4 +1,4 @@
--- What stands for a feed: its name, or what JSON tells of it.
+-- The label of a feed: its name, or its members in JSON.
 use Rattle.std.specs.Prelude.{ℕ, suc, ◌+◌, ◌-◌, ◌==◌, if◌then◌else◌, List, [], ◌∷◌, ◌++◌, length, take, drop, codes, decimal, bytes_eq}
 use Rattle.std.specs.List.{list_any}
 use Rattle.rt_cidr.specs.Text.{slash}
@@ -6,7 +6,7 @@ use Rattle.rt_feed.specs.declared.labels.Labelling.{Labelling}
 use Rattle.rt_feed.specs.declared.labels.Labelling.TheVariants.{Names, Files, NamesAndFiles}
 use Rattle.rt_feed.specs.Json.{json_string}
 
--- a path's part behind its last slash, or all of it
+-- a path's part after its last slash, or all of it
 abbrev pub base_name : List ℕ → List ℕ
 base_name [] = []
 base_name (byte ∷ path) =
@@ -20,24 +20,25 @@ without_feed name = if bytes_eq (drop (length name - 5) name) (codes ".feed") th
 unfoldable pub feed_name : List ℕ → List ℕ
 feed_name path = without_feed (base_name path)
 
--- what stands for the feed of this number and path: `NAME`, `FEED,"file":"PATH"`, or `FEED,"name":"NAME","file":"PATH"`
+-- the label of the feed of this number and path: `NAME`, `FEED,"file":"PATH"`, or `FEED,"name":"NAME","file":"PATH"`
 unfoldable pub label_by : Labelling → ℕ → List ℕ → List ℕ
 label_by Names feed path = feed_name path
 label_by Files feed path = decimal feed ++ (codes ",\"file\":" ++ json_string path)
 label_by NamesAndFiles feed path =
     decimal feed ++ (codes ",\"name\":" ++ (json_string (feed_name path) ++ (codes ",\"file\":" ++ json_string path)))
 
--- for each path, in order, what is told of it by its number, of which this is the first
+-- the value of `tell` for each path, in order, with its number; the first path has this number
 abbrev pub labelled : {X : Type 0} → (ℕ → List ℕ → X) → ℕ → List (List ℕ) → List X
 labelled tell feed [] = []
 labelled tell feed (path ∷ paths) = tell feed path ∷ labelled tell (suc feed) paths
 
--- the number of the first of these paths whose feed has the name, where they are numbered from this one on; or else another number
+-- the number of the first of these paths whose feed has the name, if they are numbered from this one on; or else
+-- another number
 abbrev pub number_in : ℕ → List (List ℕ) → List ℕ → ℕ → ℕ
 number_in number [] name other = other
 number_in number (path ∷ paths) name other = if bytes_eq (feed_name path) name then number else number_in (suc number) paths name other
 
--- by which number a feed of a second set of files is told, by its own and its path: by that of the feed of its name in the first
--- set, or, where none has it, by one behind all of these
-abbrev pub number_beside : List (List ℕ) → ℕ → List ℕ → ℕ
-number_beside paths feed path = number_in 1 paths (feed_name path) (length paths + feed)
+-- the number of a feed of a second set of files, given its own number and path: the number of the feed of its name in
+-- the first set or, if none has this name, a number above all of these
+abbrev pub paired_number : List (List ℕ) → ℕ → List ℕ → ℕ
+paired_number paths feed path = number_in 1 paths (feed_name path) (length paths + feed)

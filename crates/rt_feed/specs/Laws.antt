@@ -1,4 +1,4 @@
--- What the grammar of lines and the cut of a text into lines promise of every line and every text.
+-- The laws of the grammar of lines and of the split of a text into lines, for every line and every text.
 use Rattle.std.specs.Prelude.{◌≡◌, ◌↔◌, ℕ, List, [], map, Option, Some, Ok}
 use Rattle.std.specs.declared.result.Result.{Result}
 use Rattle.rt_cidr.specs.declared.address.Addr.{Addr}
@@ -10,7 +10,7 @@ use Rattle.rt_feed.specs.CommandText.{command_text, HasCommand}
 use Rattle.rt_feed.specs.declared.faulty.FaultyLines.{FaultyLines}
 use Rattle.rt_feed.specs.Addresses.{AnswersAddressLine, SaysAddresses}
 use Rattle.rt_feed.specs.Grammar.{AnswersLine}
-use Rattle.rt_feed.specs.Lines.{CutsLine, TellsTwo, LineOutcome, LinesBecome, Becomes, reading}
+use Rattle.rt_feed.specs.Lines.{CutsLine, HasVersion2Header, LineOutcome, LinesYield, TextYields, reading}
 
 -- a line has at most one answer
 abbrev pub LineHasOneAnswer : Type 0
@@ -23,7 +23,7 @@ abbrev pub AddressLineHasOneAnswer : Type 0
 AddressLineHasOneAnswer =
     (line : List ℕ) (one two : Result (Option Addr) LineFault) → AnswersAddressLine line one → AnswersAddressLine line two → one ≡ two
 
--- and so a text of addresses says one list of them, and has one count of faulty lines and one first of these
+-- and so a text of addresses has only one list of addresses, one count of faulty lines and one first faulty line
 abbrev pub AddressTextHasOneReading : Type 0
 AddressTextHasOneReading =
     (text : List ℕ) (addresses others : List Addr) (faulty other_faulty : FaultyLines) →
@@ -41,18 +41,18 @@ OnlyItsTextIsRead =
     (version : Version) (line : List ℕ) (cmd : Cmd) →
     AnswersLine version line (Ok (Some cmd)) → HasCommand version cmd × (line ≡ command_text cmd)
 
--- a text that does not begin with the line that tells version 2 has all its lines read by version 1
+-- a text that does not begin with the line `version 2` has all its lines read as version 1
 abbrev pub OlderTextsStay : Type 0
 OlderTextsStay =
     (text : List ℕ) (outcomes : List LineOutcome) →
-    ((rest : List ℕ) → ¬ TellsTwo text rest) → Becomes text outcomes [] ↔ LinesBecome One text outcomes []
+    ((rest : List ℕ) → ¬ HasVersion2Header text rest) → TextYields text outcomes [] ↔ LinesYield One text outcomes []
 
--- a text is cut into its first line and its rest in at most one way
+-- a text is split into its first line and its rest in at most one way
 abbrev pub TextHasOneCut : Type 0
 TextHasOneCut =
     (text line rest other other_rest : List ℕ) → CutsLine text line rest → CutsLine text other other_rest → (line ≡ other) × (rest ≡ other_rest)
 
--- so whatever became of a whole text's commands, each of its lines says the same
+-- each line of a text has the same meaning, whatever the outcomes of its commands
 abbrev pub TextHasOneReading : Type 0
 TextHasOneReading =
-    (text : List ℕ) (outcomes others : List LineOutcome) → Becomes text outcomes [] → Becomes text others [] → map reading outcomes ≡ map reading others
+    (text : List ℕ) (outcomes others : List LineOutcome) → TextYields text outcomes [] → TextYields text others [] → map reading outcomes ≡ map reading others

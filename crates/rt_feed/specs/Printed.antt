@@ -1,4 +1,4 @@
--- The texts that are written: routes, answers, the lines of a report, the table, what look-ups found.
+-- The written texts: routes, answers, the lines of a report, the table, look-up results.
 use Rattle.std.specs.Prelude.{ℕ, nat_lt, if◌then◌else◌, List, [], ◌∷◌, ◌++◌, length, codes, decimal, Option, Some, None}
 use Rattle.std.specs.List.{flat_map}
 use Rattle.std.specs.Option.{option_map_or}
@@ -20,13 +20,13 @@ abbrev pub hop_text : Hop → List ℕ
 hop_text (Via address) = address_text address.0
 hop_text Discard = codes "discard"
 
--- `PREFIX feed FEED pref P via HOP`, where this stands for the feed
+-- `PREFIX feed FEED pref P via HOP` with this text for the feed
 abbrev pub route_line : List ℕ → Route → List ℕ
 route_line feed route =
     prefix_text route.prefix.base route.prefix.len ++ (codes " feed " ++ (feed ++
     (codes " pref " ++ (decimal route.pref ++ (codes " via " ++ hop_text route.hop)))))
 
--- a route, its feed by its number
+-- a route with its feed's number
 unfoldable pub route_text : Route → List ℕ
 route_text route = route_line (decimal route.feed) route
 
@@ -54,7 +54,7 @@ fault_text fault.Preference = codes "fault E6"
 fault_text fault.Hop = codes "fault E7"
 fault_text fault.LineLength = codes "fault E8"
 
--- what a line was answered
+-- the answer to a line
 unfoldable pub answer_text : Answer → List ℕ
 answer_text (Did reply) = reply_text reply
 answer_text Refused = codes "refused"
@@ -85,27 +85,28 @@ rows_text routes = flat_map row_text routes
 abbrev pub table_text : List Route → List ℕ
 table_text routes = count_text (length routes) ++ rows_text routes
 
--- the address that was looked up, and then `route` and the route that was found, or `no route`
+-- the address, and then `route` and the route found, or `no route`
 unfoldable pub found_text : Addr → Option Route → List ℕ
 found_text addr found =
     address_text addr.0 ++ (codes " " ++ (reply_text (option_map_or Found found NoRoute) ++ codes "\n"))
 
--- why the route was left behind the first one: its prefix is shorter, else its preference is greater, else its feed is
+-- the reason why the route lost to the first one: its prefix is shorter, else its preference is higher, else its
+-- feed is
 unfoldable pub reason_text : Route → Route → List ℕ
 reason_text first r =
     if nat_lt r.prefix.len first.prefix.len then codes "shorter"
     else if nat_lt first.pref r.pref then codes "preference" else codes "feed"
 
--- the address that was looked up, `also`, and a route that covers it behind the first one, with the reason; this tells the route
+-- the address, `also`, and a covering route after the first one, with the reason; `tell` writes the route
 abbrev pub also_line : (Route → List ℕ) → Addr → Route → Route → List ℕ
 also_line tell addr first r =
     address_text addr.0 ++ (codes " also " ++ (tell r ++ (codes " " ++ (reason_text first r ++ codes "\n"))))
 
--- it where the route's feed is told by its number
+-- the same with the number of the route's feed
 unfoldable pub also_text : Addr → Route → Route → List ℕ
 also_text addr first r = also_line route_text addr first r
 
--- all routes that were found, the best first: it as by a look-up, and then the others in order
+-- all routes found, the best first: the first as for a look-up, and then the others in order
 abbrev pub all_found_text : Addr → List Route → List ℕ
 all_found_text addr [] = found_text addr None
 all_found_text addr (first ∷ others) = found_text addr (Some first) ++ flat_map (also_text addr first) others

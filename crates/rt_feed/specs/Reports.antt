@@ -1,4 +1,4 @@
--- The lines of a report: in which order they stand, and whether one of them tells of a refusal or a fault.
+-- The lines of a report: their order, and whether one of them is a refusal or a fault.
 use Rattle.std.specs.Prelude.{◌<◌, Bool, true, false, List, AllPairs}
 use Rattle.std.specs.List.{list_any}
 use Rattle.rt_feed.specs.declared.report.Line.{Line}
@@ -9,7 +9,7 @@ use Rattle.rt_feed.specs.declared.report.Answer.TheVariants.{Did, Refused, Fault
 abbrev pub NumbersRise : List Line → Type 0
 NumbersRise lines = AllPairs (λ (earlier later : Line). earlier.number < later.number) lines
 
--- a command was refused for want of memory
+-- a command was refused because memory ran out
 abbrev pub is_refusal : Answer → Bool
 is_refusal (Did reply) = false
 is_refusal Refused = true

@@ -1,4 +1,4 @@
--- What no public clause speaks of: the words of private contracts, of invariants and of proofs.
+-- Definitions that no public clause uses, for private contracts, invariants and proofs.
 pub mod Fields
 pub mod Filling
 pub mod Lines

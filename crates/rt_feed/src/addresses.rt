@@ -9,18 +9,18 @@ use crate::parse::{LineFault, check_length, is_skipped, parse_address};
 use rt_cidr::Addr;
 use std::alloc::{AllocError, Global};
 
-/// What a text of addresses says.
+/// The contents of a text of addresses.
 #[derive(Debug, Drop)]
 pub struct AddressText {
-    /// The addresses that its lines say, in order.
+    /// The addresses of its lines, in order.
     pub addresses: Vec<Addr>,
-    /// The lines that are no address and are not skipped.
+    /// The lines that are neither addresses nor skipped.
     pub faulty: FaultyLines,
 }
 
-/// Reads a text of addresses, in which each line that is not skipped is one, as `parse_address_line` tells. The last LF
-/// is optional, and lines are numbered from 1, all of them. A faulty line says no address, and the lines behind it are
-/// read as ever. Refused only for want of memory.
+/// Reads a text of addresses, one on each line that isn't skipped (`parse_address_line`). The last LF is optional, and
+/// all lines are numbered, from 1. A faulty line has no address, and the lines after it are read as usual. Fails only
+/// if memory runs out.
 pub fn read_addresses(alloc: Global, text: &[u8]) -> Result<AddressText, AllocError>
     ensures { IfOk result (λ read. SaysAddresses text.now read.addresses.items read.faulty) }
 {
@@ -46,7 +46,7 @@ impl AddressText {
         }
     }
 
-    /// Takes in the line of this number.
+    /// Reads the line of this number.
     fn put_line(&mut self, number: usize, line: &[u8]) -> Result<(), AllocError>
         requires { self.old.faulty.count < number }
         ensures { OnOk result (PutsLine number line.now self.old.addresses.items self.old.faulty self.new.addresses.items self.new.faulty) }
@@ -67,10 +67,10 @@ impl AddressText {
     }
 }
 
-/// What the line of a text of addresses says, without its LF: an address, the whole line its text; or nothing, where a
-/// line of a feed's text would say nothing: it is empty or a comment (its first byte is `#`). Else the line's fault:
-/// `LineLength` (E8) for one of more than 128 bytes, comments too, and then `Text` (E3) for one that is no address. A
-/// space or a carriage return is a byte like any other, and is in no address. Takes no memory.
+/// Parses a line of a text of addresses, without its LF. Returns its address, or `None` if it is empty or a comment
+/// (its first byte is `#`), as in a feed's text. Faults: `LineLength` (E8) for more than 128 bytes, also in a comment,
+/// and else `Text` (E3) if the whole line isn't an address. A space or a carriage return is a byte like any other, and
+/// is in no address. Doesn't allocate.
 pub fn parse_address_line(line: &[u8]) -> Result<Option<Addr>, LineFault>
     ensures { AnswersAddressLine line.now result }
 {

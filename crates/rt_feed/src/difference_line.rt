@@ -1,4 +1,4 @@
-//! What two tables answer otherwise, as text: one line for each range of addresses.
+//! The differences of two tables as text: one line for each range of addresses.
 ghost use Rattle.std.specs.Prelude.{◌≡◌, ◌++◌};
 ghost use Rattle.rt_cidr.specs.Output.{WritesText};
 ghost use Rattle.rt_cidr.specs.ShortText.{FitsInShortText};
@@ -10,9 +10,9 @@ use rt_diff::{Difference, TableAnswer};
 use rt_rib::Hop;
 use std::io::{self, Write};
 
-/// Writes the range and its two answers, `FIRST-LAST OLD -> NEW` and LF, an answer being `no route`, `via ADDR`, `discard`, or
-/// the whole route. A fault is the writer's, as `put` hands it on; what was written is then a beginning of that line. Takes no
-/// memory, and calls the writer as `write_report` does.
+/// Writes the range and its two answers, `FIRST-LAST OLD -> NEW` and LF. An answer is `no route`, `via ADDR`,
+/// `discard`, or the whole route. Errors are the writer's, as `put` returns them; a prefix of that line was then
+/// written. Doesn't allocate, and calls the writer as `write_report` does.
 #[tactic(auto, using(crate::proofs::DifferenceLines::difference_fits))]
 pub fn write_difference<W: Write>(w: &mut W, difference: &Difference) -> io::Result<()>
     ensures { WritesText (W.contents w.old) (W.contents w.new) (difference_text difference.now) result }
@@ -22,9 +22,9 @@ pub fn write_difference<W: Write>(w: &mut W, difference: &Difference) -> io::Res
     put(w, text.as_bytes())
 }
 
-// Each function below puts its text in front.
+// Each function below prepends its text.
 
-/// A range and its two answers, with the LF.
+/// Prepends a range and its two answers, with the LF.
 #[tactic(auto, using(rt_cidr::proofs::Promised::prepending), unfolding(crate::specs::DifferenceText::difference_text))]
 fn prepend_difference(text: &mut ShortText, difference: &Difference)
     requires room { FitsInShortText (difference_text difference.now) text.old }
@@ -40,7 +40,7 @@ fn prepend_difference(text: &mut ShortText, difference: &Difference)
     difference.first.prepend_to(text);
 }
 
-/// What an address is answered.
+/// Prepends the answer for an address.
 #[tactic(auto, using(rt_cidr::proofs::Promised::prepending), unfolding(crate::specs::DifferenceText::answered_text))]
 pub(crate) fn prepend_answered(text: &mut ShortText, answer: &TableAnswer)
     requires room { FitsInShortText (answered_text answer.now) text.old }

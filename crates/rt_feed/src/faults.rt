@@ -1,16 +1,16 @@
-//! What a run of feeds can be refused for.
+//! The faults of a run of feeds.
 use thiserror::Error;
 
-/// Why a run of feeds gave no result. Tested in this order.
+/// The reason why a run of feeds has no result. Tested in this order.
 #[derive(Clone, Copy, PartialEq, Eq, Debug, Error)]
 pub enum RunFault {
-    /// F1: there is no text. Nothing was asked.
+    /// F1: the list of texts is empty. No command was executed.
     #[error("fault F1")]
     NoText,
-    /// F2: there are not as many feeds as texts. Nothing was asked.
+    /// F2: the numbers of feeds and of texts differ. No command was executed.
     #[error("fault F2")]
     FeedCount,
-    /// F3: memory was refused outside of a command.
+    /// F3: memory ran out outside of a command.
     #[error("fault F3")]
     Memory,
 }

@@ -6,7 +6,7 @@ use crate::parse::LineFault;
 /// The faulty lines of a text.
 #[derive(Clone, Copy, PartialEq, Eq, Debug)]
 pub struct FaultyLines {
-    /// How many there are.
+    /// Their number.
     pub count: usize,
     /// The first of them: its number, from 1, and its fault.
     pub first: Option<(usize, LineFault)>,
@@ -16,7 +16,7 @@ impl FaultyLines {
     ghost use Rattle.rt_feed.specs.declared.parse.LineFault.{LineFault};
     ghost use Rattle.rt_feed.specs.Addresses.{faulty_lines};
 
-    /// None.
+    /// Returns the faulty lines of a text without any.
     pub fn none() -> FaultyLines
         ensures { result ≡ faulty_lines [] }
     {
@@ -26,7 +26,7 @@ impl FaultyLines {
         }
     }
 
-    /// Counts the line of this number too, which comes behind the others.
+    /// Adds the line of this number, which comes after the others.
     pub fn put(&mut self, number: usize, fault: LineFault)
         requires { self.old.count < number }
         ensures { (faults : List (ℕ × LineFault)) → self.old ≡ faulty_lines faults → self.new ≡ faulty_lines (faults ++ (number, fault) ∷ []) }

@@ -1,4 +1,4 @@
-//! Several feeds, each through a gate of its own and on a thread of its own.
+//! Several feeds, each through its own gate and on its own thread.
 ghost use Rattle.std.specs.Prelude.{◌≡◌, ◌≢◌, ◌↔◌, ◌⊎◌, ℕ, ◌<◌, ◌≤◌, [], length, All, Any, IsSome, IfErr, OnOk, slice_index_or};
 ghost use Rattle.rt_feed.specs.FeedRuns.{RunsOne};
 
@@ -14,14 +14,14 @@ use std::thread::Threads;
 /// A feed: the gate that answers it and, after a run, its report.
 #[derive(Debug, Drop)]
 pub struct Feed<G> {
-    /// What answers its commands.
+    /// The gate that answers its commands.
     pub gate: G,
-    /// What its lines were answered, where it was run to its end.
+    /// The answers to its lines, if it was run to its end.
     pub report: Option<Report>,
 }
 
-/// Runs each text through the gate of the feed of the same number, each on a thread of its own, and joins them all. Where
-/// no thread can be made they run one after another.
+/// Runs each text through the gate of the feed of the same number, each on its own thread, and joins them all. If no
+/// thread can be made, they run one after another.
 pub fn run_feeds<R: Threads + Wait + Sync, G: Gate>(
     rt: &R,
     alloc: Global,
@@ -60,7 +60,7 @@ pub fn run_feeds<R: Threads + Wait + Sync, G: Gate>(
     all_reported(feeds)
 }
 
-/// Whether every feed has a report.
+/// Returns F3 (`Memory`) unless every feed has a report.
 fn all_reported<G>(feeds: &[Feed<G>]) -> Result<(), RunFault>
     ensures ok { OnOk result (All (λ feed. IsSome feed.report) feeds.now) }
     ensures err { IfErr result (λ fault. (fault ≡ RunFault.Memory) × Any (λ feed. feed.report ≡ None) feeds.now) }

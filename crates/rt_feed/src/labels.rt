@@ -1,4 +1,4 @@
-//! What stands for a feed where not its number alone does: its name, or what JSON tells of it.
+//! The label of a feed: its name, or its members in JSON.
 ghost use Rattle.std.specs.Prelude.{◌≡◌, ◌<◌, ◌++◌, map, decimal, IfOk, OnOk};
 ghost use Rattle.std.specs.Char.{digit_char};
 ghost use Rattle.std.specs.List.{flat_map};
@@ -8,19 +8,19 @@ ghost use Rattle.rt_feed.specs.Labels.{base_name, feed_name, label_by, labelled}
 use rt_cidr::ShortText;
 use std::alloc::{AllocError, Global};
 
-/// What stands for a feed.
+/// The kind of a feed's label.
 #[derive(Clone, Copy, PartialEq, Eq, Debug)]
 pub enum Labelling {
-    /// Its name, which is that of its file.
+    /// Its name (`feed_name`).
     Names,
-    /// As members of a JSON object, its number and the path of its file.
+    /// Its number and the path of its file, as members of a JSON object.
     Files,
-    /// As members of a JSON object, its number, its name and the path of its file.
+    /// Its number, its name and the path of its file, as members of a JSON object.
     NamesAndFiles,
 }
 
-/// What stands for each of the feeds that are read from the files of these paths, the k-th for feed k. Refused only for want
-/// of memory.
+/// Returns the labels of the feeds that are read from the files of these paths, the k-th for feed k. Fails only if
+/// memory runs out.
 pub fn labels_of(
     alloc: Global,
     labelling: Labelling,
@@ -37,7 +37,7 @@ pub fn labels_of(
     Ok(labels)
 }
 
-/// Puts behind the text what stands for the feed of this number and path.
+/// Appends the label of the feed of this number and path.
 fn push_label(
     text: &mut Vec<u8>,
     labelling: Labelling,
@@ -60,8 +60,8 @@ fn push_label(
     }
 }
 
-/// The name of the feed that is read from the file of this path: the part behind the last slash, without `.feed` at its
-/// end. Any other ending stays.
+/// Returns the name of the feed that is read from the file of this path: the part after the last slash, without `.feed`
+/// at its end. Any other ending stays.
 pub fn feed_name(path: &[u8]) -> &[u8]
     ensures { result.now ≡ feed_name path.now }
 {
@@ -72,7 +72,7 @@ pub fn feed_name(path: &[u8]) -> &[u8]
     }
 }
 
-/// The part of a path behind its last slash.
+/// Returns the part of a path after its last slash.
 fn base_name(path: &[u8]) -> &[u8]
     ensures { result.now ≡ base_name path.now }
 {
@@ -87,7 +87,7 @@ fn base_name(path: &[u8]) -> &[u8]
     name
 }
 
-/// Puts the number's decimal behind the text.
+/// Appends the number's decimal.
 fn push_number(text: &mut Vec<u8>, number: u64) -> Result<(), AllocError>
     ensures { OnOk result (text.new.items ≡ text.old.items ++ decimal number) }
 {
@@ -96,7 +96,7 @@ fn push_number(text: &mut Vec<u8>, number: u64) -> Result<(), AllocError>
     text.extend_from_slice(digits.as_bytes())
 }
 
-/// Puts a member of a JSON object behind the text: its comma, name and colon, and its value, the string of these bytes.
+/// Appends a member of a JSON object: its comma, name and colon, and its value, the string of these bytes.
 fn push_member(text: &mut Vec<u8>, name: &[u8], value: &[u8]) -> Result<(), AllocError>
     ensures { OnOk result (text.new.items ≡ text.old.items ++ (name.now ++ json_string value.now)) }
 {
@@ -106,7 +106,7 @@ fn push_member(text: &mut Vec<u8>, name: &[u8], value: &[u8]) -> Result<(), Allo
     text.extend_from_slice(b"\"")
 }
 
-/// Puts behind the text what stands in a JSON string for these bytes.
+/// Appends these bytes, escaped for a JSON string.
 fn push_escaped(text: &mut Vec<u8>, bytes: &[u8]) -> Result<(), AllocError>
     ensures { OnOk result (text.new.items ≡ text.old.items ++ flat_map escaped bytes.now) }
 {
@@ -116,7 +116,7 @@ fn push_escaped(text: &mut Vec<u8>, bytes: &[u8]) -> Result<(), AllocError>
     Ok(())
 }
 
-/// Puts behind the text what stands in a JSON string for this byte.
+/// Appends this byte, escaped for a JSON string.
 fn push_byte(text: &mut Vec<u8>, byte: u8) -> Result<(), AllocError>
     ensures { OnOk result (text.new.items ≡ text.old.items ++ escaped byte) }
 {
@@ -130,7 +130,7 @@ fn push_byte(text: &mut Vec<u8>, byte: u8) -> Result<(), AllocError>
     }
 }
 
-/// The digit of this value in hexadecimal.
+/// Returns the hexadecimal digit of this value.
 fn hex_digit(value: u8) -> u8
     requires { value < 16 }
     ensures { result ≡ digit_char value }

@@ -2,7 +2,7 @@
 ghost use Rattle.rt_feed.specs.Laws.{LineHasOneAnswer, AddressLineHasOneAnswer, AddressTextHasOneReading, CommandIsReadAgain};
 ghost use Rattle.rt_feed.specs.Laws.{OnlyItsTextIsRead, OlderTextsStay, TextHasOneCut, TextHasOneReading};
 
-/// What `parse_line` answers is the only answer that its contract allows.
+/// `parse_line` returns the only answer that its contract allows.
 pub fn one_answer()
     ensures { LineHasOneAnswer }
 {
@@ -10,7 +10,7 @@ pub fn one_answer()
     rt_cidr::laws::read_again();
 }
 
-/// What `parse_address_line` answers is the only answer that its contract allows.
+/// `parse_address_line` returns the only answer that its contract allows.
 pub fn one_address()
     ensures { AddressLineHasOneAnswer }
 {
@@ -18,14 +18,14 @@ pub fn one_address()
     rt_cidr::laws::read_again();
 }
 
-/// What `read_addresses` gives is the only result that its contract allows.
+/// `read_addresses` returns the only result that its contract allows.
 pub fn one_address_text()
     ensures { AddressTextHasOneReading }
 {
     one_address();
 }
 
-/// A line says a command exactly where it is the command's text: its words joined by single spaces, numbers plain.
+/// A line is a command exactly if it is the command's text: its words joined by single spaces, numbers plain.
 pub fn command_text()
     ensures read { CommandIsReadAgain }
     ensures only { OnlyItsTextIsRead }
@@ -33,17 +33,17 @@ pub fn command_text()
     one_answer();
 }
 
-/// A text that does not begin with the line `version 2` is read as one of version 1, whole.
+/// A text that does not begin with the line `version 2` is read whole, as version 1.
 pub fn older_texts()
     ensures { OlderTextsStay }
 {}
 
-/// What `next_line` answers is the only cut that its contract allows.
+/// `next_line` returns the only split that its contract allows.
 pub fn one_cut()
     ensures { TextHasOneCut }
 {}
 
-/// Whatever became of a text's commands, its lines are the same ones and say the same.
+/// Each line of a text has the same meaning, whatever the outcomes of its commands.
 pub fn one_reading()
     ensures { TextHasOneReading }
 {

@@ -1,10 +1,10 @@
 //! The texts of a feed, the gate that answers its commands, and the report and the table that are written.
 //!
-//! A text's first line tells its version (`text_body`); the text is cut at each LF (`next_line`); and each line says a
-//! command, or nothing, or has a fault (`parse_line`). Contracts see texts and lines as lists of bytes. A line is a
-//! command exactly where it is the command's text, its words joined by single spaces; of several faults the first in
-//! the order of the fields is told; and what was written is the one text of the report or the table, or after a
-//! writer's fault a beginning of it.
+//! The first line of a text determines its version (`text_body`), the text is split at each LF (`next_line`), and each
+//! line is a command, is skipped, or has a fault (`parse_line`). Contracts see texts and lines as lists of bytes. A
+//! line is a command exactly if it is the command's text, its words joined by single spaces. If a line has several
+//! faults, the first in the order of the fields is reported. The written text is the only text of the report or the
+//! table or, after an error of the writer, a prefix of it.
 //!
 //! ```
 //! let (version, mut rest) = text_body(b"version 2\nadd 10.0.0.0/8 5 discard\n");
@@ -14,12 +14,12 @@
 //! }
 //! ```
 //!
-//! `run_feed` asks a text's commands of a gate, in pieces of a batch, and answers the report; `run_feeds` does so for
-//! several feeds, each on a thread of its own. A gate holds visits, what each call answered; `TableGate` is the gate to
-//! the shared table, and its visits lie uncut in the journal that its pass has seen.
+//! `run_feed` executes a text's commands on a gate, in batches, and returns the report; `run_feeds` does this for
+//! several feeds, each on its own thread. A gate holds visits, the answers of each call; `TableGate` is the gate to the
+//! shared table, and its visits are uncut in the journal that its pass has seen.
 //!
-//! Only tested: that feeds run at the same time, which error a writer's fault is, that the printed examples are what a person expects, and that the
-//! reader agrees with a second one on hostile lines.
+//! Only tested: that feeds run at the same time, the kind of a writer's error, that the printed examples are what a
+//! person expects, and that the reader agrees with a second one on hostile lines.
 #![tactic(auto)]
 
 mod addresses;
@@ -48,14 +48,14 @@ pub use feeds::{Feed, run_feeds};
 pub use gates::{Gate, TableGate};
 pub use labels::{Labelling, feed_name, labels_of};
 pub use lines::next_line;
-pub use pairing::numbers_beside;
+pub use pairing::pair_feeds_by_name;
 pub use parse::{LINE_BYTES, LineFault, parse_line};
-pub use print::{write_all_found, write_found, write_report, write_rows, write_table};
+pub use print::{write_all_matches, write_lookup, write_report, write_routes, write_table};
 pub use report::{Answer, Line, Report};
 pub use rt_shared::Outcome;
 pub use running::run_feed;
 pub use styles::{
-    Form, SideStyles, Style, write_all_found_as, write_counts_as, write_difference_as,
-    write_found_as, write_rows_as,
+    Form, SideStyles, Style, write_all_matches_styled, write_counts_as, write_difference_as,
+    write_lookup_styled, write_routes_styled,
 };
 pub use versions::{Version, text_body, text_version};

@@ -5,8 +5,8 @@ ghost use Rattle.rt_feed.specs.Lines.{CutsLine};
 
 use memchr::memchr;
 
-/// The text's first line, without its LF, and the rest of the text; nothing where the text is empty. A
-/// carriage return is a byte of the line like any other. Takes no memory.
+/// Returns the text's first line, without its LF, and the rest of the text, or `None` if the text is empty. A carriage
+/// return is a byte of the line like any other. Doesn't allocate.
 pub fn next_line(text: &[u8]) -> Option<(&[u8], &[u8])>
     ensures { MatchOption result (text.now ≡ []) (λ cut. CutsLine text.now cut.0.now cut.1.now) }
 {
@@ -19,7 +19,7 @@ pub fn next_line(text: &[u8]) -> Option<(&[u8], &[u8])>
     }
 }
 
-/// The text up to the first such byte, and what follows that byte, if it stands in the text.
+/// Returns the text before the first such byte, and the text after it if the byte occurs.
 pub(crate) fn cut_at(text: &[u8], mark: u8) -> (&[u8], Option<&[u8]>)
     ensures { CutsAt mark text.now result.0.now result.1 }
 {

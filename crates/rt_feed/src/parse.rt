@@ -1,4 +1,4 @@
-//! One line of a feed's text, and what is wrong with it.
+//! One line of a feed's text, and its faults.
 ghost use Rattle.std.specs.Prelude.{◌≡◌, ◌≢◌, ◌∷◌, ◌<◌, ◌≤◌, ◌^◌, [], length, codes, decimal, IsTrue, ◌↔◌, None, MatchOption, MatchResult};
 ghost use Rattle.rt_cidr.specs.Text.{address_text, prefix_text};
 ghost use Rattle.rt_feed.specs.declared.parse.TheConstants.{LINE_BYTES};
@@ -13,23 +13,24 @@ use rt_cidr::{Addr, Prefix, TextFault, decimal_u32, laws};
 use rt_rib::{Cmd, Hop};
 use thiserror::Error;
 
-/// The most bytes that a line may have, without its LF.
+/// The maximum number of bytes of a line, without its LF.
 pub const LINE_BYTES: usize = 128;
 
 /// The next hop of a route that discards.
 const DISCARD: &[u8] = b"discard";
 
-/// Why a line is no command. Of several faults the first in this order is told: `LineLength`, `Command`,
+/// The fault of an invalid line. If there are several, the first in this order is reported: `LineLength`, `Command`,
 /// `FieldCount`, and then the first fault of the fields from the left.
 #[derive(Clone, Copy, PartialEq, Eq, Debug, Error)]
 pub enum LineFault {
     /// E1: the first field names no command of the text's version.
     #[error("E1: the first field is no command of this version")]
     Command,
-    /// E2: the command takes another number of fields.
+    /// E2: the number of fields is wrong for the command.
     #[error("E2: the command takes another number of fields")]
     FieldCount,
-    /// E3: a field is not of the form of a prefix or, in a `lookup`, of an address; in a text of addresses a whole line is not.
+    /// E3: a field doesn't have the form of a prefix or, in a `lookup`, of an address; or a whole line of a text of
+    /// addresses doesn't.
     #[error("E3: the field is no prefix or address (the CR of CRLF is part of it)")]
     Text,
     /// E4: the prefix's length is over 32.
@@ -38,7 +39,7 @@ pub enum LineFault {
     /// E5: a bit of the prefix's address past its length is set.
     #[error("E5: a bit past the prefix's length is set")]
     PrefixBits,
-    /// E6: the preference is no decimal from 0 to 4294967295.
+    /// E6: the preference is not a decimal from 0 to 4294967295.
     #[error("E6: the preference is no decimal from 0 to 4294967295")]
     Preference,
     /// E7: the next hop is neither an address nor, in version 2, `discard`.
@@ -49,7 +50,7 @@ pub enum LineFault {
     LineLength,
 }
 
-/// The name that a command's line begins with.
+/// The name at the start of a command's line.
 #[derive(Clone, Copy)]
 enum Name {
     Add,
@@ -60,10 +61,10 @@ enum Name {
     Purge,
 }
 
-/// What the line says, without its LF, in a text of this version: a command, or nothing where it is empty or a comment
-/// (its first byte is `#`), or the first of its faults. The line is cut at every space; `add` and `replace` take a
-/// prefix, a preference and a next hop, `withdraw` a prefix, `lookup` an address, `dump` nothing. In version 2 there is
-/// `purge`, which takes nothing, and a next hop may be `discard`. Takes no memory.
+/// Parses the line, without its LF, in a text of this version. Returns its command, or `None` if it is empty or a
+/// comment (its first byte is `#`), or the first of its faults. The line is split at every space. `add` and `replace`
+/// have a prefix, a preference and a next hop, `withdraw` a prefix, `lookup` an address, and `dump` no field. Version 2
+/// also has `purge`, without a field, and a next hop may be `discard`. Doesn't allocate.
 pub fn parse_line(line: &[u8], version: Version) -> Result<Option<Cmd>, LineFault>
     ensures { AnswersLine version line.now result }
 {
@@ -75,7 +76,7 @@ pub fn parse_line(line: &[u8], version: Version) -> Result<Option<Cmd>, LineFaul
     Ok(Some(command))
 }
 
-/// Makes sure that the line is not too long: such a line is E8, whatever it says.
+/// Returns E8 if the line is too long, whatever it says.
 pub(crate) fn check_length(line: &[u8]) -> Result<(), LineFault>
     ensures { MatchResult result
         (λ _. length line.now ≤ LINE_BYTES)
@@ -87,7 +88,7 @@ pub(crate) fn check_length(line: &[u8]) -> Result<(), LineFault>
     Ok(())
 }
 
-/// Whether the line is empty or a comment.
+/// Returns true if the line is empty or a comment.
 pub(crate) fn is_skipped(line: &[u8]) -> bool
     ensures { result ≡ is_skipped line.now }
 {
@@ -97,7 +98,7 @@ pub(crate) fn is_skipped(line: &[u8]) -> bool
     }
 }
 
-/// The command that the line's fields are.
+/// Parses the line's fields as a command.
 fn parse_fields(line: &[u8], version: Version) -> Result<Cmd, LineFault>
     ensures { AnswersFields version (fields line.now) result }
 {
@@ -108,7 +109,7 @@ fn parse_fields(line: &[u8], version: Version) -> Result<Cmd, LineFault>
     }
 }
 
-/// The name that the field is.
+/// Returns the command name that the field is, if it is one.
 fn name_of(field: &[u8]) -> Option<Name>
     ensures { MatchOption result
         ((version : Version) → kinds_after version field.now ≡ None)
@@ -125,7 +126,7 @@ fn name_of(field: &[u8]) -> Option<Name>
     }
 }
 
-/// The command of this name with the fields that follow it.
+/// Parses the fields that follow this name.
 fn parse_command(name: Name, rest: Option<&[u8]>, version: Version) -> Result<Cmd, LineFault>
     ensures { AnswersFields version (name_text name ∷ fields_of_rest rest.entry) result }
 {
@@ -160,14 +161,14 @@ fn parse_command(name: Name, rest: Option<&[u8]>, version: Version) -> Result<Cm
     }
 }
 
-/// The field at the front, up to the first space, and what follows that space, if there is one.
+/// Returns the first field, up to the first space, and the text after that space, if there is one.
 fn cut_field(text: &[u8]) -> (&[u8], Option<&[u8]>)
     ensures { fields text.now ≡ result.0.now ∷ fields_of_rest result.1 }
 {
     cut_at(text, b' ')
 }
 
-/// Makes sure that no field remains; any other number of fields is E2.
+/// Returns E2 if any field remains.
 fn no_field(rest: Option<&[u8]>) -> Result<(), LineFault>
     ensures { MatchResult result
         (λ none. fields_of_rest rest.entry ≡ [])
@@ -179,7 +180,7 @@ fn no_field(rest: Option<&[u8]>) -> Result<(), LineFault>
     }
 }
 
-/// The one field that remains; any other number of fields is E2.
+/// Returns the only remaining field; any other number of fields is E2.
 fn only_field(rest: Option<&[u8]>) -> Result<&[u8], LineFault>
     ensures { MatchResult result
         (λ field. fields_of_rest rest.entry ≡ field.now ∷ [])
@@ -192,7 +193,7 @@ fn only_field(rest: Option<&[u8]>) -> Result<&[u8], LineFault>
     }
 }
 
-/// The three fields that remain; any other number of fields is E2.
+/// Returns the three remaining fields; any other number of fields is E2.
 fn three_fields(rest: Option<&[u8]>) -> Result<(&[u8], &[u8], &[u8]), LineFault>
     ensures { MatchResult result
         (λ three. fields_of_rest rest.entry ≡ three.0.now ∷ three.1.now ∷ three.2.now ∷ [])
@@ -204,7 +205,7 @@ fn three_fields(rest: Option<&[u8]>) -> Result<(&[u8], &[u8], &[u8]), LineFault>
     Ok((first, second, third))
 }
 
-/// What a `withdraw` says: a prefix alone.
+/// Parses the fields of a `withdraw`: only a prefix.
 fn parse_only_prefix(rest: Option<&[u8]>) -> Result<Prefix, LineFault>
     ensures { MatchResult result
         (λ prefix. fields_of_rest rest.entry ≡ prefix_text prefix.base prefix.len ∷ [])
@@ -213,7 +214,7 @@ fn parse_only_prefix(rest: Option<&[u8]>) -> Result<Prefix, LineFault>
     parse_prefix(only_field(rest)?)
 }
 
-/// What a `lookup` says: an address alone.
+/// Parses the fields of a `lookup`: only an address.
 fn parse_only_address(rest: Option<&[u8]>) -> Result<Addr, LineFault>
     ensures { MatchResult result
         (λ address. (address.0 < 2 ^ 32) × (fields_of_rest rest.entry ≡ address_text address.0 ∷ []))
@@ -222,7 +223,7 @@ fn parse_only_address(rest: Option<&[u8]>) -> Result<Addr, LineFault>
     parse_address(only_field(rest)?)
 }
 
-/// What an `add` or a `replace` says: a prefix, a preference and a next hop.
+/// Parses the fields of an `add` or a `replace`: a prefix, a preference and a next hop.
 fn parse_route(rest: Option<&[u8]>, version: Version) -> Result<(Prefix, u32, Hop), LineFault>
     ensures { MatchResult result
         (λ route. IsRoute version (fields_of_rest rest.entry) route.0 route.1 route.2)
@@ -235,7 +236,7 @@ fn parse_route(rest: Option<&[u8]>, version: Version) -> Result<(Prefix, u32, Ho
     Ok((prefix, pref, hop))
 }
 
-/// The prefix that the field is.
+/// Parses the field as a prefix.
 fn parse_prefix(field: &[u8]) -> Result<Prefix, LineFault>
     ensures { MatchResult result
         (λ prefix. field.now ≡ prefix_text prefix.base prefix.len)
@@ -250,7 +251,7 @@ fn parse_prefix(field: &[u8]) -> Result<Prefix, LineFault>
     }
 }
 
-/// The line's fault for a text that is no prefix.
+/// Returns the line's fault for a text that isn't a prefix.
 fn prefix_fault(reason: TextFault) -> LineFault
     ensures { result ≡ prefix_fault reason }
 {
@@ -261,7 +262,7 @@ fn prefix_fault(reason: TextFault) -> LineFault
     }
 }
 
-/// The preference number that the field is.
+/// Parses the field as a preference.
 fn parse_preference(field: &[u8]) -> Result<u32, LineFault>
     ensures { MatchResult result
         (λ pref. (pref < 2 ^ 32) × (field.now ≡ decimal pref))
@@ -275,7 +276,7 @@ fn parse_preference(field: &[u8]) -> Result<u32, LineFault>
     }
 }
 
-/// The next hop that the field is: an address, or `discard` in version 2.
+/// Parses the field as a next hop: an address, or `discard` in version 2.
 fn parse_hop(field: &[u8], version: Version) -> Result<Hop, LineFault>
     ensures { MatchResult result
         (λ hop. HasHop version hop × (field.now ≡ hop_text hop))
@@ -295,7 +296,7 @@ fn parse_hop(field: &[u8], version: Version) -> Result<Hop, LineFault>
     }
 }
 
-/// Whether the field is the next hop that discards, which version 2 has.
+/// Returns true if the field is `discard` and the version has it (version 2).
 fn is_discard(field: &[u8], version: Version) -> bool
     ensures { IsTrue result ↔ ((version ≡ Version.Two) × (field.now ≡ codes "discard")) }
 {
@@ -305,7 +306,7 @@ fn is_discard(field: &[u8], version: Version) -> bool
     }
 }
 
-/// The address that the field is.
+/// Parses the field as an address.
 pub(crate) fn parse_address(field: &[u8]) -> Result<Addr, LineFault>
     ensures { MatchResult result
         (λ address. (address.0 < 2 ^ 32) × (field.now ≡ address_text address.0))

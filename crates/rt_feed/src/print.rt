@@ -1,4 +1,4 @@
-//! Reports, the table and what look-ups found, as text. Each line is built in a short text, and goes to the writer at once.
+//! Reports, the table and look-up results as text. Each line is built in a short text, and goes to the writer at once.
 ghost use Rattle.std.specs.Prelude.{◌≡◌, ◌++◌};
 ghost use Rattle.std.specs.List.{flat_map};
 ghost use Rattle.rt_cidr.specs.Output.{WritesText};
@@ -12,10 +12,10 @@ use rt_cidr::{Addr, ShortText, put};
 use rt_rib::{Hop, Reply, Route};
 use std::io::{self, Write};
 
-/// Writes the report of the feed of this number: for each line `FEED:LINE `, its answer and LF. A fault is the writer's, as
-/// `put` hands it on; what was written is then a beginning of the report and never all of it, so where there is no line
-/// nothing fails. Takes no memory, and makes one `write` for each line, more where the writer takes less of it, and no
-/// other call: a writer whose calls are dear goes into an `OutputBuffer`.
+/// Writes the report of the feed of this number: for each line `FEED:LINE `, its answer and LF. Errors are the
+/// writer's, as `put` returns them; a prefix of the report but not all of it was then written, so a report without
+/// lines never fails. Doesn't allocate. Makes one `write` for each line, more if the writer accepts only a part, and no
+/// other call; wrap a writer with expensive calls in an `OutputBuffer`.
 pub fn write_report<W: Write>(w: &mut W, feed: u32, report: &Report) -> io::Result<()>
     ensures { WritesText (W.contents w.old) (W.contents w.new) (report_text feed report.now) result }
 {
@@ -26,7 +26,7 @@ pub fn write_report<W: Write>(w: &mut W, feed: u32, report: &Report) -> io::Resu
     Ok(())
 }
 
-/// Writes one line of a report. `text` is where it is rendered.
+/// Writes one line of a report, built in `text`.
 #[tactic(auto, using(crate::proofs::Printing::line_fits))]
 fn put_line<W: Write>(w: &mut W, text: &mut ShortText, feed: u32, line: &Line) -> io::Result<()>
     ensures { WritesText (W.contents w.old) (W.contents w.new) (line_text feed line.now) result }
@@ -36,8 +36,8 @@ fn put_line<W: Write>(w: &mut W, text: &mut ShortText, feed: u32, line: &Line) -
     put(w, text.as_bytes())
 }
 
-/// Writes the table: `table COUNT` and LF, and then each route of the list and LF. A fault is the writer's, as `put` hands
-/// it on; what was written is then a beginning of the table. Takes no memory, and calls the writer as `write_report` does.
+/// Writes the table: `table COUNT` and LF, and then each route of the list and LF. Errors are the writer's, as `put`
+/// returns them; a prefix of the table was then written. Doesn't allocate, and calls the writer as `write_report` does.
 #[tactic(auto, using(crate::proofs::Printing::count_fits))]
 pub fn write_table<W: Write>(w: &mut W, routes: &[Route]) -> io::Result<()>
     ensures { WritesText (W.contents w.old) (W.contents w.new) (table_text routes.now) result }
@@ -45,13 +45,13 @@ pub fn write_table<W: Write>(w: &mut W, routes: &[Route]) -> io::Result<()>
     let mut text = ShortText::new();
     prepend_count(&mut text, routes.len());
     put(w, text.as_bytes())?;
-    write_rows(w, routes)
+    write_routes(w, routes)
 }
 
-/// Writes the table's routes alone, without its first line: each route of the list and LF. A fault is the writer's, as `put`
-/// hands it on; what was written is then a beginning of the routes and never all of them, so where there is no route nothing
-/// fails. Takes no memory, and calls the writer as `write_report` does.
-pub fn write_rows<W: Write>(w: &mut W, routes: &[Route]) -> io::Result<()>
+/// Writes only the table's routes, without its first line: each route of the list and LF. Errors are the writer's, as
+/// `put` returns them; a prefix of the routes but not all of them was then written, so an empty list never fails.
+/// Doesn't allocate, and calls the writer as `write_report` does.
+pub fn write_routes<W: Write>(w: &mut W, routes: &[Route]) -> io::Result<()>
     ensures { WritesText (W.contents w.old) (W.contents w.new) (rows_text routes.now) result }
 {
     let mut text = ShortText::new();
@@ -61,7 +61,7 @@ pub fn write_rows<W: Write>(w: &mut W, routes: &[Route]) -> io::Result<()>
     Ok(())
 }
 
-/// Writes one route of the table. `text` is where it is rendered.
+/// Writes one route of the table, built in `text`.
 #[tactic(auto, using(crate::proofs::Printing::row_fits))]
 pub(crate) fn put_row<W: Write>(w: &mut W, text: &mut ShortText, route: &Route) -> io::Result<()>
     ensures { WritesText (W.contents w.old) (W.contents w.new) (row_text route.now) result }
@@ -71,11 +71,11 @@ pub(crate) fn put_row<W: Write>(w: &mut W, text: &mut ShortText, route: &Route) 
     put(w, text.as_bytes())
 }
 
-/// Writes what a look-up of the address found: `ADDR route PREFIX feed F pref P via HOP`, or `ADDR no route`, and LF. A fault
-/// is the writer's, as `put` hands it on; what was written is then a beginning of that line. Takes no memory, and calls the
-/// writer as `write_report` does.
+/// Writes the result of a look-up of the address: `ADDR route PREFIX feed F pref P via HOP`, or `ADDR no route`, and
+/// LF. Errors are the writer's, as `put` returns them; a prefix of that line was then written. Doesn't allocate, and
+/// calls the writer as `write_report` does.
 #[tactic(auto, using(crate::proofs::Printing::found_fits))]
-pub fn write_found<W: Write>(w: &mut W, addr: Addr, found: Option<Route>) -> io::Result<()>
+pub fn write_lookup<W: Write>(w: &mut W, addr: Addr, found: Option<Route>) -> io::Result<()>
     ensures { WritesText (W.contents w.old) (W.contents w.new) (found_text addr found) result }
 {
     let mut text = ShortText::new();
@@ -83,23 +83,23 @@ pub fn write_found<W: Write>(w: &mut W, addr: Addr, found: Option<Route>) -> io:
     put(w, text.as_bytes())
 }
 
-/// Writes all routes that cover the address, which come best first: for the first one the line that `write_found` writes, and
-/// for each further one `ADDR also PREFIX feed F pref P via HOP REASON` and LF, where the reason tells at which step it was
-/// left behind the first (RFC 1812, section 5.2.4.3): `shorter`, of a shorter prefix; of those as long `preference`, of a
-/// greater one; and of those equal in both `feed`. Of no route it writes `ADDR no route` and LF. A fault is the writer's, as
-/// `put` hands it on; what was written is then a beginning of that text. Takes no memory, and calls the writer as
-/// `write_report` does.
-pub fn write_all_found<W: Write>(w: &mut W, addr: Addr, found: &[Route]) -> io::Result<()>
+/// Writes all routes that cover the address, given best first: the first on the line that `write_lookup` writes, and
+/// each further one as `ADDR also PREFIX feed F pref P via HOP REASON` and LF. The reason is the step at which the
+/// route lost to the first one (RFC 1812, section 5.2.4.3): `shorter` for a shorter prefix; `preference` for an equally
+/// long prefix and a higher preference; and `feed` if both are equal. For an empty list it writes `ADDR no route` and
+/// LF. Errors are the writer's, as `put` returns them; a prefix of that text was then written. Doesn't allocate, and
+/// calls the writer as `write_report` does.
+pub fn write_all_matches<W: Write>(w: &mut W, addr: Addr, found: &[Route]) -> io::Result<()>
     ensures { WritesText (W.contents w.old) (W.contents w.new) (all_found_text addr found.now) result }
 {
     let Some((first, others)) = found.split_first() else {
-        return write_found(w, addr, None);
+        return write_lookup(w, addr, None);
     };
-    write_found(w, addr, Some(*first))?;
+    write_lookup(w, addr, Some(*first))?;
     write_others(w, addr, first, others)
 }
 
-/// Writes the routes that were left behind the first one, each on a line with the reason.
+/// Writes the routes that lost to the first one, each on a line with the reason.
 fn write_others<W: Write>(w: &mut W, addr: Addr, first: &Route, others: &[Route]) -> io::Result<()>
     ensures { WritesText (W.contents w.old) (W.contents w.new) (flat_map (also_text addr first.now) others.now) result }
 {
@@ -110,7 +110,7 @@ fn write_others<W: Write>(w: &mut W, addr: Addr, first: &Route, others: &[Route]
     Ok(())
 }
 
-/// Writes one route that was left behind the first one. `text` is where it is rendered.
+/// Writes one route that lost to the first one, built in `text`.
 #[tactic(auto, using(crate::proofs::Printing::also_fits))]
 fn put_other<W: Write>(
     w: &mut W,
@@ -126,9 +126,9 @@ fn put_other<W: Write>(
     put(w, text.as_bytes())
 }
 
-// Each function below puts its text in front.
+// Each function below prepends its text.
 
-/// One line of a report, with its LF.
+/// Prepends one line of a report, with its LF.
 #[tactic(auto, using(rt_cidr::proofs::Promised::prepending), unfolding(crate::specs::Printed::line_text))]
 fn prepend_line(text: &mut ShortText, feed: u32, line: &Line)
     requires room { FitsInShortText (line_text feed line.now) text.old }
@@ -142,7 +142,7 @@ fn prepend_line(text: &mut ShortText, feed: u32, line: &Line)
     text.prepend_decimal(u64::from(feed));
 }
 
-/// The table's first line, with its LF.
+/// Prepends the table's first line, with its LF.
 #[tactic(auto, using(rt_cidr::proofs::Promised::prepending), unfolding(crate::specs::Printed::count_text))]
 fn prepend_count(text: &mut ShortText, count: usize)
     requires room { FitsInShortText (count_text count) text.old }
@@ -153,7 +153,7 @@ fn prepend_count(text: &mut ShortText, count: usize)
     text.prepend(b"table ");
 }
 
-/// A route of the table, with its LF.
+/// Prepends a route of the table, with its LF.
 #[tactic(auto, using(rt_cidr::proofs::Promised::prepending), unfolding(crate::specs::Printed::row_text))]
 fn prepend_row(text: &mut ShortText, route: &Route)
     requires room { FitsInShortText (row_text route.now) text.old }
@@ -163,7 +163,7 @@ fn prepend_row(text: &mut ShortText, route: &Route)
     prepend_route(text, route);
 }
 
-/// What a look-up of the address found, with its LF.
+/// Prepends the result of a look-up of the address, with its LF.
 #[tactic(auto, using(rt_cidr::proofs::Promised::prepending), unfolding(crate::specs::Printed::found_text))]
 fn prepend_found(text: &mut ShortText, addr: Addr, found: Option<Route>)
     requires room { FitsInShortText (found_text addr found) text.old }
@@ -178,7 +178,7 @@ fn prepend_found(text: &mut ShortText, addr: Addr, found: Option<Route>)
     addr.prepend_to(text);
 }
 
-/// A route that was left behind the first one, and why, with its LF.
+/// Prepends a route that lost to the first one, and the reason, with its LF.
 #[tactic(auto, using(rt_cidr::proofs::Promised::prepending), unfolding(crate::specs::Printed::also_text))]
 fn prepend_also(text: &mut ShortText, address: Addr, first: &Route, route: &Route)
     requires room { FitsInShortText (also_text address first.now route.now) text.old }
@@ -192,7 +192,7 @@ fn prepend_also(text: &mut ShortText, address: Addr, first: &Route, route: &Rout
     address.prepend_to(text);
 }
 
-/// What a line was answered.
+/// Prepends the answer to a line.
 #[tactic(auto, unfolding(crate::specs::Printed::answer_text))]
 fn prepend_answer(text: &mut ShortText, answer: &Answer)
     requires room { FitsInShortText (answer_text answer.now) text.old }
@@ -233,7 +233,7 @@ fn prepend_reply(text: &mut ShortText, reply: &Reply)
     }
 }
 
-/// `PREFIX feed F pref P via HOP`.
+/// Prepends `PREFIX feed F pref P via HOP`.
 #[tactic(auto, using(rt_cidr::proofs::Promised::prepending), unfolding(crate::specs::Printed::route_text))]
 pub(crate) fn prepend_route(text: &mut ShortText, route: &Route)
     requires room { FitsInShortText (route_text route.now) text.old }
@@ -248,7 +248,7 @@ pub(crate) fn prepend_route(text: &mut ShortText, route: &Route)
     route.prefix.prepend_to(text);
 }
 
-/// The next hop's address, or `discard`.
+/// Prepends the next hop's address, or `discard`.
 pub(crate) fn prepend_hop(text: &mut ShortText, hop: Hop)
     requires room { FitsInShortText (hop_text hop) text.old }
     ensures { text.new ≡ hop_text hop ++ text.old }
@@ -259,7 +259,7 @@ pub(crate) fn prepend_hop(text: &mut ShortText, hop: Hop)
     }
 }
 
-/// At which step the route was left behind the first one.
+/// Returns the step at which the route lost to the first one.
 #[tactic(auto, unfolding(crate::specs::Printed::reason_text))]
 pub(crate) fn reason_word(first: &Route, route: &Route) -> &'static [u8]
     ensures { result.now ≡ reason_text first.now route.now }
@@ -273,7 +273,7 @@ pub(crate) fn reason_word(first: &Route, route: &Route) -> &'static [u8]
     }
 }
 
-/// The fault by its number.
+/// Returns the fault's word, with its number.
 #[tactic(auto, unfolding(crate::specs::Printed::fault_text))]
 fn fault_word(fault: LineFault) -> &'static [u8; 8]
     ensures { result.now ≡ fault_text fault }

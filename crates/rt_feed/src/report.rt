@@ -9,21 +9,21 @@ use rt_shared::Outcome;
 use std::alloc::{AllocError, Global};
 use std::marker::Model;
 
-/// What a line of a feed's text was answered.
+/// The answer to a line of a feed's text.
 #[derive(Clone, Copy, PartialEq, Eq, Debug)]
 pub enum Answer {
     /// The command had this reply.
     Did(Reply),
-    /// The command was refused for want of memory; nothing was done.
+    /// The command was refused because memory ran out; it had no effect.
     Refused,
-    /// The line is no command.
+    /// The line is not a command.
     Fault(LineFault),
 }
 
 impl Answer {
     ghost use Rattle.rt_feed.specs.Reports.{is_refusal, is_fault};
 
-    /// Whether a command was refused for want of memory.
+    /// Returns true if a command was refused because memory ran out.
     pub fn is_refusal(&self) -> bool
         ensures { result ≡ is_refusal self.now }
     {
@@ -33,7 +33,7 @@ impl Answer {
         }
     }
 
-    /// Whether a line was faulty.
+    /// Returns true if a line was faulty.
     pub fn is_fault(&self) -> bool
         ensures { result ≡ is_fault self.now }
     {
@@ -49,7 +49,7 @@ impl Answer {
 pub struct Line {
     /// The number of the text's line, from 1.
     pub number: usize,
-    /// What it was answered.
+    /// The answer to it.
     pub answer: Answer,
 }
 
@@ -76,7 +76,7 @@ impl Report {
     ghost use Rattle.rt_feed.specs.Reports.{NumbersRise, has_refusal, has_fault};
     ghost use Rattle.rt_feed.specs.inside.Filling.{filled};
 
-    /// A report without lines.
+    /// Returns a report without lines.
     pub fn new(alloc: Global) -> Report
         ensures { result ≡ [] }
     {
@@ -85,7 +85,7 @@ impl Report {
         }
     }
 
-    /// The lines, by rising number.
+    /// Returns the lines, by rising number.
     pub fn lines(&self) -> &[Line]
         ensures lines { result.now ≡ self.now }
         ensures rising { NumbersRise self.now }
@@ -93,21 +93,21 @@ impl Report {
         &self.lines
     }
 
-    /// Whether some command was refused for want of memory.
+    /// Returns true if some command was refused because memory ran out.
     pub fn has_refusal(&self) -> bool
         ensures { result ≡ has_refusal self.now }
     {
         self.lines.iter().any(|line| line.answer.is_refusal())
     }
 
-    /// Whether some line was faulty.
+    /// Returns true if some line was faulty.
     pub fn has_fault(&self) -> bool
         ensures { result ≡ has_fault self.now }
     {
         self.lines.iter().any(|line| line.answer.is_fault())
     }
 
-    /// Gives the lines from this index on that are no faults these outcomes, in order.
+    /// Gives these outcomes, in order, to the lines from this index on that aren't faults.
     pub(crate) fn fill(&mut self, first: usize, outcomes: &[Outcome])
         requires { first ≤ length self.old }
         ensures { self.new ≡ take first self.old ++ filled (drop first self.old) outcomes.now }
@@ -115,8 +115,7 @@ impl Report {
         fill_lines(&mut self.lines, first, outcomes);
     }
 
-    /// Puts a line at the end, its number above those of the lines that are there. Refused only for want of memory, and
-    /// then the report is as it was.
+    /// Appends a line, whose number is above all others. Fails only if memory runs out; the report is then unchanged.
     pub fn push(&mut self, line: Line) -> Result<(), AllocError>
         requires { All (λ earlier. earlier.number < line.number) self.old }
         ensures ok { OnOk result (self.new ≡ self.old ++ line ∷ []) }
@@ -127,7 +126,7 @@ impl Report {
     }
 }
 
-/// Gives the lines from this index on that are no faults these outcomes, in order.
+/// Gives these outcomes, in order, to the lines from this index on that aren't faults.
 fn fill_lines(lines: &mut [Line], first: usize, outcomes: &[Outcome])
     requires { first ≤ length lines.old }
     ensures { lines.new ≡ take first lines.old ++ filled (drop first lines.old) outcomes.now }
@@ -141,7 +140,7 @@ fn fill_lines(lines: &mut [Line], first: usize, outcomes: &[Outcome])
     }
 }
 
-/// The command's answer in a report.
+/// Returns the command's answer in a report.
 fn command_answer(outcome: Outcome) -> Answer
     ensures { result ≡ command_answer outcome }
 {

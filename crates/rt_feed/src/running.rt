@@ -1,8 +1,8 @@
-//! A feed's text through a gate: its lines are read in order, and its commands asked in batches.
+//! A run of a feed's text: its lines are read in order, and its commands executed on a gate in batches.
 ghost use Rattle.std.specs.Prelude.{◌≡◌, ◌≢◌, ℕ, ◌<◌, ◌≤◌, List, [], ◌∷◌, length, All, IsOk, IfOk, OnOk, OnErr, Ok, Some};
 ghost use Rattle.rt_feed.specs.Grammar.{AnswersLine};
 ghost use Rattle.rt_feed.specs.inside.FeedRuns.{AnswersWaiting, Gathers, ReadsOneMore};
-ghost use Rattle.rt_feed.specs.FeedRuns.{IsTold, RunsFeed, StopsWithin};
+ghost use Rattle.rt_feed.specs.FeedRuns.{IsTold, RunsFeed, RunsPrefixOf};
 
 use crate::gates::Gate;
 use crate::lines::next_line;
@@ -15,11 +15,11 @@ use std::alloc::{AllocError, Global};
 use std::marker::Model;
 use std::sync::Wait;
 
-/// Asks the gate each command of the text in order, `batch` at once, and gives the report: with a batch of 1 one by one,
-/// else the commands that are gathered when there are that many, or the text ends. Lines that are skipped or faulty take
-/// no place in a batch. A command that is refused for want of memory is reported so, as is each one of a batch that is
-/// refused (M2). M3: `Refused` where the report or the batch could not grow; the gate was then asked the commands of a
-/// beginning of the text, and some line that is not skipped remains.
+/// Executes each command of the text on the gate in order, in batches of `batch`, and returns the report. With a batch
+/// of 1 commands are executed one by one; else the gathered commands are executed when there are that many, or the text
+/// ends. Lines that are skipped or faulty don't count in a batch. A command for which memory runs out is reported as
+/// refused, and so is each command of a batch that is refused (M2). M3: `Refused` if the report or the batch can't
+/// grow. Then the gate has executed the commands of a prefix of the text, and some line that is not skipped remains.
 pub fn run_feed<R: Wait, G: Gate>(
     rt: &R,
     alloc: Global,
@@ -30,9 +30,9 @@ pub fn run_feed<R: Wait, G: Gate>(
     requires { 1 ≤ batch }
     ensures name { G.name gate.new ≡ G.name gate.old }
     ensures ok { IfOk result (λ report. RunsFeed G.holds batch text.now gate.old gate.new report) }
-    ensures err { OnErr result (StopsWithin G.holds batch text.now gate.old gate.new) }
+    ensures err { OnErr result (RunsPrefixOf G.holds batch text.now gate.old gate.new) }
 
-    // Where there is no line to read, nothing is refused.
+    // An empty text is never refused.
     ensures nothing { text.now ≡ [] → IsOk result }
 {
     let (version, lines) = text_body(text);
@@ -48,18 +48,18 @@ pub fn run_feed<R: Wait, G: Gate>(
     Ok(run.report)
 }
 
-/// How far a feed's text has come. Commands that are gathered and not yet asked stand in the report as refused, so that
-/// their answers need no room when they come.
+/// The progress of a feed's text. Commands that are gathered and not yet executed are in the report as refused, so that
+/// their answers need no room later.
 #[derive(Drop)]
 struct FeedRun {
-    /// By which version its lines are read.
+    /// The version of its lines.
     version: Version,
     report: Report,
-    /// Where in the report the lines begin that were read since the gate was last asked.
+    /// The index in the report of the first line that was read since the gate was last called.
     first: usize,
     /// The commands that wait.
     gathered: Vec<Cmd>,
-    /// Room for what becomes of a batch.
+    /// Room for the outcomes of a batch.
     outcomes: Vec<Outcome>,
 }
 
@@ -95,7 +95,7 @@ impl FeedRun {
         }
     }
 
-    /// Takes in the line of this number.
+    /// Reads the line of this number.
     fn read<R: Wait, G: Gate>(
         &mut self,
         rt: &R,
@@ -122,7 +122,7 @@ impl FeedRun {
         }
     }
 
-    /// Takes in the line's command. Where that makes a batch, it is asked.
+    /// Gathers the line's command, and executes the gathered ones if they make a batch.
     fn take<R: Wait, G: Gate>(
         &mut self,
         rt: &R,
@@ -156,7 +156,7 @@ impl FeedRun {
         })
     }
 
-    /// Asks the commands that wait, if there are any, and puts what became of them into the report.
+    /// Executes the commands that wait, if there are any, and puts their outcomes into the report.
     fn ask<R: Wait, G: Gate>(&mut self, rt: &R, batch: usize, gate: &mut G)
         ensures name { G.name gate.new ≡ G.name gate.old }
         ensures waiting { AnswersWaiting G.holds gate.old gate.new self.old.gathered self.old.first self.old.report self.new.report }
@@ -182,7 +182,7 @@ impl FeedRun {
     }
 }
 
-/// Asks the gate one command, and puts its reply into the report.
+/// Executes one command on the gate, and puts its reply into the report.
 fn ask_one<R: Wait, G: Gate>(rt: &R, cmd: Cmd, gate: &mut G, report: &mut Report, first: usize)
     requires { first ≤ length report.old }
     ensures name { G.name gate.new ≡ G.name gate.old }
@@ -193,7 +193,7 @@ fn ask_one<R: Wait, G: Gate>(rt: &R, cmd: Cmd, gate: &mut G, report: &mut Report
     }
 }
 
-/// Asks the gate the commands at once, and puts what became of them into the report.
+/// Executes the commands on the gate at once, and puts their outcomes into the report.
 fn ask_batch<R: Wait, G: Gate>(
     rt: &R,
     cmds: &[Cmd],

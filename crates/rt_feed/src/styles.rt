@@ -1,5 +1,6 @@
-//! Routes, what look-ups found and ranges in a style: as lines with the feeds' numbers, as lines with their labels, or as JSON
-//! objects, one a line. What is labelled goes to the writer in several parts, since a label may be longer than a short text.
+//! Routes, look-up results and ranges in a style: as lines with the feeds' numbers, as lines with their labels, or as
+//! JSON objects, one a line. Labelled text goes to the writer in several parts, since a label may be longer than a
+//! short text.
 ghost use Rattle.std.specs.Prelude.{◌≡◌, map};
 ghost use Rattle.rt_cidr.specs.Output.{WritesText};
 ghost use Rattle.rt_feed.specs.Counts.{counts_as};
@@ -13,26 +14,26 @@ mod ranges;
 mod routes;
 
 use crate::difference_line::write_difference;
-use crate::print::{put_row, write_all_found, write_found};
+use crate::print::{put_row, write_all_matches, write_lookup};
 use rt_cidr::{Addr, ShortText};
 use rt_diff::Difference;
 use rt_rib::Route;
 use std::io::{self, Write};
 use std::marker::Model;
 
-/// In which form routes are told.
+/// The form of printed routes.
 #[derive(Clone, Copy, PartialEq, Eq, Debug)]
 pub enum Form {
     /// As lines, each feed by its number.
     Numbers,
     /// As lines, each feed by its label.
     Labels,
-    /// As JSON objects, one a line, in which what follows `"feed":` is the feed's label.
+    /// As JSON objects, one a line; the feed's label follows `"feed":`.
     Json,
 }
 
 impl Form {
-    /// Of two texts that of the form: the first stands in lines, the second in objects.
+    /// Returns the text for the form: the first for lines, the second for objects.
     fn either<'t>(self, line: &'t [u8], object: &'t [u8]) -> &'t [u8]
         ensures { result.now ≡ either self line.now object.now }
     {
@@ -43,7 +44,7 @@ impl Form {
     }
 }
 
-/// How routes are told: in which form, and with which labels of the feeds. Contracts see both.
+/// The style of printed routes: a form, and the labels of the feeds. Contracts see both.
 #[derive(Debug, Drop)]
 pub struct Style<'a> {
     form: Form,
@@ -60,21 +61,21 @@ impl<'a> Model for Style<'a> {
 }
 
 impl<'a> Style<'a> {
-    /// This form, with these labels, the k-th of feed k.
+    /// Returns the style with this form and these labels, the k-th for feed k.
     pub fn new(form: Form, labels: &'a [Vec<u8>]) -> Style<'a>
         ensures { result ≡ record { form = form; labels = map (λ label. label.items) labels.now } }
     {
         Style { form, labels }
     }
 
-    /// The form.
+    /// Returns the form.
     pub fn form(&self) -> Form
         ensures { result ≡ self.now.form }
     {
         self.form
     }
 
-    /// The label of the feed.
+    /// Returns the label of the feed.
     pub(crate) fn label(&self, feed: u32) -> &[u8]
         ensures { result.now ≡ label_of self.now.labels feed }
     {
@@ -85,8 +86,8 @@ impl<'a> Style<'a> {
     }
 }
 
-/// How two tables are told: in which form, and with which labels of the feeds of each, the k-th of the feed that is told by the
-/// number k. Contracts see all three.
+/// The style of two printed tables: a form, and the labels of the feeds of each, the k-th for the feed with the number
+/// k. Contracts see all three.
 #[derive(Debug, Drop)]
 pub struct SideStyles<'a> {
     form: Form,
@@ -108,7 +109,7 @@ impl<'a> Model for SideStyles<'a> {
 }
 
 impl<'a> SideStyles<'a> {
-    /// This form, with these labels of the old table's feeds and of the new one's.
+    /// Returns the style with this form, and these labels of the old table's feeds and of the new one's.
     pub fn new(form: Form, old_labels: &'a [Vec<u8>], new_labels: &'a [Vec<u8>]) -> SideStyles<'a>
         ensures { result ≡ record {
           form = form;
@@ -123,21 +124,21 @@ impl<'a> SideStyles<'a> {
         }
     }
 
-    /// The form.
+    /// Returns the form.
     fn form(&self) -> Form
         ensures { result ≡ self.now.form }
     {
         self.form
     }
 
-    /// The style of the old table.
+    /// Returns the style of the old table.
     fn of_old(&self) -> Style<'a>
         ensures { result ≡ record { form = self.now.form; labels = self.now.old_labels } }
     {
         Style::new(self.form, self.old_labels)
     }
 
-    /// The style of the new table.
+    /// Returns the style of the new table.
     fn of_new(&self) -> Style<'a>
         ensures { result ≡ record { form = self.now.form; labels = self.now.new_labels } }
     {
@@ -145,9 +146,13 @@ impl<'a> SideStyles<'a> {
     }
 }
 
-/// Writes the table's routes in the style, each on a line. A fault is the writer's, as `put` hands it on; what was written is
-/// then a beginning of that text. Takes no memory; a writer whose calls are dear goes into an `OutputBuffer`.
-pub fn write_rows_as<W: Write>(w: &mut W, style: &Style<'_>, routes: &[Route]) -> io::Result<()>
+/// Writes the table's routes in the style, each on a line. Errors are the writer's, as `put` returns them; a prefix of
+/// that text was then written. Doesn't allocate; wrap a writer with expensive calls in an `OutputBuffer`.
+pub fn write_routes_styled<W: Write>(
+    w: &mut W,
+    style: &Style<'_>,
+    routes: &[Route],
+) -> io::Result<()>
     ensures { WritesText (W.contents w.old) (W.contents w.new) (rows_as style.now.form (label_of style.now.labels) routes.now) result }
 {
     let mut text = ShortText::new();
@@ -157,7 +162,7 @@ pub fn write_rows_as<W: Write>(w: &mut W, style: &Style<'_>, routes: &[Route]) -
     Ok(())
 }
 
-/// Writes one route of the table. `text` is where one that is told by numbers is rendered.
+/// Writes one route of the table. A route with its feed's number is built in `text`.
 fn put_row_as<W: Write>(
     w: &mut W,
     text: &mut ShortText,
@@ -173,8 +178,8 @@ fn put_row_as<W: Write>(
     }
 }
 
-/// Writes what a look-up of the address found, in the style. A fault and memory are as of `write_rows_as`.
-pub fn write_found_as<W: Write>(
+/// Writes the result of a look-up of the address, in the style. Errors and memory are as for `write_routes_styled`.
+pub fn write_lookup_styled<W: Write>(
     w: &mut W,
     style: &Style<'_>,
     addr: Addr,
@@ -183,14 +188,14 @@ pub fn write_found_as<W: Write>(
     ensures { WritesText (W.contents w.old) (W.contents w.new) (found_as style.now.form (label_of style.now.labels) addr found) result }
 {
     match style.form {
-        Form::Numbers => write_found(w, addr, found),
-        Form::Labels | Form::Json => found::write_found(w, style, addr, found),
+        Form::Numbers => write_lookup(w, addr, found),
+        Form::Labels | Form::Json => found::write_lookup(w, style, addr, found),
     }
 }
 
-/// Writes all routes that cover the address, which come best first, in the style. A fault and memory are as of
-/// `write_rows_as`.
-pub fn write_all_found_as<W: Write>(
+/// Writes all routes that cover the address, given best first, in the style. Errors and memory are as
+/// for `write_routes_styled`.
+pub fn write_all_matches_styled<W: Write>(
     w: &mut W,
     style: &Style<'_>,
     addr: Addr,
@@ -199,14 +204,14 @@ pub fn write_all_found_as<W: Write>(
     ensures { WritesText (W.contents w.old) (W.contents w.new) (all_found_as style.now.form (label_of style.now.labels) addr found.now) result }
 {
     match style.form {
-        Form::Numbers => write_all_found(w, addr, found),
-        Form::Labels | Form::Json => found::write_all_found(w, style, addr, found),
+        Form::Numbers => write_all_matches(w, addr, found),
+        Form::Labels | Form::Json => found::write_all_matches(w, style, addr, found),
     }
 }
 
-/// Writes how many routes there are and to how many prefixes, and then how many of each feed and to prefixes of each length,
-/// in the style, each on a line, and where there are none no line. Those to one prefix stand together, as in a table. A fault
-/// and memory are as of `write_rows_as`.
+/// Writes the number of routes and of their prefixes, and then the number of routes of each feed and to prefixes of
+/// each length, in the style, each on a line; feeds and lengths without a route have no line. Routes to the same prefix
+/// are adjacent, as in a table. Errors and memory are as for `write_routes_styled`.
 pub fn write_counts_as<W: Write>(w: &mut W, style: &Style<'_>, routes: &[Route]) -> io::Result<()>
     ensures { WritesText (W.contents w.old) (W.contents w.new) (counts_as style.now.form (label_of style.now.labels) routes.now) result }
 {
@@ -216,7 +221,7 @@ pub fn write_counts_as<W: Write>(w: &mut W, style: &Style<'_>, routes: &[Route])
     counts::write_lengths(w, form, routes)
 }
 
-/// Writes the range and its two answers in the style, on a line. A fault and memory are as of `write_rows_as`.
+/// Writes the range and its two answers in the style, on a line. Errors and memory are as for `write_routes_styled`.
 pub fn write_difference_as<W: Write>(
     w: &mut W,
     styles: &SideStyles<'_>,

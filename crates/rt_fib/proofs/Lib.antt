@@ -1,6 +1,8 @@
+pub mod Placing
+pub mod Leading
 pub mod Reading
-pub mod Growing
 pub mod Renewing
+pub mod Marks
 pub mod Outside
 pub mod Crossing
 pub mod Promised

@@ -1,51 +1,53 @@
 -- What an entry leads to.
-use Rattle.std.proofs.Common.{◌≡◌, ℕ, ◌+◌, ◌*◌, ◌-◌, ◌/◌, ◌%◌, ◌^◌, ◌<◌, ◌≤◌, inl, inr, List, [], length, get_or, Option, None, subst, sym, ◌∙◌, arith}
-use Rattle.std.proofs.lemmas.List.{get_or_read}
+use Rattle.std.proofs.Common.{◌≡◌, ℕ, ◌+◌, ◌*◌, ◌-◌, ◌/◌, ◌%◌, ◌^◌, ◌<◌, ◌≤◌, inl, inr, List, length, get_or, Option, subst, sym, ◌∙◌, arith}
 use Rattle.rt_rib.specs.declared.routes.Route.{Route}
 use Rattle.rt_rib.specs.LookUp.{look_up}
-use Rattle.rt_fib.specs.inside.Entries.{at, AreAll, Leads, HasNumber, IsNumber}
+use Rattle.rt_fib.specs.inside.Pools.{Places, Has}
+use Rattle.rt_fib.specs.inside.Entries.{at, AreAll, Leads, NamesBlock}
 
 -- an address's entry leads to its answer
-pub entry_leads : (entries : List ℕ) (blocks : List (List ℕ)) (answers : List (Option Route)) (table : List Route) (n entry : ℕ)
-    → AreAll entries blocks answers table → n < 2 ^ 32 → entry ≡ get_or entries (n / 256) 0
-    → Leads blocks answers entry (n % 256) (look_up (at n) table)
-entry_leads entries blocks answers table n entry all fits is =
+pub entry_leads : (entries : List ℕ) (blocks : Places (List ℕ)) (answers : Places (Option Route)) (since : ℕ) (table : List Route) (n entry : ℕ)
+    → AreAll entries blocks answers since table → n < 2 ^ 32 → entry ≡ get_or entries (n / 256) 0
+    → Leads blocks answers since entry (n % 256) (look_up (at n) table)
+entry_leads entries blocks answers since table n entry all fits is =
     let whole : n / 256 * 256 + n % 256 ≡ n = omega arith in
-    let leads : Leads blocks answers (get_or entries (n / 256) 0) (n % 256) (look_up (at (n / 256 * 256 + n % 256)) table) =
-    all.each (n / 256) (omega arith) (n % 256) (omega arith) in
-    subst (λ (m : ℕ). Leads blocks answers entry (n % 256) (look_up (at m) table)) whole
-    (subst (λ (m : ℕ). Leads blocks answers m (n % 256) (look_up (at (n / 256 * 256 + n % 256)) table)) (sym is) leads)
+    let leads : Leads blocks answers since (get_or entries (n / 256) 0) (n % 256) (look_up (at (n / 256 * 256 + n % 256)) table) =
+    all.all.each (n / 256) (omega arith) (n % 256) (omega arith) in
+    subst (λ (m : ℕ). Leads blocks answers since entry (n % 256) (look_up (at m) table)) whole
+    (subst (λ (m : ℕ). Leads blocks answers since m (n % 256) (look_up (at (n / 256 * 256 + n % 256)) table)) (sym is) leads)
 
 -- what stands at the number is the answer
-pub answer_read : (answers : List (Option Route)) (number : ℕ) (answer read : Option Route)
-    → IsNumber answers number answer → read ≡ get_or answers number read → read ≡ answer
-answer_read answers number answer read is there = get_or_read answers number read is.within there None ∙ is.is
+pub value_read : {T : Type 0} → (pool : Places T) (since n : ℕ) (value read : T)
+    → Has pool since n value → read ≡ get_or pool.values n read → read ≡ value
+value_read pool since n value read has is = is ∙ has.there read
 
 -- a short entry is the number of the answer
-pub short_number : (blocks : List (List ℕ)) (answers : List (Option Route)) (entry k : ℕ) (answer : Option Route)
-    → Leads blocks answers entry k answer → entry < 2 ^ 31 → IsNumber answers entry answer
-short_number blocks answers entry k answer leads short = elim leads [
+pub short_number : (blocks : Places (List ℕ)) (answers : Places (Option Route)) (since entry k : ℕ) (answer : Option Route)
+    → Leads blocks answers since entry k answer → entry < 2 ^ 31 → Has answers since entry answer
+short_number blocks answers since entry k answer leads short = elim leads [
   | inl whole ↦ whole.number
-  | inr within ↦ absurd (omega (arith, within.long))
+  | inr names ↦ absurd (omega (arith, names.long))
 ]
 
 -- a long one names a block
-pub long_within : (blocks : List (List ℕ)) (answers : List (Option Route)) (entry k : ℕ) (answer : Option Route)
-    → Leads blocks answers entry k answer → 2 ^ 31 ≤ entry → entry - 2 ^ 31 < length blocks
-long_within blocks answers entry k answer leads long = elim leads [
+pub long_block : (blocks : Places (List ℕ)) (answers : Places (Option Route)) (since entry k : ℕ) (answer : Option Route)
+    → Leads blocks answers since entry k answer → 2 ^ 31 ≤ entry → NamesBlock blocks answers since entry k answer
+long_block blocks answers since entry k answer leads long = elim leads [
   | inl whole ↦ absurd (omega (arith, whole.short))
-  | inr within ↦ omega (arith, within.long, within.within)
+  | inr names ↦ names
 ]
 
--- and this has the number of the answer
-pub long_block : (blocks : List (List ℕ)) (answers : List (Option Route)) (entry k : ℕ) (answer : Option Route) (block : List ℕ)
-    → Leads blocks answers entry k answer → 2 ^ 31 ≤ entry → block ≡ get_or blocks (entry - 2 ^ 31) block
-    → HasNumber block answers k answer
-long_block blocks answers entry k answer block leads long read = elim leads [
-  | inl whole ↦ absurd (omega (arith, whole.short))
-  | inr within ↦
-      let e : entry - 2 ^ 31 ≡ within.block = omega (arith, within.long) in
-      let there : block ≡ get_or blocks within.block block = subst (λ (b : ℕ). block ≡ get_or blocks b block) e read in
-      let is : block ≡ get_or blocks within.block [] = get_or_read blocks within.block block within.within there [] in
-      subst (λ (b : List ℕ). HasNumber b answers k answer) (sym is) within.there
-]
+-- and these are its numbers
+pub numbers_read : (blocks : Places (List ℕ)) (answers : Places (Option Route)) (since entry k : ℕ) (answer : Option Route) (read : List ℕ)
+    → (names : NamesBlock blocks answers since entry k answer) → read ≡ get_or blocks.values (entry - 2 ^ 31) read → read ≡ names.numbers
+numbers_read blocks answers since entry k answer read names is =
+    let e : entry - 2 ^ 31 ≡ names.block = omega (arith, names.long) in
+    let there : read ≡ get_or blocks.values names.block read = subst (λ (b : ℕ). read ≡ get_or blocks.values b read) e is in
+    value_read blocks since names.block names.numbers read names.named there
+
+-- so what stands there has the number of the answer
+pub block_read : (blocks : Places (List ℕ)) (answers : Places (Option Route)) (since entry k : ℕ) (answer : Option Route) (read : List ℕ)
+    → NamesBlock blocks answers since entry k answer → read ≡ get_or blocks.values (entry - 2 ^ 31) read
+    → (k < length read) × Has answers since (get_or read k 0) answer
+block_read blocks answers since entry k answer read names is =
+    subst (λ (b : List ℕ). (k < length b) × Has answers since (get_or b k 0) answer) (sym (numbers_read blocks answers since entry k answer read names is)) (names.place, names.number)

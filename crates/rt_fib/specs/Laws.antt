@@ -6,14 +6,14 @@ use Rattle.rt_rib.specs.declared.commands.Cmd.TheVariants.{Add, Replace, Withdra
 use Rattle.rt_rib.specs.declared.commands.Reply.{Reply}
 use Rattle.rt_rib.specs.Table.{IsTable}
 use Rattle.rt_rib.specs.Book.{BookContents, TableState, table_of, Applies, Serves}
-use Rattle.rt_fib.specs.Tables.{IsKeptOutside}
+use Rattle.rt_fib.specs.Tables.{PreservesLookupsOutside}
 
 -- a command that puts a route in, replaces one or takes one out keeps what lies outside of its prefix, one that only asks keeps
 -- all, and of a purge nothing is said
 abbrev pub KeepsOutside : Cmd → List Route → List Route → Type 0
-KeepsOutside (Add prefix pref hop) old new = IsKeptOutside prefix old new
-KeepsOutside (Replace prefix pref hop) old new = IsKeptOutside prefix old new
-KeepsOutside (Withdraw prefix) old new = IsKeptOutside prefix old new
+KeepsOutside (Add prefix pref hop) old new = PreservesLookupsOutside prefix old new
+KeepsOutside (Replace prefix pref hop) old new = PreservesLookupsOutside prefix old new
+KeepsOutside (Withdraw prefix) old new = PreservesLookupsOutside prefix old new
 KeepsOutside (Lookup addr) old new = old ≡ new
 KeepsOutside Dump old new = old ≡ new
 KeepsOutside Purge old new = Unit {0}

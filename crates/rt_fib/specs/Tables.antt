@@ -7,5 +7,5 @@ use Rattle.rt_rib.specs.declared.routes.Route.{Route}
 use Rattle.rt_rib.specs.LookUp.{look_up}
 
 -- both tables answer alike each address that the prefix doesn't cover
-abbrev pub IsKeptOutside : Prefix → List Route → List Route → Type 0
-IsKeptOutside prefix old new = (addr : Addr) → covers prefix addr ≡ false → look_up addr old ≡ look_up addr new
+abbrev pub PreservesLookupsOutside : Prefix → List Route → List Route → Type 0
+PreservesLookupsOutside prefix old new = (addr : Addr) → covers prefix addr ≡ false → look_up addr old ≡ look_up addr new

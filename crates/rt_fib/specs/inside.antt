@@ -2,3 +2,4 @@
 pub mod Entries
 pub mod Pieces
 pub mod Spans
+pub mod Pools

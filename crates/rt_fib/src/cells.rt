@@ -1,90 +1,126 @@
-//! Where the answers lie: an entry for each first 24 bits of an address, blocks for the last 8, and a list of answers.
+//! The storage of the answers: an entry for each value of the first 24 bits of an address, blocks for the last 8, and a list of
+//! answers.
 ghost use Rattle.std.specs.Prelude.{◌≡◌, ℕ, ◌+◌, ◌<◌, ◌≤◌, ◌^◌, IfOk, get_or, length, map, take};
 ghost use Rattle.rt_rib.specs.LookUp.{look_up};
+ghost use Rattle.rt_fib.specs.inside.Pools.{places};
 ghost use Rattle.rt_fib.specs.inside.Entries.{at, entry_at, AreAll};
 
-use crate::spans::Span;
+use crate::pools::{Pool, copy_pool};
 use rt_cidr::Addr;
 use rt_rib::{Refused, Route, Table};
 use std::alloc::Allocator;
 use std::snapshot::Snapshot;
 
-/// From this number on an entry names a block, below it an answer.
+/// An entry from this number on names a block. A lower one is the number of an answer.
 pub(crate) const LONG: u32 = 1 << 31;
 
-/// The entries, and what they lead to. A block has the number of an answer for each of an entry's 256 addresses.
+/// Holds the blocks and the answers. A block has the number of an answer for each of an entry's 256 addresses.
 #[derive(Drop)]
-pub(crate) struct Cells<A: Allocator + Copy, B: Allocator + Copy> {
-    pub(crate) entries: Vec<u32, A>,
-    pub(crate) blocks: Vec<[u32; 256], A>,
-    pub(crate) answers: Vec<Option<Route>, A>,
-    /// How many bytes the blocks and the answers of new cells would take, at least.
-    pub(crate) needed: usize,
-    /// The table by which they answer. It has no bytes: clauses alone read it.
-    pub(crate) table: Snapshot<Table<B>>,
+pub(crate) struct Pools<A: Allocator + Copy> {
+    pub(crate) blocks: Pool<[u32; 256], A>,
+    pub(crate) answers: Pool<Option<Route>, A>,
+    /// The counts of what was seen in use in this round. No clause mentions them.
+    pub(crate) seen: Seen,
 }
 
-/// So many addresses have their entries read before the first of their answers.
-const AT_ONCE: usize = 16;
+/// Counts blocks, and runs of one answer's number. New cells would have as many answers, or fewer.
+#[derive(Clone, Copy)]
+pub(crate) struct Seen {
+    pub(crate) blocks: usize,
+    pub(crate) answers: usize,
+    pub(crate) last: u32,
+}
 
-/// How many bytes a block takes.
-pub(crate) const BLOCK_BYTES: usize = 1024;
+impl Seen {
+    pub(crate) fn none() -> Seen {
+        Seen {
+            blocks: 0,
+            answers: 0,
+            last: LONG,
+        }
+    }
 
-/// How many bytes an answer takes.
-pub(crate) const ANSWER_BYTES: usize = 28;
+    pub(crate) fn see(&mut self, number: u32) {
+        if number < LONG && self.last != number {
+            self.last = number;
+            self.answers = self.answers.saturating_add(1);
+        }
+    }
 
-/// How many bytes more the blocks and the answers may take than those of new cells would: half of what the entries take. A list
-/// that grows takes at most twice the bytes of its elements, so all cells take at most twice the bytes that new ones would.
-const MOST_WASTE: usize = 1 << 25;
+    pub(crate) fn see_block(&mut self) {
+        self.blocks = self.blocks.saturating_add(1);
+    }
+}
 
-/// How many bytes so many blocks and answers take.
+/// Returns how many bytes this number of blocks and answers takes.
 pub(crate) fn bytes_of(blocks: usize, answers: usize) -> usize {
     let blocks = blocks.saturating_mul(BLOCK_BYTES);
     blocks.saturating_add(answers.saturating_mul(ANSWER_BYTES))
 }
 
-/// Counts runs of one number.
-#[derive(Drop)]
-struct Runs {
-    last: Option<u32>,
-    count: usize,
+/// Says how many entries, or numbers of a block, are marked for each byte that is filled.
+pub(crate) const PACE: usize = 2;
+
+/// Returns how many bytes two rounds may leave unused, with this number of blocks: the bytes that are filled while each entry, and
+/// each number of a block, is marked twice.
+pub(crate) fn most_waste(blocks: usize) -> usize {
+    let places = blocks.saturating_mul(256).saturating_add(1 << 24);
+    places.saturating_mul(2) / PACE
 }
 
-impl Runs {
-    fn see(&mut self, number: u32) {
-        if self.last != Some(number) {
-            self.last = Some(number);
-            self.count = self.count.saturating_add(1);
-        }
-    }
+/// Says how many bytes all entries take.
+pub(crate) const ENTRY_BYTES: usize = 1 << 26;
+
+/// Holds the entries, and what they lead to.
+#[derive(Drop)]
+pub(crate) struct Cells<A: Allocator + Copy, B: Allocator + Copy> {
+    pub(crate) entries: Vec<u32, A>,
+    pub(crate) pools: Pools<A>,
+    /// The lowest stamp of all that entries lead to, so a place with a lower stamp is free.
+    pub(crate) since: u32,
+    /// The number of entries that are marked in this round: what these lead to has a higher stamp.
+    pub(crate) marked: u32,
+    /// True if the last round saw so little in use that the next change rebuilds everything. No clause mentions it.
+    pub(crate) is_wasteful: bool,
+    /// The table that the answers are from. It has no bytes: only clauses read it.
+    pub(crate) table: Snapshot<Table<B>>,
 }
+
+/// Says for how many addresses the entries are read before the first answer.
+const AT_ONCE: usize = 16;
+
+/// Says how many bytes a block takes, with its stamp.
+pub(crate) const BLOCK_BYTES: usize = 1028;
+
+/// Says how many bytes an answer takes, with its stamp.
+pub(crate) const ANSWER_BYTES: usize = 32;
 
 impl<A: Allocator + Copy, B: Allocator + Copy> Cells<A, B> {
-    /// The answer to a look-up of the address.
+    /// Looks up the address.
     pub(crate) fn look_up(&self, addr: Addr) -> Option<Route>
-        requires { AreAll self.now.entries.items self.now.blocks.items self.now.answers.items self.now.table.value.routes }
+        requires { AreAll self.now.entries.items (places self.now.pools.blocks) (places self.now.pools.answers) self.now.since self.now.table.value.routes }
         ensures { result ≡ look_up addr self.now.table.value.routes }
     {
         self.answer_by(self.entries[(addr.0 / 256) as usize], addr)
     }
 
-    /// The answer to a look-up of the address, by its entry.
+    /// Looks up the address, by its entry.
     fn answer_by(&self, entry: u32, addr: Addr) -> Option<Route>
-        requires right { AreAll self.now.entries.items self.now.blocks.items self.now.answers.items self.now.table.value.routes }
+        requires right { AreAll self.now.entries.items (places self.now.pools.blocks) (places self.now.pools.answers) self.now.since self.now.table.value.routes }
         requires entry { entry ≡ entry_at self.now.entries.items addr }
         ensures { result ≡ look_up addr self.now.table.value.routes }
     {
         if entry < LONG {
-            return self.answers[entry as usize];
+            return self.pools.answers.values[entry as usize];
         }
-        let block = &self.blocks[(entry - LONG) as usize];
+        let block = &self.pools.blocks.values[(entry - LONG) as usize];
         let number = block[(addr.0 % 256) as usize];
-        self.answers[number as usize]
+        self.pools.answers.values[number as usize]
     }
 
-    /// The answer to a look-up of each address, in order.
+    /// Looks up each address, in order.
     pub(crate) fn look_up_each(&self, addresses: &[Addr], answers: &mut [Option<Route>])
-        requires right { AreAll self.now.entries.items self.now.blocks.items self.now.answers.items self.now.table.value.routes }
+        requires right { AreAll self.now.entries.items (places self.now.pools.blocks) (places self.now.pools.answers) self.now.since self.now.table.value.routes }
         requires size { length answers.old ≡ length addresses.now }
         ensures { answers.new ≡ map (λ addr. look_up addr self.now.table.value.routes) addresses.now }
     {
@@ -96,8 +132,8 @@ impl<A: Allocator + Copy, B: Allocator + Copy> Cells<A, B> {
         }
     }
 
-    /// The answers to so many of the addresses from this place on. Their entries are read first: no read of one waits for
-    /// another, so the memory has all of them under way at once.
+    /// Looks up this number of the addresses, from this place on. Their entries are read first: no read waits for another, so the
+    /// memory fetches all of them at once.
     fn look_up_some(
         &self,
         addresses: &[Addr],
@@ -105,7 +141,7 @@ impl<A: Allocator + Copy, B: Allocator + Copy> Cells<A, B> {
         start: usize,
         size: usize,
     )
-        requires right { AreAll self.now.entries.items self.now.blocks.items self.now.answers.items self.now.table.value.routes }
+        requires right { AreAll self.now.entries.items (places self.now.pools.blocks) (places self.now.pools.answers) self.now.since self.now.table.value.routes }
         requires few { size ≤ AT_ONCE }
         requires within { start + size ≤ length addresses.now }
         requires size { length answers.old ≡ length addresses.now }
@@ -120,7 +156,7 @@ impl<A: Allocator + Copy, B: Allocator + Copy> Cells<A, B> {
         }
     }
 
-    /// The entries of so many of the addresses from this place on.
+    /// Returns the entries of this number of the addresses, from this place on.
     fn entries_at(&self, addresses: &[Addr], start: usize, size: usize) -> [u32; AT_ONCE]
         requires all { length self.now.entries.items ≡ 2 ^ 24 }
         requires few { size ≤ AT_ONCE }
@@ -135,62 +171,31 @@ impl<A: Allocator + Copy, B: Allocator + Copy> Cells<A, B> {
         entries
     }
 
-    /// The same in other memory, of a table that it answers by.
+    /// Copies the cells into other memory. The table is one with the same answers.
     pub(crate) fn copy(&self, alloc: A, table: &Table<B>) -> Result<Cells<A, B>, Refused>
         ensures entries { IfOk result (λ c. c.entries.items ≡ self.now.entries.items) }
-        ensures blocks { IfOk result (λ c. c.blocks.items ≡ self.now.blocks.items) }
-        ensures answers { IfOk result (λ c. c.answers.items ≡ self.now.answers.items) }
+        ensures blocks { IfOk result (λ c. c.pools.blocks.values.items ≡ self.now.pools.blocks.values.items) }
+        ensures block_stamps { IfOk result (λ c. c.pools.blocks.stamps.items ≡ self.now.pools.blocks.stamps.items) }
+        ensures answers { IfOk result (λ c. c.pools.answers.values.items ≡ self.now.pools.answers.values.items) }
+        ensures answer_stamps { IfOk result (λ c. c.pools.answers.stamps.items ≡ self.now.pools.answers.stamps.items) }
+        ensures since { IfOk result (λ c. c.since ≡ self.now.since) }
+        ensures marked { IfOk result (λ c. c.marked ≡ self.now.marked) }
         ensures table { IfOk result (λ c. c.table.value ≡ table.now) }
     {
+        let entries = Vec::from_slice(alloc, &self.entries)?;
+        let blocks = copy_pool(alloc, &self.pools.blocks)?;
+        let answers = copy_pool(alloc, &self.pools.answers)?;
         Ok(Cells {
-            entries: Vec::from_slice(alloc, &self.entries)?,
-            blocks: Vec::from_slice(alloc, &self.blocks)?,
-            answers: Vec::from_slice(alloc, &self.answers)?,
-            needed: self.needed,
+            entries,
+            pools: Pools {
+                blocks,
+                answers,
+                seen: self.pools.seen,
+            },
+            since: self.since,
+            marked: self.marked,
+            is_wasteful: self.is_wasteful,
             table: Snapshot::of(table),
         })
-    }
-
-    /// How many bytes the blocks and the answers take.
-    pub(crate) fn bytes(&self) -> usize {
-        bytes_of(self.blocks.len(), self.answers.len())
-    }
-
-    /// How many bytes of blocks and answers the span's entries lead to, at most.
-    pub(crate) fn bytes_of_span(&self, span: Span) -> usize {
-        let mut blocks = 0usize;
-        let mut answers = Runs {
-            last: None,
-            count: 0,
-        };
-        for i in span.first..span.end {
-            let entry = self.entries.get(i as usize).copied().unwrap_or(0);
-            if entry < LONG {
-                answers.see(entry);
-            } else if let Some(block) = self.blocks.get((entry - LONG) as usize) {
-                blocks = blocks.saturating_add(1);
-                for number in block.iter() {
-                    answers.see(*number);
-                }
-            }
-        }
-        bytes_of(blocks, answers.count)
-    }
-
-    /// Whether the blocks and the answers take too many bytes once so many are no longer led to.
-    pub(crate) fn is_wasteful(&self, gone: usize) -> bool {
-        self.bytes()
-            .saturating_sub(self.needed)
-            .saturating_add(gone)
-            > MOST_WASTE
-    }
-
-    /// How many bytes the blocks and the answers of new cells would take at least, once so many are no longer led to, and in their
-    /// place those that were made since the blocks and the answers took so many before. Of a range of addresses with one answer
-    /// new cells have that answer once: so it may be two fewer, where such ranges go on at both ends of what was renewed.
-    pub(crate) fn needed_now(&self, before: usize, gone: usize) -> usize {
-        let made = self.bytes().saturating_sub(before);
-        let fewer = gone.saturating_add(2 * ANSWER_BYTES);
-        self.needed.saturating_add(made).saturating_sub(fewer)
     }
 }

@@ -1,26 +1,28 @@
-//! How the cells are filled: entry by entry, each from the piece of the table that its addresses lie in. A piece is a range of
-//! addresses with one answer, as far as the book's `answers` tell it.
+//! Filling the cells entry by entry, each from the piece of the table that its addresses lie in. A piece is a range of addresses with
+//! one answer, as far as the book's `answers` tell it.
 ghost use Rattle.std.specs.Prelude.{◌≡◌, ◌↔◌, ℕ, IsTrue, ◌≤◌, ◌<◌, ◌+◌, ◌*◌, ◌-◌, ◌^◌, IfOk, OnOk, OnErr, length};
-ghost use Rattle.rt_fib.specs.inside.Entries.{AreAll, AreFrom, Grows, IsEntry, IsNumber};
+ghost use Rattle.rt_fib.specs.inside.Pools.{places, filling, Fills, Has, IsBack, Keeps};
+ghost use Rattle.rt_fib.specs.inside.Entries.{AreCells, AreFrom, IsEntry};
 ghost use Rattle.rt_fib.specs.inside.Pieces.{IsNumberedFrom, IsNumberedAt, AreNumbers};
 ghost use Rattle.rt_fib.specs.inside.Spans.{ArePut, AreRenewed};
 
-use crate::cells::{Cells, LONG, bytes_of};
+use crate::cells::{ANSWER_BYTES, BLOCK_BYTES, Cells, LONG, Pools, Seen, most_waste};
+use crate::pools::{empty_pool, is_used, put, reserve, take_back, touch};
 use crate::spans::{ENTRIES, Span};
 use rt_cidr::Addr;
 use rt_cidr::laws::same_prefix;
-use rt_rib::{Answers, Refused, Route, Table};
+use rt_rib::{LookupCursor, Refused, Route, Table};
 use std::alloc::Allocator;
 use std::snapshot::Snapshot;
 
-/// The number of an answer, and the last address up to which it is known to be the answer.
+/// Holds the number of an answer, and the last address up to which it is known to be the answer.
 #[derive(Clone, Copy)]
 pub(crate) struct Piece {
     pub(crate) number: u32,
     pub(crate) last: Addr,
 }
 
-/// Whether two routes are the same.
+/// Returns true if two routes are the same.
 fn is_same_route(one: &Route, other: &Route) -> bool
     ensures { IsTrue result ↔ (one.now ≡ other.now) }
 {
@@ -28,7 +30,7 @@ fn is_same_route(one: &Route, other: &Route) -> bool
     one == other
 }
 
-/// Whether two answers are the same.
+/// Returns true if two answers are the same.
 fn is_same(one: Option<Route>, other: Option<Route>) -> bool
     ensures { IsTrue result ↔ (one ≡ other) }
 {
@@ -39,90 +41,150 @@ fn is_same(one: Option<Route>, other: Option<Route>) -> bool
     }
 }
 
-/// The number of the answer: that of the last of them where it is the same, and else that of one put behind them.
+/// Returns true if this is the number of that answer: then it is in use from the next round on.
+pub(crate) fn is_again<A: Allocator + Copy>(
+    pools: &mut Pools<A>,
+    since: u32,
+    number: u32,
+    found: Option<Route>,
+) -> bool
+    requires { since + 1 < 2 ^ 32 }
+    ensures kept { pools.new.blocks ≡ pools.old.blocks }
+    ensures fills { Fills since (filling pools.old.answers) (filling pools.new.answers) }
+    ensures short { IsTrue result → number < 2 ^ 31 }
+    ensures number { IsTrue result → Has (places pools.new.answers) (since + 1) number found }
+{
+    if number >= LONG {
+        return false;
+    }
+    if !is_used(&pools.answers, since, number) {
+        return false;
+    }
+    if !is_same(pools.answers.values[number as usize], found) {
+        return false;
+    }
+    touch(&mut pools.answers, number, since);
+    true
+}
+
+/// Returns the number of the answer: one of these two, if it is that answer's, and else one that was free.
 fn number_of<A: Allocator + Copy>(
-    answers: &mut Vec<Option<Route>, A>,
+    pools: &mut Pools<A>,
+    since: u32,
+    last: u32,
+    before: u32,
     found: Option<Route>,
 ) -> Result<u32, Refused>
-    ensures grows { Grows answers.old.items answers.new.items }
+    requires { since + 1 < 2 ^ 32 }
+    ensures blocks { pools.new.blocks ≡ pools.old.blocks }
+    ensures fills { Fills since (filling pools.old.answers) (filling pools.new.answers) }
     ensures short { IfOk result (λ number. number < 2 ^ 31) }
-    ensures number { IfOk result (λ number. IsNumber answers.new.items number found) }
+    ensures number { IfOk result (λ number. Has (places pools.new.answers) (since + 1) number found) }
 {
-    let count = answers.len();
-    if count >= LONG as usize {
-        return Err(Refused);
+    if is_again(pools, since, last, found) {
+        return Ok(last);
     }
-    if count > 0 && is_same(answers[count - 1], found) {
-        return Ok((count - 1) as u32);
+    if is_again(pools, since, before, found) {
+        return Ok(before);
     }
-    answers.push(found)?;
-    Ok(count as u32)
+    put(&mut pools.answers, since, found)
 }
 
-/// The table's piece at the address.
+/// Returns the number that the entries lead the address to, or one that is no answer's.
+fn number_before<A: Allocator + Copy>(entries: &[u32], pools: &Pools<A>, addr: Addr) -> u32 {
+    let i = (addr.0 / 256) as usize;
+    if i >= entries.len() {
+        return LONG;
+    }
+    let entry = entries[i];
+    if entry < LONG {
+        return entry;
+    }
+    let block = (entry - LONG) as usize;
+    if block >= pools.blocks.values.len() {
+        return LONG;
+    }
+    pools.blocks.values[block][(addr.0 % 256) as usize]
+}
+
+/// Returns the table's piece at the address.
 fn piece_at<A: Allocator + Copy, B: Allocator + Copy>(
-    table: &mut Answers<'_, B>,
-    answers: &mut Vec<Option<Route>, A>,
+    table: &mut LookupCursor<'_, B>,
+    entries: &[u32],
+    pools: &mut Pools<A>,
+    since: u32,
+    last: u32,
     addr: Addr,
 ) -> Result<Piece, Refused>
+    requires { since + 1 < 2 ^ 32 }
     ensures kept { table.new ≡ table.old }
-    ensures grows { Grows answers.old.items answers.new.items }
-    ensures piece { IfOk result (λ piece. IsNumberedAt table.old answers.new.items addr.0 piece) }
+    ensures blocks { pools.new.blocks ≡ pools.old.blocks }
+    ensures fills { Fills since (filling pools.old.answers) (filling pools.new.answers) }
+    ensures piece { IfOk result (λ piece. IsNumberedAt table.old (places pools.new.answers) (since + 1) addr.0 piece) }
 {
-    let (found, last) = table.until(addr);
-    let number = number_of(answers, found)?;
-    Ok(Piece { number, last })
+    let (found, to) = table.lookup_range(addr);
+    let before = number_before(entries, pools, addr);
+    let number = number_of(pools, since, last, before, found)?;
+    Ok(Piece { number, last: to })
 }
 
-/// The table's piece at the address: this one, where it reaches so far.
+/// Returns the table's piece at the address: this one, where it reaches so far.
 fn piece_on<A: Allocator + Copy, B: Allocator + Copy>(
-    table: &mut Answers<'_, B>,
-    answers: &mut Vec<Option<Route>, A>,
+    table: &mut LookupCursor<'_, B>,
+    entries: &[u32],
+    pools: &mut Pools<A>,
+    since: u32,
     piece: Piece,
     addr: Addr,
 ) -> Result<Piece, Refused>
-    requires { IsNumberedFrom table.old answers.old.items addr.0 piece }
+    requires since { since + 1 < 2 ^ 32 }
+    requires piece { IsNumberedFrom table.old (places pools.old.answers) (since + 1) addr.0 piece }
     ensures kept { table.new ≡ table.old }
-    ensures grows { Grows answers.old.items answers.new.items }
-    ensures piece { IfOk result (λ piece. IsNumberedAt table.old answers.new.items addr.0 piece) }
+    ensures blocks { pools.new.blocks ≡ pools.old.blocks }
+    ensures fills { Fills since (filling pools.old.answers) (filling pools.new.answers) }
+    ensures piece { IfOk result (λ piece. IsNumberedAt table.old (places pools.new.answers) (since + 1) addr.0 piece) }
 {
     if addr.0 <= piece.last.0 {
         return Ok(piece);
     }
-    piece_at(table, answers, addr)
+    piece_at(table, entries, pools, since, piece.number, addr)
 }
 
-/// What the 256 addresses of an entry are answered, and the piece that the last of them lies in.
+/// Holds what the 256 addresses of an entry are answered, and the piece that the last of them lies in.
 #[derive(Clone, Copy)]
 pub(crate) struct Numbered {
     pub(crate) numbers: [u32; 256],
     pub(crate) piece: Piece,
 }
 
-/// The numbers of what the table answers the 256 addresses from this one on.
+/// Returns the numbers of what the table answers the 256 addresses from this one on.
 fn numbers_from<A: Allocator + Copy, B: Allocator + Copy>(
-    table: &mut Answers<'_, B>,
-    answers: &mut Vec<Option<Route>, A>,
+    table: &mut LookupCursor<'_, B>,
+    entries: &[u32],
+    pools: &mut Pools<A>,
+    since: u32,
     piece: Piece,
     first: u32,
 ) -> Result<Numbered, Refused>
+    requires since { since + 1 < 2 ^ 32 }
     requires fits { first + 256 ≤ 2 ^ 32 }
-    requires piece { IsNumberedFrom table.old answers.old.items first piece }
+    requires piece { IsNumberedFrom table.old (places pools.old.answers) (since + 1) first piece }
     ensures kept { table.new ≡ table.old }
-    ensures grows { Grows answers.old.items answers.new.items }
-    ensures numbers { IfOk result (λ b. AreNumbers table.old b.numbers answers.new.items first 256) }
-    ensures piece { IfOk result (λ b. IsNumberedFrom table.old answers.new.items (first + 256) b.piece) }
+    ensures blocks { pools.new.blocks ≡ pools.old.blocks }
+    ensures fills { Fills since (filling pools.old.answers) (filling pools.new.answers) }
+    ensures numbers { IfOk result (λ b. AreNumbers table.old b.numbers (places pools.new.answers) (since + 1) first 256) }
+    ensures piece { IfOk result (λ b. IsNumberedFrom table.old (places pools.new.answers) (since + 1) (first + 256) b.piece) }
 {
     let mut piece = piece;
     let mut numbers = [0u32; 256];
     'numbers: for k in 0..256u32 {
-        piece = piece_on(table, answers, piece, Addr(first + k))?;
+        piece = piece_on(table, entries, pools, since, piece, Addr(first + k))?;
         numbers[k as usize] = piece.number;
     }
     Ok(Numbered { numbers, piece })
 }
 
-/// Entries that are the same, up to the end, which is no longer one of them, and the piece that the last address lies in.
+/// Holds an entry that is repeated up to the end, and the piece that the last address lies in.
 #[derive(Clone, Copy)]
 pub(crate) struct Run {
     pub(crate) entry: u32,
@@ -130,30 +192,98 @@ pub(crate) struct Run {
     pub(crate) piece: Piece,
 }
 
-/// The entry of the addresses that begin with these 24 bits, and how many behind it are the same: as far as the piece reaches,
-/// and not beyond the end. The entry's block, where it has one, is put behind the others.
+/// Returns true if two blocks have the same numbers.
+fn are_same_numbers(one: &[u32; 256], other: &[u32; 256]) -> bool
+    ensures { IsTrue result → one.now ≡ other.now }
+{
+    one == other
+}
+
+/// Returns true if this is the number of a block of those numbers: then it is in use from the next round on.
+fn is_block_again<A: Allocator + Copy>(
+    pools: &mut Pools<A>,
+    since: u32,
+    block: u32,
+    numbers: &[u32; 256],
+) -> bool
+    requires { since + 1 < 2 ^ 32 }
+    ensures kept { pools.new.answers ≡ pools.old.answers }
+    ensures fills { Fills since (filling pools.old.blocks) (filling pools.new.blocks) }
+    ensures short { IsTrue result → block < 2 ^ 31 }
+    ensures number { IsTrue result → Has (places pools.new.blocks) (since + 1) block numbers.now }
+{
+    if block >= LONG {
+        return false;
+    }
+    if !is_used(&pools.blocks, since, block) {
+        return false;
+    }
+    let one = &pools.blocks.values[block as usize];
+    if !are_same_numbers(one, numbers) {
+        return false;
+    }
+    touch(&mut pools.blocks, block, since);
+    true
+}
+
+/// Returns the number of a block of those numbers: this one, if it is that, and else one that was free.
+fn block_of<A: Allocator + Copy>(
+    pools: &mut Pools<A>,
+    since: u32,
+    before: u32,
+    numbers: [u32; 256],
+) -> Result<u32, Refused>
+    requires { since + 1 < 2 ^ 32 }
+    ensures answers { pools.new.answers ≡ pools.old.answers }
+    ensures fills { Fills since (filling pools.old.blocks) (filling pools.new.blocks) }
+    ensures short { IfOk result (λ block. block < 2 ^ 31) }
+    ensures there { IfOk result (λ block. Has (places pools.new.blocks) (since + 1) block numbers) }
+{
+    if is_block_again(pools, since, before, &numbers) {
+        return Ok(before);
+    }
+    put(&mut pools.blocks, since, numbers)
+}
+
+/// Returns the block that the entry names, or a number that is no block's.
+fn block_before(entries: &[u32], i: u32) -> u32 {
+    let i = i as usize;
+    if i >= entries.len() {
+        return LONG;
+    }
+    let entry = entries[i];
+    if entry < LONG {
+        return LONG;
+    }
+    entry - LONG
+}
+
+/// Returns the entry of the addresses that begin with these 24 bits, and how far it is repeated: as far as the piece reaches, and
+/// not beyond the end.
 fn run_of<A: Allocator + Copy, B: Allocator + Copy>(
-    table: &mut Answers<'_, B>,
-    blocks: &mut Vec<[u32; 256], A>,
-    answers: &mut Vec<Option<Route>, A>,
+    table: &mut LookupCursor<'_, B>,
+    entries: &[u32],
+    pools: &mut Pools<A>,
+    since: u32,
     piece: Piece,
     i: u32,
     end: u32,
 ) -> Result<Run, Refused>
+    requires since { since + 1 < 2 ^ 32 }
     requires before { i < end }
     requires fits { end ≤ 2 ^ 24 }
-    requires piece { IsNumberedFrom table.old answers.old.items (i * 256) piece }
+    requires piece { IsNumberedFrom table.old (places pools.old.answers) (since + 1) (i * 256) piece }
     ensures kept { table.new ≡ table.old }
-    ensures blocks { Grows blocks.old.items blocks.new.items }
-    ensures grows { Grows answers.old.items answers.new.items }
+    ensures blocks { Fills since (filling pools.old.blocks) (filling pools.new.blocks) }
+    ensures fills { Fills since (filling pools.old.answers) (filling pools.new.answers) }
     ensures onward { IfOk result (λ run. i < run.end) }
     ensures within { IfOk result (λ run. run.end ≤ end) }
     ensures entry { IfOk result (λ run. (j : ℕ) → i ≤ j → j < run.end
-        → IsEntry table.old blocks.new.items answers.new.items j run.entry) }
-    ensures piece { IfOk result (λ run. IsNumberedFrom table.old answers.new.items (run.end * 256) run.piece) }
+        → IsEntry table.old (places pools.new.blocks) (places pools.new.answers) (since + 1) j run.entry) }
+    ensures piece { IfOk result (λ run. IsNumberedFrom table.old (places pools.new.answers) (since + 1) (run.end * 256) run.piece) }
 {
     let first = i * 256;
-    let piece = piece_on(table, answers, piece, Addr(first))?;
+    let piece = piece_on(table, entries, pools, since, piece, Addr(first))?;
     if first + 255 <= piece.last.0 {
         let whole = (u64::from(piece.last.0) + 1) / 256;
         return Ok(Run {
@@ -162,40 +292,40 @@ fn run_of<A: Allocator + Copy, B: Allocator + Copy>(
             piece,
         });
     }
-    let block = blocks.len();
-    if block >= LONG as usize {
-        return Err(Refused);
-    }
-    let numbered = numbers_from(table, answers, piece, first)?;
-    blocks.push(numbered.numbers)?;
+    let numbered = numbers_from(table, entries, pools, since, piece, first)?;
+    let block = block_of(pools, since, block_before(entries, i), numbered.numbers)?;
     Ok(Run {
-        entry: LONG + block as u32,
+        entry: LONG + block,
         end: i + 1,
         piece: numbered.piece,
     })
 }
 
-/// The span's entries.
+/// Returns the span's entries, and puts the blocks and answers that they lead to into the pools.
 fn span_entries<A: Allocator + Copy, B: Allocator + Copy>(
     alloc: A,
-    table: &mut Answers<'_, B>,
-    blocks: &mut Vec<[u32; 256], A>,
-    answers: &mut Vec<Option<Route>, A>,
+    table: &mut LookupCursor<'_, B>,
+    old: &[u32],
+    pools: &mut Pools<A>,
+    since: u32,
     span: Span,
 ) -> Result<Vec<u32, A>, Refused>
+    requires since { since + 1 < 2 ^ 32 }
     requires ordered { span.first < span.end }
     requires fits { span.end ≤ 2 ^ 24 }
     ensures kept { table.new ≡ table.old }
-    ensures blocks { Grows blocks.old.items blocks.new.items }
-    ensures grows { Grows answers.old.items answers.new.items }
+    ensures blocks { Fills since (filling pools.old.blocks) (filling pools.new.blocks) }
+    ensures fills { Fills since (filling pools.old.answers) (filling pools.new.answers) }
     ensures entries { IfOk result (λ fresh.
-        AreFrom span.first fresh.items blocks.new.items answers.new.items table.old (span.end - span.first)) }
+        AreFrom span.first fresh.items (places pools.new.blocks) (places pools.new.answers) (since + 1) table.old (span.end - span.first)) }
 {
     let mut entries = Vec::with_capacity(alloc, (span.end - span.first) as usize)?;
-    let mut piece = piece_at(table, answers, Addr(span.first * 256))?;
+    let first = span.first * 256;
+    let left = number_before(old, pools, Addr(first.saturating_sub(1)));
+    let mut piece = piece_at(table, old, pools, since, left, Addr(first))?;
     let mut i = span.first;
     'entries: while i < span.end {
-        let run = run_of(table, blocks, answers, piece, i, span.end)?;
+        let run = run_of(table, old, pools, since, piece, i, span.end)?;
         entries.resize((run.end - span.first) as usize, run.entry)?;
         piece = run.piece;
         i = run.end;
@@ -203,27 +333,48 @@ fn span_entries<A: Allocator + Copy, B: Allocator + Copy>(
     Ok(entries)
 }
 
-/// The cells of what the table answers all addresses.
+/// Gets room for what two rounds may leave unused, so that no change has to copy a long list. A short list gets room for as much
+/// again as it has. No entries are due to be marked for what a new table has: else its first change would mark all of them.
+fn reserve_waste<A: Allocator + Copy>(pools: &mut Pools<A>)
+    ensures blocks { pools.new.blocks.values.items ≡ pools.old.blocks.values.items }
+    ensures block_stamps { pools.new.blocks.stamps.items ≡ pools.old.blocks.stamps.items }
+    ensures answers { pools.new.answers.values.items ≡ pools.old.answers.values.items }
+    ensures answer_stamps { pools.new.answers.stamps.items ≡ pools.old.answers.stamps.items }
+{
+    let block_count = pools.blocks.values.len();
+    let answer_count = pools.answers.values.len();
+    let waste = most_waste(block_count);
+    reserve(&mut pools.blocks, block_count.min(waste / BLOCK_BYTES));
+    reserve(&mut pools.answers, answer_count.min(waste / ANSWER_BYTES));
+    pools.blocks.due = 0;
+    pools.answers.due = 0;
+}
+
+/// Returns the cells of what the table answers all addresses.
 pub(crate) fn all_cells<A: Allocator + Copy, B: Allocator + Copy>(
     alloc: A,
     table: &Table<B>,
 ) -> Result<Cells<A, B>, Refused>
-    ensures cells { IfOk result (λ c. AreAll c.entries.items c.blocks.items c.answers.items table.now.routes) }
+    ensures cells { IfOk result (λ c. AreCells c.entries.items (places c.pools.blocks) (places c.pools.answers) c.since c.marked table.now.routes) }
     ensures table { IfOk result (λ c. c.table.value ≡ table.now) }
 {
-    let mut blocks = Vec::new(alloc);
-    let mut answers = Vec::new(alloc);
+    let mut pools = Pools {
+        blocks: empty_pool(alloc),
+        answers: empty_pool(alloc),
+        seen: Seen::none(),
+    };
     let all = Span {
         first: 0,
         end: ENTRIES,
     };
-    let entries = span_entries(alloc, &mut table.answers(), &mut blocks, &mut answers, all)?;
-    let needed = bytes_of(blocks.len(), answers.len());
+    let entries = span_entries(alloc, &mut table.lookup_cursor(), &[], &mut pools, 0, all)?;
+    reserve_waste(&mut pools);
     Ok(Cells {
         entries,
-        blocks,
-        answers,
-        needed,
+        pools,
+        since: 0,
+        marked: 0,
+        is_wasteful: false,
         table: Snapshot::of(table),
     })
 }
@@ -238,30 +389,58 @@ fn put_entries(entries: &mut [u32], fresh: &[u32], first: usize)
     }
 }
 
-/// Puts what the table answers the span's addresses into the cells. Blocks and answers are made before an entry changes, and
-/// where memory is refused none is left behind those that were there, so all stays then.
+/// Counts the entries that named a block, where the fresh one in their place doesn't.
+fn blocks_gone(entries: &[u32], fresh: &[u32], first: usize) -> usize
+    requires { first + length fresh.now ≤ length entries.now }
+{
+    let mut gone = 0usize;
+    for k in 0..fresh.len() {
+        if entries[first + k] >= LONG && fresh[k] < LONG {
+            gone = gone.saturating_add(1);
+        }
+    }
+    gone
+}
+
+/// Puts what the table answers the span's addresses into the cells. Blocks and answers are made before an entry changes. If memory
+/// is refused, they are taken back: no entry changed, and all places that were free are free again.
 pub(crate) fn renew_cells<A: Allocator + Copy, B: Allocator + Copy>(
-    table: &mut Answers<'_, B>,
+    table: &mut LookupCursor<'_, B>,
     cells: &mut Cells<A, B>,
     span: Span,
 ) -> Result<(), Refused>
+    requires since { cells.old.since + 1 < 2 ^ 32 }
     requires ordered { span.first < span.end }
     requires fits { span.end ≤ 2 ^ 24 }
     requires size { length cells.old.entries.items ≡ 2 ^ 24 }
     ensures kept { table.new ≡ table.old }
-    ensures blocks { Grows cells.old.blocks.items cells.new.blocks.items }
-    ensures grows { Grows cells.old.answers.items cells.new.answers.items }
-    ensures put { OnOk result (AreRenewed cells.old.entries.items cells.new.entries.items cells.new.blocks.items
-        cells.new.answers.items table.old span) }
+    ensures blocks { Keeps cells.old.since (places cells.old.pools.blocks) (places cells.new.pools.blocks) }
+    ensures keeps { Keeps cells.old.since (places cells.old.pools.answers) (places cells.new.pools.answers) }
+    ensures put { OnOk result (AreRenewed cells.old.entries.items cells.new.entries.items (places cells.new.pools.blocks)
+        (places cells.new.pools.answers) (cells.old.since + 1) table.old span) }
     ensures stay { OnErr result (cells.new.entries.items ≡ cells.old.entries.items) }
-    ensures nothing_left { OnErr result ((cells.new.blocks.items ≡ cells.old.blocks.items)
-        × (cells.new.answers.items ≡ cells.old.answers.items)) }
+    ensures blocks_back { OnErr result (IsBack cells.old.since (places cells.old.pools.blocks) (places cells.new.pools.blocks)) }
+    ensures answers_back { OnErr result (IsBack cells.old.since (places cells.old.pools.answers) (places cells.new.pools.answers)) }
+    ensures since { cells.new.since ≡ cells.old.since }
+    ensures marked { cells.new.marked ≡ cells.old.marked }
     ensures table { cells.new.table.value ≡ cells.old.table.value }
 {
     let alloc = *cells.entries.allocator();
-    let (block_count, answer_count) = (cells.blocks.len(), cells.answers.len());
-    match span_entries(alloc, table, &mut cells.blocks, &mut cells.answers, span) {
+    let block_count = cells.pools.blocks.values.len();
+    let answer_count = cells.pools.answers.values.len();
+    cells.pools.blocks.taken.clear();
+    cells.pools.answers.taken.clear();
+    match span_entries(
+        alloc,
+        table,
+        &cells.entries,
+        &mut cells.pools,
+        cells.since,
+        span,
+    ) {
         Ok(fresh) => {
+            let gone = blocks_gone(&cells.entries, &fresh, span.first as usize);
+            cells.pools.blocks.due = cells.pools.blocks.due.saturating_add(gone);
             put_entries(
                 cells.entries.as_mut_slice(),
                 fresh.as_slice(),
@@ -270,8 +449,8 @@ pub(crate) fn renew_cells<A: Allocator + Copy, B: Allocator + Copy>(
             Ok(())
         }
         Err(refused) => {
-            cells.blocks.truncate(block_count);
-            cells.answers.truncate(answer_count);
+            take_back(&mut cells.pools.blocks, block_count);
+            take_back(&mut cells.pools.answers, answer_count);
             Err(refused)
         }
     }

@@ -1,11 +1,12 @@
-//! What holds of every book and of every table. Each function is a theorem: calling it makes its clause known, and it does nothing.
+//! What holds for every book and every table. Each function is a theorem: calling it makes its clause known, and it does nothing.
 ghost use Rattle.rt_fib.specs.Laws.{CommandsKeepOutside, TablesKeepOutside};
 
 use rt_rib::laws::{look_up_finds_best, put_in_adds, table_by_entry, take_out_leaves_others};
 
-/// A command that puts a route in, replaces one or takes one out leaves the answers of all addresses that its prefix doesn't
-/// cover, and one that only asks leaves all: so a forwarding table follows it by a `renew` of that prefix, or by nothing.
-pub fn commands_keep_outside()
+/// States that a command that puts a route in, replaces one or takes one out leaves the answers of all addresses that its prefix
+/// doesn't cover, and that a command that only asks leaves all. So a forwarding table follows a command by a `renew` of its prefix, or
+/// does nothing.
+pub fn commands_preserve_lookups_outside_prefix()
     ensures { CommandsKeepOutside }
 {
     put_in_adds();
@@ -14,8 +15,8 @@ pub fn commands_keep_outside()
     table_by_entry();
 }
 
-/// The same of the commands that a table answers.
-pub fn tables_keep_outside()
+/// States the same for the commands that a table answers.
+pub fn tables_preserve_lookups_outside_prefix()
     ensures { TablesKeepOutside }
 {
     put_in_adds();

@@ -8,20 +8,25 @@
 //!
 //! It is the table DIR-24-8 of Gupta, Lin and McKeown (*Routing Lookups in Hardware at Memory Access Speeds*, INFOCOM 1998): an
 //! entry for each first 24 bits of an address, 64 MiB of them. Where the 256 addresses of an entry have one answer, it is the
-//! number of that answer; where they don't, that of a block with 256 numbers, one for each of them. The answers stand in a list,
-//! so that each is a whole route (`src/cells.rt`).
+//! number of that answer. Where they don't, it is the number of a block with 256 numbers, one for each of them. The answers are in a
+//! list, so that each is a whole route (`src/cells.rt`).
+//!
+//! A change puts blocks and answers into places that are free (`src/pools.rt`). A place becomes free when no entry led to it during
+//! a whole round, in which all entries were marked, a few after each change (`src/marking.rt`).
 //!
 //! Contracts see a [`Fib`] as the routing table that it answers by: [`Fib::look_up`] answers each address what a look-up of that
-//! table does (`look_up` in `rt_rib`'s `specs/LookUp.antt`). That no place is read which isn't there is proved, so none is tested.
+//! table does (`look_up` in `rt_rib`'s `specs/LookUp.antt`). It is proved that no place is read which isn't there, so no test tries it.
 //! [`laws`] says which commands of a book [`Fib::renew`] follows by their prefix.
 //!
-//! Only tested, since no clause says it: how much memory it takes, and that many threads may ask one.
+//! No clause says how much memory it takes, or that many threads may look up in one: this is only tested.
 #![tactic(auto)]
 
 mod cells;
 mod fib;
 mod filling;
 pub mod laws;
+mod marking;
+mod pools;
 mod spans;
 
 pub use fib::Fib;

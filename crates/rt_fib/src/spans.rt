@@ -1,19 +1,19 @@
-//! Which entries a prefix's addresses have.
+//! The entries that a prefix's addresses have.
 ghost use Rattle.rt_fib.specs.inside.Spans.{AreEntriesOf};
 
 use rt_cidr::Prefix;
 
-/// How many entries there are.
+/// Says how many entries there are.
 pub(crate) const ENTRIES: u32 = 1 << 24;
 
-/// The entries from the first on, up to the end, which is no longer one of them.
+/// Holds a range of entries: from the first on, up to the end, which is no longer one of them.
 #[derive(Clone, Copy)]
 pub(crate) struct Span {
     pub(crate) first: u32,
     pub(crate) end: u32,
 }
 
-/// The entries of the prefix's addresses.
+/// Returns the entries of the prefix's addresses.
 pub(crate) fn span_of(prefix: &Prefix) -> Span
     ensures { AreEntriesOf prefix.now result }
 {

@@ -1,4 +1,4 @@
--- What a look-up finds, in terms of what the set contains.
+-- The result of a look-up, in terms of the elements of the set.
 use Rattle.std.proofs.Common.{◌≡◌, ◌≤◌, Bool, true, false, not, ltb, leb, inl, inr, List, [], ◌∷◌, get_or, Some, None, ap, ◌∙◌, sym, subst, arith}
 use Rattle.std.proofs.lemmas.Bool.{cases_Bool, cond-true, cond-false, both_ways, false_from_ne_true, and_parts, and_from, not-true, not_from_false}
 use Rattle.std.proofs.lemmas.Bool.{leb-true, le-leb, ltb-true, ltb-false, lt-ltb}
@@ -18,18 +18,18 @@ use Rattle.rt_rib.proofs.Tables.{Apart, Apart-flip}
 use Rattle.rt_rib.proofs.Sets.{Contains-head, Contains-tail, Contains-cases, Contains-none, filter-keeps, filter-from}
 use Rattle.rt_rib.proofs.Covering.{base_at, covers-base}
 
--- what is contained passes a test that all pass
+-- an element of a list satisfies a test that all elements satisfy
 pub list_all-contained : {X : Type 0} (p : X → Bool) (xs : List X) (x : X) → list_all p xs ≡ true → Contains xs x → p x ≡ true
 list_all-contained p [] x e c = absurd (Contains-none x c)
 list_all-contained p (y ∷ xs) x e c =
     let parts = and_parts (p y) (list_all p xs) e in
     elim (Contains-cases y xs x c) [ inl here ↦ ap p (sym here) ∙ parts.0 | inr later ↦ list_all-contained p xs x parts.1 later ]
 
--- and all pass a test that whatever is contained passes
+-- the converse: if every element satisfies a test, all do
 pub list_all-from_contained : {X : Type 0} (p : X → Bool) (xs : List X) → ((x : X) → Contains xs x → p x ≡ true) → list_all p xs ≡ true
 list_all-from_contained p xs h = list_all-from p xs (λ k d l. h (get_or xs k d) (Contains-get_or xs k d l))
 
--- a test that something passes finds something that passes
+-- if some element satisfies a test, `find` returns one that does
 find-some : {X : Type 0} (p : X → Bool) (xs : List X) (x : X) → Contains xs x → p x ≡ true → (y : X) × (find p xs ≡ Some y) × Contains xs y × (p y ≡ true)
 find-some p [] x c e = absurd (Contains-none x c)
 find-some p (z ∷ xs) x c e = elim (cases_Bool (p z)) [
@@ -42,7 +42,7 @@ find-some p (z ∷ xs) x c e = elim (cases_Bool (p z)) [
   ]
 ]
 
--- what is found is contained, and passes
+-- the element that `find` returns is in the list and satisfies the test
 find-from : {X : Type 0} (p : X → Bool) (xs : List X) (y : X) → find p xs ≡ Some y → Contains xs y × (p y ≡ true)
 find-from p [] y e = cc
 find-from p (z ∷ xs) y e = elim (cases_Bool (p z)) [
@@ -55,7 +55,7 @@ find-from p (z ∷ xs) y e = elim (cases_Bool (p z)) [
       (Contains-tail z xs y rest.0, rest.1)
 ]
 
--- a table contains one route of a feed to a prefix
+-- a table contains only one route of a feed to a prefix
 pub one_of : (t : List Route) → AllPairs Apart t → (r s : Route) → Contains t r → Contains t s → is_of r.feed r.prefix s ≡ true → s ≡ r
 one_of [] h r s c d e = absurd (Contains-none r c)
 one_of (x ∷ t) h r s c d e =
@@ -74,7 +74,7 @@ one_of (x ∷ t) h r s c d e =
       ]
     ]
 
--- two routes of which neither is better have one preference and one feed
+-- if neither of two routes is better, they have the same preference and feed
 pub even : (r s : Route) → is_better r s ≡ false → is_better s r ≡ false → s.feed ≡ r.feed
 even r s a b =
     elim (below_then-false r.pref s.pref (ltb r.feed s.feed) a) [
@@ -85,7 +85,7 @@ even r s a b =
       ]
     ]
 
--- what beats one that a second doesn't beat beats the second
+-- if r beats u and s doesn't, then r beats s
 beats-over : (r s u : Route) → beats r u ≡ true → beats s u ≡ false → beats r s ≡ true
 beats-over r s u x y =
     elim (below_then-true u.prefix.len r.prefix.len (is_better r u) x) [
@@ -101,7 +101,7 @@ beats-over r s u x y =
             below_then-same s.prefix.len r.prefix.len (is_better r s) (omega arith) (better-over r s u also.1 same.1)
       ]
     ] where
-      -- the same of preference and feed
+      -- the same for preference and feed
       better-over : (r s u : Route) → is_better r u ≡ true → is_better s u ≡ false → is_better r s ≡ true
       better-over r s u x y =
           elim (below_then-true r.pref u.pref (ltb r.feed u.feed) x) [
@@ -127,19 +127,19 @@ beats-itself r = false_from_ne_true (beats r r) (λ e. elim (below_then-true r.p
   | inr same ↦ both_ways (is_better r r) (is_better-itself r) same.1
 ])
 
--- what beats one that beats a third beats that
+-- `beats` is transitive
 pub beats-trans : (r s u : Route) → beats r s ≡ true → beats s u ≡ true → beats r u ≡ true
 beats-trans r s u x y =
     below_then-trans u.prefix.len s.prefix.len r.prefix.len (is_better s u) (is_better r s) (is_better r u) (λ p q. is_better-trans r s u q p) y x
 
--- a route that covers the address, of this one and those of the list, that none of them beats
+-- a route that covers the address, out of this one and those of the list, that none of them beats
 record IsTop (addr : Addr) (first : Route) (rest : List Route) : Type 0 where
   top : Route
   contained : Contains (first ∷ rest) top
   covering : covers top.prefix addr ≡ true
   unbeaten : (s : Route) → Contains (first ∷ rest) s → covers s.prefix addr ≡ true → beats s top ≡ false
 
--- there is one where this one covers the address
+-- there is one if the first route covers the address
 find_top : (addr : Addr) (first : Route) (rest : List Route) → covers first.prefix addr ≡ true → IsTop addr first rest
 find_top addr first [] c = record {
   top = first;
@@ -188,19 +188,19 @@ find_top addr first (x ∷ rest) c = elim (cases_Bool (covers x.prefix addr && b
 ]
 
 module _ (addr : Addr) (t : List Route) (table : IsTable t) where
-  -- whether the prefix covers the address
+  -- true if the prefix covers the address
   abbrev covering : Route → Bool
   covering s = covers s.prefix addr
 
-  -- whether no match is longer
+  -- true if no match is longer
   abbrev is_long : Route → Bool
   is_long s = list_all (λ u. leb u.prefix.len s.prefix.len) (matching addr t)
 
-  -- whether none of the longest is better
+  -- true if none of the longest matches is better
   abbrev is_best : Route → Bool
   is_best s = list_all (λ u. not (is_better u s)) (longest_of (matching addr t))
 
-  -- one of the longest covers the address, and is as long as any that does
+  -- a longest match covers the address, and is as long as any other that does
   known : (s : Route) → Contains (longest_of (matching addr t)) s
       → Contains t s × (covering s ≡ true) × ((u : Route) → Contains t u → covering u ≡ true → u.prefix.len ≤ s.prefix.len)
   known s c =
@@ -212,7 +212,7 @@ module _ (addr : Addr) (t : List Route) (table : IsTable t) where
             (list_all-contained (λ v. leb v.prefix.len s.prefix.len) (matching addr t) u long.1 (filter-keeps covering t u d e)),
       )
 
-  -- and the other way round
+  -- the converse
   is_longest : (s : Route) → Contains t s → covering s ≡ true → ((u : Route) → Contains t u → covering u ≡ true → u.prefix.len ≤ s.prefix.len)
       → Contains (longest_of (matching addr t)) s
   is_longest s c e most =
@@ -256,7 +256,7 @@ module _ (addr : Addr) (t : List Route) (table : IsTable t) where
       let feed = even r s worse (h.best s facts.0 facts.1 len) in
       found.1 ∙ ap Some (one_of t table.single r s h.contained facts.0 (is_of-from r.feed r.prefix s feed (base ∙ sym own) len))
 
--- where a prefix covers the address there is a best match
+-- if a prefix covers the address, there is a best match
 covered_best : (addr : Addr) (t : List Route) (s : Route) → Contains t s → covers s.prefix addr ≡ true → (r : Route) × IsBestMatch addr t r
 covered_best addr t s c e =
     let h = find_top addr s t e in

@@ -1,4 +1,4 @@
--- In a table the first route to each prefix is the best one to it.
+-- In a table, the first route to each prefix is the best one to that prefix.
 use Rattle.std.proofs.Common.{◌≡◌, ◌<◌, ◌≤◌, ◌/◌, true, false, not, eqb, ◌⊎◌, inl, inr, List, [], ◌∷◌, length, get_or, refl, ap, ◌∙◌, sym, subst, arith}
 use Rattle.std.specs.Prelude.{Bool, ◌&&◌, Option, Some, None}
 use Rattle.std.proofs.lemmas.Bool.{cases_Bool, cond-true, cond-false, both_ways, false_from_ne_true, and_parts, and_from, not-true, not_from_false}
@@ -23,11 +23,11 @@ use Rattle.rt_rib.proofs.Sets.{Contains-head, Contains-tail, Contains-cases, Con
 use Rattle.rt_rib.proofs.Best.{list_all-contained, list_all-from_contained, even, look_up_finds_best}
 
 module _ {X : Type 0} (R : X → X → Type 0) where
-  -- the second of a list left out
+  -- the list without its second element
   AllPairs-skip : (k x : X) (xs : List X) → AllPairs R (k ∷ x ∷ xs) → AllPairs R (k ∷ xs)
   AllPairs-skip k x xs h = AllPairs-cons R k xs (All-tail (R k) x xs (AllPairs-head R k (x ∷ xs) h)) (AllPairs-tail R x xs (AllPairs-tail R k (x ∷ xs) h))
 
-  -- what holds of each two elements holds of each two that are left
+  -- a property of each two elements also holds for each two that remain
   AllPairs-dedup : (E : X → X → Bool) (k : X) (xs : List X) → AllPairs R (k ∷ xs) → AllPairs R (dedup E (k ∷ xs))
   AllPairs-dedup E k [] h = h
   AllPairs-dedup E k (x ∷ xs) h = elim (cases_Bool (E x k)) [
@@ -38,26 +38,26 @@ module _ {X : Type 0} (R : X → X → Type 0) where
         (AllPairs-dedup E x xs (AllPairs-tail R k (x ∷ xs) h)))
   ]
 
--- whether two routes are to one prefix
+-- true if two routes are to the same prefix
 abbrev pub to_one : Route → Route → Bool
 to_one r s = same_prefix r.prefix s.prefix
 
--- base and length of routes to one prefix
+-- two routes to the same prefix have the same base and length
 one-parts : (r s : Route) → to_one r s ≡ true → (r.prefix.base ≡ s.prefix.base) × (r.prefix.len ≡ s.prefix.len)
 one-parts r s e =
     let both = and_parts (eqb r.prefix.base s.prefix.base) (eqb r.prefix.len s.prefix.len) e in
     (eqb-true r.prefix.base s.prefix.base both.0, eqb-true r.prefix.len s.prefix.len both.1)
 
--- routes of one base and length are to one prefix
+-- two routes with the same base and length are to the same prefix
 one-from : (r s : Route) → r.prefix.base ≡ s.prefix.base → r.prefix.len ≡ s.prefix.len → to_one r s ≡ true
 one-from r s b l = and_from (eqb r.prefix.base s.prefix.base) (eqb r.prefix.len s.prefix.len) (eq-eqb r.prefix.base s.prefix.base b)
     (eq-eqb r.prefix.len s.prefix.len l)
 
--- and so are those of which each is to the prefix of a third
+-- two routes to the prefix of a third are to the same prefix
 one-over : (r s t : Route) → to_one s r ≡ true → to_one s t ≡ true → to_one r t ≡ true
 one-over r s t x y = let a = one-parts s r x in let b = one-parts s t y in one-from r t (sym a.0 ∙ b.0) (sym a.1 ∙ b.1)
 
--- what precedes a route to its prefix is better
+-- if a route precedes another to the same prefix, it is better
 better-first : (r s : Route) → precedes r s ≡ true → to_one s r ≡ true → is_better r s ≡ true
 better-first r s e one =
     let parts = one-parts s r one in
@@ -68,7 +68,7 @@ better-first r s e one =
       | inr same ↦ elim (below_then-true r.prefix.len s.prefix.len (is_better r s) same.1) [ inl shorter ↦ absurd (omega arith) | inr also ↦ also.1 ]
     ]
 
--- the base is no greater, and where it is the same the length is no greater
+-- the base is lower, or it is the same and the length is at most the other's
 abbrev IsUpTo : Prefix → Prefix → Type 0
 IsUpTo p q = (p.base < q.base) ⊎ ((p.base ≡ q.base) × (p.len ≤ q.len))
 
@@ -82,7 +82,7 @@ up_to r s e = elim (below_then-true r.prefix.base s.prefix.base (below_then r.pr
   )
 ]
 
--- what stands between two routes to one prefix is to it too
+-- a route between two routes to the same prefix is to that prefix too
 one-between : (k x r : Route) → IsUpTo k.prefix x.prefix → IsUpTo x.prefix r.prefix → to_one k r ≡ true → to_one x k ≡ true
 one-between k x r low high one =
     let parts = one-parts k r one in
@@ -96,7 +96,7 @@ one-between k x r low high one =
       ]
     ]
 
--- no route to its prefix is better than one that is left
+-- no route to its prefix is better than a route that remains
 kept-best : (k : Route) (xs : List Route) → AllPairs Ordered (k ∷ xs) → (r s : Route) → Contains (dedup to_one (k ∷ xs)) r → Contains (k ∷ xs) s
     → to_one s r ≡ true → is_better s r ≡ false
 kept-best k [] h r s c d e = elim (Contains-cases k [] r c) [
@@ -148,7 +148,7 @@ kept-best k (x ∷ xs) h r s c d e =
           ]
     ]
 
--- a route is left where no route to its prefix is better
+-- a route remains if no route to its prefix is better
 best-kept : (k : Route) (xs : List Route) → AllPairs Ordered (k ∷ xs) → (r : Route) → Contains (k ∷ xs) r
     → ((s : Route) → Contains (k ∷ xs) s → to_one s r ≡ true → is_better s r ≡ false) → Contains (dedup to_one (k ∷ xs)) r
 best-kept k [] h r c best = c
@@ -180,11 +180,11 @@ best-kept k (x ∷ xs) h r c best =
           ])
     ]
 
--- one route is better than another to its prefix
+-- a route is better than another to the same prefix
 abbrev surpasses : Route → Route → Bool
 surpasses s r = to_one s r && is_better s r
 
--- no route of the table surpasses one of its best
+-- no route of the table surpasses one of its best routes
 unbeaten : (t : List Route) (r s : Route) → Contains (best_routes t) r → Contains t s → to_one s r ≡ true → is_better s r ≡ false
 unbeaten t r s c d one =
     let passes = (filter-from (λ (r : Route). list_all (λ (s : Route). not (surpasses s r)) t) t r c).1 in
@@ -192,7 +192,7 @@ unbeaten t r s c d one =
     both_ways (surpasses s r) (not-true (surpasses s r) (list_all-contained (λ (s : Route). not (surpasses s r)) t s passes d))
     (and_from (to_one s r) (is_better s r) one yes))
 
--- what is left are the best routes
+-- the routes that remain are the best routes
 pub dedup-best : (t : List Route) → IsTable t → dedup to_one t ≡ best_routes t
 dedup-best [] h = refl
 dedup-best (k ∷ xs) h =
@@ -216,7 +216,7 @@ IsTable-best t h =
     let is_best = λ (r : Route). list_all (λ (s : Route). not (surpasses s r)) t in
     record { ordered = AllPairs-filter Ordered is_best t h.ordered; single = AllPairs-filter Apart is_best t h.single }
 
--- of the routes to those prefixes that pass a test, the best are the best of all that pass
+-- filtering by prefix keeps the best routes of the prefixes that pass
 module _ (same : SamePrefix) (t : Prefix → Bool) where
   -- a table's routes that pass
   abbrev passing : List Route → List Route
@@ -228,7 +228,7 @@ module _ (same : SamePrefix) (t : Prefix → Bool) where
     single = AllPairs-filter Apart (λ r. t r.prefix) table h.single;
   }
 
-  -- what surpasses a route that passes does so too
+  -- a route that surpasses one that passes, passes too
   passes_too : (s r : Route) → surpasses s r ≡ true → t r.prefix ≡ true → t s.prefix ≡ true
   passes_too s r better e =
       let parts = one-parts s r (and_parts (to_one s r) (is_better s r) better).0 in
@@ -259,18 +259,18 @@ module _ (same : SamePrefix) (t : Prefix → Bool) where
             list_all-contained (λ (s : Route). not (surpasses s r)) table s best.1 (filter-from (λ r. t r.prefix) table s d).0))),
       ))
 
--- what a table's best routes contain it contains itself
+-- the best routes of a table are in the table
 from_table : (t : List Route) (r : Route) → Contains (best_routes t) r → Contains t r
 from_table t r c = (filter-from (λ (r : Route). list_all (λ (s : Route). not (surpasses s r)) t) t r c).0
 
--- routes to one prefix cover the same addresses
+-- routes to the same prefix cover the same addresses
 covers-one : (addr : Addr) (s r : Route) → to_one s r ≡ true → covers s.prefix addr ≡ covers r.prefix addr
 covers-one addr s r one =
     let parts = one-parts s r one in
     ap (λ len. eqb (addr.0 / size_of len) (s.prefix.base / size_of len)) parts.1
     ∙ ap (λ base. eqb (addr.0 / size_of r.prefix.len) (base / size_of r.prefix.len)) parts.0
 
--- the best match of a table is one of its best routes, and so the best match there
+-- the best match of a table is one of its best routes, and is the best match among them
 best_among : (addr : Addr) (t : List Route) (r : Route) → IsBestMatch addr t r → IsBestMatch addr (best_routes t) r
 best_among addr t r h =
     let unsurpassed : (s : Route) → Contains t s → not (surpasses s r) ≡ true =
@@ -285,7 +285,7 @@ best_among addr t r h =
       best = λ s c. h.best s (from_table t s c);
     }
 
--- two best routes of a table that are not one are to two prefixes
+-- two different best routes of a table are to different prefixes
 best_apart : (t : List Route) (r s : Route) → Contains (best_routes t) r → Contains (best_routes t) s → Apart r s
     → same_prefix r.prefix s.prefix ≡ false
 best_apart t r s c d apart = false_from_ne_true (same_prefix r.prefix s.prefix) (λ one.
@@ -302,7 +302,7 @@ best_routes_suffice = record {
       (Contains-get_or (best_routes t) j d m) ((IsTable-best t h).single i j d l m);
   answers = λ addr t h. by_answer addr t h (look_up addr t) refl;
 } where
-  -- by what is found in the table
+  -- by the answer in the table
   by_answer : (addr : Addr) (t : List Route) → IsTable t → (found : Option Route) → look_up addr t ≡ found → look_up addr (best_routes t) ≡ found
   by_answer addr t h None e = (look_up_finds_best addr (best_routes t) (IsTable-best t h)).1.1 (λ s c.
       (look_up_finds_best addr t h).1.0 e s (from_table t s c))

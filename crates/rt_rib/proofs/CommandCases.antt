@@ -1,4 +1,4 @@
--- What the sequential table says of each command, case by case.
+-- The sequential table's reply and new state for each command, case by case.
 use Rattle.std.proofs.Common.{◌≡◌, ℕ, ◌<◌, ◌≤◌, true, false, List, Some, None, refl, ap, length}
 use Rattle.std.proofs.lemmas.Bool.{le-leb, lt-leb}
 use Rattle.rt_cidr.specs.declared.address.Addr.{Addr}
@@ -21,7 +21,7 @@ module _ (limit : ℕ) (t : List Route) (r : Route) where
   unfolding reply_of table_after
   exists there = record { replied = rw there; changed = rw there }
 
-  -- an add to a feed with as many routes as its limit
+  -- an add to a feed that has reached its limit
   pub full : has r.feed r.prefix t ≡ false → limit ≤ count_of r.feed t → Serves (state limit t) (state limit t) r.feed (Add r.prefix r.pref r.hop) Full
   unfolding reply_of table_after
   full fresh many = let at = le-leb limit (count_of r.feed t) many in record { replied = rw (fresh, at); changed = rw (fresh, at) }
@@ -32,7 +32,7 @@ module _ (limit : ℕ) (t : List Route) (r : Route) where
   unfolding reply_of table_after
   added fresh room u is = let at = lt-leb limit (count_of r.feed t) room in record { replied = rw (fresh, at); changed = rw (is, fresh, at) }
 
-  -- a replacement of no route
+  -- a replacement without a route
   pub unreplaced : has r.feed r.prefix t ≡ false → Serves (state limit t) (state limit t) r.feed (Replace r.prefix r.pref r.hop) Missing
   unfolding reply_of table_after
   unreplaced fresh = record { replied = rw fresh; changed = rw fresh }
@@ -44,7 +44,7 @@ module _ (limit : ℕ) (t : List Route) (r : Route) where
   replaced there u is = record { replied = rw there; changed = rw (is, there) }
 
 module _ (limit : ℕ) (t : List Route) (feed : ℕ) where
-  -- a withdrawal of no route
+  -- a withdrawal without a route
   pub unwithdrawn : (p : Prefix) → has feed p t ≡ false → Serves (state limit t) (state limit t) feed (Withdraw p) Missing
   unfolding reply_of table_after
   unwithdrawn p fresh = record { replied = rw fresh; changed = rw fresh }

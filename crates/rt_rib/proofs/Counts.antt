@@ -1,4 +1,4 @@
--- The counts of a table's routes, as routes come and go.
+-- The counts of a table's routes, as routes are inserted and removed.
 use Rattle.std.proofs.Common.{◌≡◌, ℕ, ◌+◌, ◌-◌, ◌*◌, ◌<◌, ◌≤◌, Bool, true, false, not, cond, eqb, List, [], ◌∷◌, length, length-append, get_or, replicate}
 use Rattle.std.proofs.Common.{refl, sym, subst, ap, ◌∙◌, get_or-set_same, get_or-set_other, inl, inr, arith}
 use Rattle.std.proofs.Math.ListN.{set, length-set}
@@ -10,7 +10,7 @@ use Rattle.std.proofs.lemmas.List.{get_or_default, get_or-replicate, length-repl
 use Rattle.std.specs.List.{All, Contains, filter, count_by}
 use Rattle.rt_cidr.specs.declared.prefixes.Prefix.{Prefix}
 use Rattle.rt_rib.specs.declared.routes.Route.{Route}
-use Rattle.rt_rib.specs.declared.limits.TheConstants.{MOST_FEEDS}
+use Rattle.rt_rib.specs.declared.limits.TheConstants.{MAX_FEEDS}
 use Rattle.rt_rib.specs.Table.{count_of, precedes, is_of, has, put_in, take_out, purge, IsTable}
 use Rattle.rt_rib.specs.Book.{IsFeed}
 use Rattle.rt_rib.specs.inside.TableState.{AreCounts}
@@ -21,13 +21,13 @@ use Rattle.rt_rib.proofs.Best.{one_of}
 use Rattle.rt_rib.proofs.Tables.{IsTable-put_in, IsTable-take_out}
 use Rattle.rt_rib.proofs.MapRoutes.{All-from_contained}
 
--- u has one route of the feed more than t, and else as many of each feed
+-- u has one route of the feed more than t, and the same number of every other feed
 pub record HasMore (feed : ℕ) (t u : List Route) : Type 0 where
   pub own : count_of feed u ≡ count_of feed t + 1
   pub others : (other : ℕ) → (other ≡ feed → ⊥) → count_of other u ≡ count_of other t
   pub all : length u ≡ length t + 1
 
--- by the route that makes the difference
+-- the same, from the route that makes the difference
 HasMore-from : (feed : ℕ) (r : Route) (t u : List Route) → r.feed ≡ feed → ((other : ℕ) → count_of other u ≡ count_of other t + cond (eqb r.feed other) 1 0)
     → length u ≡ length t + 1 → HasMore feed t u
 HasMore-from feed r t u same each longer = record {
@@ -38,7 +38,7 @@ HasMore-from feed r t u same each longer = record {
 }
 
 module _ {X : Type 0} (p : X → Bool) where
-  -- none passes a test of those that fail it
+  -- no element that fails a test satisfies it
   count-failing : (xs : List X) → count_by p (filter (λ x. not (p x)) xs) ≡ 0
   count-failing [] = refl
   count-failing (x ∷ xs) =
@@ -51,7 +51,7 @@ module _ {X : Type 0} (p : X → Bool) where
             rw stays (omega arith)
       ]
 
-  -- as many as pass it of all pass a test that those alone pass
+  -- a filter keeps all elements that satisfy a test, if that test implies the filter's
   count-kept_whole : (q : X → Bool) → ((x : X) → q x ≡ true → p x ≡ true) → (xs : List X) → count_by q (filter p xs) ≡ count_by q xs
   count-kept_whole q only [] = refl
   count-kept_whole q only (x ∷ xs) =
@@ -66,7 +66,7 @@ module _ {X : Type 0} (p : X → Bool) where
             rw goes (omega arith)
       ]
 
-  -- those that pass a test, and those that fail it
+  -- the elements that satisfy a test and those that fail it are all elements
   pub count-both : (xs : List X) → length xs ≡ length (filter (λ x. not (p x)) xs) + count_by p xs
   count-both [] = refl
   count-both (x ∷ xs) =
@@ -84,7 +84,7 @@ module _ {X : Type 0} (p : X → Bool) where
             omega arith
       ]
 
--- a route that is put in
+-- the insertion of a route
 pub HasMore-put_in : (r : Route) (t : List Route) → HasMore r.feed t (put_in r t)
 HasMore-put_in r t =
     let early : Route → Bool = λ s. precedes s r in
@@ -101,7 +101,7 @@ HasMore-put_in r t =
     let kept = length-filter early t in
     omega arith)
 
--- and a feed's route that is taken out
+-- the removal of a feed's route
 pub HasMore-take_out : (feed : ℕ) (p : Prefix) (t : List Route) → IsTable t → has feed p t ≡ true → HasMore feed (take_out feed p t) t
 HasMore-take_out feed p t table there =
     let any = Any-from_list_any (is_of feed p) t there in
@@ -127,14 +127,14 @@ HasMore-take_out feed p t table there =
     )) in
     subst (λ f. HasMore f rest t) parts.0 (subst (HasMore r.feed rest) back (HasMore-put_in r rest))
 
--- two lists with one route of the feed more than a third have as many of each feed
+-- two lists that have one route of the feed more than a third have the same number of routes of each feed
 pub HasMore-both : (feed : ℕ) (t u v : List Route) → HasMore feed t u → HasMore feed t v → (other : ℕ) → count_of other v ≡ count_of other u
 HasMore-both feed t u v m n other = elim (cases_eq other feed) [
   | inl same ↦ ap (λ f. count_of f v) same ∙ n.own ∙ sym m.own ∙ ap (λ f. count_of f u) (sym same)
   | inr differs ↦ n.others other differs ∙ sym (m.others other differs)
 ]
 
--- the count of a feed is kept at its number less one
+-- the count of a feed is stored at its number minus 1
 pub AreCounts-own : (limit : ℕ) (counts : List ℕ) (t : List Route) (feed : ℕ) → AreCounts limit counts t → IsFeed feed
     → get_or counts (feed - 1) 0 ≡ count_of feed t
 AreCounts-own limit counts t feed h is =
@@ -143,8 +143,8 @@ AreCounts-own limit counts t feed h is =
     let at : feed - 1 + 1 ≡ feed = omega arith in
     h.each (feed - 1) (omega arith) ∙ ap (λ f. count_of f t) at
 
-module _ (limit : ℕ) (counts : List ℕ) (t u : List Route) (own : ℕ) (inside : own < MOST_FEEDS) (many : length counts ≡ MOST_FEEDS) where
-  -- the feed's count raised by one, where it has one route more
+module _ (limit : ℕ) (counts : List ℕ) (t u : List Route) (own : ℕ) (inside : own < MAX_FEEDS) (many : length counts ≡ MAX_FEEDS) where
+  -- the feed's count, increased by 1, if it has one route more
   pub AreCounts-more : AreCounts limit counts t → HasMore (own + 1) t u → get_or counts own 0 < limit
       → AreCounts limit (set counts own (get_or counts own 0 + 1)) u
   AreCounts-more h more room = record {
@@ -168,7 +168,7 @@ module _ (limit : ℕ) (counts : List ℕ) (t u : List Route) (own : ℕ) (insid
     all = let total = sum_by-set (λ x. x) counts own (get_or counts own 0 + 1) 0 (omega arith) in let before = h.all in let after = more.all in omega arith;
   }
 
-  -- the feed's count lowered by one, where it has one route less
+  -- the feed's count, decreased by 1, if it has one route less
   pub AreCounts-less : AreCounts limit counts t → HasMore (own + 1) u t → AreCounts limit (set counts own (get_or counts own 0 - 1)) u
   AreCounts-less h more = record {
     many = length-set counts own (get_or counts own 0 - 1) ∙ many;
@@ -200,7 +200,7 @@ module _ (limit : ℕ) (counts : List ℕ) (t u : List Route) (own : ℕ) (insid
         omega arith;
   }
 
-  -- the feed's count is none, where all of its routes went
+  -- the feed's count is 0 after all of its routes were removed
   pub AreCounts-purged : AreCounts limit counts t → u ≡ purge (own + 1) t → AreCounts limit (set counts own 0) u
   AreCounts-purged h is =
       let p : Route → Bool = λ r. eqb r.feed (own + 1) in
@@ -232,7 +232,7 @@ module _ (limit : ℕ) (counts : List ℕ) (t u : List Route) (own : ℕ) (insid
         );
       }
 
--- as many routes of each feed
+-- the same number of routes of each feed
 pub AreCounts-same : (limit : ℕ) (counts : List ℕ) (t u : List Route) → AreCounts limit counts t → ((feed : ℕ) → count_of feed u ≡ count_of feed t)
     → length u ≡ length t → AreCounts limit counts u
 AreCounts-same limit counts t u h each all = record {
@@ -242,8 +242,8 @@ AreCounts-same limit counts t u h each all = record {
   all = h.all ∙ sym all;
 }
 
--- there are at most so many routes as the feeds' limits allow together
-pub AreCounts-length : (limit : ℕ) (counts : List ℕ) (t : List Route) → AreCounts limit counts t → length t ≤ MOST_FEEDS * limit
+-- the table has at most as many routes as the feeds' limits add up to
+pub AreCounts-length : (limit : ℕ) (counts : List ℕ) (t : List Route) → AreCounts limit counts t → length t ≤ MAX_FEEDS * limit
 AreCounts-length limit counts t h =
     let many = h.many in
     let low : All (λ x. x ≤ limit) counts = λ k d l. let same = get_or_default counts k d 0 l in let within = h.within k (omega arith) in omega arith in
@@ -252,15 +252,15 @@ AreCounts-length limit counts t h =
     let all = h.all in
     omega arith
 
--- each of so many zeros is below any limit
+-- each of `n` zeros is within any limit
 zero_at : (n i limit : ℕ) → i < n → get_or (replicate n 0) i 0 ≤ limit
 zero_at n i limit l = rw (get_or-replicate {A = ℕ} n i 0 0 l) (omega arith)
 
--- no routes, and so none of any feed
-pub AreCounts-nil : (limit : ℕ) → AreCounts limit (replicate MOST_FEEDS 0) []
+-- no routes, so every feed's count is 0
+pub AreCounts-nil : (limit : ℕ) → AreCounts limit (replicate MAX_FEEDS 0) []
 AreCounts-nil limit = record {
-  many = length-replicate {A = ℕ} MOST_FEEDS 0;
-  each = λ i l. get_or-replicate MOST_FEEDS i 0 0 l;
-  within = λ i l. zero_at MOST_FEEDS i limit l;
+  many = length-replicate {A = ℕ} MAX_FEEDS 0;
+  each = λ i l. get_or-replicate MAX_FEEDS i 0 0 l;
+  within = λ i l. zero_at MAX_FEEDS i limit l;
   all = refl;
 }

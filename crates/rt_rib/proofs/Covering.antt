@@ -1,4 +1,4 @@
--- A prefix of a given length that covers an address has one base.
+-- The prefix of a given length that covers an address has a unique base.
 use Rattle.std.proofs.Common.{◌≡◌, ℕ, ◌*◌, ◌/◌, ◌%◌, true, ap, ◌∙◌, sym, arith}
 use Rattle.std.proofs.Math.Nat.{mod-add-div'}
 use Rattle.std.proofs.lemmas.Bool.{eqb-true}
@@ -7,7 +7,7 @@ use Rattle.rt_cidr.specs.declared.prefixes.Prefix.{Prefix}
 use Rattle.rt_cidr.specs.Cidr.{size_of}
 use Rattle.rt_cidr.specs.Prefix.{covers}
 
--- a multiple of n is its quotient's
+-- a multiple of n is determined by its quotient
 quotient : (a b n : ℕ) → a / n ≡ b / n → b % n ≡ 0 → b ≡ a / n * n
 quotient a b n same clear = let parts = mod-add-div' b n in let whole : b / n * n ≡ b = omega arith in sym (ap (λ q. q * n) same ∙ whole)
 

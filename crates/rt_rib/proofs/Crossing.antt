@@ -1,4 +1,4 @@
--- A table and a book may go to another thread where their allocator may.
+-- A table and a book may be sent to another thread if their allocator may.
 use denote.RattleType.{RattleType}
 use denote.Param.Send.{IsSend, Frees, sendable}
 use Rattle.std.specs.declared.alloc.Allocator.{Ghosts}

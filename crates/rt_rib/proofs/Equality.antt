@@ -1,4 +1,4 @@
--- That `==` of two routes, or of two next hops, says whether they are equal.
+-- `==` of two routes, or of two next hops, decides whether they are equal.
 use Rattle.std.proofs.Common.{◌≡◌, ap, refl, ◌==◌, Decides}
 use Rattle.std.proofs.lemmas.Bool.Decides.{Decides-eqb, Decides-and, Decides-like}
 use Rattle.rt_cidr.specs.Laws.{SamePrefix}

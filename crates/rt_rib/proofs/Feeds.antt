@@ -1,4 +1,4 @@
--- Each feed's routes stand by themselves.
+-- Each feed's routes are independent of the other feeds.
 use Rattle.std.proofs.Common.{◌≡◌, ℕ, ◌+◌, Bool, true, false, cond, not, ◌||◌, eqb, leb, inl, inr, List, [], ◌∷◌, refl, ap, ◌∙◌, sym, subst, arith}
 use Rattle.std.specs.Prelude.{if◌then◌else◌, fold}
 use Rattle.std.proofs.lemmas.Bool.{cases_Bool, cond_both, cond-true, cond-false, both_ways, eqb-true, eq-eqb, eqb-false, ne_eqb, not-true, not_from_false}
@@ -21,7 +21,8 @@ use Rattle.rt_rib.proofs.Tables.{Ordered, Apart, IsTable-put_in, IsTable-take_ou
 use Rattle.rt_rib.proofs.Journals.{step, IsTable-after}
 use Rattle.rt_rib.proofs.Sets.{filter-keeps, filter-from, put_in_adds, take_out_leaves_others, one_table_of_set}
 
--- a test that only what passes another one can pass is passed in a list as in what that one keeps
+-- if a test implies a filter's, some element satisfies it in the filtered list if and only if one does in the whole
+-- list
 list_any-kept : {X : Type 0} (p q : X → Bool) → ((x : X) → q x ≡ true → p x ≡ true) → (xs : List X) → list_any q (filter p xs) ≡ list_any q xs
 list_any-kept p q only [] = refl
 list_any-kept p q only (x ∷ xs) =
@@ -33,7 +34,7 @@ list_any-kept p q only (x ∷ xs) =
           ap (list_any q) (cond-false (p x) (x ∷ filter p xs) (filter p xs) fails) ∙ rest ∙ ap (λ b. b || list_any q xs) (sym other)
     ]
 
--- what a filter keeps is counted whole
+-- all elements that a filter keeps satisfy its test
 count-kept : {X : Type 0} (p : X → Bool) (xs : List X) → count_by p (filter p xs) ≡ count_by p xs
 count-kept p [] = refl
 count-kept {X} p (x ∷ xs) =
@@ -52,11 +53,11 @@ count-kept {X} p (x ∷ xs) =
 is_of-own : (feed : ℕ) (p : Prefix) (r : Route) → is_of feed p r ≡ true → eqb r.feed feed ≡ true
 is_of-own feed p r e = eq-eqb r.feed feed (is_of-parts feed p r e).0
 
--- whether a feed has a route to a prefix shows in its own routes
+-- a feed's own routes decide whether it has a route to a prefix
 has-own : (feed : ℕ) (p : Prefix) (t : List Route) → has feed p (feed_routes feed t) ≡ has feed p t
 has-own feed p t = list_any-kept (λ r. eqb r.feed feed) (is_of feed p) (is_of-own feed p) t
 
--- and so does how many it has
+-- a feed's own routes decide how many routes it has
 count_of-own : (feed : ℕ) (t : List Route) → count_of feed (feed_routes feed t) ≡ count_of feed t
 count_of-own feed t = count-kept (λ r. eqb r.feed feed) t
 
@@ -68,7 +69,7 @@ IsTable-own feed t h = record {
 }
 
 module _ (t : List Route) (h : IsTable t) where
-  -- a route of another feed goes in
+  -- a route of another feed is inserted
   own-put_in_other : (feed : ℕ) (r : Route) → has r.feed r.prefix t ≡ false → (r.feed ≡ feed → ⊥) → feed_routes feed (put_in r t) ≡ feed_routes feed t
   own-put_in_other feed r fresh other =
       let mine = λ (s : Route). eqb s.feed feed in
@@ -83,7 +84,7 @@ module _ (t : List Route) (h : IsTable t) where
         (λ c. let both = filter-from mine t x c in filter-keeps mine (put_in r t) x ((put_in_adds r x t).1 (inl both.0)) both.1),
       ))
 
-  -- a route of the feed goes in
+  -- a route of the feed is inserted
   own-put_in : (r : Route) → has r.feed r.prefix t ≡ false → feed_routes r.feed (put_in r t) ≡ put_in r (feed_routes r.feed t)
   own-put_in r fresh =
       let mine = λ (s : Route). eqb s.feed r.feed in
@@ -103,7 +104,7 @@ module _ (t : List Route) (h : IsTable t) where
         ]),
       ))
 
-  -- a route of another feed goes out
+  -- a route of another feed is removed
   own-take_out_other : (feed mover : ℕ) (p : Prefix) → (mover ≡ feed → ⊥) → feed_routes feed (take_out mover p t) ≡ feed_routes feed t
   own-take_out_other feed mover p other =
       let mine = λ (s : Route). eqb s.feed feed in
@@ -118,7 +119,7 @@ module _ (t : List Route) (h : IsTable t) where
             filter-keeps mine (take_out mover p t) x ((take_out_leaves_others mover p x t).1 (both.0, apart)) both.1),
       ))
 
-  -- a route of the feed goes out
+  -- a route of the feed is removed
   own-take_out : (feed : ℕ) (p : Prefix) → feed_routes feed (take_out feed p t) ≡ take_out feed p (feed_routes feed t)
   own-take_out feed p =
       let mine = λ (s : Route). eqb s.feed feed in
@@ -135,13 +136,13 @@ module _ (t : List Route) (h : IsTable t) where
             filter-keeps mine (take_out feed p t) x ((take_out_leaves_others feed p x t).1 (both.0, out.1)) both.1),
       ))
 
--- one filter takes out what another one keeps
+-- a filter keeps nothing of what its negation keeps
 filter-both_none : {X : Type 0} (p : X → Bool) (xs : List X) → filter p (filter (λ x. not (p x)) xs) ≡ []
 filter-both_none p xs =
     filter-none p (filter (λ x. not (p x)) xs)
     (All-weaker (λ x. not (p x) ≡ true) (λ x. p x ≡ false) (λ x. not-true (p x)) (filter (λ x. not (p x)) xs) (filter_passes (λ x. not (p x)) xs))
 
--- a filter that keeps what another one keeps undoes nothing
+-- a filter after a weaker one is the same as the filter without it
 filter-kept : {X : Type 0} (p q : X → Bool) → ((x : X) → p x ≡ true → q x ≡ true) → (xs : List X) → filter p (filter q xs) ≡ filter p xs
 filter-kept p q both [] = refl
 filter-kept p q both (x ∷ xs) =
@@ -154,24 +155,24 @@ filter-kept p q both (x ∷ xs) =
           ap (filter p) (cond-false (q x) (x ∷ filter q xs) (filter q xs) goes) ∙ rest ∙ sym (cond-false (p x) (x ∷ filter p xs) (filter p xs) other)
     ]
 
--- another feed's routes go out
+-- another feed's routes are removed
 own-purge_other : (feed mover : ℕ) (t : List Route) → (mover ≡ feed → ⊥) → feed_routes feed (purge mover t) ≡ feed_routes feed t
 own-purge_other feed mover t other =
     filter-kept (λ (r : Route). eqb r.feed feed) (λ (r : Route). not (eqb r.feed mover))
     (λ r mine. not_from_false (eqb r.feed mover) (ne_eqb r.feed mover (λ e. other (sym e ∙ eqb-true r.feed feed mine)))) t
 
--- none of a feed's routes is left of them
+-- after a purge, the feed has no routes
 own-purge : (feed : ℕ) (t : List Route) → feed_routes feed (purge feed t) ≡ []
 own-purge feed t = filter-both_none (λ (r : Route). eqb r.feed feed) t
 
--- and nothing of its own ones
+-- a purge of a feed's own routes leaves none of them
 purge-own : (feed : ℕ) (t : List Route) → purge feed (feed_routes feed t) ≡ []
 purge-own feed t =
     filter-none (λ (r : Route). not (eqb r.feed feed)) (feed_routes feed t)
     (All-weaker (λ (r : Route). eqb r.feed feed ≡ true) (λ (r : Route). not (eqb r.feed feed) ≡ false)
     (λ r e. ap not e) (feed_routes feed t) (filter_passes (λ (r : Route). eqb r.feed feed) t))
 
--- another feed's command leaves the feed's routes
+-- another feed's command doesn't change the feed's routes
 after_other : (limit : ℕ) (t : List Route) (feed mover : ℕ) (cmd : Cmd) → IsTable t → (mover ≡ feed → ⊥)
     → feed_routes feed (table_after limit t mover cmd) ≡ feed_routes feed t
 unfolding table_after
@@ -193,7 +194,7 @@ after_other limit t feed mover (Lookup addr) h other = refl
 after_other limit t feed mover Dump h other = refl
 after_other limit t feed mover Purge h other = own-purge_other feed mover t other
 
--- the feed's own command does to its routes what it does to all
+-- the feed's own command changes its routes as it does in the whole table
 after_own : (limit : ℕ) (t : List Route) (feed : ℕ) (cmd : Cmd) → IsTable t
     → feed_routes feed (table_after limit t feed cmd) ≡ table_after limit (feed_routes feed t) feed cmd
 unfolding table_after
@@ -220,7 +221,7 @@ after_own limit t feed (Lookup addr) h = refl
 after_own limit t feed Dump h = refl
 after_own limit t feed Purge h = own-purge feed t ∙ sym (purge-own feed t)
 
--- and it is answered from them
+-- the feed's own command is answered from its routes
 reply_own : (limit : ℕ) (t : List Route) (feed : ℕ) (cmd : Cmd) → is_own cmd ≡ true → reply_of limit t feed cmd ≡ reply_of limit (feed_routes feed t) feed cmd
 unfolding reply_of
 reply_own limit t feed (Add p pref hop) e = rw (has-own feed p t, count_of-own feed t)
@@ -230,7 +231,7 @@ reply_own limit t feed (Lookup addr) e = absurd (false≢true e)
 reply_own limit t feed Dump e = absurd (false≢true e)
 reply_own limit t feed Purge e = rw (count_of-own feed t) refl
 
--- so it is over a whole journal, from any table on
+-- the same for a whole journal, starting from any table
 own_fold : (limit feed : ℕ) (t : List Route) (journal : List Entry) → IsTable t
     → feed_routes feed (fold (step limit) t journal) ≡ fold (step limit) (feed_routes feed t) (feed_entries feed journal)
 own_fold limit feed t [] h = refl
@@ -249,14 +250,14 @@ own_fold limit feed t (e ∷ journal) h =
           ∙ ap (fold (step limit) (feed_routes feed t)) (sym (cond-false (eqb e.feed feed) (e ∷ others) others other))
     ]
 
--- and from the empty one
+-- the same, starting from the empty table
 own_of_journal : (limit feed : ℕ) (journal : List Entry)
     → feed_routes feed (table_of_journal limit journal) ≡ table_of_journal limit (feed_entries feed journal)
 unfolding table_of_journal
 own_of_journal limit feed journal = own_fold limit feed [] journal IsTable-nil
 
 -- both together
-pub feeds_stand_alone : FeedsStandAlone
-feeds_stand_alone limit feed journal cmd =
+pub feeds_are_independent : FeedsStandAlone
+feeds_are_independent limit feed journal cmd =
     let same = own_of_journal limit feed journal in
     (same, (λ e. reply_own limit (table_of_journal limit journal) feed cmd e ∙ ap (λ t. reply_of limit t feed cmd) same))

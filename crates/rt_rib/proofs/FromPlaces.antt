@@ -1,5 +1,5 @@
--- The routes from a place in dump order on: of a map those of the pairs from its prefix on, and of its prefix's own those of the
--- offers that don't outrank what stands there.
+-- The routes from a position in dump order on, in terms of a map: those of the pairs from the position's prefix on. For
+-- that prefix itself, only the offers that don't outrank the position's own count.
 use Rattle.std.proofs.Common.{◌≡◌, ℕ, zero, suc, ◌+◌, ◌≤◌, Bool, true, false, not, List, [], ◌∷◌, ◌++◌, length, map, drop, refl, ap, sym, subst, ◌∙◌, arith}
 use Rattle.std.proofs.Common.{inl, inr}
 use Rattle.std.specs.List.{filter, AllWithin, Contains}
@@ -21,7 +21,7 @@ use Rattle.rt_rib.proofs.MapRoutes.{precedes-by_prefix}
 use Rattle.rt_rib.proofs.Order.{below_then-true, below_then-same, precedes-itself, precedes-trans}
 use Rattle.rt_rib.proofs.Sets.{Contains-head, filter-from}
 
--- what fails a test from an index on, and passes it before
+-- elements satisfy a test before an index, and fail it from there on
 filter_drop : {X : Type 0} (test : X → Bool) (xs : List X) (k : ℕ) → k ≤ length xs → AllWithin (λ x. test x ≡ true) xs 0 k
     → AllWithin (λ x. test x ≡ false) xs k (length xs) → filter (λ x. not (test x)) xs ≡ drop k xs
 filter_drop test [] zero l front back = refl
@@ -38,7 +38,7 @@ later-stays r s e =
     false_from_ne_true (precedes s r) (λ back.
     both_ways (precedes r r) (precedes-itself r) (precedes-trans r s r (precedes-by_prefix r s e) back))
 
--- of the routes to one prefix one precedes where its offer outranks
+-- among routes to the same prefix, one precedes another if and only if its offer outranks the other's
 by_offer : (p : Prefix) (o : Offer) (r : Route) → p.base ≡ r.prefix.base → p.len ≡ r.prefix.len → precedes (route_by p o) r ≡ outranks o (offer_of r)
 by_offer p o r b l =
     let better = outranks o (offer_of r) in
@@ -57,11 +57,11 @@ by_offer p o r b l =
           ]) ∙ sym behind
     ]
 
--- what stands behind one that doesn't come before p comes after it
+-- if q isn't before p, a prefix after q is after p
 after-both : (p q x : Prefix) → before q p ≡ false → before q x ≡ true → before p x ≡ true
 after-both p q x late e = lower_rank p x (omega (arith, rank_of_not_before q p late, rank_of_before q x e))
 
--- of two that don't come before one another base and length are the same
+-- if neither of two prefixes is before the other, they have the same base and length
 pub even-parts : (p q : Prefix) → before p q ≡ false → before q p ≡ false → (p.base ≡ q.base) × (p.len ≡ q.len)
 even-parts p q e f =
     let s = p.is_prefix.short in
@@ -87,7 +87,7 @@ module _ (r : Route) where
     | inr behind ↦ rw (by_offer p o r b l ∙ behind, behind) (ap (λ z. route_by p o ∷ z) (routes-here p offers b l))
   ]
 
-  -- to the place's own prefix they are those of the offers from where its own belongs on
+  -- for the position's own prefix, they are the routes of the offers from the index of its own on
   pub routes_dropped : (p : Prefix) (offers : List Offer) (k : ℕ) → p.base ≡ r.prefix.base → p.len ≡ r.prefix.len → IsInsertionIndex (offer_of r) offers k
       → map (route_by p) (drop k offers) ≡ from_place r (map (route_by p) offers)
   routes_dropped p offers k b l at =
@@ -97,7 +97,7 @@ module _ (r : Route) where
   from-append : (xs ys : List Route) → from_place r (xs ++ ys) ≡ from_place r xs ++ from_place r ys
   from-append xs ys = filter-append (λ s. not (precedes s r)) xs ys
 
-  -- the pairs from its prefix on have them all
+  -- the pairs from the position's prefix on have all of them
   prefix_has : (m : Map) → from_place r (routes_of m) ≡ from_place r (routes_of (from_prefix m r.prefix))
   prefix_has [] = refl
   prefix_has ((p, offers) ∷ rest) =
@@ -116,13 +116,13 @@ module _ (r : Route) where
       from-append here (routes_of rest) ∙ ap (λ l. l ++ from_place r (routes_of rest)) (routes-late q offers (after-both r.prefix p q late h.0))
       ∙ ap (λ l. here ++ l) (all-late p rest late h.1)
 
-  -- the first of these pairs does not come before the prefix
+  -- the first of these pairs isn't before the prefix
   pub first_late : (m : Map) (p : Prefix) (offers : List Offer) (rest : Map) → from_prefix m r.prefix ≡ (p, offers) ∷ rest → before p r.prefix ≡ false
   first_late m p offers rest e =
       not-true (before p r.prefix) (filter-from (λ x. not (before x.0 r.prefix)) m (p, offers)
       (subst (λ l. Contains l (p, offers)) (sym e) (Contains-head (p, offers) rest))).1
 
-  -- they are those of its offers from the place on, and all of the pairs behind it
+  -- they are the first pair's from the position on, and all of the pairs after it
   pub from_first : (m : Map) (p : Prefix) (offers : List Offer) (rest : Map) → from_prefix m r.prefix ≡ (p, offers) ∷ rest → IsOrdered (from_prefix m r.prefix)
       → from_place r (routes_of m) ≡ from_place r (map (route_by p) offers) ++ routes_of rest
   from_first m p offers rest e order =
@@ -130,6 +130,6 @@ module _ (r : Route) where
       prefix_has m ∙ ap (λ l. from_place r (routes_of l)) e ∙ from-append (map (route_by p) offers) (routes_of rest)
       ∙ ap (λ l. from_place r (map (route_by p) offers) ++ l) (all-late p rest (first_late m p offers rest e) ordered.0)
 
-  -- where there is none of these pairs, there is none of them
+  -- if there are no such pairs, there are no such routes
   pub from_none : (m : Map) → from_prefix m r.prefix ≡ [] → from_place r (routes_of m) ≡ []
   from_none m e = prefix_has m ∙ ap (λ l. from_place r (routes_of l)) e

@@ -1,4 +1,4 @@
--- The laws of journals.
+-- Theorems about journals.
 use Rattle.std.proofs.Common.{◌≡◌, ℕ, List, [], ◌∷◌, ◌++◌, refl, ap, ◌∙◌, sym, subst, append_assoc}
 use Rattle.rt_rib.specs.declared.commands.Cmd.{Cmd}
 use Rattle.rt_rib.specs.declared.commands.Reply.{Reply}
@@ -8,11 +8,11 @@ use Rattle.rt_rib.specs.Laws.{asked, TableByEntry, LawfulByEntry, LawfulIsDeterm
 use Rattle.rt_rib.proofs.Journals.{IsTable-of_journal, table_of_journal-nil, table_of_journal-push, IsLawfulJournal-nil, IsLawfulJournal-push}
 use Rattle.rt_rib.proofs.Journals.{IsLawfulJournal-front, IsLawfulJournal-last}
 
--- what a journal leaves, entry by entry
+-- the table that a journal leaves, entry by entry
 pub table_by_entry : TableByEntry
 table_by_entry = record { table = IsTable-of_journal; empty = table_of_journal-nil; step = table_of_journal-push }
 
--- what makes a journal lawful, entry by entry
+-- lawfulness of a journal, entry by entry
 pub lawful_by_entry : LawfulByEntry
 lawful_by_entry = record {
   empty = IsLawfulJournal-nil;
@@ -22,11 +22,11 @@ lawful_by_entry = record {
   );
 }
 
--- an entry of its parts
+-- an entry with these fields
 entry : ℕ → Cmd → Reply → Entry
 entry feed cmd reply = record { feed = feed; cmd = cmd; reply = reply }
 
--- two entries with the same command and reply
+-- two entries with the same fields are equal
 same_entry : (e f : Entry) → e.feed ≡ f.feed → e.cmd ≡ f.cmd → e.reply ≡ f.reply → e ≡ f
 unfolding entry
 same_entry e f feed cmd reply = ap (λ x. entry x e.cmd e.reply) feed ∙ ap (λ x. entry f.feed x e.reply) cmd ∙ ap (λ x. entry f.feed f.cmd x) reply
@@ -53,5 +53,5 @@ determined limit p (e ∷ j) (f ∷ k) g h same =
     ap (λ z. z ∷ j) equal ∙ ap (λ z. f ∷ z) rest
 
 -- the same from the first entry on
-pub lawful_is_determined : LawfulIsDetermined
-lawful_is_determined limit j k g h same = determined limit [] j k g h same
+pub lawful_journal_is_unique : LawfulIsDetermined
+lawful_journal_is_unique limit j k g h same = determined limit [] j k g h same

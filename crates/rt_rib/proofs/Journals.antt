@@ -1,4 +1,4 @@
--- What a journal leaves is a table, and lawfulness goes entry by entry.
+-- A journal leaves a table, and is lawful entry by entry.
 use Rattle.std.proofs.Common.{◌≡◌, ℕ, List, [], ◌∷◌, ◌++◌, refl, ap, ◌∙◌, subst, inl, inr, ◌⊎◌, append_assoc, leb, arith}
 use Rattle.std.specs.Prelude.{if◌then◌else◌}
 use Rattle.std.proofs.lemmas.Bool.{cond_both}
@@ -28,11 +28,11 @@ IsTable-after limit t feed (Lookup addr) h = h
 IsTable-after limit t feed Dump h = h
 IsTable-after limit t feed Purge h = IsTable-purge feed t h
 
--- what an entry's command leaves
+-- the table after an entry's command
 abbrev pub step : ℕ → List Route → Entry → List Route
 step limit t e = table_after limit t e.feed e.cmd
 
--- from any table on, a journal leaves a table
+-- starting from any table, a journal leaves a table
 IsTable-fold : (limit : ℕ) (t : List Route) (journal : List Entry) → IsTable t → IsTable (fold (step limit) t journal)
 IsTable-fold limit t [] h = h
 IsTable-fold limit t (e ∷ journal) h = IsTable-fold limit (step limit t e) journal (IsTable-after limit t e.feed e.cmd h)
@@ -43,23 +43,23 @@ unfolding table_of_journal
 IsTable-of_journal limit journal =
     IsTable-fold limit [] journal (record { ordered = λ i j d l m. absurd (omega arith); single = λ i j d l m. absurd (omega arith) })
 
--- one entry more leaves what its command leaves
+-- after one more entry, a journal leaves what that entry's command leaves
 pub table_of_journal-push : (limit : ℕ) (journal : List Entry) (e : Entry)
     → table_of_journal limit (journal ++ e ∷ []) ≡ table_after limit (table_of_journal limit journal) e.feed e.cmd
 unfolding table_of_journal
 table_of_journal-push limit journal e = fold_push (step limit) [] journal e
 
--- no entry leaves the empty set
+-- the empty journal leaves the empty set
 pub table_of_journal-nil : (limit : ℕ) → table_of_journal limit [] ≡ []
 unfolding table_of_journal
 table_of_journal-nil limit = refl
 
--- a list with an element is not the empty one
+-- a list with an element isn't empty
 not_empty : {X : Type 0} (ys : List X) (x : X) (zs : List X) → [] ≡ ys ++ x ∷ zs → ⊥
 not_empty [] x zs e = cc
 not_empty (y ∷ ys) x zs e = cc
 
--- an element of a list with one more at its end is that one, or stands in the list
+-- an element of a list with one appended is the appended one, or is in the list
 push_parts : {X : Type 0} (xs ys : List X) (e x : X) (zs : List X) → xs ++ e ∷ [] ≡ ys ++ x ∷ zs → ((xs ≡ ys) × (e ≡ x)) ⊎ ((ws : List X) × (xs ≡ ys ++ x ∷ ws))
 push_parts [] [] e x zs h = inl (refl, cc)
 push_parts [] (y ∷ ys) e x zs h = let tail : [] ≡ ys ++ x ∷ zs = cc in absurd (not_empty ys x zs tail)
@@ -72,7 +72,7 @@ push_parts (a ∷ xs) (y ∷ ys) e x zs h =
       | inr there ↦ let rest = there.1 in inr (there.0, cc)
     ]
 
--- a lawful journal goes on with an entry that is so answered
+-- a lawful journal with an entry that is answered after it is lawful
 pub IsLawfulJournal-push : (limit : ℕ) (journal : List Entry) (e : Entry) → IsLawfulJournal limit journal → IsAnswered limit journal e
     → IsLawfulJournal limit (journal ++ e ∷ [])
 IsLawfulJournal-push limit journal e lawful last = record {
@@ -83,17 +83,17 @@ IsLawfulJournal-push limit journal e lawful last = record {
       ];
 }
 
--- what a lawful journal begins with is lawful, and its last entry is so answered
+-- the first part of a lawful journal is lawful
 pub IsLawfulJournal-front : (limit : ℕ) (front back : List Entry) → IsLawfulJournal limit (front ++ back) → IsLawfulJournal limit front
 IsLawfulJournal-front limit front back lawful = record {
   answered = λ earlier x later h.
       lawful.answered earlier x (later ++ back) (ap (λ z. z ++ back) h ∙ append_assoc earlier (x ∷ later) back);
 }
 
--- and its last entry is so answered
+-- the last entry of a lawful journal is answered after the others
 pub IsLawfulJournal-last : (limit : ℕ) (journal : List Entry) (e : Entry) → IsLawfulJournal limit (journal ++ e ∷ []) → IsAnswered limit journal e
 IsLawfulJournal-last limit journal e lawful = lawful.answered journal e [] refl
 
--- the journal without an entry is lawful
+-- the empty journal is lawful
 pub IsLawfulJournal-nil : (limit : ℕ) → IsLawfulJournal limit []
 IsLawfulJournal-nil limit = record { answered = λ earlier x later h. absurd (not_empty earlier x later h) }

@@ -1,4 +1,4 @@
--- What an offer put in, replaced or taken out at a prefix makes of the routes of a map.
+-- The routes of a map after an offer for a prefix was inserted, replaced or removed.
 use Rattle.std.proofs.Common.{◌≡◌, ℕ, Bool, true, false, cond, ◌⊎◌, ◌↔◌, inl, inr, List, [], ◌∷◌, Some, None, refl, ap, ◌∙◌, sym, subst, arith}
 use Rattle.std.specs.Prelude.{Result, Ok, Err, OnErr}
 use Rattle.std.specs.List.{Contains, list_any}
@@ -19,28 +19,28 @@ use Rattle.rt_rib.proofs.Sets.{Contains-head, Contains-cases, Contains-none, put
 use Rattle.rt_rib.proofs.Tables.{IsTable-put_in, IsTable-take_out, has-take_out}
 use Rattle.rt_rib.proofs.MapRoutes.{one_or_other, same_prefix-itself, there_in, there_out, table_is, IsTable-map, has-is}
 
--- the new map has these offers at the prefix, and at every other what the old one has
+-- the new map has these offers at the prefix, and those of the old map at every other prefix
 abbrev pub IsWith : Map → Map → Prefix → List Offer → Type 0
 IsWith m n p offers = (q : Prefix) → offers_at n q ≡ cond (same_prefix p q) offers (offers_at m q)
 
 module _ (laws : MapLaws) (m : Map) (h : IsMap m) (p : Prefix) where
-  -- what stands at a prefix after offers were put at one
+  -- the offers at a prefix after offers were stored
   pub put_with : (offers : List Offer) → IsWith m (put m p offers) p offers
   put_with offers q = ap offers_in (laws.put m p offers q) ∙ push (same_prefix p q) where
-    -- of either what is given or what was there
+    -- either case: the given offers or the old ones
     push : (b : Bool) → offers_in (cond b (Some offers) (get m q)) ≡ cond b offers (offers_at m q)
     push true = refl
     push false = refl
 
-  -- or after those there were taken out
+  -- the offers at a prefix after offers were removed
   pub erase_with : IsWith m (erase m p) p []
   erase_with q = ap offers_in (laws.erase m p q h.ordered) ∙ push (same_prefix p q) where
-    -- of either nothing or what was there
+    -- either case: no offers or the old ones
     push : (b : Bool) → offers_in (cond b None (get m q)) ≡ cond b [] (offers_at m q)
     push true = refl
     push false = refl
 
-  -- the map with offers that rise is one
+  -- storing valid offers gives a map
   pub IsMap-put : (offers : List Offer) → IsOffers offers → IsMap (put m p offers)
   IsMap-put offers lawful = record {
     ordered = laws.put_in_order m p offers h.ordered;
@@ -51,7 +51,7 @@ module _ (laws : MapLaws) (m : Map) (h : IsMap m) (p : Prefix) where
     by_test true q os e = let same : offers ≡ os = cc in subst IsOffers same lawful
     by_test false q os e = h.each q os e
 
-  -- and so is the map without those at a prefix
+  -- removing a prefix gives a map
   pub IsMap-erase : IsMap (erase m p)
   IsMap-erase = record {
     ordered = laws.erase_in_order m p h.ordered;
@@ -62,7 +62,7 @@ module _ (laws : MapLaws) (m : Map) (h : IsMap m) (p : Prefix) where
     by_test true q os e = cc
     by_test false q os e = h.each q os e
 
-  -- the same offers put there again make the same map
+  -- storing the same offers again gives the same map
   pub put_same : (offers : List Offer) → Some offers ≡ get m p → put m p offers ≡ m
   put_same offers e =
       laws.one (put m p offers) m (laws.put_in_order m p offers h.ordered) h.ordered (λ q. laws.put m p offers q ∙ at q) where
@@ -76,21 +76,21 @@ module _ (laws : MapLaws) (m : Map) (h : IsMap m) (p : Prefix) where
         ]
 
 module _ (laws : MapLaws) (m n : Map) (p : Prefix) (offers : List Offer) (at : IsWith m n p offers) where
-  -- what the new map has at the prefix
+  -- the offers of the new map at the prefix
   at_it : (q : Prefix) → p ≡ q → offers_at n q ≡ offers
   at_it q here =
       let one : same_prefix p q ≡ true = subst (λ x. same_prefix p x ≡ true) here (same_prefix-itself p) in
       at q ∙ cond-true (same_prefix p q) offers (offers_at m q) one
 
-  -- and elsewhere
+  -- the offers of the new map at other prefixes
   elsewhere : (q : Prefix) → same_prefix p q ≡ false → offers_at n q ≡ offers_at m q
   elsewhere q other = at q ∙ cond-false (same_prefix p q) offers (offers_at m q) other
 
-  -- the route of an offer at the prefix is of that prefix
+  -- the route of an offer for the prefix isn't to another prefix
   not_other : (o : Offer) (x : Route) → same_prefix p x.prefix ≡ false → route_by p o ≡ x → ⊥
   not_other o x other e = both_ways (same_prefix p x.prefix) other (subst (λ z. same_prefix p z.prefix ≡ true) e (same_prefix-itself p))
 
-  -- a route to another prefix is no feed's to this one
+  -- a route to another prefix isn't any feed's route to this one
   pub apart : (feed : ℕ) (x : Route) → same_prefix p x.prefix ≡ false → is_of feed p x ≡ false
   apart feed x other =
       false_from_ne_true (is_of feed p x) (λ mine.
@@ -98,18 +98,18 @@ module _ (laws : MapLaws) (m n : Map) (p : Prefix) (offers : List Offer) (at : I
       let one = laws.same p x.prefix (sym parts.1) (sym parts.2) in
       both_ways (same_prefix p x.prefix) other (subst (λ q. same_prefix p q ≡ true) one (same_prefix-itself p)))
 
-  -- a route to this prefix is a feed's just where its offer is
+  -- a route to this prefix isn't the feed's if its offer isn't
   pub mine : (feed : ℕ) (x : Route) → p ≡ x.prefix → is_from feed (offer_of x) ≡ false → is_of feed p x ≡ false
   mine feed x here differs =
       false_from_ne_true (is_of feed p x) (λ yes. both_ways (is_from feed (offer_of x)) differs (eq-eqb x.feed feed (is_of-parts feed p x yes).0))
 
-  -- and the other way round
+  -- the converse
   pub not_mine : (feed : ℕ) (x : Route) → p ≡ x.prefix → is_of feed p x ≡ false → is_from feed (offer_of x) ≡ false
   not_mine feed x here differs =
       false_from_ne_true (is_from feed (offer_of x)) (λ yes.
       both_ways (is_of feed p x) differs (is_of-from feed p x (eqb-true x.feed feed yes) (ap (λ q. q.base) (sym here)) (ap (λ q. q.len) (sym here))))
 
-  -- one offer more is one route more
+  -- one more offer is one more route
   pub added : (o : Offer) → HasGained (offers_at m p) offers o → (x : Route) → HasRoute n x ↔ (HasRoute m x ⊎ (route_by p o ≡ x))
   added o gain x = elim (one_or_other laws.same p x.prefix) [
     | inl here ↦ (
@@ -131,7 +131,7 @@ module _ (laws : MapLaws) (m n : Map) (p : Prefix) (offers : List Offer) (at : I
     )
   ]
 
-  -- a feed's offer less is its route less
+  -- removing a feed's offer removes its route
   pub taken : (feed : ℕ) → HasLost (offers_at m p) offers feed → (x : Route) → HasRoute n x ↔ (HasRoute m x × (is_of feed p x ≡ false))
   taken feed loss x = elim (one_or_other laws.same p x.prefix) [
     | inl here ↦ (
@@ -147,7 +147,7 @@ module _ (laws : MapLaws) (m n : Map) (p : Prefix) (offers : List Offer) (at : I
     )
   ]
 
-  -- a feed's offer in the place of its other one is its route in the place of the other
+  -- replacing a feed's offer replaces its route
   pub swapped : (o : Offer) → HasSwapped (offers_at m p) offers o true → (x : Route)
       → HasRoute n x ↔ ((HasRoute m x × (is_of o.feed p x ≡ false)) ⊎ (route_by p o ≡ x))
   swapped o swap x = elim (one_or_other laws.same p x.prefix) [
@@ -171,11 +171,11 @@ module _ (laws : MapLaws) (m n : Map) (p : Prefix) (offers : List Offer) (at : I
   ]
 
 module _ (laws : MapLaws) (m n : Map) (h : IsMap m) (k : IsMap n) (p : Prefix) (offers : List Offer) (at : IsWith m n p offers) where
-  -- what is contained in the routes is what is there
+  -- the routes of the map are those that it holds
   both : (x : Route) → HasRoute m x ↔ Contains (routes_of m) x
   both x = (there_out laws m x h.ordered, there_in laws m x h.ordered)
 
-  -- so the routes are the old ones with that route
+  -- hence the routes are the old ones plus that route
   pub routes_added : (o : Offer) → has o.feed p (routes_of m) ≡ false → HasGained (offers_at m p) offers o → routes_of n ≡ put_in (route_by p o) (routes_of m)
   routes_added o fresh gain =
       table_is laws n k (put_in (route_by p o) (routes_of m)) (IsTable-put_in (route_by p o) (routes_of m) fresh (IsTable-map laws m h)) (λ x.
@@ -185,7 +185,7 @@ module _ (laws : MapLaws) (m n : Map) (h : IsMap m) (k : IsMap n) (p : Prefix) (
         (λ c. step.1 (elim (put.0 c) [ inl old ↦ inl ((both x).1 old) | inr new ↦ inr new ])),
       ))
 
-  -- or without the feed's route
+  -- hence the routes are the old ones without the feed's route
   pub routes_taken : (feed : ℕ) → HasLost (offers_at m p) offers feed → routes_of n ≡ take_out feed p (routes_of m)
   routes_taken feed loss =
       table_is laws n k (take_out feed p (routes_of m)) (IsTable-take_out feed p (routes_of m) (IsTable-map laws m h)) (λ x.
@@ -195,7 +195,7 @@ module _ (laws : MapLaws) (m n : Map) (h : IsMap m) (k : IsMap n) (p : Prefix) (
         (λ c. let there = out.0 c in step.1 ((both x).1 there.0, there.1)),
       ))
 
-  -- or with one in the place of the feed's other one
+  -- hence the routes are the old ones with the feed's route replaced
   pub routes_swapped : (o : Offer) → HasSwapped (offers_at m p) offers o true → routes_of n ≡ put_in (route_by p o) (take_out o.feed p (routes_of m))
   routes_swapped o swap =
       let rest = take_out o.feed p (routes_of m) in
@@ -208,7 +208,7 @@ module _ (laws : MapLaws) (m n : Map) (h : IsMap m) (k : IsMap n) (p : Prefix) (
         (λ c. step.1 (elim (put.0 c) [ inl old ↦ let there = out.0 old in inl ((both x).1 there.0, there.1) | inr new ↦ inr new ])),
       ))
 
--- nothing is left of a feed's only offer
+-- removing the only offer, a feed's own, leaves none
 pub only_lost : (feed : ℕ) (o : Offer) → is_from feed o ≡ true → HasLost (o ∷ []) [] feed
 only_lost feed o own x = (
   (λ c. absurd (Contains-none x c)),
@@ -218,19 +218,19 @@ only_lost feed o own x = (
   ]),
 )
 
--- the first offer is all that nothing has gained
+-- adding the first offer gives just that one
 pub first_gained : (o : Offer) → HasGained [] (o ∷ []) o
 first_gained o x = (
   (λ c. elim (Contains-cases o [] x c) [ inl here ↦ inr here | inr none ↦ inl none ]),
   (λ c. elim c [ inl none ↦ absurd (Contains-none x none) | inr here ↦ subst (Contains (o ∷ [])) here (Contains-head o []) ]),
 )
 
--- a single offer is in order
+-- a single offer is valid
 pub IsOffers-one : (o : Offer) → IsOffers (o ∷ [])
 IsOffers-one o = record { some = omega arith; ranked = IsRanked-one o }
 
 module _ (laws : MapLaws) (m : Map) (h : IsMap m) (p : Prefix) where
-  -- nothing stands at the prefix, so no feed has a route to it
+  -- if there are no offers at the prefix, no feed has a route to it
   pub none_had : (feed : ℕ) → None ≡ get m p → has feed p (routes_of m) ≡ false
   none_had feed there = has-is laws m h feed p ∙ ap (λ o. list_any (is_from feed) (offers_in o)) (sym there)
 
@@ -242,27 +242,27 @@ module _ (laws : MapLaws) (m : Map) (h : IsMap m) (p : Prefix) where
       routes_added laws m (put m p (o ∷ [])) h (IsMap-put laws m h p (o ∷ []) (IsOffers-one o)) p (o ∷ []) (put_with laws m h p (o ∷ [])) o fresh gain
 
 module _ (laws : MapLaws) {m : Map} (h : IsMap m) (p : Prefix) {old : List Offer} (there : Some old ≡ get m p) where
-  -- the offers that stand at the prefix
+  -- the offers at the prefix
   at_is : offers_at m p ≡ old
   at_is = ap offers_in (sym there)
 
-  -- a feed has a route where it is among them
+  -- a feed has a route if and only if it has one of these offers
   pub is_had : (feed : ℕ) → has feed p (routes_of m) ≡ list_any (is_from feed) old
   is_had feed = has-is laws m h feed p ∙ ap (list_any (is_from feed)) at_is
 
   module _ {new : List Offer} where
-    -- the same offers leave the map as it is
+    -- storing the same offers leaves the map unchanged
     pub unchanged : new ≡ old → put m p new ≡ m
     unchanged same = ap (put m p) same ∙ put_same laws m h p old there
 
-    -- one offer more
+    -- one more offer
     pub more : IsOffers new → (o : Offer) → has o.feed p (routes_of m) ≡ false → HasGained old new o
         → routes_of (put m p new) ≡ put_in (route_by p o) (routes_of m)
     more lawful o fresh gain =
         routes_added laws m (put m p new) h (IsMap-put laws m h p new lawful) p new (put_with laws m h p new) o fresh
         (subst (λ l. HasGained l new o) (sym at_is) gain)
 
-    -- a feed's offer less
+    -- one offer of a feed less
     pub less : IsOffers new → (feed : ℕ) → HasLost old new feed → routes_of (put m p new) ≡ take_out feed p (routes_of m)
     less lawful feed loss =
         routes_taken laws m (put m p new) h (IsMap-put laws m h p new lawful) p new (put_with laws m h p new) feed
@@ -274,7 +274,7 @@ module _ (laws : MapLaws) {m : Map} (h : IsMap m) (p : Prefix) {old : List Offer
         routes_swapped laws m (put m p new) h (IsMap-put laws m h p new lawful) p new (put_with laws m h p new) o
         (subst (λ l. HasSwapped l new o true) (sym at_is) swap)
 
-    -- the only offer goes with its prefix
+    -- the only offer is removed with its prefix
     pub last_gone : new ≡ old → (feed : ℕ) (o : Offer) → old ≡ o ∷ [] → is_from feed o ≡ true
         → routes_of (erase (put m p new) p) ≡ take_out feed p (routes_of m)
     last_gone same feed o only own =
@@ -282,15 +282,15 @@ module _ (laws : MapLaws) {m : Map} (h : IsMap m) (p : Prefix) {old : List Offer
         ∙ routes_taken laws m (erase m p) h (IsMap-erase laws m h p) p [] (erase_with laws m h p) feed
         (subst (λ l. HasLost l [] feed) (sym (at_is ∙ only)) (only_lost feed o own))
 
-    -- and the rest is a map
+    -- the rest is a map
     pub last_map : new ≡ old → IsMap (erase (put m p new) p)
     last_map same = subst (λ n. IsMap (erase n p)) (sym (unchanged same)) (IsMap-erase laws m h p)
 
--- the only offer is the feed's, so the feed has one
+-- if the only offer is the feed's, the feed has one
 pub one_is_from : (feed : ℕ) (offers : List Offer) (o : Offer) → offers ≡ o ∷ [] → is_from feed o ≡ true → list_any (is_from feed) offers ≡ true
 one_is_from feed offers o only own = ap (list_any (is_from feed)) only ∙ list_any-at (is_from feed) (o ∷ []) 0 o (omega arith) own
 
--- what holds anyway holds on a refusal
+-- a property that always holds also holds after an error
 pub err_from : {T E P : Type 0} (r : Result T E) → P → OnErr r P
 err_from (Ok x) p = tt
 err_from (Err e) p = p

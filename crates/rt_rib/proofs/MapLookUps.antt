@@ -1,4 +1,4 @@
--- The look-up over a map: the first offer of the longest prefix that covers the address.
+-- The look-up in a map: the first offer of the longest prefix that covers the address.
 use Rattle.std.proofs.Common.{◌≡◌, ◌<◌, ◌≤◌, true, false, List, [], ◌∷◌, length, get_or, Some, None, ap, ◌∙◌, sym, subst, inl, inr, arith}
 use Rattle.std.specs.Prelude.{IsTrue}
 use Rattle.std.specs.List.{All, Contains}
@@ -51,7 +51,7 @@ module _ (laws : MapLaws) (m : Map) (h : IsMap m) (addr : Addr) where
           (subst (λ l. Contains l (offer_of s)) same x.2);
     }
 
-    -- so it is what a look-up finds
+    -- hence it is the answer to a look-up
     pub look_up-some : look_up addr (routes_of m) ≡ Some (route_by p o)
     look_up-some = ((look_up_finds_best addr (routes_of m) (IsTable-map laws m h)).0 (route_by p o)).1 best_match
 
@@ -62,7 +62,7 @@ module _ (laws : MapLaws) (m : Map) (h : IsMap m) (addr : Addr) where
   look_up-first p offers [] d same some longest = absurd (omega arith)
   look_up-first p offers (o ∷ rest) d same some longest = look_up-some p o rest (subst (λ l. Contains m (p, l)) (sym same) longest.0) longest.1 longest.2
 
-  -- where no prefix covers the address it finds nothing
+  -- if no prefix covers the address, a look-up finds nothing
   pub look_up-none : All (λ (y : Prefix × List Offer). covers y.0 addr ≡ false) m → look_up addr (routes_of m) ≡ None
   look_up-none none =
       (look_up_finds_best addr (routes_of m) (IsTable-map laws m h)).1.1 (λ s c.

@@ -1,4 +1,4 @@
--- All that matches an address, of a map: the routes of the prefixes that cover it, the longest first.
+-- All matches of an address in a map: the routes of the prefixes that cover it, the longest first.
 use Rattle.std.proofs.Common.{◌≡◌, ◌<◌, ◌↔◌, Bool, true, false, cond, inl, inr, List, [], ◌∷◌, map, refl, ap, ◌∙◌, sym, arith}
 use Rattle.std.specs.List.{All, AllPairs, Contains, filter}
 use Rattle.std.proofs.lemmas.Bool.{cases_lt, ltb-true}
@@ -20,7 +20,7 @@ use Rattle.rt_rib.proofs.Sets.{Contains-head, Contains-tail, filter-keeps, filte
 use Rattle.rt_rib.proofs.MapRoutes.{All-from_contained, AllPairs-map, offer_in, offer_out, before-routes, IsTable-map}
 use Rattle.rt_rib.proofs.Ranking.{Beats, look_up_all_finds_matches}
 
--- in either order the routes of a map are the same
+-- the routes of a map are the same in either order
 backward-contains : (m : Map) (r : Route) → Contains (routes_backward m) r ↔ Contains (routes_of m) r
 backward-contains [] r = ((λ c. c), (λ c. c))
 backward-contains ((p, offers) ∷ rest) r =
@@ -36,7 +36,7 @@ backward-contains ((p, offers) ∷ rest) r =
       ]),
     )
 
--- a filter leaves a map in order
+-- a filter keeps a map ordered
 before-filter : (t : Prefix × List Offer → Bool) (p : Prefix) (m : Map) → IsBeforeAll p m → IsBeforeAll p (filter t m)
 before-filter t p [] h = tt
 before-filter t p ((q, offers) ∷ rest) h =
@@ -49,12 +49,12 @@ ordered-filter t ((p, offers) ∷ rest) h =
     let tail = ordered-filter t rest h.1 in
     elim (t (p, offers)) as (λ b. IsOrdered (cond b ((p, offers) ∷ filter t rest) (filter t rest))) [ true ↦ (before-filter t p rest h.0, tail) | false ↦ tail ]
 
--- whether the prefix of a pair covers the address
+-- true if the prefix of a pair covers the address
 abbrev pair_covers : Addr → Prefix × List Offer → Bool
 pair_covers addr x = covers x.0 addr
 
 module _ (addr : Addr) where
-  -- of two prefixes that cover the address the later one is longer
+  -- if two prefixes cover the same address, the later one is longer
   longer : (p q : Prefix) → before p q ≡ true → covers p addr ≡ true → covers q addr ≡ true → p.len < q.len
   longer p q e c d =
       let long = later_is_longer p q addr e c d in
@@ -69,7 +69,7 @@ module _ (addr : Addr) where
         | inr equal ↦ ltb-true p.len q.len equal.1
       ]
 
-  -- so its routes beat those of the earlier one
+  -- hence its routes beat those of the earlier one
   ordered_backward : (m : Map) → IsOrdered m → ((p : Prefix) (offers : List Offer) → Contains m (p, offers) → IsOffers offers × (covers p addr ≡ true))
       → AllPairs Beats (routes_backward m)
   ordered_backward [] order each = λ i j d l k. absurd (omega arith)
@@ -86,7 +86,7 @@ module _ (addr : Addr) where
       All-map (Beats s) (route_by p) offers (λ k d l. below_then-less p.len s.prefix.len _ less)))
 
   module _ (laws : MapLaws) (m : Map) (h : IsMap m) where
-    -- the routes of the pairs that cover the address are those that match
+    -- the routes of the pairs that cover the address are exactly the matches
     matches_exactly : (r : Route) → Contains (routes_backward (covering m addr)) r ↔ (Contains (routes_of m) r × (covers r.prefix addr ≡ true))
     matches_exactly r = (
       (λ c.
@@ -99,7 +99,7 @@ module _ (addr : Addr) where
           (backward-contains (covering m addr) r).1 (offer_out (covering m addr) r.prefix x.0 (offer_of r) there x.2)),
     )
 
-    -- backward they are what a look-up of all finds
+    -- backward, they are the result of a look-up of all
     pub look_up_all-backward : look_up_all addr (routes_of m) ≡ routes_backward (covering m addr)
     look_up_all-backward =
         ((look_up_all_finds_matches addr (routes_of m) (IsTable-map laws m h)).0 (routes_backward (covering m addr))).1 (record {

@@ -1,4 +1,4 @@
--- The routes that a map from prefixes to offers stands for: what they contain, and that they are a table.
+-- The routes that a map from prefixes to offers represents: its elements, and that they are a table.
 use Rattle.std.proofs.Common.{◌≡◌, ℕ, Bool, true, false, eqb, ltb, ◌⊎◌, ◌↔◌, inl, inr, List, [], ◌∷◌, ◌++◌, get_or, Option, Some, None, refl, ap, ◌∙◌, sym}
 use Rattle.std.proofs.Common.{subst, arith, map, append_assoc}
 use Rattle.std.specs.Prelude.{IsTrue}
@@ -22,7 +22,7 @@ use Rattle.rt_rib.proofs.Sets.{Contains-head, Contains-tail, Contains-cases, Con
 use Rattle.rt_rib.proofs.Tables.{Ordered, Apart}
 
 module _ {X Y : Type 0} (f : X → Y) where
-  -- a list's images contain the image of what it contains
+  -- the images of a list contain the image of each element
   pub Contains-map : (xs : List X) (x : X) → Contains xs x → Contains (map f xs) (f x)
   Contains-map [] x c = absurd (Contains-none x c)
   Contains-map (y ∷ xs) x c = elim (Contains-cases y xs x c) [
@@ -38,37 +38,37 @@ module _ {X Y : Type 0} (f : X → Y) where
     | inr later ↦ let rest = Contains-from_map xs y later in (rest.0, Contains-tail x xs rest.0 rest.1, rest.2)
   ]
 
-  -- what holds of each two images
+  -- a relation between each two images
   pub AllPairs-map : (R : Y → Y → Type 0) (xs : List X) → AllPairs (λ a b. R (f a) (f b)) xs → AllPairs R (map f xs)
   AllPairs-map R [] h = λ i j d l m. absurd (omega arith)
   AllPairs-map R (x ∷ xs) h =
       AllPairs-cons R (f x) (map f xs) (All-map (R (f x)) f xs (AllPairs-head (λ a b. R (f a) (f b)) x xs h))
       (AllPairs-map R xs (AllPairs-tail (λ a b. R (f a) (f b)) x xs h))
 
--- a test that something passes in a list
+-- if an element satisfies a test, some element does
 any-from_contained : {X : Type 0} (test : X → Bool) (xs : List X) (x : X) → Contains xs x → test x ≡ true → list_any test xs ≡ true
 any-from_contained test xs x c e = list_any-at test xs c.0 x c.1 (ap test c.2 ∙ e)
 
--- what passes it
+-- an element that satisfies the test
 any-contained : {X : Type 0} (test : X → Bool) (xs : List X) → list_any test xs ≡ true → (x : X) × Contains xs x × (test x ≡ true)
 any-contained test xs e = let any = Any-from_list_any test xs e in (any.1, (any.0, any.2, any.3), any.4)
 
--- what holds of whatever a list contains
+-- a property of whatever a list contains
 pub All-from_contained : {X : Type 0} (P : X → Type 0) (xs : List X) → ((x : X) → Contains xs x → P x) → All P xs
 All-from_contained P xs h = λ k d l. h (get_or xs k d) (Contains-get_or xs k d l)
 
--- two prefixes are one, or the test says that they are not
+-- two prefixes are equal, or the test says that they aren't
 pub one_or_other : SamePrefix → (p q : Prefix) → (p ≡ q) ⊎ (same_prefix p q ≡ false)
 one_or_other same p q = elim (cases_Bool (same_prefix p q)) [
   | inl one ↦ let parts = and_parts (eqb p.base q.base) (eqb p.len q.len) one in inl (same p q (eqb-true p.base q.base parts.0) (eqb-true p.len q.len parts.1))
   | inr other ↦ inr other
 ]
 
--- a prefix is itself
+-- a prefix is the same as itself
 pub same_prefix-itself : (p : Prefix) → same_prefix p p ≡ true
 same_prefix-itself p = and_from (eqb p.base p.base) (eqb p.len p.len) (eq-eqb p.base p.base refl) (eq-eqb p.len p.len refl)
 
--- a route that the map stands for is that of an offer that stands in the map at its prefix
+-- each route of the map belongs to an offer stored at its prefix
 pub offer_in : (m : Map) (r : Route) → Contains (routes_of m) r → (offers : List Offer) × Contains m (r.prefix, offers) × Contains offers (offer_of r)
 offer_in [] r c = absurd (Contains-none r c)
 offer_in ((p, offers) ∷ rest) r c = elim (Contains-append_cases (map (route_by p) offers) (routes_of rest) r c) [
@@ -79,7 +79,7 @@ offer_in ((p, offers) ∷ rest) r c = elim (Contains-append_cases (map (route_by
   | inr later ↦ let x = offer_in rest r later in (x.0, Contains-tail (p, offers) rest (r.prefix, x.0) x.1, x.2)
 ]
 
--- and the other way round
+-- the converse
 pub offer_out : (m : Map) (p : Prefix) (offers : List Offer) (o : Offer) → Contains m (p, offers) → Contains offers o → Contains (routes_of m) (route_by p o)
 offer_out [] p offers o c d = absurd (Contains-none (p, offers) c)
 offer_out ((q, others) ∷ rest) p offers o c d = elim (Contains-cases (q, others) rest (p, offers) c) [
@@ -90,16 +90,16 @@ offer_out ((q, others) ∷ rest) p offers o c d = elim (Contains-cases (q, other
 ]
 
 module _ (laws : MapLaws) where
-  -- the routes of the map are those that are there
+  -- the routes of the map are those that it holds
   pub there_in : (m : Map) (r : Route) → IsOrdered m → Contains (routes_of m) r → HasRoute m r
   there_in m r order c =
       let x = offer_in m r c in
       subst (λ o. Contains (offers_in o) (offer_of r)) (sym ((laws.found m r.prefix x.0 order).0 x.1)) x.2
 
-  -- and the other way round
+  -- the converse
   pub there_out : (m : Map) (r : Route) → IsOrdered m → HasRoute m r → Contains (routes_of m) r
   there_out m r order c = by_value (get m r.prefix) refl c where
-    -- by what stands at its prefix
+    -- by the offers at its prefix
     by_value : (o : Option (List Offer)) → get m r.prefix ≡ o → Contains (offers_in o) (offer_of r) → Contains (routes_of m) r
     by_value None e d = absurd (Contains-none (offer_of r) d)
     by_value (Some offers) e d = offer_out m r.prefix offers (offer_of r) ((laws.found m r.prefix offers order).1 e) d
@@ -122,7 +122,7 @@ precedes-by_prefix r s e =
           (below_then-less r.prefix.len s.prefix.len (is_better r s) (ltb-true r.prefix.len s.prefix.len same.1))
     ]
 
--- and is no route to the later one
+-- and isn't to the later prefix
 apart-by_prefix : (r s : Route) → before r.prefix s.prefix ≡ true → Apart r s
 apart-by_prefix r s e =
     false_from_ne_true (is_of s.feed s.prefix r) (λ same.
@@ -134,11 +134,11 @@ apart-by_prefix r s e =
       | inr equal ↦ let low = ltb-true r.prefix.len s.prefix.len equal.1 in omega arith
     ])
 
--- each pair's prefix is before those of the routes behind it
+-- each pair's prefix is before those of the routes after it
 pub before-routes : (p : Prefix) (rest : Map) (s : Route) → IsBeforeAll p rest → Contains (routes_of rest) s → before p s.prefix ≡ true
 before-routes p rest s h c = let x = offer_in rest s c in before-each p rest s.prefix x.0 h x.1
 
--- the offers of one prefix as routes to it
+-- the offers for a prefix as routes to it
 module _ (p : Prefix) (offers : List Offer) (h : IsRanked offers) where
   ordered_at : AllPairs Ordered (map (route_by p) offers)
   ordered_at =
@@ -155,7 +155,7 @@ module _ (p : Prefix) (offers : List Offer) (h : IsRanked offers) where
       false_from_ne_true (is_of b.feed p (route_by p a)) (λ same.
       both_ways (is_from b.feed a) (h.single i j d l m) (eq-eqb a.feed b.feed (is_of-parts b.feed p (route_by p a) same).0)))
 
--- a map whose offers rise stands for a table
+-- a map with valid offers represents a table
 pub IsTable-routes : (m : Map) → IsOrdered m → ((p : Prefix) (offers : List Offer) → Contains m (p, offers) → IsOffers offers) → IsTable (routes_of m)
 IsTable-routes [] order each = record { ordered = λ i j d l k. absurd (omega arith); single = λ i j d l k. absurd (omega arith) }
 IsTable-routes ((p, offers) ∷ rest) order each =
@@ -180,13 +180,13 @@ module _ (laws : MapLaws) (m : Map) (h : IsMap m) where
   pub IsTable-map : IsTable (routes_of m)
   IsTable-map = IsTable-routes m h.ordered (λ p offers c. h.each p offers ((laws.found m p offers h.ordered).0 c))
 
-  -- they are the table of what is there
+  -- a table of exactly the routes that the map holds is the table of the map
   pub table_is : (t : List Route) → IsTable t → ((x : Route) → HasRoute m x ↔ Contains t x) → routes_of m ≡ t
   table_is t table same =
       one_table_of_set (routes_of m) t IsTable-map table
       (λ x. ((λ c. (same x).0 (there_in laws m x h.ordered c)), (λ c. there_out laws m x h.ordered ((same x).1 c))))
 
-  -- a feed has a route to a prefix where it has an offer there
+  -- a feed has a route to a prefix if and only if it has an offer there
   pub has-is : (feed : ℕ) (p : Prefix) → has feed p (routes_of m) ≡ list_any (is_from feed) (offers_at m p)
   has-is feed p = elim (cases_Bool (list_any (is_from feed) (offers_at m p))) [
     | inl some ↦
@@ -204,11 +204,11 @@ module _ (laws : MapLaws) (m : Map) (h : IsMap m) where
         (any-from_contained (is_from feed) (offers_at m p) (offer_of r) there (eq-eqb r.feed feed parts.0))))) ∙ sym none
   ]
 
--- nothing is a map
+-- the empty list is a map
 pub IsMap-nil : IsMap []
 IsMap-nil = record { ordered = tt; each = λ p offers e. cc }
 
--- the routes of one pair more of those that a walk goes over
+-- the routes of one more pair of those that a walk visits
 pub walked : (done more all : List Route) (ahead rest : Map) (p : Prefix) (offers same : List Offer) → done ++ routes_of ahead ≡ all
     → ahead ≡ (p, offers) ∷ rest → same ≡ offers → more ≡ done ++ map (route_by p) same → more ++ routes_of rest ≡ all
 walked done more all ahead rest p offers same before first is appended =

@@ -1,4 +1,4 @@
--- How a list of offers in order changes as one is put in or taken out.
+-- Inserting into and removing from an ordered list of offers.
 use Rattle.std.proofs.Common.{◌≡◌, ℕ, zero, suc, ◌+◌, ◌<◌, ◌≤◌, Bool, true, false, not, ltb, ◌⊎◌, ◌↔◌, inl, inr, List, [], ◌∷◌, length, get_or, Some, None}
 use Rattle.std.proofs.Common.{refl, ap, ◌∙◌, sym, subst, arith}
 use Rattle.std.proofs.lemmas.Bool.{both_ways, cond-true, cond-false, not-true, not_from_true, not_from_false, false_from_ne_true, lt-ltb, eqb-true, eq-eqb}
@@ -18,7 +18,7 @@ use Rattle.rt_rib.proofs.Order.{by_preference-trans, by_preference-other}
 use Rattle.rt_rib.proofs.Sets.{Contains-head, Contains-tail, Contains-cases, Contains-none, filter-keeps, filter-from}
 
 module _ {X : Type 0} where
-  -- what a list contains once an element was put in
+  -- the elements of a list after an insertion
   pub Contains-insert : (xs : List X) (i : ℕ) (y x : X) → i ≤ length xs → Contains (insert xs i y) x ↔ (Contains xs x ⊎ (y ≡ x))
   Contains-insert [] zero y x l = (
     (λ c. elim (Contains-cases y [] x c) [ inl here ↦ inr here | inr none ↦ absurd (Contains-none x none) ]),
@@ -44,14 +44,14 @@ module _ {X : Type 0} where
         ]),
       )
 
-  -- what holds of each element and of one that is put in
+  -- a property of each element and of the inserted one
   All-insert : (P : X → Type 0) (xs : List X) (i : ℕ) (y : X) → i ≤ length xs → P y → All P xs → All P (insert xs i y)
   All-insert P [] zero y l p h = All-cons P y [] p h
   All-insert P [] (suc i) y l p h = absurd (omega arith)
   All-insert P (x ∷ xs) zero y l p h = All-cons P y (x ∷ xs) p h
   All-insert P (x ∷ xs) (suc i) y l p h = All-cons P x (insert xs i y) (All-head P x xs h) (All-insert P xs i y (omega arith) p (All-tail P x xs h))
 
-  -- an element put in between those that go before it and those that go behind it
+  -- an element inserted between those that come before it and those that come after it
   pub AllPairs-insert : (R : X → X → Type 0) (xs : List X) (i : ℕ) (y : X) → i ≤ length xs → AllPairs R xs → AllWithin (λ x. R x y) xs 0 i
       → AllWithin (R y) xs i (length xs) → AllPairs R (insert xs i y)
   AllPairs-insert R [] zero y l h before behind = AllPairs-cons R y [] (All-nil (R y)) h
@@ -63,7 +63,7 @@ module _ {X : Type 0} where
       (AllPairs-insert R xs i y (omega arith) (AllPairs-tail R x xs h) (λ k d m n. before (suc k) d (omega arith) (omega arith))
       (λ k d m n. behind (suc k) d (omega arith) (omega arith)))
 
-  -- no index is found where none passes
+  -- if no index is found, no element satisfies the test
   pub position-none : (p : X → Bool) (xs : List X) → position p xs ≡ None → list_any p xs ≡ false
   position-none p xs e = elim (cases_lt (position_or_len p xs) (length xs)) [
     | inl less ↦
@@ -73,12 +73,12 @@ module _ {X : Type 0} where
     | inr more ↦ list_any-from_none p xs (λ k d l. fails_before_first p xs k d (omega arith))
   ]
 
-  -- and where one is found it passes
+  -- if an index is found, an element satisfies the test
   pub position-some : (p : X → Bool) (xs : List X) (i : ℕ) → position p xs ≡ Some i → (i < length xs) × (list_any p xs ≡ true)
   position-some p [] i e = cc
   position-some p (x ∷ xs) i e = let at = position-Some p (x ∷ xs) i x e in (at.0, list_any-at p (x ∷ xs) i x at.0 at.1)
 
-  -- so whether one is found is whether one passes
+  -- hence an index is found if and only if an element satisfies the test
   pub position-is_some : (p : X → Bool) (xs : List X) → is_some (position p xs) ≡ list_any p xs
   position-is_some p xs = by_index (position p xs) refl where
     -- by the index
@@ -86,23 +86,23 @@ module _ {X : Type 0} where
     by_index None e = sym (position-none p xs e)
     by_index (Some i) e = sym (position-some p xs i e).1
 
--- the new offers are the old ones but for the feed's
+-- the new offers are the old ones except the feed's
 abbrev pub HasLost : List Offer → List Offer → ℕ → Type 0
 HasLost old new feed = (o : Offer) → Contains new o ↔ (Contains old o × (is_from feed o ≡ false))
 
--- what outranks one that outranks a third outranks that
+-- `outranks` is transitive
 pub outranks-trans : (a b c : Offer) → outranks a b ≡ true → outranks b c ≡ true → outranks a c ≡ true
 outranks-trans a b c = by_preference-trans a.pref b.pref c.pref a.feed b.feed c.feed
 
--- of offers of two feeds one outranks the other
+-- one of two offers of different feeds outranks the other
 outranks-other : (a b : Offer) → outranks b a ≡ false → is_from a.feed b ≡ false → outranks a b ≡ true
 outranks-other a b e other = by_preference-other a.pref b.pref a.feed b.feed e (λ f. both_ways (is_from a.feed b) other (eq-eqb b.feed a.feed f))
 
--- which of two feeds an offer is from, turned
+-- whether two offers are of different feeds, with the offers exchanged
 is_from-flip : (a b : Offer) → is_from b.feed a ≡ false → is_from a.feed b ≡ false
 is_from-flip a b e = false_from_ne_true (is_from a.feed b) (λ same. both_ways (is_from b.feed a) e (eq-eqb a.feed b.feed (sym (eqb-true b.feed a.feed same))))
 
--- an offer of a feed that had none, put in where it belongs
+-- the offer of a feed that had none, inserted where it belongs
 pub IsRanked-insert : (offers : List Offer) (index : ℕ) (offer : Offer) → IsRanked offers → All (λ o. is_from offer.feed o ≡ false) offers
     → IsInsertionIndex offer offers index → IsRanked (insert offers index offer)
 IsRanked-insert offers index offer h fresh at = record {
@@ -115,25 +115,25 @@ IsRanked-insert offers index offer h fresh at = record {
       (λ k d l m. fresh k d (omega arith)) (λ k d l m. is_from-flip (get_or offers k d) offer (fresh k d m));
 }
 
--- what rises does so without one
+-- an ordered list stays ordered without one of its offers
 pub IsRanked-remove : (offers : List Offer) (index : ℕ) → IsRanked offers → index < length offers → IsRanked (remove offers index)
 IsRanked-remove offers index h within = record {
   ordered = all_pairs_remove (λ a b. outranks a b ≡ true) offers index within h.ordered;
   single = all_pairs_remove (λ a b. is_from b.feed a ≡ false) offers index within h.single;
 }
 
--- one offer rises
+-- a single offer is ordered
 pub IsRanked-one : (offer : Offer) → IsRanked (offer ∷ [])
 IsRanked-one offer = record { ordered = λ i j d l m. absurd (omega arith); single = λ i j d l m. absurd (omega arith) }
 
--- one offer more outranks it
+-- one more offer outranks it
 pub outranks-more : (offers : List Offer) (offer d : Offer) (index : ℕ) → index < length offers → AllWithin (λ o. outranks o offer ≡ true) offers 0 index
     → outranks (get_or offers index d) offer ≡ true → AllWithin (λ o. outranks o offer ≡ true) offers 0 (index + 1)
 outranks-more offers offer d index within before here =
     AllWithin-more (λ o. outranks o offer ≡ true) offers 0 index before
     (λ e. subst (λ z. outranks z offer ≡ true) (get_or_default offers index d e within) here)
 
--- where an offer stands that does not outrank it, none behind that does
+-- if an offer doesn't outrank the given one, no later offer does
 pub outranks-behind : (offers : List Offer) (offer d : Offer) (index : ℕ) → IsRanked offers → index < length offers
     → outranks (get_or offers index d) offer ≡ false → AllWithin (λ o. outranks o offer ≡ false) offers index (length offers)
 outranks-behind offers offer d index h within fails = λ k e l m.
@@ -148,7 +148,7 @@ outranks-behind offers offer d index h within fails = λ k e l m.
           both_ways (outranks (get_or offers index e) offer) there (subst (λ i. outranks (get_or offers i e) offer ≡ true) at holds)
     ])
 
--- the offers but for a feed's are those without the one at its index
+-- the offers except a feed's are those without the one at its index
 pub without-is : (feed : ℕ) (offers : List Offer) (index : ℕ) (d : Offer) → AllPairs (λ a b. is_from b.feed a ≡ false) offers → index < length offers
     → is_from feed (get_or offers index d) ≡ true → filter (λ o. not (is_from feed o)) offers ≡ remove offers index
 without-is feed [] index d single within is = absurd (omega arith)
@@ -172,14 +172,14 @@ without-is feed (x ∷ offers) (suc i) d single within is =
     (not_from_false (is_from feed x) other)
     ∙ ap (λ z. x ∷ z) (without-is feed offers i d (AllPairs-tail (λ a b. is_from b.feed a ≡ false) x offers single) (omega arith) is)
 
--- without the one at the index of the feed's, the offers are the others
+-- removing the offer at the feed's index leaves the other offers
 pub remove_is_without : (feed : ℕ) (offers : List Offer) → IsRanked offers → (index : ℕ) → position (is_from feed) offers ≡ Some index
     → remove offers index ≡ without feed offers
 remove_is_without feed [] h index found = cc
 remove_is_without feed (x ∷ offers) h index found = let at = position-Some (is_from feed) (x ∷ offers) index x found in
     sym (without-is feed (x ∷ offers) index x h.single at.0 at.1)
 
--- what is left contains the others
+-- the remaining offers are the others
 pub lost : (feed : ℕ) (old new : List Offer) → new ≡ without feed old → HasLost old new feed
 lost feed old new same o =
     let other = λ (x : Offer). not (is_from feed x) in (
@@ -188,7 +188,7 @@ lost feed old new same o =
     )
 
 module _ (feed : ℕ) (offers : List Offer) (h : IsRanked offers) (index : ℕ) (found : position (is_from feed) offers ≡ Some index) where
-  -- none of the feed is left
+  -- none of the remaining offers is the feed's
   pub none_of_feed : All (λ o. is_from feed o ≡ false) (remove offers index)
   none_of_feed k d l =
       let at = position-Some (is_from feed) offers index d found in
@@ -197,25 +197,25 @@ module _ (feed : ℕ) (offers : List Offer) (h : IsRanked offers) (index : ℕ) 
       subst (All (λ o. is_from feed o ≡ false)) same
       (All-weaker (λ o. other o ≡ true) (λ o. is_from feed o ≡ false) (λ o. not-true (is_from feed o)) (filter other offers) (filter_passes other offers)) k d l
 
--- a feed's offer put in for its other one
+-- a feed's offer inserted in place of its old one
 pub swapped : (old rest new : List Offer) (offer : Offer) → HasLost old rest offer.feed → HasGained rest new offer → HasSwapped old new offer true
 swapped old rest new offer less more o = (
   (λ c. elim ((more o).0 c) [ inl there ↦ inl ((less o).0 there) | inr here ↦ inr here ]),
   (λ c. (more o).1 (elim c [ inl there ↦ inl ((less o).1 there) | inr here ↦ inr here ])),
 )
 
--- the only offer of a list is the one that stands at its front
+-- a list of length 1 is its first offer
 pub only_one : (offers : List Offer) (offer : Offer) → length offers ≡ 1 → offer ≡ get_or offers 0 offer → offers ≡ offer ∷ []
 only_one [] offer long read = absurd (omega arith)
 only_one (x ∷ []) offer long read = ap (λ z. z ∷ []) (sym read)
 only_one (x ∷ y ∷ offers) offer long read = absurd (omega arith)
 
--- what holds of a single offer
+-- a property of a single offer
 pub alone : (feed : ℕ) (offer : Offer) → is_from feed offer ≡ false → All (λ o. is_from feed o ≡ false) (offer ∷ [])
 alone feed offer e = All-cons (λ o. is_from feed o ≡ false) offer [] e (All-nil (λ o. is_from feed o ≡ false))
 
 module _ (one other : Offer) (fresh : is_from other.feed one ≡ false) where
-  -- an offer behind one that outranks it
+  -- an offer after one that outranks it
   pub IsRanked-behind : outranks one other ≡ true → IsRanked (one ∷ other ∷ [])
   IsRanked-behind e = IsRanked-insert (one ∷ []) 1 other (IsRanked-one one) (alone other.feed one fresh) (record {
     within = omega arith;

@@ -1,4 +1,4 @@
--- Dump order is strict and total, up to feed and prefix.
+-- Dump order is strict and, up to feed and prefix, total.
 use Rattle.std.proofs.Common.{◌≡◌, ℕ, ◌<◌, Bool, true, false, eqb, ltb, ◌&&◌, ◌⊎◌, inl, inr, sym, arith}
 use Rattle.std.proofs.lemmas.Bool.{ltb-true, ltb-false, eqb-true, eqb-false, lt-ltb, le-ltb, eq-eqb, or_cases, or_parts, or_left, or_right, or_from}
 use Rattle.std.proofs.lemmas.Bool.{and_parts, and_cases, and_from, and_right, both_ways, cases_order}
@@ -7,7 +7,7 @@ use Rattle.rt_cidr.specs.Prefix.{same_prefix}
 use Rattle.rt_rib.specs.declared.routes.Route.{Route}
 use Rattle.rt_rib.specs.Table.{below_then, is_better, precedes, is_of}
 
--- what a test in order says where it holds
+-- the cases in which `below_then` is true
 pub below_then-true : (a b : ℕ) (rest : Bool) → below_then a b rest ≡ true → (a < b) ⊎ ((a ≡ b) × (rest ≡ true))
 below_then-true a b rest e =
     elim (or_cases (ltb a b) (eqb a b && rest) e) [
@@ -15,7 +15,7 @@ below_then-true a b rest e =
       | inr same ↦ let parts = and_parts (eqb a b) rest same in inr (eqb-true a b parts.0, parts.1)
     ]
 
--- what it says where it fails
+-- the cases in which `below_then` is false
 pub below_then-false : (a b : ℕ) (rest : Bool) → below_then a b rest ≡ false → (b < a) ⊎ ((a ≡ b) × (rest ≡ false))
 below_then-false a b rest e =
     let parts = or_parts (ltb a b) (eqb a b && rest) e in
@@ -28,15 +28,15 @@ below_then-false a b rest e =
       ]
     ]
 
--- it holds where the first is below
+-- it is true if the first is below the second
 pub below_then-less : (a b : ℕ) (rest : Bool) → a < b → below_then a b rest ≡ true
 below_then-less a b rest h = or_left (ltb a b) (eqb a b && rest) (lt-ltb a b h)
 
--- it holds where the two are equal and the rest holds
+-- it is true if the two are equal and the rest is true
 pub below_then-same : (a b : ℕ) (rest : Bool) → a ≡ b → rest ≡ true → below_then a b rest ≡ true
 below_then-same a b rest h r = or_right (ltb a b) (eqb a b && rest) (and_from (eqb a b) rest (eq-eqb a b h) r)
 
--- three in order, where the rests are
+-- it is transitive if the rest is
 pub below_then-trans : (a b c : ℕ) (p q r : Bool) → (p ≡ true → q ≡ true → r ≡ true) → below_then a b p ≡ true → below_then b c q ≡ true
     → below_then a c r ≡ true
 below_then-trans a b c p q r rest x y =
@@ -49,12 +49,12 @@ below_then-trans a b c p q r rest x y =
       ]
     ]
 
--- three in order by preference and then by feed
+-- transitivity by preference and then by feed
 pub by_preference-trans : (p q s f g h : ℕ) → below_then p q (ltb f g) ≡ true → below_then q s (ltb g h) ≡ true → below_then p s (ltb f h) ≡ true
 by_preference-trans p q s f g h =
     below_then-trans p q s (ltb f g) (ltb g h) (ltb f h) (λ x y. let a = ltb-true f g x in let b = ltb-true g h y in lt-ltb f h (omega arith))
 
--- of two of different feeds, the one that does not stand behind stands before
+-- if two feeds differ and one isn't after the other, it is before the other
 pub by_preference-other : (p q f g : ℕ) → below_then q p (ltb g f) ≡ false → (g ≡ f → ⊥) → below_then p q (ltb f g) ≡ true
 by_preference-other p q f g e other =
     elim (below_then-false q p (ltb g f) e) [
@@ -62,11 +62,11 @@ by_preference-other p q f g e other =
       | inr same ↦ let prefs = same.0 in let feeds = ltb-false g f same.1 in below_then-same p q (ltb f g) (omega arith) (lt-ltb f g (omega arith))
     ]
 
--- what is better than a better one is better
+-- `is_better` is transitive
 pub is_better-trans : (r s t : Route) → is_better r s ≡ true → is_better s t ≡ true → is_better r t ≡ true
 is_better-trans r s t = by_preference-trans r.pref s.pref t.pref r.feed s.feed t.feed
 
--- what precedes r precedes what r precedes
+-- `precedes` is transitive
 pub precedes-trans : (r s t : Route) → precedes r s ≡ true → precedes s t ≡ true → precedes r t ≡ true
 precedes-trans r s t =
     below_then-trans r.prefix.base s.prefix.base t.prefix.base
@@ -74,20 +74,20 @@ precedes-trans r s t =
     (below_then r.prefix.len t.prefix.len (is_better r t))
     (below_then-trans r.prefix.len s.prefix.len t.prefix.len (is_better r s) (is_better s t) (is_better r t) (is_better-trans r s t))
 
--- feed, base and length of a feed's route to a prefix
+-- a feed's route to a prefix has that feed, base and length
 pub is_of-parts : (feed : ℕ) (p : Prefix) (r : Route) → is_of feed p r ≡ true → (r.feed ≡ feed) × (r.prefix.base ≡ p.base) × (r.prefix.len ≡ p.len)
 is_of-parts feed p r e =
     let parts = and_parts (eqb r.feed feed) (same_prefix r.prefix p) e in
     let both = and_parts (eqb r.prefix.base p.base) (eqb r.prefix.len p.len) parts.1 in
     (eqb-true r.feed feed parts.0, eqb-true r.prefix.base p.base both.0, eqb-true r.prefix.len p.len both.1)
 
--- a route of this feed, base and length is the feed's route to the prefix
+-- a route with this feed, base and length is the feed's route to the prefix
 pub is_of-from : (feed : ℕ) (p : Prefix) (r : Route) → r.feed ≡ feed → r.prefix.base ≡ p.base → r.prefix.len ≡ p.len → is_of feed p r ≡ true
 is_of-from feed p r f b l =
     and_from (eqb r.feed feed) (same_prefix r.prefix p) (eq-eqb r.feed feed f)
     (and_from (eqb r.prefix.base p.base) (eqb r.prefix.len p.len) (eq-eqb r.prefix.base p.base b) (eq-eqb r.prefix.len p.len l))
 
--- of two routes that are not of one feed and prefix, the one that does not stand behind stands before
+-- if two routes differ in feed or prefix and one isn't after the other, it is before the other
 pub precedes-other : (r s : Route) → precedes s r ≡ false → is_of r.feed r.prefix s ≡ false → precedes r s ≡ true
 precedes-other r s e other =
     elim (below_then-false s.prefix.base r.prefix.base (below_then s.prefix.len r.prefix.len (is_better s r)) e) [

@@ -1,11 +1,11 @@
--- What this crate promises to those above it, beside the contracts of its functions: lemmas that their proofs may
--- cite. No other file of this folder is part of the promise.
+-- The lemmas of this crate that proofs of the crates above may cite, besides the contracts of its functions. No other
+-- file of this directory is part of its interface.
 
--- which of its types a thread may be given
+-- which of its types may be sent to another thread
 pub use Rattle.rt_rib.proofs.Crossing.{table_send, book_send}
--- that `==` of its types says whether they are equal
+-- `==` of its types decides whether they are equal
 pub use Rattle.rt_rib.proofs.Equality.{decides_hop, decides_route}
--- what a journal with an entry more leaves
+-- the table that a journal leaves after one more entry
 pub use Rattle.rt_rib.proofs.Journals.{table_of_journal-push}
--- journals that are lawful
+-- lawful journals
 pub use Rattle.rt_rib.proofs.Journals.{IsLawfulJournal-nil, IsLawfulJournal-push}

@@ -1,4 +1,4 @@
--- A feed's routes taken out of the map in one walk.
+-- Removing a feed's routes from the map in a single walk.
 use Rattle.std.proofs.Common.{◌≡◌, ℕ, zero, suc, ◌+◌, ◌-◌, Bool, true, false, not, cond, eqb, List, [], ◌∷◌, ◌++◌, length, get_or, refl, ap, ◌∙◌, sym}
 use Rattle.std.proofs.Common.{subst, inl, inr, arith, map}
 use Rattle.std.specs.List.{Contains, count_by}
@@ -7,7 +7,7 @@ use Rattle.std.proofs.lemmas.List.Elements.{Contains-get_or, filter-append}
 use Rattle.std.proofs.lemmas.List.Sums.{sum_by-cons, sum_by-append}
 use Rattle.rt_cidr.specs.declared.prefixes.Prefix.{Prefix}
 use Rattle.rt_trie.specs.Map.{IsOrdered}
-use Rattle.rt_trie.specs.Sifted.{with_pair, IsSifted}
+use Rattle.rt_trie.specs.Retained.{with_pair, IsRetained}
 use Rattle.rt_rib.specs.declared.routes.Route.{Route}
 use Rattle.rt_rib.specs.declared.offers.Offer.{Offer}
 use Rattle.rt_rib.specs.declared.offers.Removal.TheVariants.{Missing, Last, Gone}
@@ -21,15 +21,15 @@ use Rattle.rt_rib.proofs.Counts.{count-both}
 use Rattle.rt_rib.proofs.Lists.{filter-all, list_any-none}
 use Rattle.rt_rib.proofs.Sets.{Contains-tail, Contains-cases, Contains-none}
 
--- nothing goes where no route is the feed's
+-- a purge removes nothing if no route is the feed's
 purge-none : (feed : ℕ) (t : List Route) → ((r : Route) → Contains t r → eqb r.feed feed ≡ false) → purge feed t ≡ t
 purge-none feed t none =
     filter-all (λ (r : Route). not (eqb r.feed feed)) t (λ k d l. not_from_false (eqb (get_or t k d).feed feed) (none (get_or t k d) (Contains-get_or t k d l)))
 
--- no route is the feed's where it has none by its count
+-- no route is the feed's if its count is 0
 none_counted : (feed : ℕ) (t : List Route) → count_of feed t ≡ 0 → (r : Route) → Contains t r → eqb r.feed feed ≡ false
 none_counted feed t none r c = none_by (λ (x : Route). eqb x.feed feed) t none r c where
-  -- the same of any test
+  -- the same for any test
   none_by : {X : Type 0} (p : X → Bool) (xs : List X) → count_by p xs ≡ 0 → (x : X) → Contains xs x → p x ≡ false
   none_by p [] e x d = absurd (Contains-none x d)
   none_by p (y ∷ xs) e x d =
@@ -41,27 +41,27 @@ none_counted feed t none r c = none_by (λ (x : Route). eqb x.feed feed) t none 
             elim (Contains-cases y xs x d) [ inl here ↦ subst (λ z. p z ≡ false) here fails | inr later ↦ none_by p xs (omega arith) x later ]
       ]
 
--- the feed's routes to one prefix are its offers
+-- purging the routes to a prefix removes the feed's offer
 purge-routes : (feed : ℕ) (p : Prefix) (offers : List Offer) → purge feed (map (route_by p) offers) ≡ map (route_by p) (without feed offers)
 purge-routes feed p [] = refl
 purge-routes feed p (o ∷ offers) =
     let rest = purge-routes feed p offers in
     elim (cases_Bool (is_from feed o)) [ inl own ↦ rw own rest | inr other ↦ rw other (ap (λ z. route_by p o ∷ z) rest) ]
 
--- and as many
+-- a feed has the same number of routes to a prefix as of offers
 count-routes : (feed : ℕ) (p : Prefix) (offers : List Offer) → count_of feed (map (route_by p) offers) ≡ count_by (is_from feed) offers
 count-routes feed p [] = refl
 count-routes feed p (o ∷ offers) =
     sum_by-cons (λ (r : Route). cond (eqb r.feed feed) 1 0) (route_by p o) (map (route_by p) offers)
     ∙ ap (λ n. cond (is_from feed o) 1 0 + n) (count-routes feed p offers) ∙ sym (sum_by-cons (λ x. cond (is_from feed x) 1 0) o offers)
 
--- the routes of a prefix that stays where there are other offers, and of what is left behind it
+-- the routes of a prefix that stays if it has other offers, and of the rest after it
 kept_routes : (stays : Bool) (p : Prefix) (others made : List Offer) (after : Map) → AreOthers others made stays
     → routes_of (with_pair stays p made after) ≡ map (route_by p) others ++ routes_of after
 kept_routes true p others made after h = rw h.0 refl
 kept_routes false p others made after h = rw h refl
 
--- its offers are in order, where those of what is left are
+-- its offers are valid if those of the rest are
 kept_offers : (stays : Bool) (p : Prefix) (others made : List Offer) (after : Map) → AreOthers others made stays
     → ((q : Prefix) (offers : List Offer) → Contains after (q, offers) → IsOffers offers)
     → (q : Prefix) (offers : List Offer) → Contains (with_pair stays p made after) (q, offers) → IsOffers offers
@@ -71,12 +71,12 @@ kept_offers true p others made after h rest q offers c = elim (Contains-cases (p
 ]
 kept_offers false p others made after h rest q offers c = rest q offers c
 
--- what a purge does with a pair that it is shown
+-- the effect of a purge on a pair that it is shown
 abbrev pub Purges : Purging → Prefix → List Offer → Purging → List Offer → Bool → Type 0
 Purges s p old t new stays = IsPurged s t old new stays
 
--- a purge that knows how many routes its feed has takes all of them out
-pub purged_routes : (s t : Purging) (m n : Map) → IsSifted is_over Purges s t m n → s.remaining ≡ count_of s.feed (routes_of m)
+-- a purge that knows the number of its feed's routes removes all of them
+pub purged_routes : (s t : Purging) (m n : Map) → IsRetained is_over Purges s t m n → s.remaining ≡ count_of s.feed (routes_of m)
     → routes_of n ≡ purge s.feed (routes_of m)
 purged_routes s t [] n h e = rw h.1 refl
 purged_routes s t ((p, offers) ∷ rest) n h e =
@@ -104,8 +104,8 @@ purged_routes s t ((p, offers) ∷ rest) n h e =
           ∙ sym (filter-append (λ (r : Route). not (eqb r.feed s.feed)) (map (route_by p) offers) (routes_of rest))
     ]
 
--- and leaves the others in order
-purged_offers : (s t : Purging) (m n : Map) → IsSifted is_over Purges s t m n → ((q : Prefix) (offers : List Offer) → Contains m (q, offers) → IsOffers offers)
+-- a purge keeps the other offers valid
+purged_offers : (s t : Purging) (m n : Map) → IsRetained is_over Purges s t m n → ((q : Prefix) (offers : List Offer) → Contains m (q, offers) → IsOffers offers)
     → (q : Prefix) (offers : List Offer) → Contains n (q, offers) → IsOffers offers
 purged_offers s t [] n h each q offers c = absurd (Contains-none (q, offers) (subst (λ l. Contains l (q, offers)) h.1 c))
 purged_offers s t ((p, old) ∷ rest) n h each q offers c = elim h [
@@ -117,7 +117,7 @@ purged_offers s t ((p, old) ∷ rest) n h each q offers c = elim h [
       (subst (λ l. Contains l (q, offers)) i.3.new_is c)
 ]
 
-pub purged_map : MapLaws → (s t : Purging) (m n : Map) → IsSifted is_over Purges s t m n → IsMap m → IsOrdered n → IsMap n
+pub purged_map : MapLaws → (s t : Purging) (m n : Map) → IsRetained is_over Purges s t m n → IsMap m → IsOrdered n → IsMap n
 purged_map laws s t m n h is order = record {
   ordered = order;
   each = λ p offers e. purged_offers s t m n h (λ q others c. is.each q others ((laws.found m q others is.ordered).0 c)) p offers
@@ -135,12 +135,12 @@ offers_missing s old new h lawful =
       others = (h.0 ∙ sym all, lawful);
     }
 
--- one route less is left, where some are
+-- one less remains, if some remain
 pub one_less : (n : ℕ) → eqb n 0 ≡ false → n - 1 + 1 ≡ n
 one_less zero e = cc
 one_less (suc n) e = omega arith
 
--- it has one of several
+-- the feed has one of several offers
 pub offers_gone : (s t : Purging) (old new : List Offer) → t.feed ≡ s.feed → t.remaining + 1 ≡ s.remaining → TakesOut old new s.feed Gone → IsOffers new
     → IsPurged s t old new true
 offers_gone s t old new same fewer h lawful = record {
@@ -149,7 +149,7 @@ offers_gone s t old new same fewer h lawful = record {
   others = (h.0, lawful);
 }
 
--- it has the only one
+-- the feed has the only offer
 pub offers_last : (s t : Purging) (old new : List Offer) → t.feed ≡ s.feed → t.remaining + 1 ≡ s.remaining → TakesOut old new s.feed Last
     → IsPurged s t old new false
 offers_last s t old new same fewer h =

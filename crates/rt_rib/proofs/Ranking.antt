@@ -1,4 +1,4 @@
--- What a look-up of all finds, in terms of what the set contains.
+-- The result of a look-up of all, in terms of the elements of the set.
 use Rattle.std.proofs.Common.{◌≡◌, ◌≤◌, ◌⊎◌, Bool, true, false, inl, inr, List, [], ◌∷◌, ap, ◌∙◌, sym, subst, arith}
 use Rattle.std.specs.Prelude.{◌↔◌, slice_get}
 use Rattle.std.specs.List.{AllPairs, Contains}
@@ -20,11 +20,11 @@ use Rattle.rt_rib.proofs.Covering.{base_at, covers-base}
 use Rattle.rt_rib.proofs.MapRoutes.{All-from_contained}
 use Rattle.rt_rib.proofs.Best.{beats-itself, beats-trans, look_up_finds_best}
 
--- the first goes before the second
+-- the first beats the second
 abbrev pub Beats : Route → Route → Type 0
 Beats r s = beats r s ≡ true
 
--- a ranking has the routes of which it is
+-- a ranking has the same routes as the list
 ranking-contains : (routes : List Route) (x : Route) → Contains (ranking routes) x ↔ Contains routes x
 ranking-contains [] x = ((λ c. c), (λ c. c))
 ranking-contains (r ∷ others) x =
@@ -38,7 +38,7 @@ ranking-contains (r ∷ others) x =
     )
 
 module _ (addr : Addr) where
-  -- of two that match and are not of one feed and prefix, one beats the other
+  -- if two matches differ in feed or prefix, one beats the other
   beats-other : (r s : Route) → covers r.prefix addr ≡ true → covers s.prefix addr ≡ true → is_of r.feed r.prefix s ≡ false → beats s r ≡ false
       → beats r s ≡ true
   beats-other r s c d other e =
@@ -51,7 +51,7 @@ module _ (addr : Addr) where
             (λ f. both_ways (is_of r.feed r.prefix s) other (is_of-from r.feed r.prefix s f base (sym len.0))))
       ]
 
-  -- so a ranking of those that match is in order
+  -- hence a ranking of matches is in order
   ranking-ordered : (routes : List Route) → ((r : Route) → Contains routes r → covers r.prefix addr ≡ true) → AllPairs Apart routes
       → AllPairs Beats (ranking routes)
   ranking-ordered [] match apart = λ i j d l m. absurd (omega arith)
@@ -63,7 +63,7 @@ module _ (addr : Addr) where
       beats-other r s (match r (Contains-head r others)) (match s (Contains-tail r others s there)) differs))
       (ranking-ordered others (λ s c. match s (Contains-tail r others s c)) (AllPairs-tail Apart r others apart))
 
-  -- what a look-up of all finds are the matches
+  -- a look-up of all finds the matches
   look_up_all_are : (t : List Route) → IsTable t → AreAllMatches addr t (look_up_all addr t)
   unfolding look_up_all
   look_up_all_are t table =
@@ -78,13 +78,13 @@ module _ (addr : Addr) where
             (AllPairs-filter Apart covering t table.single);
       }
 
-  -- and there is one list of them
+  -- there is only one list of them
   matches_once : (t m n : List Route) → AreAllMatches addr t m → AreAllMatches addr t n → m ≡ n
   matches_once t m n h k =
       ordered_once beats beats-itself beats-trans m n h.ordered k.ordered
       (λ x c. (k.exactly x).1 ((h.exactly x).0 c)) (λ x c. (h.exactly x).1 ((k.exactly x).0 c))
 
-  -- what covers the address is the first match, or beaten by it
+  -- a route that covers the address is the first match, or beaten by it
   first_or_beaten : (t : List Route) (r : Route) (rest : List Route) → AreAllMatches addr t (r ∷ rest) → (s : Route) → Contains t s → covers s.prefix addr ≡ true
       → (r ≡ s) ⊎ Beats r s
   first_or_beaten t r rest h s c e =
@@ -93,7 +93,7 @@ module _ (addr : Addr) where
         | inr later ↦ inr (All-contains (Beats r) rest s (AllPairs-head Beats r rest h.ordered) later)
       ]
 
-  -- so the first match is the best
+  -- hence the first match is the best
   first_is_best : (t : List Route) (r : Route) (rest : List Route) → AreAllMatches addr t (r ∷ rest) → IsBestMatch addr t r
   first_is_best t r rest h = record {
     contained = ((h.exactly r).0 (Contains-head r rest)).0;
@@ -114,7 +114,7 @@ module _ (addr : Addr) where
     ];
   }
 
-  -- and what a look-up finds
+  -- and it is the answer to a look-up
   first_match : (t matches : List Route) → IsTable t → AreAllMatches addr t matches → slice_get matches 0 ≡ look_up addr t
   first_match t [] table h =
       sym ((look_up_finds_best addr t table).1.1 (λ s c.

@@ -1,4 +1,4 @@
--- The routes that are asked for: of a map those of the pairs that are asked for, and the best of these.
+-- The selected routes, in terms of a map: those of the selected pairs, and the best of these.
 use Rattle.std.proofs.Common.{◌≡◌, ℕ, sym, Bool, true, false, cond, eqb, ltb, inl, inr, List, [], ◌∷◌, ◌++◌, map, refl, ap, ◌∙◌, subst, arith}
 use Rattle.std.specs.Prelude.{◌&&◌, Option, Some, None, if◌then◌else◌}
 use Rattle.std.specs.List.{filter}
@@ -12,7 +12,7 @@ use Rattle.rt_trie.specs.Map.{before, IsBeforeAll, IsOrdered}
 use Rattle.rt_rib.specs.declared.routes.Route.{Route}
 use Rattle.rt_rib.specs.declared.offers.Offer.{Offer}
 use Rattle.rt_rib.specs.declared.selection.Selection.{Selection}
-use Rattle.rt_rib.specs.declared.selection.Part.TheVariants.{All}
+use Rattle.rt_rib.specs.declared.selection.PrefixFilter.TheVariants.{All}
 use Rattle.rt_rib.specs.LookUp.{best_routes}
 use Rattle.rt_rib.specs.Maps.{Map, route_by, routes_of}
 use Rattle.rt_rib.specs.Selection.{is_in, is_by, selected}
@@ -21,7 +21,7 @@ use Rattle.rt_rib.specs.inside.Maps.{offers_at}
 use Rattle.rt_rib.proofs.BestRoutes.{best_passing}
 use Rattle.rt_rib.proofs.Order.{below_then-true}
 
--- two filters are one
+-- two filters in sequence are one filter
 filter-filter : {X : Type 0} (f g : X → Bool) (xs : List X) → filter g (filter f xs) ≡ filter (λ x. f x && g x) xs
 filter-filter f g [] = refl
 filter-filter f g (x ∷ xs) = elim (cases_Bool (f x)) [
@@ -32,7 +32,7 @@ filter-filter f g (x ∷ xs) = elim (cases_Bool (f x)) [
   | inr fails ↦ rw fails (filter-filter f g xs)
 ]
 
--- of any feed are all
+-- every route is of any feed
 by_any : (xs : List Route) → filter (is_by None) xs ≡ xs
 by_any [] = refl
 by_any (r ∷ xs) = ap (λ l. r ∷ l) (by_any xs)
@@ -41,13 +41,13 @@ pub by_none : (feed : Option ℕ) (xs : List Route) → ((n : ℕ) → feed ≡ 
 by_none None xs h = sym (by_any xs)
 by_none (Some n) xs h = absurd (h n refl)
 
--- and all are in the whole table
+-- every route is in the whole table
 pub in_all : (xs : List Route) → filter (λ r. is_in All r.prefix) xs ≡ xs
 in_all [] = refl
 in_all (r ∷ xs) = ap (λ l. r ∷ l) (in_all xs)
 
 module _ (t : Prefix → Bool) where
-  -- the routes to a prefix pass a test of it, or none does
+  -- either all routes to a prefix pass a test of the prefix, or none does
   filter-made : (p : Prefix) (offers : List Offer) (passes : Bool) → t p ≡ passes
       → filter (λ r. t r.prefix) (map (route_by p) offers) ≡ cond passes (map (route_by p) offers) []
   filter-made p [] true e = refl
@@ -55,7 +55,7 @@ module _ (t : Prefix → Bool) where
   filter-made p (o ∷ offers) true e = rw e (ap (λ l. route_by p o ∷ l) (filter-made p offers true e))
   filter-made p (o ∷ offers) false e = rw e (filter-made p offers false e)
 
-  -- those that pass are the routes of the pairs that do
+  -- the routes that pass are those of the pairs that pass
   pub filter_routes : (m : Map) → filter (λ r. t r.prefix) (routes_of m) ≡ routes_of (filter (λ x. t x.0) m)
   filter_routes [] = refl
   filter_routes ((p, offers) ∷ rest) =
@@ -68,7 +68,7 @@ module _ (t : Prefix → Bool) where
             ∙ filter_routes rest)
       ]
 
--- what comes after a prefix is another
+-- a prefix that comes after another differs from it
 another : (p q : Prefix) → before p q ≡ true → same_prefix q p ≡ false
 another p q e =
     false_from_ne_true (same_prefix q p) (λ one.
@@ -85,7 +85,7 @@ none_behind p [] h = refl
 none_behind p ((q, offers) ∷ rest) h = rw (another p q h.0) (none_behind p rest h.1)
 
 module _ (same : SamePrefix) where
-  -- the routes to a prefix are those of what stands there
+  -- the routes to a prefix are those of the offers there
   pub routes_at : (p : Prefix) (m : Map) → IsOrdered m → filter (λ r. same_prefix r.prefix p) (routes_of m) ≡ map (route_by p) (offers_at m p)
   routes_at p m order = filter_routes (λ q. same_prefix q p) m ∙ at m order where
     at : (m : Map) → IsOrdered m → routes_of (filter (λ x. same_prefix x.0 p) m) ≡ map (route_by p) (offers_at m p)
@@ -99,7 +99,7 @@ module _ (same : SamePrefix) where
       | inr other ↦ rw other (at rest order.1)
     ]
 
-  -- of the part those that are asked for are those of all
+  -- selecting from the part's routes gives the same as selecting from all routes
   pub selected_of_part : (asked : Selection) (table : List Route) → IsTable table
       → filter (is_by asked.feed) (if asked.only_best then best_routes (filter (λ r. is_in asked.part r.prefix) table)
       else filter (λ r. is_in asked.part r.prefix) table) ≡ selected asked table

@@ -1,4 +1,4 @@
--- Lists of routes as the sets of what they contain.
+-- Lists of routes as the sets of their elements.
 use Rattle.std.proofs.Common.{◌≡◌, ℕ, zero, suc, ◌<◌, Bool, true, false, cond, not, ◌⊎◌, inl, inr, List, [], ◌∷◌, ◌++◌, length, get_or, refl, ap, ◌∙◌, sym}
 use Rattle.std.proofs.Common.{subst, arith}
 use Rattle.std.proofs.lemmas.Bool.{cases_Bool, cond-true, cond-false, both_ways, not-true, not_from_false}
@@ -16,23 +16,23 @@ module _ {X : Type 0} where
   pub Contains-head : (x : X) (xs : List X) → Contains (x ∷ xs) x
   Contains-head x xs = (0, omega arith, refl)
 
-  -- and what the others contain
+  -- and the elements of the rest
   pub Contains-tail : (y : X) (xs : List X) (x : X) → Contains xs x → Contains (y ∷ xs) x
   Contains-tail y xs x c = (suc c.0, (let l = c.1 in omega arith), c.2)
 
-  -- what a list contains is its first element, or the others contain it
+  -- an element of a list is its first element, or in the rest
   pub Contains-cases : (y : X) (xs : List X) (x : X) → Contains (y ∷ xs) x → (y ≡ x) ⊎ Contains xs x
   Contains-cases y xs x c = by_index y xs x c.0 c.1 c.2 where
-    -- by where it stands
+    -- by its index
     by_index : (y : X) (xs : List X) (x : X) (k : ℕ) → k < length (y ∷ xs) → get_or (y ∷ xs) k x ≡ x → (y ≡ x) ⊎ Contains xs x
     by_index y xs x zero l e = inl e
     by_index y xs x (suc k) l e = inr (k, omega arith, e)
 
-  -- the empty list contains nothing
+  -- the empty list has no elements
   pub Contains-none : (x : X) → Contains [] x → ⊥
   Contains-none x c = let l = c.1 in omega arith
 
-  -- a filter keeps what passes
+  -- a filter keeps the elements that pass
   pub filter-keeps : (p : X → Bool) (xs : List X) (x : X) → Contains xs x → p x ≡ true → Contains (filter p xs) x
   filter-keeps p [] x c e = absurd (Contains-none x c)
   filter-keeps p (y ∷ xs) x c e =
@@ -46,7 +46,7 @@ module _ {X : Type 0} where
             elim (p y) as (λ b. Contains (cond b (y ∷ filter p xs) (filter p xs)) x) [ true ↦ Contains-tail y (filter p xs) x rest | false ↦ rest ]
       ]
 
-  -- what a filter has kept was there, and passes
+  -- an element of the filtered list was in the list, and passes
   pub filter-from : (p : X → Bool) (xs : List X) (x : X) → Contains (filter p xs) x → Contains xs x × (p x ≡ true)
   filter-from p [] x c = absurd (Contains-none x c)
   filter-from p (y ∷ xs) x c =
@@ -61,7 +61,7 @@ module _ {X : Type 0} where
             (Contains-tail y xs x rest.0, rest.1)
       ]
 
-  -- an element put between those that pass a test and the others
+  -- an element inserted between those that satisfy a test and the others
   pub Contains-put : (p : X → Bool) (xs : List X) (r x : X) → Contains (filter p xs ++ r ∷ filter (λ s. not (p s)) xs) x ↔ (Contains xs x ⊎ (r ≡ x))
   Contains-put p xs r x =
       let q : X → Bool = λ s. not (p s) in (
@@ -83,15 +83,15 @@ module _ {X : Type 0} where
 
   module _ (before : X → X → Bool) (never : (x : X) → before x x ≡ false)
       (onward : (x y z : X) → before x y ≡ true → before y z ≡ true → before x z ≡ true) where
-    -- the first goes before the second
+    -- the first comes before the second
     abbrev Goes : X → X → Type 0
     Goes x y = before x y ≡ true
 
-    -- the first of a list in order goes before whatever else it contains
+    -- the first of an ordered list comes before every other element
     goes-rest : (x : X) (xs : List X) (y : X) → AllPairs Goes (x ∷ xs) → Contains xs y → before x y ≡ true
     goes-rest x xs y h c = All-contains (Goes x) xs y (AllPairs-head Goes x xs h) c
 
-    -- two lists in order that contain the same elements
+    -- two ordered lists with the same elements
     pub ordered_once : (xs ys : List X) → AllPairs Goes xs → AllPairs Goes ys → ((x : X) → Contains xs x → Contains ys x)
         → ((x : X) → Contains ys x → Contains xs x) → xs ≡ ys
     ordered_once [] [] h k to from = refl
@@ -120,11 +120,11 @@ module _ {X : Type 0} where
         ]) in
         ap (λ z. x ∷ z) rest ∙ ap (λ z. z ∷ ys) (sym same)
 
--- the set with one route more
+-- the set after an insertion
 pub put_in_adds : PutInAdds
 put_in_adds r x table = Contains-put (λ s. precedes s r) table r x
 
--- the set without a feed's route to a prefix
+-- the set after a removal
 pub take_out_leaves_others : TakeOutLeavesOthers
 take_out_leaves_others feed prefix x table =
     let other = λ (s : Route). not (is_of feed prefix s) in (
@@ -132,7 +132,7 @@ take_out_leaves_others feed prefix x table =
       (λ c. filter-keeps other table x c.0 (not_from_false (is_of feed prefix x) c.1)),
     )
 
--- so a set has one table
+-- hence a set has only one table
 pub one_table_of_set : OneTableOfSet
 one_table_of_set t u h k same =
     ordered_once precedes precedes-itself precedes-trans t u h.ordered k.ordered (λ x. (same x).0) (λ x. (same x).1)

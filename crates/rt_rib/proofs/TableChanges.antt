@@ -1,4 +1,4 @@
--- A table keeps its counts as routes are put in, changed and taken out.
+-- A table keeps its counts right as routes are inserted, replaced and removed.
 use Rattle.std.proofs.Common.{◌≡◌, ℕ, ◌+◌, ◌-◌, ◌<◌, true, false, List, [], ◌∷◌, ◌++◌, length, get_or, refl, sym, ◌∙◌, ap, subst, arith}
 use Rattle.std.proofs.Math.ListN.{set}
 use Rattle.std.proofs.lemmas.List.Elements.{All-push}
@@ -6,7 +6,7 @@ use Rattle.rt_cidr.specs.declared.prefixes.Prefix.{Prefix}
 use Rattle.rt_rib.specs.declared.routes.Route.{Route}
 use Rattle.rt_rib.specs.declared.commands.Cmd.TheVariants.{Add, Purge}
 use Rattle.rt_rib.specs.declared.commands.Reply.TheVariants.{Added, Purged}
-use Rattle.rt_rib.specs.declared.limits.TheConstants.{MOST_FEEDS}
+use Rattle.rt_rib.specs.declared.limits.TheConstants.{MAX_FEEDS}
 use Rattle.rt_rib.specs.Table.{has, put_in, take_out, purge, IsTable}
 use Rattle.rt_rib.specs.Maps.{Map, routes_of, IsMap}
 use Rattle.rt_rib.specs.Book.{IsFeed, TableState, TableContents, table_state, Serves, HoldsRoutes}
@@ -21,14 +21,14 @@ use Rattle.rt_rib.proofs.Counts.{HasMore, HasMore-put_in, HasMore-take_out, HasM
 use Rattle.rt_rib.proofs.Counts.{AreCounts-own}
 use Rattle.rt_rib.proofs.CommandCases.{state, added, purged}
 
--- which count is the feed's
-own_index : (feed : ℕ) → IsFeed feed → (feed - 1 < MOST_FEEDS) × (feed ≡ feed - 1 + 1)
+-- the index of the feed's count
+own_index : (feed : ℕ) → IsFeed feed → (feed - 1 < MAX_FEEDS) × (feed ≡ feed - 1 + 1)
 own_index feed is = let low = is.0 in let high = is.1 in (omega arith, omega arith)
 
-module _ (limit : ℕ) (counts : List ℕ) (m : Map) (h : IsCounted limit counts m) (many : length counts ≡ MOST_FEEDS) where
+module _ (limit : ℕ) (counts : List ℕ) (m : Map) (h : IsCounted limit counts m) (many : length counts ≡ MAX_FEEDS) where
   module _ (r : Route) (feed : IsFeed r.feed) (fresh : has r.feed r.prefix (routes_of m) ≡ false) (room : get_or counts (r.feed - 1) 0 < limit) (n : Map)
       (map : IsMap n) (is : routes_of n ≡ put_in r (routes_of m)) where
-    -- with the route it is a table, and the raised count is right
+    -- with the route inserted it is a table, and the increased count is right
     pub added_counted : IsCounted limit (set counts (r.feed - 1) (get_or counts (r.feed - 1) 0 + 1)) n
     added_counted =
         let own = own_index r.feed feed in
@@ -41,13 +41,13 @@ module _ (limit : ℕ) (counts : List ℕ) (m : Map) (h : IsCounted limit counts
           counted = AreCounts-more limit counts (routes_of m) (routes_of n) (r.feed - 1) own.0 many h.counted more room;
         }
 
-    -- and that is what the sequential table does
+    -- this is what the sequential table does
     pub added_serves : Serves (state limit (routes_of m)) (state limit (routes_of n)) r.feed (Add r.prefix r.pref r.hop) Added
     added_serves =
         let own = AreCounts-own limit counts (routes_of m) r.feed h.counted feed in
         added limit (routes_of m) r fresh (omega arith) (routes_of n) is
 
-  -- what an add is answered where the feed hasn't the route, nor as many as the limit allows
+  -- the reply to an add if the feed doesn't have the route and hasn't reached its limit
   pub to_be_added : (r : Route) → IsFeed r.feed → has r.feed r.prefix (routes_of m) ≡ false → get_or counts (r.feed - 1) 0 < limit
       → reply_of limit (routes_of m) r.feed (Add r.prefix r.pref r.hop) ≡ Added
   to_be_added r feed fresh room =
@@ -56,7 +56,7 @@ module _ (limit : ℕ) (counts : List ℕ) (m : Map) (h : IsCounted limit counts
 
   module _ (feed : ℕ) (is_feed : IsFeed feed) (p : Prefix) (there : has feed p (routes_of m) ≡ true) (n : Map) (map : IsMap n)
       (is : routes_of n ≡ take_out feed p (routes_of m)) where
-    -- without the feed's route it is a table, and the lowered count is right
+    -- without the feed's route it is a table, and the decreased count is right
     pub withdrawn_counted : IsCounted limit (set counts (feed - 1) (get_or counts (feed - 1) 0 - 1)) n
     withdrawn_counted =
         let own = own_index feed is_feed in
@@ -70,7 +70,7 @@ module _ (limit : ℕ) (counts : List ℕ) (m : Map) (h : IsCounted limit counts
           counted = AreCounts-less limit counts (routes_of m) (routes_of n) (feed - 1) own.0 many h.counted fewer;
         }
 
-    -- the feed's count is not none
+    -- the feed's count isn't 0
     pub withdrawn_one : 0 < get_or counts (feed - 1) 0
     withdrawn_one =
         let own = AreCounts-own limit counts (routes_of m) feed h.counted is_feed in
@@ -79,7 +79,7 @@ module _ (limit : ℕ) (counts : List ℕ) (m : Map) (h : IsCounted limit counts
 
   module _ (r : Route) (there : has r.feed r.prefix (routes_of m) ≡ true) (n : Map) (map : IsMap n)
       (is : routes_of n ≡ put_in r (take_out r.feed r.prefix (routes_of m))) where
-    -- with the route in the place of the other it is a table, and the counts are still right
+    -- with the route replaced it is a table, and the counts are still right
     pub replaced_counted : IsCounted limit counts n
     replaced_counted =
         let rest = take_out r.feed r.prefix (routes_of m) in
@@ -95,7 +95,7 @@ module _ (limit : ℕ) (counts : List ℕ) (m : Map) (h : IsCounted limit counts
         }
 
   module _ (feed : ℕ) (is_feed : IsFeed feed) (n : Map) (map : IsMap n) (is : routes_of n ≡ purge feed (routes_of m)) where
-    -- without the feed's routes it is a table, and its count is none
+    -- without the feed's routes it is a table, and the feed's count is 0
     pub purged_counted : IsCounted limit (set counts (feed - 1) 0) n
     purged_counted =
         let own = own_index feed is_feed in
@@ -106,22 +106,22 @@ module _ (limit : ℕ) (counts : List ℕ) (m : Map) (h : IsCounted limit counts
           counted = AreCounts-purged limit counts (routes_of m) (routes_of n) (feed - 1) own.0 many h.counted (is ∙ ap (λ f. purge f (routes_of m)) own.1);
         }
 
-    -- and that is what the sequential table does
+    -- this is what the sequential table does
     pub purged_serves : Serves (state limit (routes_of m)) (state limit (routes_of n)) feed Purge (Purged (get_or counts (feed - 1) 0))
     purged_serves = purged limit (routes_of m) feed (get_or counts (feed - 1) 0) (AreCounts-own limit counts (routes_of m) feed h.counted is_feed)
         (routes_of n) is
 
--- a map that is as it was
+-- a map that didn't change
 pub kept_counted : (limit : ℕ) (counts : List ℕ) (m n : Map) → IsCounted limit counts m → n ≡ m → IsCounted limit counts n
 kept_counted limit counts m n h same = subst (IsCounted limit counts) (sym same) h
 
--- and a command that such a map served
+-- a command served by such a map
 pub kept_serves : (limit : ℕ) (m n : Map) (feed : ℕ) (cmd : Cmd) (reply : Reply) → n ≡ m
     → Serves (state limit (routes_of m)) (state limit (routes_of m)) feed cmd reply
     → Serves (state limit (routes_of m)) (state limit (routes_of n)) feed cmd reply
 kept_serves limit m n feed cmd reply same h = subst (λ x. Serves (state limit (routes_of m)) (state limit (routes_of x)) feed cmd reply) (sym same) h
 
--- a journal goes on with the entry of what the table serves
+-- a journal with the entry of what the table served after it
 pub IsJournalOf-push : (old new : TableState) (journal more : List Entry) (feed : ℕ) (cmd : Cmd) (reply : Reply) → IsFeed feed → IsJournalOf old journal
     → Serves old new feed cmd reply → more ≡ journal ++ record { feed = feed; cmd = cmd; reply = reply } ∷ [] → IsJournalOf new more
 IsJournalOf-push old new journal more feed cmd reply is_feed h serves is =

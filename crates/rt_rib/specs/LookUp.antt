@@ -1,5 +1,5 @@
--- The look-up as three filters of a set (RFC 1812, section 5.2.4.3): Basic Match, Longest Match, and the vendor's policy;
--- and all that match, in the order in which these leave routes behind.
+-- The look-up as three filters of a set (RFC 1812, section 5.2.4.3): Basic Match, Longest Match, and the vendor's
+-- policy. And all matches, in the order of these filters, the best first.
 use Rattle.std.specs.Prelude.{Bool, ◌&&◌, not, nat_le, List, [], ◌∷◌, ◌++◌, Option, filter, find}
 use Rattle.std.specs.List.{list_all}
 use Rattle.rt_cidr.specs.declared.address.Addr.{Addr}
@@ -11,31 +11,31 @@ use Rattle.rt_rib.specs.Table.{below_then, is_better}
 abbrev pub matching : Addr → List Route → List Route
 matching addr routes = filter (λ r. covers r.prefix addr) routes
 
--- those of them that no other is longer than
+-- the routes of the longest prefixes
 abbrev pub longest_of : List Route → List Route
 longest_of routes = filter (λ r. list_all (λ s. nat_le s.prefix.len r.prefix.len) routes) routes
 
--- the one of them of least preference, and then of least feed, if there is any
+-- the route of lowest preference number and, among those, of lowest feed number, if there is any
 abbrev pub best : List Route → Option Route
 best routes = find (λ r. list_all (λ s. not (is_better s r)) routes) routes
 
--- the best of the longest of those that match
+-- the best of the longest matches
 unfoldable pub look_up : Addr → List Route → Option Route
 look_up addr routes = best (longest_of (matching addr routes))
 
--- whether r goes before s where both match: its prefix is longer, or as long and r is better
+-- true if r comes before s among matches: its prefix is longer, or equally long and r is better
 abbrev pub beats : Route → Route → Bool
 beats r s = below_then s.prefix.len r.prefix.len (is_better r s)
 
--- the routes, the best first: each behind those of the others that beat it, and before the rest of them
+-- the routes, the best first: each after those of the others that beat it, and before the rest of them
 abbrev pub ranking : List Route → List Route
 ranking [] = []
 ranking (r ∷ others) = filter (λ s. beats s r) (ranking others) ++ r ∷ filter (λ s. not (beats s r)) (ranking others)
 
--- all that match, the best first
+-- all matches, the best first
 unfoldable pub look_up_all : Addr → List Route → List Route
 look_up_all addr routes = ranking (matching addr routes)
 
--- those routes of the list than which no other of the same prefix is better
+-- the routes of the list to whose prefix no other route is better
 abbrev pub best_routes : List Route → List Route
 best_routes routes = filter (λ r. list_all (λ s. not (same_prefix s.prefix r.prefix && is_better s r)) routes) routes

@@ -1,26 +1,26 @@
--- Which routes of a table are asked for.
+-- Selecting routes of a table.
 use Rattle.std.specs.Prelude.{ℕ, Bool, true, ◌==◌, ◌&&◌, if◌then◌else◌, List, Option, Some, None, filter}
 use Rattle.rt_cidr.specs.declared.prefixes.Prefix.{Prefix}
 use Rattle.rt_cidr.specs.Prefix.{contains, same_prefix}
 use Rattle.rt_rib.specs.declared.routes.Route.{Route}
-use Rattle.rt_rib.specs.declared.selection.Part.{Part}
-use Rattle.rt_rib.specs.declared.selection.Part.TheVariants.{All, Within, Covering, Exact}
+use Rattle.rt_rib.specs.declared.selection.PrefixFilter.{PrefixFilter}
+use Rattle.rt_rib.specs.declared.selection.PrefixFilter.TheVariants.{All, Within, Covering, Exact}
 use Rattle.rt_rib.specs.declared.selection.Selection.{Selection}
 use Rattle.rt_rib.specs.LookUp.{best_routes}
 
--- whether a prefix is asked for: any; one that p contains; one that contains p; p
-abbrev pub is_in : Part → Prefix → Bool
+-- true if a prefix is selected: any prefix; one that p contains; one that contains p; p itself
+abbrev pub is_in : PrefixFilter → Prefix → Bool
 is_in All q = true
 is_in (Within p) q = contains p q
 is_in (Covering p) q = contains q p
 is_in (Exact p) q = same_prefix q p
 
--- whether a route is of the feed that is asked for: of any, or of this one
+-- true if a route's feed is selected: any feed; this one
 abbrev pub is_by : Option ℕ → Route → Bool
 is_by None r = true
 is_by (Some feed) r = r.feed == feed
 
--- the routes that are asked for, in the table's order: of all, or of the best one of each prefix, those that meet both
+-- the selected routes, in the table's order: of all, or of the best one of each prefix, those that meet both conditions
 abbrev pub selected : Selection → List Route → List Route
 selected asked table =
     filter (λ r. is_in asked.part r.prefix && is_by asked.feed r) (if asked.only_best then best_routes table else table)

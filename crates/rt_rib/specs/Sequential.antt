@@ -1,4 +1,4 @@
--- The sequential table: what a command of a feed is answered, and which set it leaves; and the journal, which has every
+-- The sequential table: the reply to a command of a feed, and the set of routes after it. And the journal: every
 -- answered command, with its reply, in the order in which they were answered.
 use Rattle.std.specs.Prelude.{ℕ, nat_le, if◌then◌else◌, List, length, ◌≡◌, [], ◌∷◌, ◌++◌, fold}
 use Rattle.std.specs.Option.{option_map_or}
@@ -11,7 +11,7 @@ use Rattle.rt_rib.specs.Table.{has, count_of, put_in, take_out, purge}
 use Rattle.rt_rib.specs.LookUp.{look_up}
 use Rattle.rt_rib.specs.declared.commands.Entry.{Entry}
 
--- what the command is answered, where a feed may have so many routes
+-- the reply to the command, if a feed may have at most `limit` routes
 unfoldable pub reply_of : ℕ → List Route → ℕ → Cmd → Reply
 reply_of limit table feed (Add prefix pref hop) =
     if has feed prefix table then Exists else if nat_le limit (count_of feed table) then Full else Added
@@ -21,7 +21,7 @@ reply_of limit table feed (Lookup addr) = option_map_or Found (look_up addr tabl
 reply_of limit table feed Dump = Dumped (length table)
 reply_of limit table feed Purge = Purged (count_of feed table)
 
--- the set that the command leaves
+-- the set after the command
 unfoldable pub table_after : ℕ → List Route → ℕ → Cmd → List Route
 table_after limit table feed (Add prefix pref hop) =
     if has feed prefix table then table else if nat_le limit (count_of feed table) then table
@@ -34,14 +34,14 @@ table_after limit table feed (Lookup addr) = table
 table_after limit table feed Dump = table
 table_after limit table feed Purge = purge feed table
 
--- the set that the journal's commands leave, from the empty set on
+-- the set after the journal's commands, starting from the empty set
 unfoldable pub table_of_journal : ℕ → List Entry → List Route
 table_of_journal limit journal = fold (λ table e. table_after limit table e.feed e.cmd) [] journal
 
--- the entry's reply is the sequential table's in the set that these entries leave
+-- the entry's reply is the sequential table's in the set that the earlier entries leave
 abbrev pub IsAnswered : ℕ → List Entry → Entry → Type 0
 IsAnswered limit earlier e = e.reply ≡ reply_of limit (table_of_journal limit earlier) e.feed e.cmd
 
--- each entry is so answered after those that stand before it
+-- each entry is answered in this way after the entries before it
 pub record IsLawfulJournal (limit : ℕ) (journal : List Entry) : Type 0 where
   pub answered : (earlier : List Entry) (e : Entry) (later : List Entry) → journal ≡ earlier ++ e ∷ later → IsAnswered limit earlier e

@@ -1,28 +1,28 @@
--- The table: a finite set of routes, no two of one prefix and feed. A list of routes stands for the set of
--- what it contains, and dump order makes that list the only one of its set.
+-- The table: a finite set of routes, no two of the same prefix and feed. A list of routes represents the set of its
+-- elements, and dump order makes that list unique.
 use Rattle.std.specs.Prelude.{◌≡◌, ℕ, Bool, true, false, not, ◌==◌, ◌&&◌, ◌||◌, nat_lt, List, ◌∷◌, ◌++◌, filter, count_by}
 use Rattle.std.specs.List.{list_any, AllPairs}
 use Rattle.rt_cidr.specs.declared.prefixes.Prefix.{Prefix}
 use Rattle.rt_cidr.specs.Prefix.{same_prefix}
 use Rattle.rt_rib.specs.declared.routes.Route.{Route}
 
--- whether the route is this feed's to this prefix
+-- true if the route is this feed's to this prefix
 abbrev pub is_of : ℕ → Prefix → Route → Bool
 is_of feed prefix r = r.feed == feed && same_prefix r.prefix prefix
 
--- whether the feed has a route to this prefix
+-- true if the feed has a route to this prefix
 abbrev pub has : ℕ → Prefix → List Route → Bool
 has feed prefix table = list_any (is_of feed prefix) table
 
--- how many routes the feed has
+-- the number of the feed's routes
 abbrev pub count_of : ℕ → List Route → ℕ
 count_of feed table = count_by (λ r. r.feed == feed) table
 
--- whether a is below b, or equal to it and then the rest holds
+-- true if a is below b, or equal to it and `rest` is true
 abbrev pub below_then : ℕ → ℕ → Bool → Bool
 below_then a b rest = nat_lt a b || (a == b && rest)
 
--- whether r is of lesser preference, and where that is equal of lesser feed
+-- true if r has a lower preference number, or the same one and a lower feed number
 abbrev pub is_better : Route → Route → Bool
 is_better r s = below_then r.pref s.pref (nat_lt r.feed s.feed)
 
@@ -30,19 +30,19 @@ is_better r s = below_then r.pref s.pref (nat_lt r.feed s.feed)
 abbrev pub precedes : Route → Route → Bool
 precedes r s = below_then r.prefix.base s.prefix.base (below_then r.prefix.len s.prefix.len (is_better r s))
 
--- a route put in: what precedes it, the route, and the others
+-- the route inserted: the routes that precede it, the route, and the others
 abbrev pub put_in : Route → List Route → List Route
 put_in r table = filter (λ s. precedes s r) table ++ r ∷ filter (λ s. not (precedes s r)) table
 
--- a feed's route to a prefix taken out: all others stay
+-- a feed's route to a prefix removed: all others stay
 abbrev pub take_out : ℕ → Prefix → List Route → List Route
 take_out feed prefix table = filter (λ r. not (is_of feed prefix r)) table
 
--- all of a feed's routes taken out: those of the others stay
+-- all of a feed's routes removed: those of other feeds stay
 abbrev pub purge : ℕ → List Route → List Route
 purge feed table = filter (λ r. not (r.feed == feed)) table
 
--- the routes stand in dump order, and no two are of one feed and prefix
+-- the routes are in dump order, and no two are of the same feed and prefix
 pub record IsTable (table : List Route) : Type 0 where
   pub ordered : AllPairs (λ r s. precedes r s ≡ true) table
   pub single : AllPairs (λ r s. is_of s.feed s.prefix r ≡ false) table

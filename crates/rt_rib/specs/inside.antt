@@ -1,4 +1,4 @@
--- What no public clause speaks of: the words of private contracts, of invariants and of proofs.
+-- Definitions that no public clause uses: those of private contracts, of invariants and of proofs.
 pub mod OneOrMany
 pub mod TableState
 pub mod Maps

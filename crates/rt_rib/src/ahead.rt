@@ -1,27 +1,27 @@
-//! Reading ahead: the ways that several commands will take, down the trie and to what is offered there, are taken together,
-//! before the first of them is answered, so that what each has to wait for comes while the others wait too.
+//! Reading ahead. Before the first of several commands is answered, the trie is searched for all of them together, and
+//! the offers found there are read, so that their waits for memory overlap.
 
 use crate::commands::Cmd;
-use crate::limits::MOST_FEEDS;
+use crate::limits::MAX_FEEDS;
 use crate::map::Map;
 use crate::offers::Offers;
 use rt_cidr::{Addr, Prefix};
 use std::alloc::Allocator;
 
-/// How many commands are read ahead for at once: as many ways as the trie goes down in turn.
-pub const AHEAD: usize = 8;
+/// The number of commands that are read ahead at once: the number of look-ups that the trie does in turn.
+pub const READ_AHEAD_COMMANDS: usize = 8;
 
-/// A trie of fewer nodes lies in cache, where there is nothing to wait for.
+/// A trie with fewer nodes fits in the cache, and there is nothing to wait for.
 const CACHED: usize = 8_192;
 
-/// Goes down to what the first few of the commands speak of. It changes nothing and takes no memory.
+/// Visits what the first few of the commands concern. Changes nothing. Doesn't allocate.
 pub(crate) fn read_ahead<A: Allocator + Copy>(map: &Map<A>, cmds: &[Cmd]) {
     if map.nodes() < CACHED {
         return;
     }
-    let mut addresses = [Addr(0); AHEAD];
-    let mut answers = [None; AHEAD];
-    let count = cmds.len().min(AHEAD);
+    let mut addresses = [Addr(0); READ_AHEAD_COMMANDS];
+    let mut answers = [None; READ_AHEAD_COMMANDS];
+    let count = cmds.len().min(READ_AHEAD_COMMANDS);
     for k in 0..count {
         addresses[k] = address_of(cmds[k]);
     }
@@ -29,13 +29,13 @@ pub(crate) fn read_ahead<A: Allocator + Copy>(map: &Map<A>, cmds: &[Cmd]) {
     read_first_offers(&answers[..count]);
 }
 
-/// Reads the first of the offers of each prefix, where a list of them lies apart. None is of a feed over `MOST_FEEDS`, but the
-/// compiler doesn't know that, nor when the loop would end without it: so it can't leave the reads out.
+/// Reads the first offer of each prefix, which may be in a separate list. No feed is over `MAX_FEEDS`, but the
+/// compiler doesn't know that, nor when the loop would end without the reads: so it can't omit them.
 fn read_first_offers<A: Allocator + Copy>(answers: &[Option<(Prefix, &Offers<A>)>]) {
     let mut remaining = answers.len();
     while remaining > 0 {
         let feed = first_feed(answers[remaining - 1]);
-        remaining = if feed > MOST_FEEDS {
+        remaining = if feed > MAX_FEEDS {
             remaining / 2
         } else {
             remaining - 1
@@ -43,7 +43,7 @@ fn read_first_offers<A: Allocator + Copy>(answers: &[Option<(Prefix, &Offers<A>)
     }
 }
 
-/// The feed of the best of the offers.
+/// Returns the feed of the best offer, or 0 if there are no offers.
 fn first_feed<A: Allocator + Copy>(answer: Option<(Prefix, &Offers<A>)>) -> usize {
     match answer {
         Some((_, offers)) => {
@@ -54,7 +54,7 @@ fn first_feed<A: Allocator + Copy>(answer: Option<(Prefix, &Offers<A>)>) -> usiz
     }
 }
 
-/// The address to which the command goes down, if it goes down at all.
+/// Returns the address to which the command descends, or address 0 if it doesn't descend.
 fn address_of(cmd: Cmd) -> Addr {
     match cmd {
         Cmd::Add { prefix, .. } | Cmd::Replace { prefix, .. } | Cmd::Withdraw { prefix } => {

@@ -1,9 +1,9 @@
-//! The book: a table with the journal of all that it answered, and nothing but what keeps the two in step.
+//! The book: a table with the journal of everything it answered, and nothing but what keeps the two consistent.
 ghost use Rattle.std.specs.Prelude.{◌≡◌, ◌<◌, [], length, map, IfOk, OnOk, OnErr};
 ghost use Rattle.std.specs.List.{All};
 ghost use Rattle.rt_rib.specs.Book.{IsLimit, IsFeed};
 
-use crate::answers::Answers;
+use crate::answers::LookupCursor;
 use crate::commands::{Cmd, Entry, Reply};
 use crate::refused::Refused;
 use crate::routes::Route;
@@ -15,9 +15,10 @@ use std::fmt;
 use std::marker::Model;
 
 /// A routing table with the journal of every command that it answered. Contracts see a book as its limit, its journal,
-/// the trie that holds its routes, and for how many entries more the journal has room. The journal is lawful: each reply
-/// is the sequential table's, in the set of routes that the entries before it leave, and each entry is of a feed from 1
-/// to 64. The trie is lawful too, and holds the set that the whole journal leaves.
+/// the trie that holds its routes, and the number of entries that the journal still has room for.
+///
+/// The journal is lawful: each reply is the sequential table's, in the set of routes that the entries before it leave,
+/// and each entry is of a feed from 1 to 64. The trie is lawful too, and holds the set that the whole journal leaves.
 #[derive(Drop)]
 pub struct Book<A: Allocator + Copy> {
     table: Table<A>,
@@ -47,7 +48,7 @@ impl<A: Allocator + Copy> Model for Book<A> {
     ghost invariant = { λ b. IsJournalOf (table_state b.table) b.journal.items };
 }
 
-/// Shows how many entries its journal has and how many nodes its trie takes, and none of them.
+/// Shows the number of journal entries and of trie nodes, but no entries or nodes.
 impl<A: Allocator + Copy> fmt::Debug for Book<A> {
     fn fmt<W: fmt::Write>(&self, f: &mut fmt::Formatter<W>) -> fmt::Result {
         f.debug_struct("Book")
@@ -63,7 +64,8 @@ impl<A: Allocator + Copy> Book<A> {
     ghost use Rattle.rt_rib.specs.LookUp.{look_up, look_up_all};
     ghost use Rattle.rt_rib.specs.Book.{table_of, Applies, Refuses, Reserves, HoldsTable};
 
-    /// An empty book in which each feed may have so many routes. It takes no memory, so its journal has no room yet.
+    /// Returns an empty book in which each feed may have up to `limit` routes. Doesn't allocate, so its journal has no
+    /// room yet.
     pub fn new(alloc: A, limit: u32) -> Book<A>
         requires { IsLimit limit }
         ensures limit { result.limit ≡ limit }
@@ -79,8 +81,9 @@ impl<A: Allocator + Copy> Book<A> {
         }
     }
 
-    /// Gives the journal room for so many entries. So many commands then need no memory for theirs: only a route that is
-    /// put in may still be refused any. M1: `Refused` where memory was refused, and then the book is as it was.
+    /// Reserves room for `entries` entries in the journal. That many commands then allocate nothing for their entries:
+    /// only a route that is inserted may still need memory. Error M1 (`Refused`) if memory runs out; the book is then
+    /// unchanged.
     pub fn reserve(&mut self, entries: usize) -> Result<(), Refused>
         ensures ok { OnOk result (Reserves self.old self.new entries) }
         ensures err { OnErr result ((self.new ≡ self.old) × (self.old.room < entries)) }
@@ -91,9 +94,9 @@ impl<A: Allocator + Copy> Book<A> {
         Ok(())
     }
 
-    /// Answers a command of the feed and keeps command and reply as one entry at the journal's end. Where the journal has
-    /// no room, the entry needs memory, and a route that is put in may need some of its own: M1 is `Refused`, and then
-    /// routes and journal are as they were.
+    /// Executes a command of the feed, and appends command and reply as one entry to the journal. Allocates for the
+    /// entry if the journal has no room, and may allocate for a route that is inserted. Error M1 (`Refused`) if memory
+    /// runs out; routes and journal are then unchanged.
     pub fn apply(&mut self, feed: u32, cmd: Cmd) -> Result<Reply, Refused>
         requires { IsFeed feed }
         ensures ok { IfOk result (λ reply. Applies self.old self.new feed cmd reply) }
@@ -108,15 +111,15 @@ impl<A: Allocator + Copy> Book<A> {
         Ok(reply)
     }
 
-    /// The trie of any book is lawful, and holds exactly the routes that the journal leaves, none of them twice. Calling
-    /// this makes it known, and it does nothing.
+    /// Makes known to a proof that the trie is lawful and holds exactly the routes that the journal leaves, none of
+    /// them twice. Does nothing.
     pub fn holds(&self)
         ensures { HoldsTable self.now }
     {
         self.table.holds();
     }
 
-    /// Its table, to be asked like any other.
+    /// Returns the book's table, which can be queried like any other.
     pub fn table(&self) -> &Table<A>
         ensures limit { result.now.limit ≡ self.now.limit }
         ensures routes { result.now.routes ≡ table_of self.now }
@@ -125,17 +128,18 @@ impl<A: Allocator + Copy> Book<A> {
         &self.table
     }
 
-    /// Reads what the first [`AHEAD`](crate::AHEAD) of these commands will go down to, all at once, so that `apply` finds it
-    /// in cache. In a table that doesn't lie in cache this makes a batch faster. It answers nothing and changes nothing, and
-    /// takes no memory.
+    /// Reads what the first [`READ_AHEAD_COMMANDS`](crate::READ_AHEAD_COMMANDS) of these commands will visit, all at
+    /// once, so that `apply` finds it in the cache. This makes a batch faster if the table doesn't fit in the cache.
+    /// Answers nothing and changes nothing. Doesn't allocate.
     pub fn read_ahead(&self, cmds: &[Cmd]) {
         ahead::read_ahead(self.table.map(), cmds);
     }
 
-    /// For each address, in order, the best route of the longest prefix that covers it, as `Cmd::Lookup` would answer it, or
-    /// `None` where no prefix covers it: the answers take the place of what stood in their list, which is as long as that of
-    /// the addresses. The look-ups go on eight at a time, so that one waits for memory while the others do, which is faster in
-    /// a table that doesn't lie in cache. It changes nothing in the book, its journal neither, and takes no memory.
+    /// Replaces each answer by the best route of the longest prefix that covers the address with the same index, or by
+    /// `None` if no prefix covers it: the answer of `Cmd::Lookup`. The two lists must be equally long.
+    ///
+    /// Eight look-ups proceed in turn, so that their waits for memory overlap, which is faster if the table doesn't fit
+    /// in the cache. The book with its journal is unchanged. Doesn't allocate.
     pub fn look_up(&self, addresses: &[Addr], answers: &mut [Option<Route>])
         requires { length answers.old ≡ length addresses.now }
         ensures { answers.new ≡ map (λ addr. look_up addr (table_of self.now)) addresses.now }
@@ -143,25 +147,26 @@ impl<A: Allocator + Copy> Book<A> {
         lookups::best_of_each(self.table.map(), addresses, answers);
     }
 
-    /// The answers to look-ups of one address after another, each with how far it goes: of rising ones each goes on from the
-    /// way down of the last, in place of from the trie's root. It takes no memory and changes nothing.
-    pub fn answers(&self) -> Answers<'_, A>
+    /// Returns a cursor for look-ups of successive addresses, each with how far its answer holds. For rising addresses
+    /// a look-up continues from the path of the previous one instead of from the trie's root. Changes nothing. Doesn't
+    /// allocate.
+    pub fn lookup_cursor(&self) -> LookupCursor<'_, A>
         ensures { result ≡ table_of self.now }
     {
-        Answers::new(self.table.map())
+        LookupCursor::new(self.table.map())
     }
 
-    /// Every route whose prefix covers the address, in memory of the allocator: by greatest length, then least preference,
-    /// then least feed, so the first is the answer to a look-up. It takes no other memory and changes nothing in the book.
-    /// M1: `Refused` where that memory was refused.
+    /// Returns every route whose prefix covers the address, by decreasing length, then by preference, then by feed, so
+    /// that the first is the answer to a look-up. Allocates only this list, with the given allocator. The book is
+    /// unchanged. Error M1 (`Refused`) if memory runs out.
     pub fn look_up_all(&self, alloc: A, addr: Addr) -> Result<Vec<Route, A>, Refused>
         ensures { IfOk result (λ routes. routes.items ≡ look_up_all addr (table_of self.now)) }
     {
         lookups::all_of(self.table.map(), alloc, addr)
     }
 
-    /// The routes in dump order, by base, then length, then preference, then feed, in memory of the allocator. M1:
-    /// `Refused` where that memory was refused.
+    /// Returns the routes in dump order: by base, then length, then preference, then feed. Allocates the list with the
+    /// given allocator. Error M1 (`Refused`) if memory runs out.
     pub fn routes(&self, alloc: A) -> Result<Vec<Route, A>, Refused>
         ensures routes { IfOk result (λ routes. routes.items ≡ table_of self.now) }
         ensures table { IsTable (table_of self.now) }
@@ -170,14 +175,14 @@ impl<A: Allocator + Copy> Book<A> {
         self.table.routes(alloc)
     }
 
-    /// How many nodes the trie of the routes takes.
+    /// Returns the number of nodes of the trie of the routes.
     pub fn nodes(&self) -> usize
         ensures { result ≡ self.now.trie.nodes }
     {
         self.table.map().nodes()
     }
 
-    /// Every answered command with its reply, in the order in which they were answered.
+    /// Returns every answered command with its reply, in the order in which they were answered.
     pub fn journal(&self) -> &[Entry]
         ensures entries { result.now ≡ self.now.journal }
         ensures lawful { IsLawfulJournal self.now.limit self.now.journal }

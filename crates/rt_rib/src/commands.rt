@@ -1,56 +1,56 @@
-//! What a feed may ask, what it is answered, and the two as an entry: plain data, as callers see it.
+//! The commands of a feed, their replies, and entries of both: plain data, as callers see it.
 use crate::routes::{Hop, Route};
 use rt_cidr::{Addr, Prefix};
 
-/// A command of a feed. It speaks of that feed's own routes, but for `Lookup` and `Dump`, which ask for all.
+/// A command of a feed. It concerns that feed's own routes, except `Lookup` and `Dump`, which concern all routes.
 #[derive(Clone, Copy, PartialEq, Eq, Debug)]
 pub enum Cmd {
-    /// Put in a route, unless the feed has one of this prefix or as many as its limit allows.
+    /// Insert a route, unless the feed already has one to this prefix or as many as its limit allows.
     Add { prefix: Prefix, pref: u32, hop: Hop },
-    /// Give the feed's route of this prefix another preference and next hop.
+    /// Change the preference and next hop of the feed's route to this prefix.
     Replace { prefix: Prefix, pref: u32, hop: Hop },
-    /// Take out the feed's route of this prefix.
+    /// Remove the feed's route to this prefix.
     Withdraw { prefix: Prefix },
-    /// Ask for the best route of the longest prefix that covers the address.
+    /// Return the best route of the longest prefix that covers the address.
     Lookup { addr: Addr },
-    /// Ask how many routes there are.
+    /// Return the number of routes.
     Dump,
-    /// Take out all of the feed's routes.
+    /// Remove all of the feed's routes.
     Purge,
 }
 
-/// What a command is answered.
+/// The reply to a command.
 #[derive(Clone, Copy, PartialEq, Eq, Debug)]
 pub enum Reply {
-    /// The route was put in.
+    /// The route was inserted.
     Added,
-    /// The feed has a route of this prefix already; nothing changed.
+    /// The feed already has a route to this prefix; nothing changed.
     Exists,
-    /// The feed has as many routes as its limit allows; nothing changed.
+    /// The feed already has as many routes as its limit allows; nothing changed.
     Full,
     /// The feed's route has the new preference and next hop.
     Replaced,
-    /// The feed's route was taken out.
+    /// The feed's route was removed.
     Withdrawn,
-    /// The feed has no route of this prefix; nothing changed.
+    /// The feed has no route to this prefix; nothing changed.
     Missing,
     /// The best route of the longest prefix that covers the address.
     Found(Route),
     /// No prefix covers the address.
     NoRoute,
-    /// How many routes there are.
+    /// The number of routes.
     Dumped(u32),
-    /// The feed's routes were taken out, which were so many.
+    /// The feed's routes were removed; this is their number.
     Purged(u32),
 }
 
-/// One answered command of the journal.
+/// A command of the journal, with its reply.
 #[derive(Clone, Copy, PartialEq, Eq, Debug)]
 pub struct Entry {
-    /// The number of the feed that asked, from 1.
+    /// The number of the command's feed, from 1.
     pub feed: u32,
-    /// What it asked.
+    /// The command.
     pub cmd: Cmd,
-    /// What it was answered.
+    /// The reply.
     pub reply: Reply,
 }

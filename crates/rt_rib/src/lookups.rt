@@ -1,4 +1,5 @@
-//! Look-ups in the map: of one address, of many whose ways down are taken together, or of all that covers an address.
+//! Look-ups in the map: of an address, of many addresses whose descents are done together, and of all matches of an
+//! address.
 ghost use Rattle.std.specs.Prelude.{◌≡◌, ℕ, ◌+◌, ◌<◌, ◌≤◌, ◌++◌, length, map, reverse, IfOk, OnOk};
 ghost use Rattle.rt_cidr.specs.declared.address.Addr.{Addr};
 ghost use Rattle.rt_trie.specs.Map.{pair_copied, address_at, IsLongest};
@@ -6,7 +7,7 @@ ghost use Rattle.rt_rib.specs.LookUp.{look_up, look_up_all};
 ghost use Rattle.rt_rib.specs.Maps.{Map, route_by, routes_of, IsMap};
 ghost use Rattle.rt_rib.specs.inside.Maps.{route_at, look_up_each};
 
-use crate::ahead::AHEAD;
+use crate::ahead::READ_AHEAD_COMMANDS;
 use crate::map::{Map, map_laws, route_by};
 use crate::offers::{Offer, Offers};
 use crate::refused::Refused;
@@ -14,7 +15,7 @@ use crate::routes::Route;
 use rt_cidr::{Addr, Prefix};
 use std::alloc::Allocator;
 
-/// The best route to the prefix that is the longest match of an address, if there is one.
+/// Returns the best route to the prefix that is the longest match of an address, if there is one.
 pub(crate) fn best_at<A: Allocator + Copy>(longest: Option<(Prefix, &Offers<A>)>) -> Option<Route>
     ensures { (m : Map) (addr : Addr) → IsMap m → IsLongest m addr (pair_copied longest.entry)
         → result ≡ look_up addr (routes_of m) }
@@ -26,7 +27,7 @@ pub(crate) fn best_at<A: Allocator + Copy>(longest: Option<(Prefix, &Offers<A>)>
     }
 }
 
-/// The best route of the longest prefix that covers the address.
+/// Returns the best route of the longest prefix that covers the address.
 pub(crate) fn best_of<A: Allocator + Copy>(map: &Map<A>, addr: Addr) -> Option<Route>
     requires { IsMap map.now.pairs }
     ensures { result ≡ look_up addr (routes_of map.now.pairs) }
@@ -34,7 +35,7 @@ pub(crate) fn best_of<A: Allocator + Copy>(map: &Map<A>, addr: Addr) -> Option<R
     best_at(map.longest(addr))
 }
 
-/// The routes of all prefixes that cover the address, the best first.
+/// Returns the routes of all prefixes that cover the address, the best first.
 pub(crate) fn all_of<A: Allocator + Copy>(
     map: &Map<A>,
     alloc: A,
@@ -48,12 +49,12 @@ pub(crate) fn all_of<A: Allocator + Copy>(
     for (prefix, offers) in map.covering(addr) {
         append_backward(&mut routes, prefix, offers.as_slice())?;
     }
-    // The way down comes to the shortest prefix first, which is to be the last.
+    // The descent finds the shortest prefix first, which has to be the last.
     routes.reverse();
     Ok(routes)
 }
 
-/// Appends the routes that the offers make of a prefix, the worst first.
+/// Appends the routes of a prefix's offers, the worst first.
 fn append_backward<A: Allocator + Copy>(
     routes: &mut Vec<Route, A>,
     prefix: Prefix,
@@ -67,7 +68,7 @@ fn append_backward<A: Allocator + Copy>(
     Ok(())
 }
 
-/// `best_of` of each address: the answers take the place of what stood in the list.
+/// Replaces each answer by `best_of` of the address with the same index.
 pub(crate) fn best_of_each<A: Allocator + Copy>(
     map: &Map<A>,
     addresses: &[Addr],
@@ -79,13 +80,13 @@ pub(crate) fn best_of_each<A: Allocator + Copy>(
 {
     let mut start = 0;
     while start < addresses.len() {
-        let size = (addresses.len() - start).min(AHEAD);
+        let size = (addresses.len() - start).min(READ_AHEAD_COMMANDS);
         best_of_chunk(map, addresses, answers, start, size);
         start += size;
     }
 }
 
-/// The answers to so many addresses from an index on, whose ways down are taken together.
+/// Computes the answers for `size` addresses from `start` on, with their descents done together.
 fn best_of_chunk<A: Allocator + Copy>(
     map: &Map<A>,
     addresses: &[Addr],
@@ -94,14 +95,14 @@ fn best_of_chunk<A: Allocator + Copy>(
     size: usize,
 )
     requires map { IsMap map.now.pairs }
-    requires chunk { size ≤ AHEAD }
+    requires chunk { size ≤ READ_AHEAD_COMMANDS }
     requires within { start + size ≤ length addresses.now }
     requires size { length answers.old ≡ length addresses.now }
     ensures each { (j : ℕ) → j < size
         → route_at answers.new (start + j) ≡ look_up (address_at addresses.now (start + j)) (routes_of map.now.pairs) }
     ensures rest { (k : ℕ) → k < start → route_at answers.new k ≡ route_at answers.old k }
 {
-    let mut longest = [None; AHEAD];
+    let mut longest = [None; READ_AHEAD_COMMANDS];
     map.longest_many(&addresses[start..start + size], &mut longest[..size]);
     for k in 0..size {
         answers[start + k] = best_at(longest[k]);

@@ -1,4 +1,4 @@
-//! The map from prefixes to their offers: the routes that it stands for, and how they change.
+//! The map from prefixes to their offers: the routes that it represents, and how they change.
 ghost use Rattle.std.specs.Prelude.{◌≡◌, ◌++◌, false, IsTrue, IfOk, OnOk, OnErr, map};
 ghost use Rattle.rt_rib.specs.Table.{has, put_in, take_out};
 ghost use Rattle.rt_rib.specs.Maps.{routes_of, route_by, IsMap};
@@ -13,10 +13,10 @@ use rt_trie::laws::{changes, one_list};
 use rt_trie::{Trie, Walk};
 use std::alloc::Allocator;
 
-/// A map from prefixes to what is offered for them.
+/// A map from prefixes to their offers.
 pub(crate) type Map<A> = Trie<Offers<A>, A>;
 
-/// What the laws of the map and of prefixes say, of offers. It does nothing.
+/// Makes known to a proof the theorems about maps and prefixes, for maps of offers. Does nothing.
 pub(crate) fn map_laws<A: Allocator + Copy>()
     ensures { MapLaws }
 {
@@ -25,7 +25,7 @@ pub(crate) fn map_laws<A: Allocator + Copy>()
     same_prefix();
 }
 
-/// The route that an offer makes of a prefix.
+/// Returns the route of an offer for a prefix.
 pub(crate) fn route_by(prefix: Prefix, offer: &Offer) -> Route
     ensures { result ≡ route_by prefix offer.now }
 {
@@ -37,7 +37,7 @@ pub(crate) fn route_by(prefix: Prefix, offer: &Offer) -> Route
     }
 }
 
-/// What a route offers for its prefix.
+/// Returns the offer of a route for its prefix.
 pub(crate) fn offer_of(route: &Route) -> Offer
     ensures { result ≡ offer_of route.now }
 {
@@ -48,7 +48,7 @@ pub(crate) fn offer_of(route: &Route) -> Offer
     }
 }
 
-/// Whether the feed has a route to the prefix.
+/// Returns true if the feed has a route to the prefix.
 pub(crate) fn has<A: Allocator + Copy>(map: &Map<A>, feed: u32, prefix: Prefix) -> bool
     requires { IsMap map.now.pairs }
     ensures { result ≡ has feed prefix (routes_of map.now.pairs) }
@@ -60,8 +60,8 @@ pub(crate) fn has<A: Allocator + Copy>(map: &Map<A>, feed: u32, prefix: Prefix) 
     }
 }
 
-/// Puts in the route, unless its feed has one to its prefix, and answers whether it has. Where memory is refused the feed has
-/// none, and the map is as it was.
+/// Inserts the route unless its feed has one to its prefix; returns true if the feed already had one. Fails if memory
+/// runs out; the feed then has no route to the prefix, and the map is unchanged.
 pub(crate) fn put_in<A: Allocator + Copy>(
     map: &mut Map<A>,
     alloc: A,
@@ -90,7 +90,8 @@ pub(crate) fn put_in<A: Allocator + Copy>(
     }
 }
 
-/// Replaces the feed's route to the prefix by this one, if there is one, and answers whether there is. It takes no memory.
+/// Replaces the feed's route to the prefix by this one, if there is one; returns true if there is one. Doesn't
+/// allocate.
 pub(crate) fn replace<A: Allocator + Copy>(map: &mut Map<A>, route: Route) -> bool
     requires { IsMap map.old.pairs }
     ensures had { result ≡ has route.feed route.prefix (routes_of map.old.pairs) }
@@ -107,8 +108,8 @@ pub(crate) fn replace<A: Allocator + Copy>(map: &mut Map<A>, route: Route) -> bo
     }
 }
 
-/// Takes the feed's route to the prefix out, if there is one, and answers whether there is. A prefix whose last offer goes is
-/// removed. It takes no memory.
+/// Removes the feed's route to the prefix, if there is one; returns true if there was one. A prefix whose last offer is
+/// removed is removed too. Doesn't allocate.
 pub(crate) fn take_out<A: Allocator + Copy>(map: &mut Map<A>, feed: u32, prefix: Prefix) -> bool
     requires { IsMap map.old.pairs }
     ensures had { result ≡ has feed prefix (routes_of map.old.pairs) }
@@ -131,7 +132,7 @@ pub(crate) fn take_out<A: Allocator + Copy>(map: &mut Map<A>, feed: u32, prefix:
     }
 }
 
-/// Appends the routes that the offers make of a prefix.
+/// Appends the routes of a prefix's offers.
 pub(crate) fn append<A: Allocator + Copy>(
     routes: &mut Vec<Route, A>,
     prefix: Prefix,
@@ -145,7 +146,7 @@ pub(crate) fn append<A: Allocator + Copy>(
     Ok(())
 }
 
-/// Appends the routes of the pairs that the walk has still to give, in its order.
+/// Appends the routes of the pairs that remain in the walk, in its order.
 pub(crate) fn append_walk<A: Allocator + Copy>(
     routes: &mut Vec<Route, A>,
     walk: Walk<'_, Offers<A>, A>,
@@ -158,7 +159,7 @@ pub(crate) fn append_walk<A: Allocator + Copy>(
     Ok(())
 }
 
-/// The routes of the pairs that the walk has still to give, in its order. Memory is taken for so many at once.
+/// Returns the routes of the pairs that remain in the walk, in its order. Allocates room for `count` of them at once.
 pub(crate) fn routes<A: Allocator + Copy>(
     walk: Walk<'_, Offers<A>, A>,
     alloc: A,

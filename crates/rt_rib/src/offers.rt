@@ -1,4 +1,4 @@
-//! What the feeds offer for one prefix, the best offer first. One offer is the common case and takes no memory of its own.
+//! The offers of the feeds for a prefix, the best first. A single offer is the common case, and allocates nothing.
 ghost use Rattle.std.specs.Prelude.{◌≡◌, ◌<◌, ◌+◌, false, [], ◌∷◌, length, IsTrue, IsOk, IfOk, OnOk, OnErr, position, vec_len, vec_capacity};
 ghost use Rattle.std.specs.List.{All, list_any};
 ghost use Rattle.rt_rib.specs.Maps.{outranks, is_from, IsRanked, IsOffers};
@@ -9,7 +9,7 @@ use crate::routes::Hop;
 use std::alloc::Allocator;
 use std::marker::Model;
 
-/// What a feed offers for a prefix: its route, but for the prefix.
+/// A feed's offer for a prefix: its route without the prefix.
 #[derive(Clone, Copy)]
 pub(crate) struct Offer {
     pub feed: u32,
@@ -24,7 +24,7 @@ enum OneOrMany<A: Allocator> {
     Many(Box<Vec<Offer, A>, A>),
 }
 
-/// The offers of one prefix: at least one, by preference and then by feed, and none twice of one feed.
+/// The offers for a prefix: at least one, ordered by preference and then by feed, at most one of each feed.
 #[derive(Drop)]
 pub(crate) struct Offers<A: Allocator + Copy> {
     offers: OneOrMany<A>,
@@ -43,19 +43,19 @@ impl<A: Allocator + Copy> Model for Offers<A> {
     ghost invariant = { λ o. IsOneOrMany o.offers };
 }
 
-/// What became of a feed's offer that was to be taken out.
+/// The result of removing a feed's offer.
 #[derive(Clone, Copy)]
 pub(crate) enum Removal {
-    /// The feed has none.
+    /// The feed has no offer.
     Missing,
     /// It is the only one, and stays.
     Last,
-    /// It is gone.
+    /// It was removed.
     Gone,
 }
 
 impl<A: Allocator + Copy> Offers<A> {
-    /// A single offer. It takes no memory.
+    /// Returns a single offer. Doesn't allocate.
     pub(crate) fn one(offer: Offer) -> Offers<A>
         ensures { result ≡ offer ∷ [] }
     {
@@ -64,7 +64,7 @@ impl<A: Allocator + Copy> Offers<A> {
         }
     }
 
-    /// The offers, the best one first.
+    /// Returns the offers, the best first.
     pub(crate) fn as_slice(&self) -> &[Offer]
         ensures offers { result.now ≡ self.now }
         ensures lawful { IsOffers result.now }
@@ -75,14 +75,14 @@ impl<A: Allocator + Copy> Offers<A> {
         }
     }
 
-    /// Whether one of them is the feed's.
+    /// Returns true if one of them is the feed's.
     pub(crate) fn has(&self, feed: u32) -> bool
         ensures { result ≡ list_any (is_from feed) self.now }
     {
         offer_index(self.as_slice(), feed).is_some()
     }
 
-    /// Puts in the offer of a feed that has none. Where memory is refused the offers are as they were.
+    /// Inserts the offer of a feed that has none. Fails if memory runs out; the offers are then unchanged.
     pub(crate) fn put(&mut self, alloc: A, offer: Offer) -> Result<(), Refused>
         requires { All (λ o. is_from offer.feed o ≡ false) self.old }
         ensures ok { OnOk result (HasGained self.old self.new offer) }
@@ -92,7 +92,7 @@ impl<A: Allocator + Copy> Offers<A> {
         self.offers.put(alloc, offer)
     }
 
-    /// Replaces the feed's offer by this one, if it has one, and answers whether it has. It takes no memory.
+    /// Replaces the feed's offer by this one, if it has one; returns true if it has one. Doesn't allocate.
     pub(crate) fn replace(&mut self, offer: Offer) -> bool
         ensures had { result ≡ list_any (is_from offer.feed) self.old }
         ensures swapped { HasSwapped self.old self.new offer result }
@@ -101,7 +101,7 @@ impl<A: Allocator + Copy> Offers<A> {
         self.offers.replace(offer)
     }
 
-    /// Takes the feed's offer out, unless it is the only one. It takes no memory.
+    /// Removes the feed's offer, unless it is the only one. Doesn't allocate.
     pub(crate) fn take_out(&mut self, feed: u32) -> Removal
         ensures taken { TakesOut self.old self.new feed result }
         ensures lawful { IsOffers self.new }
@@ -113,7 +113,7 @@ impl<A: Allocator + Copy> Offers<A> {
 impl<A: Allocator + Copy> OneOrMany<A> {
     ghost use Rattle.rt_rib.specs.inside.OneOrMany.{items, IsOneOrMany};
 
-    /// Puts in the offer of a feed that has none.
+    /// Inserts the offer of a feed that has none.
     fn put(&mut self, alloc: A, offer: Offer) -> Result<(), Refused>
         requires valid { IsOneOrMany self.old }
         requires fresh { All (λ o. is_from offer.feed o ≡ false) (items self.old) }
@@ -131,7 +131,7 @@ impl<A: Allocator + Copy> OneOrMany<A> {
         }
     }
 
-    /// Replaces the feed's offer by this one, if it has one, and answers whether it has.
+    /// Replaces the feed's offer by this one, if it has one; returns true if it has one.
     fn replace(&mut self, offer: Offer) -> bool
         requires { IsOneOrMany self.old }
         ensures had { result ≡ list_any (is_from offer.feed) (items self.old) }
@@ -150,7 +150,7 @@ impl<A: Allocator + Copy> OneOrMany<A> {
         }
     }
 
-    /// Takes the feed's offer out, unless it is the only one.
+    /// Removes the feed's offer, unless it is the only one.
     fn take_out(&mut self, feed: u32) -> Removal
         requires { IsOneOrMany self.old }
         ensures taken { TakesOut (items self.old) (items self.new) feed result }
@@ -177,21 +177,21 @@ impl<A: Allocator + Copy> OneOrMany<A> {
     }
 }
 
-/// Whether `a` stands before `b`: it is of lesser preference, or of equal preference and lesser feed.
+/// Returns true if `a` comes before `b`: it has a lower preference number, or the same one and a lower feed number.
 fn comes_before(a: &Offer, b: &Offer) -> bool
     ensures { result ≡ outranks a.now b.now }
 {
     a.pref < b.pref || a.pref == b.pref && a.feed < b.feed
 }
 
-/// The index of the feed's offer, if it has one.
+/// Returns the index of the feed's offer, if it has one.
 fn offer_index(offers: &[Offer], feed: u32) -> Option<usize>
     ensures { result ≡ position (is_from feed) offers.now }
 {
     offers.iter().position(|offer| offer.feed == feed)
 }
 
-/// The index at which the offer belongs.
+/// Returns the index at which the offer belongs.
 pub(crate) fn insertion_index(offers: &[Offer], offer: &Offer) -> usize
     requires { IsRanked offers.now }
     ensures { IsInsertionIndex offer.now offers.now result }
@@ -203,7 +203,7 @@ pub(crate) fn insertion_index(offers: &[Offer], offer: &Offer) -> usize
     index
 }
 
-/// Puts in the offer of a feed that has none, where it belongs.
+/// Inserts the offer of a feed that has none, where it belongs.
 fn put_among<A: Allocator + Copy>(offers: &mut Vec<Offer, A>, offer: Offer) -> Result<(), Refused>
     requires ranked { IsRanked offers.old.items }
     requires fresh { All (λ o. is_from offer.feed o ≡ false) offers.old.items }
@@ -218,7 +218,7 @@ fn put_among<A: Allocator + Copy>(offers: &mut Vec<Offer, A>, offer: Offer) -> R
     Ok(())
 }
 
-/// Replaces the feed's offer by this one, if it has one, and answers whether it has.
+/// Replaces the feed's offer by this one, if it has one; returns true if it has one.
 fn replace_among<A: Allocator + Copy>(offers: &mut Vec<Offer, A>, offer: Offer) -> bool
     requires { IsRanked offers.old.items }
     ensures had { result ≡ list_any (is_from offer.feed) offers.old.items }
@@ -236,7 +236,7 @@ fn replace_among<A: Allocator + Copy>(offers: &mut Vec<Offer, A>, offer: Offer) 
     }
 }
 
-/// Takes the feed's offer out, if it has one, and answers whether it has.
+/// Removes the feed's offer, if it has one; returns true if it had one.
 fn take_among<A: Allocator + Copy>(offers: &mut Vec<Offer, A>, feed: u32) -> bool
     requires { IsRanked offers.old.items }
     ensures had { result ≡ list_any (is_from feed) offers.old.items }
@@ -252,7 +252,7 @@ fn take_among<A: Allocator + Copy>(offers: &mut Vec<Offer, A>, feed: u32) -> boo
     true
 }
 
-/// A list of two offers of different feeds.
+/// Returns a list of two offers of different feeds.
 fn two<A: Allocator + Copy>(
     alloc: A,
     one: Offer,

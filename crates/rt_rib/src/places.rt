@@ -1,4 +1,4 @@
-//! Going over the routes in dump order, from a place on.
+//! Iterating over the routes in dump order, from a position on.
 ghost use Rattle.std.specs.Prelude.{◌≡◌, false, map};
 ghost use Rattle.rt_trie.specs.Map.{before};
 ghost use Rattle.rt_rib.specs.Maps.{routes_of, route_by, IsMap, IsRanked};
@@ -13,14 +13,14 @@ use std::alloc::Allocator;
 use std::fmt;
 use std::marker::Model;
 
-/// An iterator over the routes of a table in dump order, from a place on. Contracts see the routes that are still to come. It
-/// takes no memory, and goes to each node of its part of the trie once.
+/// An iterator over the routes of a table in dump order, from a position on. Contracts see the remaining routes. Visits
+/// each node of its part of the trie once. Doesn't allocate.
 #[derive(Drop)]
 pub struct RoutesFrom<'a, A: Allocator + Copy> {
     prefix: Prefix,
-    /// What is offered for that prefix and is still to come.
+    /// The remaining offers for that prefix.
     offers: &'a [Offer],
-    /// The pairs behind it.
+    /// The pairs after it.
     walk: Walk<'a, Offers<A>, A>,
 }
 
@@ -35,7 +35,7 @@ impl<'a, A: Allocator + Copy> Model for RoutesFrom<'a, A> {
 }
 
 impl<'a, A: Allocator + Copy> RoutesFrom<'a, A> {
-    /// From the place of that route on.
+    /// Returns an iterator that starts at the position of the route.
     pub(crate) fn new(map: &'a Map<A>, from: &Route) -> RoutesFrom<'a, A>
         requires { IsMap map.now.pairs }
         ensures { result ≡ from_place from.now (routes_of map.now.pairs) }
@@ -59,7 +59,7 @@ impl<'a, A: Allocator + Copy> RoutesFrom<'a, A> {
     }
 }
 
-/// Shows the prefix of the next route, and no route.
+/// Shows the prefix of the next route, but no routes.
 impl<'a, A: Allocator + Copy> fmt::Debug for RoutesFrom<'a, A> {
     fn fmt<W: fmt::Write>(&self, f: &mut fmt::Formatter<W>) -> fmt::Result {
         f.debug_struct("RoutesFrom")
@@ -93,7 +93,8 @@ impl<'a, A: Allocator + Copy> Iterator for RoutesFrom<'a, A> {
     }
 }
 
-/// Of the offers for a prefix those that make routes from the place of a route on, to no later prefix.
+/// Returns the offers for a prefix whose routes are at or after the position of the given route, which isn't to a later
+/// prefix.
 fn offers_from<'a>(prefix: Prefix, offers: &'a [Offer], from: &Route) -> &'a [Offer]
     requires later { before prefix from.now.prefix ≡ false }
     requires ranked { IsRanked offers.now }

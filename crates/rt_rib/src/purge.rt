@@ -1,4 +1,4 @@
-//! Taking all of a feed's routes out of the map in one walk.
+//! Removing all of a feed's routes from the map in a single walk.
 ghost use Rattle.std.specs.Prelude.{◌≡◌};
 ghost use Rattle.rt_rib.specs.Table.{count_of, purge};
 ghost use Rattle.rt_rib.specs.Maps.{routes_of, IsMap};
@@ -7,18 +7,18 @@ ghost use Rattle.rt_rib.specs.inside.Purges.{is_over, IsPurged};
 use crate::map::{Map, map_laws};
 use crate::offers::{Offers, Removal};
 use rt_cidr::Prefix;
-use rt_trie::Sieve;
+use rt_trie::RetainFilter;
 use std::alloc::Allocator;
 
-/// A purge on its way through the map.
+/// The state of a purge on its walk over the map.
 #[derive(Drop)]
 struct Purging {
     feed: u32,
-    /// How many routes of the feed are still to come.
+    /// The number of the feed's routes that remain to be removed.
     remaining: u32,
 }
 
-impl<A: Allocator + Copy> Sieve<Offers<A>> for Purging {
+impl<A: Allocator + Copy> RetainFilter<Offers<A>> for Purging {
     ghost done = { is_over };
 
     ghost judges = { λ s p v t w stays. IsPurged s t v w stays };
@@ -42,8 +42,7 @@ impl<A: Allocator + Copy> Sieve<Offers<A>> for Purging {
     }
 }
 
-/// Takes all routes of the feed out, of which there are so many. It goes no further than the last of them, and takes no
-/// memory.
+/// Removes all routes of the feed, `count` of them. Visits nothing after the last of them. Doesn't allocate.
 pub(crate) fn purge<A: Allocator + Copy>(map: &mut Map<A>, feed: u32, count: u32)
     requires map { IsMap map.old.pairs }
     requires count { count ≡ count_of feed (routes_of map.old.pairs) }

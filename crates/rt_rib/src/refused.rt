@@ -1,8 +1,8 @@
-//! Want of memory, the one error of this crate.
+//! Running out of memory, the only error of this crate.
 use std::alloc::{AllocError, AllocFailed};
 use thiserror::Error;
 
-/// M1: memory was refused. What was asked has not been done; each call says what is then as before.
+/// M1: memory ran out. The request wasn't carried out; each call says what is then unchanged.
 #[derive(Clone, Copy, PartialEq, Eq, Debug, Error)]
 #[error("memory was refused")]
 pub struct Refused;

@@ -6,31 +6,31 @@ ghost use Rattle.rt_rib.specs.LookUp.{best_routes};
 use rt_cidr::{Addr, Prefix};
 use std::alloc::Allocator;
 
-/// Where packets to a route's addresses go.
+/// The destination of packets to a route's addresses.
 #[derive(Clone, Copy, PartialEq, Eq, Debug)]
 pub enum Hop {
-    /// To the router with this address.
+    /// The router with this address.
     Via(Addr),
-    /// Nowhere: they are discarded, as those to an aggregate that no longer route serves (RFC 4632, section 5.1).
+    /// None: they are discarded, as packets for an aggregate that no longer route serves (RFC 4632, section 5.1).
     Discard,
 }
 
-/// One feed's route to a prefix. Of several routes to one prefix the one of least preference number is the best,
-/// and of equal preferences the one of the least feed number.
+/// A feed's route to a prefix. Of several routes to the same prefix, the best is the one with the lowest preference
+/// number and, among those, with the lowest feed number.
 #[derive(Clone, Copy, PartialEq, Eq, Debug)]
 pub struct Route {
-    /// The addresses that it serves.
+    /// The addresses that the route serves.
     pub prefix: Prefix,
-    /// The number of the feed that announced it, from 1.
+    /// The number of the feed that announced the route, from 1.
     pub feed: u32,
-    /// The preference number; the least is preferred.
+    /// The preference number; the lowest is preferred.
     pub pref: u32,
     /// The next hop.
     pub hop: Hop,
 }
 
-/// Keeps of routes in dump order, as [`Book::routes`](crate::Book::routes) gives them, the best one of each prefix, which
-/// is the one that a look-up would give; the others go. The order stays, and no memory is taken.
+/// Keeps only the best route of each prefix, which is the one that a look-up would return, and removes the others. The
+/// routes must be in dump order, as [`Book::routes`](crate::Book::routes) returns them, and stay so. Doesn't allocate.
 pub fn keep_best<A: Allocator>(routes: &mut Vec<Route, A>)
     requires { IsTable routes.old.items }
     ensures { routes.new.items ≡ best_routes routes.old.items }

@@ -1,4 +1,4 @@
-//! Which routes of a table are asked for, and how they are found: each part of its prefixes by one way down.
+//! Selecting routes of a table: each part of its prefixes is found by a single descent.
 ghost use Rattle.std.specs.Prelude.{◌≡◌, filter, if◌then◌else◌, IfOk};
 ghost use Rattle.rt_rib.specs.Maps.{routes_of, IsMap};
 ghost use Rattle.rt_rib.specs.LookUp.{best_routes};
@@ -12,49 +12,49 @@ use crate::routes::{Route, keep_best};
 use rt_cidr::Prefix;
 use std::alloc::Allocator;
 
-/// Which prefixes of a table are asked for.
+/// A part of a table's prefixes.
 #[derive(Clone, Copy, PartialEq, Eq, Debug)]
-pub enum Part {
-    /// All.
+pub enum PrefixFilter {
+    /// All prefixes.
     All,
-    /// This one and all longer ones in it.
+    /// This prefix and all longer ones in it.
     Within(Prefix),
-    /// This one and all shorter ones that it lies in.
+    /// This prefix and all shorter ones that contain it.
     Covering(Prefix),
-    /// This one alone.
+    /// Only this prefix.
     Exact(Prefix),
 }
 
-/// Which routes of a table are asked for.
+/// The routes of a table to select.
 #[derive(Clone, Copy, PartialEq, Eq, Debug)]
 pub struct Selection {
-    /// To which prefixes.
-    pub part: Part,
-    /// Whether only to the best route of each prefix.
+    /// Routes to these prefixes.
+    pub part: PrefixFilter,
+    /// If true, only the best route of each prefix.
     pub only_best: bool,
-    /// Of which feed, or of any: with `only_best`, those of the best ones that are the feed's.
+    /// Routes of this feed, or of any: with `only_best`, those best routes that are the feed's.
     pub feed: Option<u32>,
 }
 
-/// The routes to the prefixes that are asked for, in dump order. Of all there are so many.
+/// Returns the routes to the prefixes in the part, in dump order. The whole map has `count` routes.
 pub(crate) fn routes_in<A: Allocator + Copy>(
     map: &Map<A>,
     alloc: A,
     count: usize,
-    part: Part,
+    part: PrefixFilter,
 ) -> Result<Vec<Route, A>, Refused>
     requires { IsMap map.now.pairs }
     ensures { IfOk result (λ routes. routes.items ≡ filter (λ r. is_in part r.prefix) (routes_of map.now.pairs)) }
 {
     match part {
-        Part::All => map::routes(map.walk(), alloc, count),
-        Part::Within(prefix) => map::routes(map.within(prefix), alloc, 0),
-        Part::Covering(prefix) => routes_covering(map, alloc, prefix),
-        Part::Exact(prefix) => routes_to(map, alloc, prefix),
+        PrefixFilter::All => map::routes(map.walk(), alloc, count),
+        PrefixFilter::Within(prefix) => map::routes(map.within(prefix), alloc, 0),
+        PrefixFilter::Covering(prefix) => routes_covering(map, alloc, prefix),
+        PrefixFilter::Exact(prefix) => routes_to(map, alloc, prefix),
     }
 }
 
-/// The routes to the prefix and to the shorter ones that it lies in.
+/// Returns the routes to the prefix and to the shorter ones that contain it.
 fn routes_covering<A: Allocator + Copy>(
     map: &Map<A>,
     alloc: A,
@@ -69,7 +69,7 @@ fn routes_covering<A: Allocator + Copy>(
     Ok(routes)
 }
 
-/// The routes to the prefix.
+/// Returns the routes to the prefix.
 fn routes_to<A: Allocator + Copy>(
     map: &Map<A>,
     alloc: A,
@@ -87,8 +87,8 @@ fn routes_to<A: Allocator + Copy>(
     Ok(routes)
 }
 
-/// Keeps of the routes of a part those that are asked for. The order stays, and no memory is taken.
-pub(crate) fn keep_asked<A: Allocator>(routes: &mut Vec<Route, A>, asked: &Selection)
+/// Keeps the selected routes, out of those of a part. The order is unchanged. Doesn't allocate.
+pub(crate) fn keep_selected<A: Allocator>(routes: &mut Vec<Route, A>, asked: &Selection)
     requires { IsTable routes.old.items }
     ensures { routes.new.items ≡ filter (is_by asked.now.feed)
         (if asked.now.only_best then best_routes routes.old.items else routes.old.items) }
@@ -99,7 +99,7 @@ pub(crate) fn keep_asked<A: Allocator>(routes: &mut Vec<Route, A>, asked: &Selec
     keep_feed(routes, asked.feed);
 }
 
-/// Keeps the routes of the feed, or all.
+/// Keeps the routes of the feed, or all of them.
 fn keep_feed<A: Allocator>(routes: &mut Vec<Route, A>, feed: Option<u32>)
     ensures { routes.new.items ≡ filter (is_by feed) routes.old.items }
 {

@@ -1,4 +1,4 @@
-//! The sequential table: its routes as offers in a map, how many each feed has, and the answers to commands.
+//! The sequential table: its routes as offers in a map, the number of each feed's routes, and the replies to commands.
 ghost use Rattle.std.specs.Prelude.{◌≡◌, ◌^◌, ◌<◌, ◌↔◌, IsTrue, [], length, map, sum, IfOk, OnErr};
 ghost use Rattle.rt_rib.specs.declared.commands.Cmd.TheVariants.{Add, Replace, Withdraw, Purge};
 ghost use Rattle.rt_rib.specs.declared.commands.Reply.TheVariants.{Added};
@@ -10,14 +10,14 @@ ghost use Rattle.rt_rib.specs.Book.{IsLimit, IsFeed, table_state, Serves, HoldsR
 ghost use Rattle.rt_rib.specs.Maps.{routes_of, IsMap};
 ghost use Rattle.rt_rib.specs.Selection.{selected};
 
-use crate::answers::Answers;
+use crate::answers::LookupCursor;
 use crate::commands::{Cmd, Reply};
-use crate::limits::MOST_FEEDS;
+use crate::limits::MAX_FEEDS;
 use crate::map::{self, Map};
 use crate::places::RoutesFrom;
 use crate::refused::Refused;
 use crate::routes::Route;
-use crate::selection::{Selection, keep_asked, routes_in};
+use crate::selection::{Selection, keep_selected, routes_in};
 use crate::{lookups, purge};
 use rt_cidr::laws::same_prefix;
 use rt_cidr::{Addr, Prefix};
@@ -26,15 +26,15 @@ use std::alloc::Allocator;
 use std::fmt;
 use std::marker::Model;
 
-/// The sequential table: a set of routes, at most one for each pair of prefix and feed, and no more for each feed
-/// than the limit. Contracts see its limit, its routes in dump order, and the trie that holds them. It keeps no journal,
-/// so what it takes is bounded by its routes, however long it is used.
+/// The sequential table: a set of routes, at most one for each pair of prefix and feed, and for each feed at most the
+/// limit. Contracts see its limit, its routes in dump order, and the trie that holds them. It keeps no journal, so its
+/// memory is bounded by its routes, however long it is used.
 #[derive(Drop)]
 pub struct Table<A: Allocator + Copy> {
     limit: u32,
-    /// How many routes each feed has, that of feed 1 first.
-    counts: [u32; MOST_FEEDS],
-    /// The routes, as what is offered for each prefix.
+    /// The number of routes of each feed, starting with feed 1.
+    counts: [u32; MAX_FEEDS],
+    /// The routes, as the offers for each prefix.
     map: Map<A>,
     alloc: A,
 }
@@ -55,7 +55,7 @@ impl<A: Allocator + Copy> Model for Table<A> {
     ghost invariant = { λ t. IsCounted t.limit t.counts t.map.pairs };
 }
 
-/// Shows how many nodes its trie takes, and no route.
+/// Shows the number of trie nodes, but no routes.
 impl<A: Allocator + Copy> fmt::Debug for Table<A> {
     fn fmt<W: fmt::Write>(&self, f: &mut fmt::Formatter<W>) -> fmt::Result {
         f.debug_struct("Table")
@@ -65,12 +65,12 @@ impl<A: Allocator + Copy> fmt::Debug for Table<A> {
 }
 
 impl<A: Allocator + Copy> Table<A> {
-    /// The empty table, in which each feed may have so many routes. It takes no memory.
+    /// Returns the empty table, in which each feed may have up to `limit` routes. Doesn't allocate.
     pub fn new(alloc: A, limit: u32) -> Table<A>
         requires { IsLimit limit }
         ensures { table_state result ≡ record { limit = limit; routes = [] } }
     {
-        let counts = [0; MOST_FEEDS];
+        let counts = [0; MAX_FEEDS];
         Table {
             limit,
             counts,
@@ -79,7 +79,7 @@ impl<A: Allocator + Copy> Table<A> {
         }
     }
 
-    /// The trie is lawful and holds exactly the table's routes, none of them twice. Calling this makes it known, and it does
+    /// Makes known to a proof that the trie is lawful and holds exactly the table's routes, none of them twice. Does
     /// nothing.
     pub fn holds(&self)
         ensures { HoldsRoutes self.now.trie self.now.routes }
@@ -87,22 +87,22 @@ impl<A: Allocator + Copy> Table<A> {
         let _ = self.map.nodes();
     }
 
-    /// How many routes there are.
+    /// Returns the number of routes.
     pub fn len(&self) -> u32
         ensures { result ≡ length self.now.routes }
     {
         total(&self.counts)
     }
 
-    /// Whether there is no route.
+    /// Returns true if there is no route.
     pub fn is_empty(&self) -> bool
         ensures { IsTrue result ↔ (self.now.routes ≡ []) }
     {
         self.len() == 0
     }
 
-    /// The routes in dump order, by base, then length, then preference, then feed, in memory of the allocator. M1:
-    /// `Refused` where that memory was refused.
+    /// Returns the routes in dump order: by base, then length, then preference, then feed. Allocates the list with the
+    /// given allocator. Error M1 (`Refused`) if memory runs out.
     pub fn routes(&self, alloc: A) -> Result<Vec<Route, A>, Refused>
         ensures routes { IfOk result (λ routes. routes.items ≡ self.now.routes) }
         ensures table { IsTable self.now.routes }
@@ -111,9 +111,9 @@ impl<A: Allocator + Copy> Table<A> {
         map::routes(self.map.walk(), alloc, count as usize)
     }
 
-    /// For each address, in order, the best route of the longest prefix that covers it, or `None` where no prefix covers it:
-    /// the answers take the place of what stood in their list, which is as long as that of the addresses. The look-ups go on
-    /// eight at a time, so that one waits for memory while the others do. It takes no memory.
+    /// Replaces each answer by the best route of the longest prefix that covers the address with the same index, or by
+    /// `None` if no prefix covers it. The two lists must be equally long. Eight look-ups proceed in turn, so that their
+    /// waits for memory overlap. Doesn't allocate.
     pub fn look_up(&self, addresses: &[Addr], answers: &mut [Option<Route>])
         requires { length answers.old ≡ length addresses.now }
         ensures { answers.new ≡ map (λ addr. look_up addr self.now.routes) addresses.now }
@@ -121,52 +121,54 @@ impl<A: Allocator + Copy> Table<A> {
         lookups::best_of_each(&self.map, addresses, answers);
     }
 
-    /// The answers to look-ups of one address after another, each with how far it goes. It takes no memory.
-    pub fn answers(&self) -> Answers<'_, A>
+    /// Returns a cursor for look-ups of successive addresses, each with how far its answer holds. Doesn't allocate.
+    pub fn lookup_cursor(&self) -> LookupCursor<'_, A>
         ensures { result ≡ self.now.routes }
     {
-        Answers::new(&self.map)
+        LookupCursor::new(&self.map)
     }
 
-    /// Every route whose prefix covers the address, in memory of the allocator: by greatest length, then least preference,
-    /// then least feed, so the first is the answer to a look-up. M1: `Refused` where that memory was refused.
+    /// Returns every route whose prefix covers the address, by decreasing length, then by preference, then by feed, so
+    /// that the first is the answer to a look-up. Allocates the list with the given allocator. Error M1 (`Refused`) if
+    /// memory runs out.
     pub fn look_up_all(&self, alloc: A, addr: Addr) -> Result<Vec<Route, A>, Refused>
         ensures { IfOk result (λ routes. routes.items ≡ look_up_all addr self.now.routes) }
     {
         lookups::all_of(&self.map, alloc, addr)
     }
 
-    /// How many nodes the trie of the routes takes.
+    /// Returns the number of nodes of the trie of the routes.
     pub fn nodes(&self) -> usize
         ensures { result ≡ self.now.trie.nodes }
     {
         self.map.nodes()
     }
 
-    /// The routes that are asked for, in dump order, in memory of the allocator: of all, or with `only_best` of the best of
-    /// each prefix, those whose prefix lies in the part and that are of the feed. It goes down once, and then over the part
-    /// alone, for whose routes alone it takes memory. M1: `Refused` where that memory was refused.
+    /// Returns the selected routes, in dump order. `only_best` first restricts the table to the best route of each
+    /// prefix; then the routes whose prefix is in the part and that are of the feed are selected. Descends once, then
+    /// visits only that part, and allocates only for its routes, with the given allocator. Error M1 (`Refused`) if
+    /// memory runs out.
     pub fn select(&self, alloc: A, asked: &Selection) -> Result<Vec<Route, A>, Refused>
         ensures { IfOk result (λ routes. routes.items ≡ selected asked.now self.now.routes) }
     {
         let count = self.len();
         same_prefix();
         let mut routes = routes_in(&self.map, alloc, count as usize, asked.part)?;
-        keep_asked(&mut routes, asked);
+        keep_selected(&mut routes, asked);
         Ok(routes)
     }
 
-    /// The routes in dump order from the place of the given one on, whether or not that is there; its next hop says nothing of
-    /// its place. With preference and feed 0 these are all routes from its prefix on, and with a feed one greater than that
-    /// of a route of the table those behind that route. It takes no memory, goes down once, and then over the routes alone
-    /// that are asked of the iterator.
+    /// Returns the routes in dump order from the position of the given route on, whether or not it is in the table; its
+    /// next hop doesn't matter. With preference and feed 0 these are all routes from its prefix on. With a feed number
+    /// one higher than that of a route of the table, these are the routes after that route. Descends once, then visits
+    /// only the routes that are requested from the iterator. Doesn't allocate.
     pub fn routes_from(&self, from: &Route) -> RoutesFrom<'_, A>
         ensures { result ≡ from_place from.now self.now.routes }
     {
         RoutesFrom::new(&self.map, from)
     }
 
-    /// The map of its routes, for what only reads them.
+    /// Returns the map of the table's routes, for reading only.
     pub(crate) fn map(&self) -> &Map<A>
         ensures trie { result.now ≡ self.now.trie }
         ensures map { IsMap result.now.pairs }
@@ -175,8 +177,8 @@ impl<A: Allocator + Copy> Table<A> {
         &self.map
     }
 
-    /// Answers a command of the feed. Only a route that is put in wants memory: M1 is `Refused`, and then the table is as it
-    /// was.
+    /// Executes a command of the feed. Only a route that is inserted can need memory. Error M1 (`Refused`) if it runs
+    /// out; the table is then unchanged.
     pub fn apply(&mut self, feed: u32, cmd: Cmd) -> Result<Reply, Refused>
         requires { IsFeed feed }
         ensures ok { IfOk result (λ reply. Serves (table_state self.old) (table_state self.new) feed cmd reply) }
@@ -206,7 +208,7 @@ impl<A: Allocator + Copy> Table<A> {
         }
     }
 
-    /// Puts the route in, unless the feed has one of its prefix or as many as the limit allows.
+    /// Inserts the route, unless the feed has one to its prefix or as many as the limit allows.
     fn add(&mut self, route: Route) -> Result<Reply, Refused>
         requires { IsFeed route.feed }
         ensures ok { let cmd = Add route.prefix route.pref route.hop in
@@ -229,7 +231,7 @@ impl<A: Allocator + Copy> Table<A> {
         Ok(Reply::Added)
     }
 
-    /// Gives the feed's route of this prefix this preference and next hop.
+    /// Replaces the feed's route to this prefix, if it has one.
     fn replace(&mut self, route: Route) -> Reply
         requires { IsFeed route.feed }
         ensures { let cmd = Replace route.prefix route.pref route.hop in
@@ -241,7 +243,7 @@ impl<A: Allocator + Copy> Table<A> {
         Reply::Replaced
     }
 
-    /// Takes the feed's route of this prefix out.
+    /// Removes the feed's route to this prefix, if it has one.
     fn withdraw(&mut self, feed: u32, prefix: Prefix) -> Reply
         requires { IsFeed feed }
         ensures { Serves (table_state self.old) (table_state self.new) feed (Withdraw prefix) result }
@@ -253,7 +255,7 @@ impl<A: Allocator + Copy> Table<A> {
         Reply::Withdrawn
     }
 
-    /// Takes all of the feed's routes out.
+    /// Removes all of the feed's routes.
     fn purge(&mut self, feed: u32) -> Reply
         requires { IsFeed feed }
         ensures { Serves (table_state self.old) (table_state self.new) feed Purge result }
@@ -266,7 +268,7 @@ impl<A: Allocator + Copy> Table<A> {
     }
 }
 
-/// The sum of the counts.
+/// Returns the sum of the counts.
 fn total(counts: &[u32]) -> u32
     requires { sum counts.now < 2 ^ 32 }
     ensures { result ≡ sum counts.now }

@@ -1,5 +1,5 @@
--- The answers of look-ups, written piece by piece: those of the addresses so far, and then those of the rest; and all that is
--- found for each address, gathered one by one.
+-- The answers of look-ups, written piece by piece: those of the addresses so far, and then those of the rest. Also all
+-- covering routes of each address, collected one by one.
 use Rattle.std.proofs.Common.{◌≡◌, ℕ, ◌+◌, ◌<◌, List, [], ◌∷◌, ◌++◌, Option, length, map, take, get_or, append_assoc, add-one, refl, sym, ap, subst, ◌∙◌}
 use Rattle.std.specs.List.{flat_map}
 use Rattle.std.proofs.Math.Seq.{take-suc}
@@ -19,14 +19,14 @@ use Rattle.ya_replay.proofs.Promised.{begins_all}
 
 module _ (style : StyleContents) (table : List Route) (all rest piece behind : List Addr) (text : List ℕ)
     (whole : text ++ answers_text style rest table ≡ answers_text style all table) (cut : rest ≡ piece ++ behind) where
-  -- the answers of a piece come behind the text so far
+  -- the answers of a piece follow the text so far
   pub answers_grow : (text ++ answers_text style piece table) ++ answers_text style behind table ≡ answers_text style all table
   answers_grow =
       append_assoc text (answers_text style piece table) (answers_text style behind table)
       ∙ (ap (λ t. text ++ t)
       (sym (ap (λ addresses. answers_text style addresses table) cut ∙ flat_map-append (λ addr. found_as style.form (label_of style.labels) addr (look_up addr table)) piece behind)) ∙ whole)
 
-  -- and a fault within them leaves a beginning of all answers
+  -- a fault within them leaves a beginning of all answers
   pub answers_begin : (a b c : Option (List ℕ)) → Appends a b text
       → AppendsBeginning b c (answers_text style piece table) → AppendsBeginning a c (answers_text style all table)
   answers_begin a b c written begun =
@@ -35,11 +35,11 @@ module _ (style : StyleContents) (table : List Route) (all rest piece behind : L
 
 module _ (style : StyleContents) (table : List Route) (piece : List Addr) (answers : List (Option Route)) (k : ℕ) (none : Addr) (found : Option Route) (here : k < length piece)
     (is : found ≡ get_or answers k found) (answered : answers ≡ map (λ addr. look_up addr table) piece) where
-  -- at each place stands what a look-up of its address finds
+  -- at each position is the result of looking up its address
   found_at : found ≡ look_up (get_or piece k none) table
   found_at = is ∙ (ap (λ (all : List (Option Route)). get_or all k found) answered ∙ get_or-map (λ addr. look_up addr table) piece k none found here)
 
-  -- a fault within its text leaves a beginning of those of the piece
+  -- a fault within its text leaves a beginning of the piece's answers
   pub answers_stop : (a b c : Option (List ℕ)) → Appends a b (answers_text style (take k piece) table) → AppendsBeginning b c (found_as style.form (label_of style.labels) (get_or piece k none) found)
       → AppendsBeginning a c (answers_text style piece table)
   answers_stop a b c written begun =
@@ -48,7 +48,7 @@ module _ (style : StyleContents) (table : List Route) (piece : List Addr) (answe
       begins_all (λ n. one) (λ n. flat_map one) (λ n. refl) (λ n x xs. refl) piece k addr here (get_or_default piece k none addr here) a b c written
       (subst (λ (f : Option Route). AppendsBeginning b c (found_as style.form (label_of style.labels) addr f)) found_at begun)
 
--- all that was found for one address more
+-- all covering routes of one more address
 pub matches_more :
     (style : StyleContents) (table : List Route) (addresses : List Addr) (k : ℕ) (none : Addr) (all all' : List AddressMatches) (one : AddressMatches) → k < length addresses
     → all' ≡ all ++ one ∷ [] → one.addr ≡ get_or addresses k none → one.routes.items ≡ look_up_all (get_or addresses k none) table

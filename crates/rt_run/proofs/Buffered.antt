@@ -1,4 +1,4 @@
--- A text that goes to a writer through a new buffer: what stands in the writer after each fault.
+-- A text that goes to a writer through a new buffer: the writer's contents after each fault.
 use Rattle.std.proofs.Common.{◌≡◌, ◌==◌, ℕ, ◌<◌, true, false, List, [], ◌∷◌, ◌++◌, length, Option, Some, None, refl, arith, length-append, eqb-true}
 use Rattle.std.specs.List.{flat_map}
 use Rattle.std.specs.Io.KnownBytes.{Appends, Keeps}
@@ -19,11 +19,11 @@ use Rattle.rt_run.specs.inside.Outputs.{matches_text}
 
 module _ (name name' : ℕ) (a began below b c d : Option (List ℕ))
     (held held' text : List ℕ) (is_began : began ≡ a) (is_below : below ≡ a) (none : held ≡ []) where
-  -- the fault came before all was put into the buffer
+  -- the fault came before the whole text was in the buffer
   pub stops_within : AppendsBeginning (buffered name began below held) (buffered name' b c held') text → (name ≡ name' → d ≡ c) → AppendsBeginning a d text
   stops_within begun same = stops name name' a b c d held' text same (rw (is_began, is_below, none) at begun)
 
-  -- or when the rest was written
+  -- or while the rest was written
   pub stops_at_the_end : (middle : Option (List ℕ)) → Appends (buffered name began below held) middle text
       → Keeps middle (buffered name' b c held') → 0 < length held' → 0 < length text
       → (name ≡ name' → d ≡ c) → AppendsBeginning a d text
@@ -36,7 +36,7 @@ pub run_text-some : (reports : List ℕ) (routes : List Route) → 0 < length (r
 unfolding count_text
 run_text-some reports routes = simp length-append (omega arith)
 
--- the texts of some things are empty where there is none of them, as none of the texts is
+-- a list of texts that aren't empty joins to the empty text only if the list is empty
 module _ {X : Type 0} (text : X → List ℕ) (some : (x : X) → 0 < length (text x)) where
   texts-none : (xs : List X) → (length xs == 0) ≡ true → flat_map text xs ≡ []
   texts-none [] h = refl
@@ -58,7 +58,7 @@ plain_all_found-some : (addr : Addr) (found : List Route) → 0 < length (all_fo
 plain_all_found-some addr [] = found-some addr None
 plain_all_found-some addr (first ∷ others) = let line = found-some addr (Some first) in simp length-append (omega arith)
 
--- nor is it in any style
+-- nor is the text of a look-up, in any style
 row_as-some : (form : Form) (label : ℕ → List ℕ) (route : Route) → 0 < length (row_as form label route)
 unfolding row_as
 row_as-some Numbers label route = row-some route
@@ -108,7 +108,7 @@ module _ (style : StyleContents) where
       texts-some (λ one. all_found_as style.form (label_of style.labels) one.addr one.routes.items)
       (λ one. all_found_as-some style.form (label_of style.labels) one.addr one.routes.items)
 
--- nor is what tells how many routes there are
+-- nor is the text of the counts
 totals-some : (form : Form) (routes prefixes : ℕ) (rest : List ℕ) → 0 < length (totals_as form routes prefixes ++ rest)
 unfolding totals_as
 totals-some Numbers routes prefixes rest = simp length-append (omega arith)

@@ -1,4 +1,4 @@
--- What is written where two tables are compared: the lines of the differences so far, and then those of the rest.
+-- The output of a comparison: the lines of the differences so far, and then the lines of the rest.
 use Rattle.std.proofs.Common.{◌≡◌, Bool, true, false, not, is_some, ℕ, ◌+◌, ◌<◌, max}
 use Rattle.std.proofs.Common.{List, [], ◌∷◌, ◌++◌, Option, Some, None, length, append_assoc, append-nil, length-append, refl, sym, ap, subst, ◌∙◌, arith}
 use Rattle.std.proofs.lemmas.Grind.{flat_map-append}
@@ -7,36 +7,36 @@ use Rattle.rt_cidr.specs.Output.{AppendsBeginning}
 use Rattle.rt_cidr.proofs.Promised.{begins_after, begins_longer}
 use Rattle.rt_rib.specs.declared.routes.Route.{Route}
 use Rattle.rt_diff.specs.declared.comparison.Difference.{Difference}
-use Rattle.rt_diff.specs.Answers.{by_own}
+use Rattle.rt_diff.specs.Answers.{own_numbers}
 use Rattle.rt_diff.specs.Differences.{AreDifferences}
 use Rattle.rt_diff.proofs.Promised.{at, rest_none, rest_next, rest_there, whole, differences_of, differences_are, is_differences_of}
 use Rattle.rt_feed.specs.declared.styles.Form.{Form}
 use Rattle.rt_feed.specs.declared.styles.Form.TheVariants.{Numbers, Labels, Json}
 use Rattle.rt_feed.specs.DifferenceText.{range_as, difference_as, differences_as}
-use Rattle.rt_run.specs.declared.compared.DiffSummary.{DiffSummary}
-use Rattle.rt_run.specs.AskedRun.{AskedRun}
+use Rattle.rt_run.specs.declared.comparisons.DiffSummary.{DiffSummary}
+use Rattle.rt_run.specs.RunContents.{RunContents}
 use Rattle.rt_run.specs.TableText.{LeavesTable}
-use Rattle.rt_run.specs.DiffText.{AskedDiff, new_told, differ_status, IsDiffText}
+use Rattle.rt_run.specs.DiffText.{DiffContents, renumbered_new, differ_status, IsDiffText}
 use Rattle.rt_run.specs.inside.Comparisons.{IsFirstFrom, IsFirstOf, lines_of, compared_status, IsSoFar}
 
--- what is no difference is none
+-- an absent difference is `None`
 pub none_left : (next : Option Difference) → ((d : Difference) → next ≡ Some d → ⊥) → next ≡ None
 none_left None h = refl
 none_left (Some d) h = absurd (h d refl)
 
--- no range is told by nothing
+-- the line of a range isn't empty
 range-some : (form : Form) (d : Difference) (old new rest : List ℕ) → 0 < length (range_as form d old new ++ rest)
 unfolding range_as
 range-some Numbers d old new rest = simp length-append (omega arith)
 range-some Labels d old new rest = simp length-append (omega arith)
 range-some Json d old new rest = simp length-append (omega arith)
 
-module _ (asked : AskedDiff) (old new : List Route) where
+module _ (asked : DiffContents) (old new : List Route) where
   -- before the first line
   pub none_so_far : (first : Option Difference) → IsFirstOf asked old new first → IsSoFar asked old new first []
-  none_so_far first is = record { done = []; printed = refl; from = at 0; first = is; whole = λ rest are. whole asked.by (by_own old) (new_told asked new) rest are }
+  none_so_far first is = record { done = []; printed = refl; from = at 0; first = is; whole = λ rest are. whole asked.by (own_numbers old) (renumbered_new asked new) rest are }
 
-  -- a line more
+  -- one more line
   pub one_more : (text : List ℕ) (d : Difference) (next : Option Difference) → IsSoFar asked old new (Some d) text
       → IsFirstFrom asked old new (at (d.last.0 + 1)) next → IsSoFar asked old new next (text ++ difference_as asked.styles d)
   one_more text d next far is = record {
@@ -47,24 +47,24 @@ module _ (asked : AskedDiff) (old new : List Route) where
     from = at (d.last.0 + 1);
     first = is;
     whole = λ rest are.
-        subst (AreDifferences asked.by (by_own old) (new_told asked new)) (sym (append_assoc far.done (d ∷ []) rest))
-        (far.whole (d ∷ rest) (rest_next asked.by (by_own old) (new_told asked new) far.from d rest far.first are));
+        subst (AreDifferences asked.by (own_numbers old) (renumbered_new asked new)) (sym (append_assoc far.done (d ∷ []) rest))
+        (far.whole (d ∷ rest) (rest_next asked.by (own_numbers old) (renumbered_new asked new) far.from d rest far.first are));
   }
 
-  -- the lines are all of them where no difference is left
+  -- if no difference is left, these are all lines
   pub all_so_far : (text : List ℕ) → IsSoFar asked old new None text → text ≡ lines_of asked old new
   all_so_far text far =
-      let is : AreDifferences asked.by (by_own old) (new_told asked new) (far.done ++ []) = far.whole [] (rest_none asked.by (by_own old) (new_told asked new) far.from.0 far.first) in
-      far.printed ∙ ap (differences_as asked.styles) (sym (append-nil far.done) ∙ is_differences_of asked.by (by_own old) (new_told asked new) (far.done ++ []) is)
+      let is : AreDifferences asked.by (own_numbers old) (renumbered_new asked new) (far.done ++ []) = far.whole [] (rest_none asked.by (own_numbers old) (renumbered_new asked new) far.from.0 far.first) in
+      far.printed ∙ ap (differences_as asked.styles) (sym (append-nil far.done) ∙ is_differences_of asked.by (own_numbers old) (renumbered_new asked new) (far.done ++ []) is)
 
-  -- the list goes on with that difference, where one is left
+  -- the list continues with the next difference, if there is one
   list_so_far : (text : List ℕ) (d : Difference) (far : IsSoFar asked old new (Some d) text)
-      → (rest : List Difference) × (differences_of asked.by (by_own old) (new_told asked new) ≡ far.done ++ (d ∷ rest))
+      → (rest : List Difference) × (differences_of asked.by (own_numbers old) (renumbered_new asked new) ≡ far.done ++ (d ∷ rest))
   list_so_far text d far =
-      let (rest, are) = rest_there asked.by (by_own old) (new_told asked new) (d.last.0 + 1) (omega (arith, far.first.difference.fits)) in
-      (rest, sym (is_differences_of asked.by (by_own old) (new_told asked new) (far.done ++ (d ∷ rest)) (far.whole (d ∷ rest) (rest_next asked.by (by_own old) (new_told asked new) far.from d rest far.first are))))
+      let (rest, are) = rest_there asked.by (own_numbers old) (renumbered_new asked new) (d.last.0 + 1) (omega (arith, far.first.difference.fits)) in
+      (rest, sym (is_differences_of asked.by (own_numbers old) (renumbered_new asked new) (far.done ++ (d ∷ rest)) (far.whole (d ∷ rest) (rest_next asked.by (own_numbers old) (renumbered_new asked new) far.from d rest far.first are))))
 
-  -- and its line comes behind the text so far
+  -- its line follows the text so far
   text_so_far : (text : List ℕ) (d : Difference) → IsSoFar asked old new (Some d) text
       → (rest : List ℕ) × (lines_of asked old new ≡ (text ++ difference_as asked.styles d) ++ rest)
   text_so_far text d far =
@@ -76,24 +76,24 @@ module _ (asked : AskedDiff) (old new : List Route) where
             ∙ sym (append_assoc text (difference_as asked.styles d) (differences_as asked.styles rest)))),
       )
 
-  -- so a fault within it leaves a beginning of all lines
+  -- hence a fault within it leaves a beginning of all lines
   pub stops_there : (a b c : Option (List ℕ)) (text : List ℕ) (d : Difference) → IsSoFar asked old new (Some d) text
       → Appends a b text → AppendsBeginning b c (difference_as asked.styles d) → AppendsBeginning a c (lines_of asked old new)
   stops_there a b c text d far written begun =
       let (rest, is) = text_so_far text d far in
       subst (AppendsBeginning a c) (sym is) (begins_longer a c (text ++ difference_as asked.styles d) rest (begins_after a b c text (difference_as asked.styles d) written begun))
 
-  -- there is no line where there is no first difference
+  -- without a first difference there is no line
   pub lines-none : IsFirstOf asked old new None → lines_of asked old new ≡ []
   lines-none is = sym (all_so_far [] (none_so_far None is))
 
-  -- and else there is some
+  -- with a first difference there is a line
   pub lines-some : (d : Difference) → IsFirstOf asked old new (Some d) → 0 < length (lines_of asked old new)
   lines-some d is =
       let (rest, same) = text_so_far [] d (none_so_far (Some d) is) in
       subst (λ (t : List ℕ). 0 < length t) (sym same) (range-some asked.styles.form d _ _ rest)
 
-  -- so whether there is a first difference is whether there is a line
+  -- hence there is a first difference if and only if there is a line
   pub empty_by_first : (first : Option Difference) (empty : Bool) → is_some first ≡ not empty → IsFirstOf asked old new first
       → (empty ≡ true → lines_of asked old new ≡ []) × (empty ≡ false → 0 < length (lines_of asked old new))
   empty_by_first None true e is = (λ same. lines-none is, λ same. absurd cc)
@@ -101,19 +101,19 @@ module _ (asked : AskedDiff) (old new : List Route) where
   empty_by_first (Some d) true e is = absurd cc
   empty_by_first (Some d) false e is = (λ same. absurd cc, λ same. lines-some d is)
 
-  -- the status by the first difference is the status by the list
+  -- the status from the first difference is the status from the list
   pub status_by_first : (first : Option Difference) (m n : ℕ) → IsFirstOf asked old new first
-      → compared_status m n first ≡ max (differ_status (differences_of asked.by (by_own old) (new_told asked new))) (max m n)
+      → compared_status m n first ≡ max (differ_status (differences_of asked.by (own_numbers old) (renumbered_new asked new))) (max m n)
   status_by_first None m n is =
-      let none = is_differences_of asked.by (by_own old) (new_told asked new) [] (whole asked.by (by_own old) (new_told asked new) [] (rest_none asked.by (by_own old) (new_told asked new) 0 is)) in
+      let none = is_differences_of asked.by (own_numbers old) (renumbered_new asked new) [] (whole asked.by (own_numbers old) (renumbered_new asked new) [] (rest_none asked.by (own_numbers old) (renumbered_new asked new) 0 is)) in
       ap (λ list. max (differ_status list) (max m n)) none
   status_by_first (Some d) m n is =
-      let (rest, are) = rest_there asked.by (by_own old) (new_told asked new) (d.last.0 + 1) (omega (arith, is.difference.fits)) in
-      let all = is_differences_of asked.by (by_own old) (new_told asked new) (d ∷ rest) (whole asked.by (by_own old) (new_told asked new) (d ∷ rest) (rest_next asked.by (by_own old) (new_told asked new) (at 0) d rest is are)) in
+      let (rest, are) = rest_there asked.by (own_numbers old) (renumbered_new asked new) (d.last.0 + 1) (omega (arith, is.difference.fits)) in
+      let all = is_differences_of asked.by (own_numbers old) (renumbered_new asked new) (d ∷ rest) (whole asked.by (own_numbers old) (renumbered_new asked new) (d ∷ rest) (rest_next asked.by (own_numbers old) (renumbered_new asked new) (at 0) d rest is are)) in
       ap (λ list. max (differ_status list) (max m n)) all
 
--- what was written of two runs tells of both tables
-pub is_diff : (asked : AskedDiff) (old_asked new_asked : AskedRun) (old new : List Route) (given : DiffSummary) (first : Option Difference)
+-- the output for two runs is the text of their tables' differences
+pub is_diff : (asked : DiffContents) (old_asked new_asked : RunContents) (old new : List Route) (given : DiffSummary) (first : Option Difference)
     → LeavesTable old_asked old given.old → LeavesTable new_asked new given.new → IsFirstOf asked old new first
     → given.status ≡ compared_status given.old.status given.new.status first → IsDiffText asked old_asked new_asked (lines_of asked old new) given
 is_diff asked old_asked new_asked old new given first old_left new_left is status = record {
@@ -121,8 +121,8 @@ is_diff asked old_asked new_asked old new given first old_left new_left is statu
   new_table = new;
   old_left = old_left;
   new_left = new_left;
-  list = differences_of asked.by (by_own old) (new_told asked new);
-  differences = differences_are asked.by (by_own old) (new_told asked new);
+  list = differences_of asked.by (own_numbers old) (renumbered_new asked new);
+  differences = differences_are asked.by (own_numbers old) (renumbered_new asked new);
   printed = refl;
   is_status = status ∙ status_by_first asked old new first given.old.status given.new.status is;
 }

@@ -1,4 +1,4 @@
--- The faulty lines of a report: how many there are and which is the first, line by line.
+-- The faulty lines of a report, line by line: their number, and the first of them.
 use Rattle.std.proofs.Common.{◌≡◌, ℕ, ◌+◌, Option, Some, None, List, [], ◌∷◌, length, refl, sym, ap, ◌∙◌, arith}
 use Rattle.std.specs.Prelude.{count_by, cond, nat_lt}
 use Rattle.std.proofs.lemmas.List.Sums.{sum_by-cons}
@@ -12,12 +12,12 @@ use Rattle.rt_feed.specs.Reports.{is_fault, has_fault}
 use Rattle.rt_run.specs.TableText.{fault_at, faults_of}
 use Rattle.rt_run.proofs.Lists.{counts_some}
 
--- faulty lines with one more in front, if there is one
+-- faulty lines with one more before them, if there is one
 abbrev pub with_fault : Option (ℕ × LineFault) → FaultyLines → FaultyLines
 with_fault None faulty = faulty
 with_fault (Some one) faulty = record { count = 1 + faulty.count; first = Some one }
 
--- so many, and this is the first
+-- the number of faulty lines, and the first of them
 abbrev begun_by : ℕ × LineFault → ℕ → FaultyLines
 begun_by one count = record { count = count; first = Some one }
 
@@ -38,7 +38,7 @@ counted-line number (Did reply) count faulty same = omega (arith, same)
 counted-line number Refused count faulty same = omega (arith, same)
 counted-line number (Fault fault) count faulty same = omega (arith, same)
 
--- the faulty lines of a report are as many as its lines that are
+-- the number of faulty lines is the number of a report's lines that are faulty
 pub counted : (report : List Line) → count_by (λ (line : Line). is_fault line.answer) report ≡ (faulty_lines (faults_of report)).count
 counted [] = refl
 counted (line ∷ report) =
@@ -46,6 +46,6 @@ counted (line ∷ report) =
     ∙ (counted-line line.number line.answer (count_by (λ (line : Line). is_fault line.answer) report) (faulty_lines (faults_of report)) (counted report)
     ∙ sym (ap (λ (faulty : FaultyLines). faulty.count) (faults-line line.number line.answer report)))
 
--- there are faulty lines where the report has a fault
+-- there are faulty lines if the report has a fault
 pub some_faulty : (report : List Line) → has_fault report ≡ nat_lt 0 (faulty_lines (faults_of report)).count
 some_faulty report = sym (counts_some (λ (line : Line). is_fault line.answer) report) ∙ ap (λ n. nat_lt 0 n) (counted report)

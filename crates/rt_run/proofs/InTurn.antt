@@ -1,4 +1,4 @@
--- Texts executed one after another, line by line and text by text, and why some history of them leaves what they leave.
+-- Texts executed one after another, line by line and text by text: some history of them leaves the same table.
 use Rattle.std.proofs.Common.{◌≡◌, ◌≢◌, ◌⊎◌, inl, inr, ℕ, zero, suc, ◌+◌, ◌<◌, ◌≤◌, Option, List, [], ◌∷◌, ◌++◌, length, map, take, drop}
 use Rattle.std.proofs.Common.{get_or, refl, sym, ap, subst, ◌∙◌, arith, add-one, append_assoc, append-nil, length-append, length-drop, take-append-drop}
 use Rattle.std.proofs.Math.Seq.{take-suc}
@@ -12,16 +12,16 @@ use Rattle.rt_rib.specs.Sequential.{reply_of, table_after, table_of_journal, IsA
 use Rattle.rt_rib.proofs.Promised.{table_of_journal-push, IsLawfulJournal-nil, IsLawfulJournal-push}
 use Rattle.rt_shared.specs.declared.outcome.Outcome.{Outcome}
 use Rattle.rt_shared.specs.declared.outcome.Outcome.TheVariants.{Did}
-use Rattle.rt_shared.specs.Visits.{AllBy, NoneBy, Uncut, Visit, reply_to, visit_of, entries}
+use Rattle.rt_shared.specs.Visits.{AllBy, NoneBy, IsContiguousIn, AnsweredBatch, reply_to, visit_of, entries}
 use Rattle.rt_shared.proofs.Promised.{uncut_since}
 use Rattle.rt_feed.specs.declared.versions.Version.{Version}
 use Rattle.rt_feed.specs.declared.versions.Version.TheVariants.{One, Two}
 use Rattle.rt_feed.specs.declared.report.Line.{Line}
 use Rattle.rt_feed.specs.declared.report.Answer.{Answer}
-use Rattle.rt_feed.specs.Lines.{IsBody, CutsLine, LineOutcome, skipped, Becomes, heading, line_answer, numbered, report_lines, asked_by, asked_of}
-use Rattle.rt_feed.specs.Visits.{concatenated, piece_of, IsCut}
-use Rattle.rt_feed.proofs.Promised.{length-cut, report_lines-push, asked_of-append}
-use Rattle.rt_run.specs.declared.tallies.Tally.{Tally}
+use Rattle.rt_feed.specs.Lines.{IsBody, CutsLine, LineOutcome, skipped, TextYields, heading, line_answer, numbered, report_lines, command_of, commands_of}
+use Rattle.rt_feed.specs.Visits.{concatenated, piece_of, IsSplitInto}
+use Rattle.rt_feed.proofs.Promised.{length-cut, report_lines-push, commands_of-append}
+use Rattle.rt_run.specs.declared.tallies.RejectedInput.{RejectedInput}
 use Rattle.rt_run.specs.declared.tallies.RunSummary.{RunSummary}
 use Rattle.rt_run.specs.RunText.{Explains, ExplainsFrom, reports_of}
 use Rattle.rt_run.specs.TableText.{tally_of, tallies_status, LeavesTable}
@@ -36,22 +36,22 @@ entry_by feed p = record { feed = feed; cmd = p.0; reply = p.1 }
 visit_of-append : (one two : List (Cmd × Outcome)) → visit_of (one ++ two) ≡ visit_of one ++ visit_of two
 visit_of-append [] two = refl
 visit_of-append (asked ∷ one) two =
-    ap (λ (v : Visit). reply_to asked.0 asked.1 ++ v) (visit_of-append one two) ∙ sym (append_assoc (reply_to asked.0 asked.1) (visit_of one) (visit_of two))
+    ap (λ (v : AnsweredBatch). reply_to asked.0 asked.1 ++ v) (visit_of-append one two) ∙ sym (append_assoc (reply_to asked.0 asked.1) (visit_of one) (visit_of two))
 
 entries-append : (feed : ℕ) (one two : List (Cmd × Outcome)) → entries feed (visit_of (one ++ two)) ≡ entries feed (visit_of one) ++ entries feed (visit_of two)
 entries-append feed one two = ap (entries feed) (visit_of-append one two) ∙ map-append (entry_by feed) (visit_of one) (visit_of two)
 
-entries_by : (feed : ℕ) (visit : Visit) → AllBy feed (entries feed visit)
+entries_by : (feed : ℕ) (visit : AnsweredBatch) → AllBy feed (entries feed visit)
 entries_by feed [] = All-nil (λ (e : Entry). e.feed ≡ feed)
 entries_by feed (p ∷ visit) = All-cons (λ (e : Entry). e.feed ≡ feed) (entry_by feed p) (entries feed visit) refl (entries_by feed visit)
 
--- what a journal leaves, lawfully
-abbrev Leaves : ℕ → TableState → List Entry → Type 0
-Leaves limit table journal = IsLawfulJournal limit journal × (table.routes ≡ table_of_journal limit journal)
+-- the table that a lawful journal leaves
+abbrev WritesOrFails : ℕ → TableState → List Entry → Type 0
+WritesOrFails limit table journal = IsLawfulJournal limit journal × (table.routes ≡ table_of_journal limit journal)
 
--- no command changes nothing
+-- an empty list of commands changes nothing
 pub continues-none : (feed : ℕ) (table : TableState) → Continues feed [] table table
-continues-none feed table = (refl, λ journal lawful left. subst (Leaves table.limit table) (sym (append-nil journal)) (lawful, left))
+continues-none feed table = (refl, λ journal lawful left. subst (WritesOrFails table.limit table) (sym (append-nil journal)) (lawful, left))
 
 -- a command with a reply is one entry
 pub continues-did : (feed : ℕ) (cmd : Cmd) (reply : Reply) (old new : TableState) → Serves old new feed cmd reply
@@ -75,16 +75,16 @@ continues-both feed one two a b c first second = (
   λ journal lawful left.
       let middle = first.1 journal lawful left in
       let front = journal ++ entries feed (visit_of one) in
-      let ended : Leaves b.limit c (front ++ entries feed (visit_of two)) =
+      let ended : WritesOrFails b.limit c (front ++ entries feed (visit_of two)) =
       second.1 front (subst (λ (limit : ℕ). IsLawfulJournal limit front) (sym first.0) middle.0)
       (subst (λ (limit : ℕ). b.routes ≡ table_of_journal limit front) (sym first.0) middle.1) in
       let joined : front ++ entries feed (visit_of two) ≡ journal ++ entries feed (visit_of (one ++ two)) =
       append_assoc journal (entries feed (visit_of one)) (entries feed (visit_of two)) ∙ ap (λ (own : List Entry). journal ++ own) (sym (entries-append feed one two)) in
-      subst (Leaves a.limit c) joined (subst (λ (limit : ℕ). Leaves limit c (front ++ entries feed (visit_of two))) first.0 ended),
+      subst (WritesOrFails a.limit c) joined (subst (λ (limit : ℕ). WritesOrFails limit c (front ++ entries feed (visit_of two))) first.0 ended),
 )
 
 -- before the first line that is read
-pub begins : (version : Version) (feed : ℕ) (text lines : List ℕ) (number : ℕ) (table : TableState) (tally : Tally) → IsBody text version lines
+pub begins : (version : Version) (feed : ℕ) (text lines : List ℕ) (number : ℕ) (table : TableState) (tally : RejectedInput) → IsBody text version lines
     → number ≡ length (heading version) → tally ≡ tally_of [] → IsExecuting version feed text lines number table table tally
 begins One feed text lines number table tally body counted tallied = record {
   outcomes = [];
@@ -103,8 +103,8 @@ begins Two feed text lines number table tally body counted tallied = record {
   tallied = tallied;
 }
 
--- one line more
-pub reads_on : (version : Version) (feed : ℕ) (text rest line next : List ℕ) (number : ℕ) (old now new : TableState) (tally tally' : Tally) (said : Option Answer)
+-- one more line
+pub reads_on : (version : Version) (feed : ℕ) (text rest line next : List ℕ) (number : ℕ) (old now new : TableState) (tally tally' : RejectedInput) (said : Option Answer)
     → IsExecuting version feed text rest number old now tally → CutsLine rest line next → ExecutesLine version feed line now new said
     → ((report : List Line) → tally ≡ tally_of report → tally' ≡ tally_of (report ++ numbered (number + 1) said))
     → IsExecuting version feed text next (number + 1) old new tally'
@@ -114,39 +114,39 @@ reads_on version feed text rest line next number old now new tally tally' said s
     let report : report_lines 1 so_far.outcomes ++ numbered (number + 1) said ≡ report_lines 1 (so_far.outcomes ++ outcome ∷ []) =
     ap (λ a. report_lines 1 so_far.outcomes ++ numbered (number + 1) a) executed.answered
     ∙ (ap (λ n. report_lines 1 so_far.outcomes ++ numbered n (line_answer outcome)) next_number ∙ sym (report_lines-push 1 so_far.outcomes outcome)) in
-    let asked : asked_of so_far.outcomes ++ asked_by outcome ≡ asked_of (so_far.outcomes ++ outcome ∷ []) =
-    ap (λ own. asked_of so_far.outcomes ++ own) (sym (append-nil (asked_by outcome))) ∙ sym (asked_of-append so_far.outcomes (outcome ∷ [])) in
+    let asked : commands_of so_far.outcomes ++ command_of outcome ≡ commands_of (so_far.outcomes ++ outcome ∷ []) =
+    ap (λ own. commands_of so_far.outcomes ++ own) (sym (append-nil (command_of outcome))) ∙ sym (commands_of-append so_far.outcomes (outcome ∷ [])) in
     record {
       outcomes = so_far.outcomes ++ outcome ∷ [];
       onward = λ more is.
-          subst (λ (os : List LineOutcome). Becomes text os []) (sym (append_assoc so_far.outcomes (outcome ∷ []) more))
+          subst (λ (os : List LineOutcome). TextYields text os []) (sym (append_assoc so_far.outcomes (outcome ∷ []) more))
           (so_far.onward (outcome ∷ more) (line, next, cut, executed.reads, is));
       counted = omega (arith, so_far.counted, length-append so_far.outcomes (outcome ∷ []));
       within = omega (arith, so_far.within, length-cut rest line next cut);
       continued = subst (λ (own : List (Cmd × Outcome)). Continues feed own old new) asked
-          (continues-both feed (asked_of so_far.outcomes) (asked_by outcome) old now new so_far.continued executed.continued);
+          (continues-both feed (commands_of so_far.outcomes) (command_of outcome) old now new so_far.continued executed.continued);
       tallied = counts (report_lines 1 so_far.outcomes) so_far.tallied ∙ ap tally_of report;
     }
 
--- and behind the last one the whole text was executed
-pub ends : (version : Version) (feed : ℕ) (text rest : List ℕ) (number : ℕ) (old now : TableState) (tally : Tally)
+-- after the last line the whole text was executed
+pub ends : (version : Version) (feed : ℕ) (text rest : List ℕ) (number : ℕ) (old now : TableState) (tally : RejectedInput)
     → IsExecuting version feed text rest number old now tally → rest ≡ [] → ExecutesText feed text old now tally
 ends version feed text rest number old now tally so_far none = record {
   outcomes = so_far.outcomes;
-  becomes = subst (λ (os : List LineOutcome). Becomes text os []) (append-nil so_far.outcomes) (so_far.onward [] none);
+  becomes = subst (λ (os : List LineOutcome). TextYields text os []) (append-nil so_far.outcomes) (so_far.onward [] none);
   continued = so_far.continued;
   tallied = so_far.tallied;
 }
 
--- one number is below another, or it is not
+-- one number is below another, or it isn't
 lt_or_le : (m n : ℕ) → (m < n) ⊎ (n ≤ m)
 lt_or_le m zero = inr (omega arith)
 lt_or_le zero (suc n) = inl (omega arith)
 lt_or_le (suc m) (suc n) = elim (lt_or_le m n) [ inl less ↦ inl (omega (arith, less)) | inr more ↦ inr (omega (arith, more)) ]
 
--- each list can be cut into pieces
+-- each list can be split into pieces
 abbrev Cut : {X : Type 0} → ℕ → List X → Type 0
-Cut {X} size xs = (pieces : List (List X)) × IsCut size xs pieces
+Cut {X} size xs = (pieces : List (List X)) × IsSplitInto size xs pieces
 
 cut_short : {X : Type 0} (size : ℕ) (xs : List X) → length xs < size → Cut size xs
 cut_short size xs fewer =
@@ -173,9 +173,9 @@ cut_within size some (suc most) xs within = elim (lt_or_le (length xs) size) [
   | inr more ↦ cut_front size xs more (cut_within size some most (drop size xs) (omega (arith, length-drop size xs, within, some, more)))
 ]
 
--- however a feed's commands are cut, where their entries stand together each piece is uncut
+-- if the entries of a feed's commands are in one piece, so is each piece into which the commands are split
 pieces_uncut : (feed : ℕ) (pieces : List (List (Cmd × Outcome))) (before : List Entry) → NoneBy feed before
-    → Uncut feed (map (entries feed) (map visit_of pieces)) (before ++ entries feed (visit_of (concatenated pieces)))
+    → IsContiguousIn feed (map (entries feed) (map visit_of pieces)) (before ++ entries feed (visit_of (concatenated pieces)))
 pieces_uncut feed [] before none = subst (NoneBy feed) (sym (append-nil before)) none
 pieces_uncut feed (piece ∷ pieces) before none = (
   before,
@@ -186,26 +186,26 @@ pieces_uncut feed (piece ∷ pieces) before none = (
   pieces_uncut feed pieces [] (All-nil (λ (e : Entry). e.feed ≢ feed)),
 )
 
--- a text whose commands were asked at the end of a journal is explained
-explained_last : (batch feed : ℕ) (journal : List Entry) (text : List ℕ) (lines : List LineOutcome) → 1 ≤ batch → NoneBy feed journal → Becomes text lines []
-    → Explains batch feed (journal ++ entries feed (visit_of (asked_of lines))) text lines
+-- a journal explains a text whose commands were executed at its end
+explained_last : (batch feed : ℕ) (journal : List Entry) (text : List ℕ) (lines : List LineOutcome) → 1 ≤ batch → NoneBy feed journal → TextYields text lines []
+    → Explains batch feed (journal ++ entries feed (visit_of (commands_of lines))) text lines
 explained_last batch feed journal text lines some none becomes =
-    let cut = cut_within batch some (length (asked_of lines)) (asked_of lines) (omega arith) in
-    let joined : concatenated cut.0 ≡ asked_of lines = ap concatenated cut.1.is_cut ∙ (cut-joined cut.1.whole cut.1.last ∙ sym cut.1.is_joined) in
+    let cut = cut_within batch some (length (commands_of lines)) (commands_of lines) (omega arith) in
+    let joined : concatenated cut.0 ≡ commands_of lines = ap concatenated cut.1.is_cut ∙ (cut-joined cut.1.whole cut.1.last ∙ sym cut.1.is_joined) in
     record {
       becomes = becomes;
       pieces = cut.0;
       cut = cut.1;
-      uncut = subst (λ (asked : List (Cmd × Outcome)). Uncut feed (map (entries feed) (map visit_of cut.0)) (journal ++ entries feed (visit_of asked))) joined
+      uncut = subst (λ (asked : List (Cmd × Outcome)). IsContiguousIn feed (map (entries feed) (map visit_of cut.0)) (journal ++ entries feed (visit_of asked))) joined
           (pieces_uncut feed cut.0 journal none);
     }
 
--- what is one feed's is no earlier one's
+-- an entry of one feed isn't an earlier feed's
 not_earlier : (feed later : ℕ) (own : List Entry) → feed < later → AllBy later own → NoneBy feed own
 not_earlier feed later own before by =
     All-weaker (λ (e : Entry). e.feed ≡ later) (λ (e : Entry). e.feed ≢ feed) (λ e of same. absurd (omega (arith, before, of, same))) own by
 
--- the texts before it are explained still
+-- the journal still explains the earlier texts
 explains_more : (batch last : ℕ) (journal own : List Entry) (text : List ℕ) (lines : List LineOutcome) → AllBy last own → Explains batch last (journal ++ own) text lines
     → (feed : ℕ) (texts : List (List ℕ)) (outcomes : List (List LineOutcome)) → last ≡ feed + length texts → ExplainsFrom batch feed journal texts outcomes
     → ExplainsFrom batch feed (journal ++ own) (texts ++ text ∷ []) (outcomes ++ lines ∷ [])
@@ -236,22 +236,22 @@ leaves_nothing limit batch table is = record {
   tallied = refl;
 }
 
--- one text more
-pub leaves_more : (texts : List (List ℕ)) (text : List ℕ) (limit batch feed : ℕ) (old new : TableState) (tallies tallies' : List Tally) (tally : Tally)
+-- one more text
+pub leaves_more : (texts : List (List ℕ)) (text : List ℕ) (limit batch feed : ℕ) (old new : TableState) (tallies tallies' : List RejectedInput) (tally : RejectedInput)
     → 1 ≤ batch → feed ≡ length texts + 1 → LeavesSoFar texts limit batch old tallies → ExecutesText feed text old new tally
     → tallies' ≡ tallies ++ tally ∷ [] → LeavesSoFar (texts ++ text ∷ []) limit batch new tallies'
 leaves_more texts text limit batch feed old new tallies tallies' tally some is so_far executed pushed =
     let journal = so_far.journal in
-    let own = entries feed (visit_of (asked_of executed.outcomes)) in
-    let by : AllBy feed own = entries_by feed (visit_of (asked_of executed.outcomes)) in
+    let own = entries feed (visit_of (commands_of executed.outcomes)) in
+    let by : AllBy feed own = entries_by feed (visit_of (commands_of executed.outcomes)) in
     let Fits : Entry → Type 0 = λ e. (1 ≤ e.feed) × (e.feed ≤ length (texts ++ text ∷ [])) in
     let others : NoneBy feed journal =
     All-weaker (λ (e : Entry). (1 ≤ e.feed) × (e.feed ≤ length texts)) (λ (e : Entry). e.feed ≢ feed)
     (λ e of same. absurd (omega (arith, of.1, same, is))) journal so_far.history.no_other in
-    let at_old : Leaves old.limit old journal =
-    subst (λ (l : ℕ). Leaves l old journal) (sym so_far.limited) (so_far.history.lawful, so_far.left) in
-    let now : Leaves limit new (journal ++ own) =
-    subst (λ (l : ℕ). Leaves l new (journal ++ own)) so_far.limited (executed.continued.1 journal at_old.0 at_old.1) in
+    let at_old : WritesOrFails old.limit old journal =
+    subst (λ (l : ℕ). WritesOrFails l old journal) (sym so_far.limited) (so_far.history.lawful, so_far.left) in
+    let now : WritesOrFails limit new (journal ++ own) =
+    subst (λ (l : ℕ). WritesOrFails l new (journal ++ own)) so_far.limited (executed.continued.1 journal at_old.0 at_old.1) in
     record {
       limited = executed.continued.0 ∙ so_far.limited;
       journal = journal ++ own;
@@ -270,8 +270,8 @@ leaves_more texts text limit batch feed old new tallies tallies' tally some is s
           ∙ ap (map tally_of) (sym (map-append (report_lines 1) so_far.outcomes (executed.outcomes ∷ [])));
     }
 
--- and behind the last one
-pub leaves_all : (texts : List (List ℕ)) (limit batch : ℕ) (table : TableState) (tallies : List Tally) (summary : RunSummary) → LeavesSoFar texts limit batch table tallies
+-- after the last text
+pub leaves_all : (texts : List (List ℕ)) (limit batch : ℕ) (table : TableState) (tallies : List RejectedInput) (summary : RunSummary) → LeavesSoFar texts limit batch table tallies
     → summary.tallies.items ≡ tallies → summary.status ≡ tallies_status tallies
     → LeavesTable (record { texts = texts; limit = limit; batch = batch }) table.routes summary
 leaves_all texts limit batch table tallies summary so_far same status = record {

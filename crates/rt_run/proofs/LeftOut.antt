@@ -1,4 +1,4 @@
--- Why the table of a run without some feeds is the table of the whole run without their routes.
+-- The table of a run without some feeds is the table of the whole run without their routes.
 use Rattle.std.proofs.Common.{◌≡◌, ℕ, ◌+◌, inl, inr, true, false, Some, List, [], ◌∷◌, ◌++◌}
 use Rattle.std.proofs.Common.{length, map, get_or, refl, sym, ap, subst, ◌∙◌, arith, eqb-true}
 use Rattle.std.specs.List.{slice_get, Contains}
@@ -13,17 +13,17 @@ use Rattle.rt_rib.specs.declared.commands.Reply.TheVariants.{Added}
 use Rattle.rt_rib.specs.Sequential.{table_of_journal}
 use Rattle.rt_rib.specs.Laws.{FeedsStandAlone, feed_entries, feed_routes}
 use Rattle.rt_shared.specs.declared.outcome.Outcome.{Outcome}
-use Rattle.rt_shared.specs.Visits.{Visit, entries}
+use Rattle.rt_shared.specs.Visits.{AnsweredBatch, entries}
 use Rattle.std.specs.Prelude.{codes}
 use Rattle.rt_feed.specs.declared.versions.Version.{Version}
 use Rattle.rt_feed.specs.declared.versions.Version.TheVariants.{One, Two}
-use Rattle.rt_feed.specs.Lines.{LineOutcome, CutsLine, IsBody, LinesBecome, Becomes, heading, asked_of, lf}
+use Rattle.rt_feed.specs.Lines.{LineOutcome, CutsLine, IsBody, LinesYield, TextYields, heading, commands_of, lf}
 use Rattle.rt_run.specs.SameTable.{table_alone, LeavesAlone}
 use Rattle.rt_run.specs.LeftOut.{LosesLeftOut}
 use Rattle.rt_run.proofs.SameTables.{commands, alone-commands, did, table-entries, nothing}
 
 -- commands, each with some reply
-abbrev answered : List (Cmd × Outcome) → Visit
+abbrev answered : List (Cmd × Outcome) → AnsweredBatch
 answered [] = []
 answered (one ∷ all) = (one.0, Added) ∷ answered all
 
@@ -32,12 +32,12 @@ same_commands [] = refl
 same_commands (one ∷ all) = ap (λ cmds. one.0 ∷ cmds) (same_commands all)
 
 -- a feed's entries are all its own
-own_entries : (feed : ℕ) (visit : Visit) → feed_entries feed (entries feed visit) ≡ entries feed visit
+own_entries : (feed : ℕ) (visit : AnsweredBatch) → feed_entries feed (entries feed visit) ≡ entries feed visit
 own_entries feed [] = refl
 own_entries feed (p ∷ visit) =
     cond-true (feed == feed) _ _ (eq-eqb feed feed refl) ∙ ap (λ es. record { feed = feed; cmd = p.0; reply = p.1 } ∷ es) (own_entries feed visit)
 
--- so what a feed's commands leave by themselves are routes of that feed
+-- hence a feed's commands leave by themselves only routes of that feed
 alone_own : FeedsStandAlone → (limit feed : ℕ) (all : List (Cmd × Outcome)) (r : Route) → Contains (table_alone limit feed all) r → r.feed ≡ feed
 alone_own alone limit feed all r c =
     let visit = answered all in
@@ -50,7 +50,7 @@ alone_own alone limit feed all r c =
     (All-contains Mine (feed_routes feed (table_of_journal limit (entries feed visit))) r (filter_passes (λ s. s.feed == feed) _)
     (subst (λ l. Contains l r) (sym own) c))
 
--- an empty text has no line, and so no command
+-- an empty text has no line, hence no command
 not_empty : (front rest : List ℕ) → [] ≡ front ++ lf ∷ rest → ⊥
 not_empty [] rest e = absurd (cc)
 not_empty (byte ∷ front) rest e = absurd (cc)
@@ -59,20 +59,20 @@ no_cut : (line rest : List ℕ) → CutsLine [] line rest → ⊥
 no_cut line rest cut = elim cut.ended [ inl more ↦ not_empty line rest more | inr whole ↦ whole.1 (sym whole.0) ]
 
 no_lines : (version : Version) (lines : List ℕ) (read : List LineOutcome)
-    → IsBody [] version lines → LinesBecome version lines read [] → heading version ++ read ≡ []
+    → IsBody [] version lines → LinesYield version lines read [] → heading version ++ read ≡ []
 no_lines One lines [] body become = refl
 no_lines One lines (one ∷ others) body become =
     absurd (no_cut become.0 become.1 (subst (λ text. CutsLine text become.0 become.1) body.1 become.2))
 no_lines Two lines read body become = absurd (no_cut (codes "version 2") lines body)
 
-none_asked : (lines : List LineOutcome) → Becomes [] lines [] → asked_of lines ≡ []
-none_asked lines is = ap asked_of (is.joined ∙ no_lines is.version is.lines is.read is.body is.become)
+none_asked : (lines : List LineOutcome) → TextYields [] lines [] → commands_of lines ≡ []
+none_asked lines is = ap commands_of (is.joined ∙ no_lines is.version is.lines is.read is.body is.become)
 
 alone-none : (limit feed : ℕ) → table_alone limit feed [] ≡ []
 unfolding table_alone
 alone-none limit feed = refl
 
--- lists that agree at a place have the same element there
+-- lists that agree at a position have the same element there
 same_place : (xs ys : List (List ℕ)) (k : ℕ) (text : List ℕ) → length xs ≡ length ys → get_or xs k [] ≡ get_or ys k []
     → slice_get xs k ≡ Some text → slice_get ys k ≡ Some text
 same_place xs ys k text same agree is =
@@ -83,7 +83,7 @@ same_place xs ys k text same agree is =
 leaves_none : (texts : List (List ℕ)) (limit k : ℕ) (r : Route) → get_or texts k [] ≡ [] → LeavesAlone texts limit k r → ⊥
 leaves_none texts limit k r empty (text, lines, is, becomes, has) =
     let whole : text ≡ [] = same_Some _ _ (sym is ∙ slice_get-get_or texts k [] (slice_get_within texts k text is)) ∙ empty in
-    let none : asked_of lines ≡ [] = none_asked lines (subst (λ t. Becomes t lines []) whole becomes) in
+    let none : commands_of lines ≡ [] = none_asked lines (subst (λ t. TextYields t lines []) whole becomes) in
     nothing r (subst (λ l. Contains l r) (ap (table_alone limit (k + 1)) none ∙ alone-none limit (k + 1)) has)
 
 pub loses_left_out : FeedsStandAlone → LosesLeftOut
@@ -91,7 +91,7 @@ loses_left_out alone is_left_out all texts limit union rest without of_all of_re
   (λ c.
       let leaves = (of_rest.contains r).0 c in
       let k = leaves.0 in
-      let own : r.feed ≡ k + 1 = alone_own alone limit (k + 1) (asked_of leaves.1.1) r leaves.1.4 in
+      let own : r.feed ≡ k + 1 = alone_own alone limit (k + 1) (commands_of leaves.1.1) r leaves.1.4 in
       elim (cases_Bool (is_left_out (k + 1))) [
         | inl out ↦ absurd (leaves_none texts limit k r (without.empty k out) leaves.1)
         | inr kept ↦ (
@@ -111,7 +111,7 @@ loses_left_out alone is_left_out all texts limit union rest without of_all of_re
   (λ both.
       let leaves = (of_all.contains r).0 both.0 in
       let k = leaves.0 in
-      let own : r.feed ≡ k + 1 = alone_own alone limit (k + 1) (asked_of leaves.1.1) r leaves.1.4 in
+      let own : r.feed ≡ k + 1 = alone_own alone limit (k + 1) (commands_of leaves.1.1) r leaves.1.4 in
       let kept : is_left_out (k + 1) ≡ false = ap is_left_out (sym own) ∙ both.1 in
       (of_rest.contains r).1 (
         k,

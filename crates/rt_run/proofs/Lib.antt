@@ -6,9 +6,11 @@ pub mod Comparing
 pub mod FaultyLines
 pub mod CountedLines
 pub mod InTurn
+pub mod KeptTexts
 pub mod SeveralFeeds
 pub mod SameTables
 pub mod LeftOut
+pub mod ShownRest
 pub mod SameLookups
 pub mod SameTallies
 pub mod SameDiffs

@@ -1,4 +1,4 @@
--- What holds of any lists: how they are mapped, counted and cut, and what a slice has written in a vector.
+-- Lemmas on lists: maps, counts, pieces, and a vector that is written through a slice.
 use Rattle.std.proofs.Common.{◌≡◌, ℕ, ◌+◌, true, false, Bool, List, [], ◌∷◌, ◌++◌, map, length, take, drop}
 use Rattle.std.proofs.Common.{refl, sym, ap, ◌∙◌, arith, zero-add, append-nil, append_assoc}
 use Rattle.std.specs.Prelude.{nat_lt, count_by, cond, ◌||◌}
@@ -8,13 +8,13 @@ use Rattle.std.proofs.lemmas.List.{map-append, drop_all, take_all}
 use Rattle.std.proofs.lemmas.List.Sums.{sum_by-cons}
 use Rattle.rt_feed.specs.Visits.{concatenated, piece_of}
 
--- a list that grows as another is mapped: one element more of both
+-- a list that grows while another is mapped: one more element of both
 pub map_more : {X Y : Type 0} (f : X → Y) (ys ys' : List Y) (xs : List X) (x : X) (y : Y)
     → ys ≡ map f xs → ys' ≡ ys ++ y ∷ [] → y ≡ f x → ys' ≡ map f (xs ++ x ∷ [])
 map_more f ys ys' xs x y so_far pushed is =
     pushed ∙ (ap (λ t. t ++ y ∷ []) so_far ∙ (ap (λ z. map f xs ++ z ∷ []) is ∙ sym (map-append f xs (x ∷ []))))
 
--- a count is above 0 where something passes the test
+-- a count is above 0 if some element passes the test
 one_is_some : (n : ℕ) → nat_lt 0 (1 + n) ≡ true
 one_is_some n = grind (arith, nat_tests)
 
@@ -27,13 +27,13 @@ counts_some test [] = refl
 counts_some test (x ∷ xs) = ap (λ m. nat_lt 0 m) (sum_by-cons (λ y. cond (test y) 1 0) x xs)
     ∙ counts_more (test x) (list_any test xs) (count_by test xs) (counts_some test xs)
 
--- the pieces of a list that is cut, one after another
+-- the pieces of a list, one after another
 pub cut-joined : {X : Type 0} (whole : List (List X)) (last : List X) → concatenated (whole ++ piece_of last) ≡ concatenated whole ++ last
 cut-joined [] [] = refl
 cut-joined [] (x ∷ xs) = append-nil (x ∷ xs)
 cut-joined (piece ∷ whole) last = ap (λ xs. piece ++ xs) (cut-joined whole last) ∙ sym (append_assoc piece (concatenated whole) last)
 
--- a vector that was written through a slice of all its elements holds what was written
+-- a vector that was written through a slice of all its elements contains what was written
 pub all_written : {X : Type 0} (len : ℕ) (new items : List X) → len ≡ length items → length new ≡ length items → take len (new ++ drop (length new) items) ≡ new
 all_written len new items full same =
     rw (drop_all (length new) items (omega (arith, same)), append-nil) (take_all len new (omega (arith, full, same)))

@@ -1,10 +1,10 @@
--- What was printed of a replay is the text of the run that its picks name.
+-- The output of a replay is the text of the run that its picks name.
 use Rattle.std.proofs.Common.{ℕ, zero, suc, ◌≤◌, List, Option, refl, arith}
 use Rattle.ya_core.specs.declared.step.Step.{Step}
 use Rattle.ya_core.specs.Steps.{State, opening}
 use Rattle.ya_core.specs.ArbitrationTree.{HasShape}
 use Rattle.ya_core.specs.Machines.{ReplaysTo, Replays}
-use Rattle.ya_core.specs.Worlds.{TellsInside}
+use Rattle.ya_core.specs.Worlds.{ReportsInside}
 use Rattle.ya_replay.specs.ReplayText.{replay_text_of}
 use Rattle.rt_run.specs.Replayed.{IsReplayText}
 
@@ -13,9 +13,9 @@ some_level : (levels : ℕ) → ((HasShape levels → ⊥) → ⊥) → 1 ≤ le
 some_level zero shaped = absurd (shaped (λ shape. omega (arith, shape.0)))
 some_level (suc levels) shaped = omega arith
 
--- the text of the steps of a run from the start, and of who is inside after them, is its replay text
+-- the text of the steps of a run from the start, and of the place that is inside after them, is its replay text
 pub is_replay_text : (levels : ℕ) (picks : List ℕ) (steps : List Step) (inside : Option ℕ) → ((HasShape levels → ⊥) → ⊥) → Replays levels opening picks steps
-    → ((levels : ℕ) (picks : List ℕ) (last : State) → 1 ≤ levels → ReplaysTo levels opening picks steps last → TellsInside last inside)
+    → ((levels : ℕ) (picks : List ℕ) (last : State) → 1 ≤ levels → ReplaysTo levels opening picks steps last → ReportsInside last inside)
     → IsReplayText levels picks (replay_text_of steps inside)
 is_replay_text levels picks steps inside shaped run tells =
     record {

@@ -1,12 +1,12 @@
--- That what is written of two compared runs is the same however the visits of their feeds fell.
+-- The output of a comparison doesn't depend on the interleaving of the feeds' visits.
 use Rattle.std.proofs.Common.{◌≡◌, max, List, ap, sym, subst, ◌∙◌}
 use Rattle.rt_rib.specs.declared.routes.Route.{Route}
-use Rattle.rt_diff.specs.Answers.{by_own}
+use Rattle.rt_diff.specs.Answers.{own_numbers}
 use Rattle.rt_diff.specs.Differences.{AreDifferences}
 use Rattle.rt_diff.specs.Laws.{HaveOneList}
 use Rattle.rt_feed.specs.DifferenceText.{differences_as}
 use Rattle.rt_run.specs.SameTable.{LeavesUnion, HaveOneUnion, HaveSameTallies}
-use Rattle.rt_run.specs.DiffText.{new_told, differ_status}
+use Rattle.rt_run.specs.DiffText.{renumbered_new, differ_status}
 use Rattle.rt_run.specs.SameDiff.{DiffsUnions, DiffOnce}
 use Rattle.rt_run.proofs.SameTables.{left_union, union_of_same, say_the_same}
 
@@ -21,18 +21,18 @@ diffs_unions leaves asked old new bytes given is old_not new_not = record {
   printed = is.printed;
 }
 
-pub diff_once : LeavesUnion → HaveOneUnion → HaveOneList → HaveSameTallies → DiffOnce
-diff_once leaves one one_list tallies asked old old' new new' bytes bytes' given given' same_old same_new is is' old_not new_not old_not' new_not' =
+pub diff_output_is_deterministic : LeavesUnion → HaveOneUnion → HaveOneList → HaveSameTallies → DiffOnce
+diff_output_is_deterministic leaves one one_list tallies asked old old' new new' bytes bytes' given given' same_old same_new is is' old_not new_not old_not' new_not' =
     let old_tables : is'.old_table ≡ is.old_table = one old.texts old.limit is'.old_table is.old_table
     (union_of_same old old' is'.old_table same_old (left_union leaves old' is'.old_table given'.old is'.old_left old_not'))
     (left_union leaves old is.old_table given.old is.old_left old_not) in
     let new_tables : is'.new_table ≡ is.new_table = one new.texts new.limit is'.new_table is.new_table
     (union_of_same new new' is'.new_table same_new (left_union leaves new' is'.new_table given'.new is'.new_left new_not'))
     (left_union leaves new is.new_table given.new is.new_left new_not) in
-    let also : AreDifferences asked.by (by_own is.old_table) (new_told asked is.new_table) is'.list =
-    subst (λ (t : List Route). AreDifferences asked.by (by_own is.old_table) (new_told asked t) is'.list) new_tables
-    (subst (λ (t : List Route). AreDifferences asked.by (by_own t) (new_told asked is'.new_table) is'.list) old_tables is'.differences) in
-    let same : is.list ≡ is'.list = one_list asked.by (by_own is.old_table) (new_told asked is.new_table) is.list is'.list is.differences also in
+    let also : AreDifferences asked.by (own_numbers is.old_table) (renumbered_new asked is.new_table) is'.list =
+    subst (λ (t : List Route). AreDifferences asked.by (own_numbers is.old_table) (renumbered_new asked t) is'.list) new_tables
+    (subst (λ (t : List Route). AreDifferences asked.by (own_numbers t) (renumbered_new asked is'.new_table) is'.list) old_tables is'.differences) in
+    let same : is.list ≡ is'.list = one_list asked.by (own_numbers is.old_table) (renumbered_new asked is.new_table) is.list is'.list is.differences also in
     let said_old = say_the_same tallies old old' is.old_table is'.old_table given.old given'.old same_old is.old_left is'.old_left old_not old_not' in
     let said_new = say_the_same tallies new new' is.new_table is'.new_table given.new given'.new same_new is.new_left is'.new_left new_not new_not' in (
       is.printed ∙ (ap (differences_as asked.styles) same ∙ sym is'.printed),

@@ -1,4 +1,4 @@
--- Why the table of a run, and the replies on a feed's own routes, are what each feed's commands give by themselves.
+-- The table of a run, and the replies on a feed's own routes, follow from each feed's commands by themselves.
 use Rattle.std.proofs.Common.{◌≡◌, ◌≢◌, ℕ, zero, suc, ◌+◌, ◌-◌, ◌<◌, ◌≤◌, ◌⊎◌, inl, inr, true, false}
 use Rattle.std.proofs.Common.{Option, Some, None, Ok, Err, List, [], ◌∷◌, ◌++◌, Bool, All, length}
 use Rattle.std.proofs.Common.{map, take, drop, refl, sym, ap, subst, ◌∙◌, arith, append_assoc, eqb-true}
@@ -24,44 +24,44 @@ use Rattle.rt_shared.specs.Laws.{EntriesOfVisits}
 use Rattle.rt_feed.specs.declared.parse.LineFault.{LineFault}
 use Rattle.rt_feed.specs.Laws.{TextHasOneReading}
 use Rattle.rt_feed.specs.declared.report.Line.{Line}
-use Rattle.rt_feed.specs.Lines.{LineOutcome, skipped, faulty, asked, reading, Becomes, asked_of, report_lines}
+use Rattle.rt_feed.specs.Lines.{LineOutcome, skipped, faulty, asked, reading, TextYields, commands_of, report_lines}
 use Rattle.rt_feed.specs.Reports.{is_refusal, has_refusal, has_fault}
-use Rattle.rt_shared.specs.Visits.{Visit, reply_to, visit_of, entries}
+use Rattle.rt_shared.specs.Visits.{AnsweredBatch, reply_to, visit_of, entries}
 use Rattle.rt_feed.specs.Visits.{concatenated}
 use Rattle.rt_feed.specs.Printed.{table_text}
-use Rattle.rt_run.specs.declared.tallies.Tally.{Tally}
+use Rattle.rt_run.specs.declared.tallies.RejectedInput.{RejectedInput}
 use Rattle.rt_run.specs.declared.tallies.RunSummary.{RunSummary}
-use Rattle.rt_run.specs.AskedRun.{AskedRun}
-use Rattle.rt_run.specs.RunText.{Explains, ExplainsFrom, IsHistory, reports_of, reports_text, some_refused, status_where, reports_status}
-use Rattle.rt_run.specs.TableText.{tally_of, has_refused, has_left_out, tallies_status, IsSummary, LeavesTable}
-use Rattle.rt_run.specs.SameTable.{table_alone, IsUnion, IsAnsweredAlone, AskTheSame, SayTheSame}
+use Rattle.rt_run.specs.RunContents.{RunContents}
+use Rattle.rt_run.specs.RunText.{Explains, ExplainsFrom, IsJournalOfRun, reports_of, reports_text, some_refused, status_where, reports_status}
+use Rattle.rt_run.specs.TableText.{tally_of, has_refused, has_rejected, tallies_status, IsSummary, LeavesTable}
+use Rattle.rt_run.specs.SameTable.{table_alone, IsUnion, IsAnsweredAlone, HaveSameInput, HaveSameSummary}
 use Rattle.rt_run.specs.SameTable.{LeavesUnion, AnswersAlone, HaveSameTallies, HaveOneUnion, EndsInUnion, EndInOneTable, ShowsUnion, ShowOneTable}
 use Rattle.rt_run.proofs.Lists.{counts_some, cut-joined}
 use Rattle.rt_run.proofs.FaultyLines.{some_faulty}
 
--- what a line asks shows in what it says
+-- the command of a line follows from the line's text
 abbrev asked_in : Result (Option Cmd) LineFault → List Cmd
 asked_in (Ok (Some cmd)) = cmd ∷ []
 asked_in (Ok None) = []
 asked_in (Err fault) = []
 
--- the commands, whatever became of them
+-- the commands, whatever their outcomes
 abbrev pub commands : List (Cmd × Outcome) → List Cmd
 commands all = map (λ one. one.0) all
 
-commands-reading : (lines : List LineOutcome) → commands (asked_of lines) ≡ flat_map asked_in (map reading lines)
+commands-reading : (lines : List LineOutcome) → commands (commands_of lines) ≡ flat_map asked_in (map reading lines)
 commands-reading [] = refl
 commands-reading (skipped ∷ lines) = commands-reading lines
 commands-reading (faulty fault ∷ lines) = commands-reading lines
 commands-reading (asked cmd outcome ∷ lines) = ap (λ cmds. cmd ∷ cmds) (commands-reading lines)
 
--- so a text has the same commands, whatever became of them
-one_asking : TextHasOneReading → (text : List ℕ) (lines others : List LineOutcome) → Becomes text lines [] → Becomes text others []
-    → commands (asked_of lines) ≡ commands (asked_of others)
+-- hence a text has the same commands, whatever their outcomes
+one_asking : TextHasOneReading → (text : List ℕ) (lines others : List LineOutcome) → TextYields text lines [] → TextYields text others []
+    → commands (commands_of lines) ≡ commands (commands_of others)
 one_asking once text lines others is other =
     commands-reading lines ∙ (ap (flat_map asked_in) (once text lines others is other) ∙ sym (commands-reading others))
 
--- and what they leave by themselves is told by the commands alone
+-- the set that they leave by themselves depends on only the commands
 alone-commands_from : (limit feed : ℕ) (table : List Route) (all : List (Cmd × Outcome))
     → fold (λ table one. table_after limit table feed one.0) table all ≡ fold (λ table cmd. table_after limit table feed cmd) table (commands all)
 alone-commands_from limit feed table [] = refl
@@ -74,7 +74,7 @@ alone-commands limit feed all others same =
     alone-commands_from limit feed [] all
     ∙ (ap (λ cmds. fold (λ table cmd. table_after limit table feed cmd) [] cmds) same ∙ sym (alone-commands_from limit feed [] others))
 
--- what was answered in pieces has the entries of all, one after another
+-- the entries of all pieces are the entries of all commands, one after another
 visit_of-append : (xs ys : List (Cmd × Outcome)) → visit_of (xs ++ ys) ≡ visit_of xs ++ visit_of ys
 visit_of-append [] ys = refl
 visit_of-append (one ∷ xs) ys =
@@ -88,48 +88,48 @@ entries-pieces feed (piece ∷ pieces) =
     ∙ (sym (map-append (λ p. record { feed = feed; cmd = p.0; reply = p.1 }) (visit_of piece) (visit_of (concatenated pieces)))
     ∙ ap (entries feed) (sym (visit_of-append piece (concatenated pieces))))
 
--- so the journal's entries of a feed are those of its answered commands
+-- hence the journal's entries of a feed are those of its answered commands
 entries_explained : EntriesOfVisits → (batch feed : ℕ) (journal : List Entry) (text : List ℕ) (lines : List LineOutcome)
     → Explains batch feed journal text lines
-    → feed_entries feed journal ≡ entries feed (visit_of (asked_of lines))
+    → feed_entries feed journal ≡ entries feed (visit_of (commands_of lines))
 entries_explained law batch feed journal text lines explains =
     let cut = explains.cut in
-    let all : concatenated explains.pieces ≡ asked_of lines = ap concatenated cut.is_cut ∙ (cut-joined cut.whole cut.last ∙ sym cut.is_joined) in
+    let all : concatenated explains.pieces ≡ commands_of lines = ap concatenated cut.is_cut ∙ (cut-joined cut.whole cut.last ∙ sym cut.is_joined) in
     law feed _ journal explains.uncut ∙ (entries-pieces feed explains.pieces ∙ ap (λ cmds. entries feed (visit_of cmds)) all)
 
--- a command that has its reply
+-- a command that has a reply
 abbrev pub did : Cmd × Reply → Cmd × Outcome
 did p = (p.0, outcome.Did p.1)
 
--- what a feed's entries leave is what their commands leave
-table-entries_from : (limit feed : ℕ) (table : List Route) (visit : Visit)
+-- a feed's entries leave the same set as their commands
+table-entries_from : (limit feed : ℕ) (table : List Route) (visit : AnsweredBatch)
     → fold (λ table e. table_after limit table e.feed e.cmd) table (entries feed visit)
     ≡ fold (λ table one. table_after limit table feed one.0) table (map did visit)
 table-entries_from limit feed table [] = refl
 table-entries_from limit feed table (p ∷ visit) = table-entries_from limit feed (table_after limit table feed p.0) visit
 
-pub table-entries : (limit feed : ℕ) (visit : Visit) → table_of_journal limit (entries feed visit) ≡ table_alone limit feed (map did visit)
+pub table-entries : (limit feed : ℕ) (visit : AnsweredBatch) → table_of_journal limit (entries feed visit) ≡ table_alone limit feed (map did visit)
 unfolding table_of_journal table_alone
 table-entries limit feed visit = table-entries_from limit feed [] visit
 
--- where none was refused, all have
-all_did : (number : ℕ) (lines : List LineOutcome) → has_refusal (report_lines number lines) ≡ false → asked_of lines ≡ map did (visit_of (asked_of lines))
+-- if no command was refused, all have a reply
+all_did : (number : ℕ) (lines : List LineOutcome) → has_refusal (report_lines number lines) ≡ false → commands_of lines ≡ map did (visit_of (commands_of lines))
 all_did number [] none = refl
 all_did number (skipped ∷ lines) none = all_did (number + 1) lines none
 all_did number (faulty fault ∷ lines) none = all_did (number + 1) lines none
 all_did number (asked cmd (outcome.Did reply) ∷ lines) none = ap (λ rest. (cmd, outcome.Did reply) ∷ rest) (all_did (number + 1) lines none)
 all_did number (asked cmd outcome.Refused ∷ lines) none = absurd (false≢true (sym none))
 
--- one command among those that have their replies
-record IsAmong (visit : Visit) (earlier : List (Cmd × Outcome)) (cmd : Cmd) (is : Outcome) : Type 0 where
-  front : Visit
+-- one command among those that have replies
+record IsAmong (visit : AnsweredBatch) (earlier : List (Cmd × Outcome)) (cmd : Cmd) (is : Outcome) : Type 0 where
+  front : AnsweredBatch
   reply : Reply
-  back : Visit
+  back : AnsweredBatch
   split : visit ≡ front ++ (cmd, reply) ∷ back
   had : is ≡ outcome.Did reply
   before : earlier ≡ map did front
 
-among : (visit : Visit) (earlier later : List (Cmd × Outcome)) (cmd : Cmd) (is : Outcome)
+among : (visit : AnsweredBatch) (earlier later : List (Cmd × Outcome)) (cmd : Cmd) (is : Outcome)
     → map did visit ≡ earlier ++ (cmd, is) ∷ later → IsAmong visit earlier cmd is
 among [] [] later cmd is e = absurd (cc)
 among [] (one ∷ earlier) later cmd is e = absurd (cc)
@@ -156,14 +156,14 @@ among (p ∷ visit) (one ∷ earlier) later cmd is e =
       before = ap (λ more. one ∷ more) rest.before ∙ ap (λ o. o ∷ map did rest.front) (sym head);
     }
 
--- an entry of a feed stands in the journal, and the feed's entries before it are those before it among the feed's
+-- an entry of a feed is in the journal, and the feed's entries before it there are those before it among the feed's entries
 record StandsIn (journal : List Entry) (feed : ℕ) (front : List Entry) (e : Entry) : Type 0 where
   earlier : List Entry
   later : List Entry
   split : journal ≡ earlier ++ e ∷ later
   before : feed_entries feed earlier ≡ front
 
--- where the first entry is the feed's
+-- if the first entry is the feed's
 stands_own : (x : Entry) (journal : List Entry) (feed : ℕ) → ((es : List Entry) → feed_entries feed (x ∷ es) ≡ x ∷ feed_entries feed es)
     → ((front back : List Entry) (e : Entry) → feed_entries feed journal ≡ front ++ e ∷ back → StandsIn journal feed front e)
     → (front back : List Entry) (e : Entry) → x ∷ feed_entries feed journal ≡ front ++ e ∷ back → StandsIn (x ∷ journal) feed front e
@@ -199,23 +199,23 @@ stands_in (x ∷ journal) feed front back e is = elim (cases_Bool (x.feed == fee
       }
 ]
 
--- a command was answered from some table, and where it speaks of its feed's own routes as from what the feed's earlier commands
--- leave by themselves
+-- a command was answered from some table; if it concerns only its feed's own routes, it was answered as from the set that
+-- the feed's earlier commands leave by themselves
 pub record IsAnsweredFrom (limit feed : ℕ) (earlier : List (Cmd × Outcome)) (cmd : Cmd) (is : Outcome) : Type 0 where
   pub table : List Route
   pub reply : is ≡ outcome.Did (reply_of limit table feed cmd)
   pub alone : is_own cmd ≡ true → reply_of limit table feed cmd ≡ reply_of limit (table_alone limit feed earlier) feed cmd
 
--- so each command of the feed was
+-- each command of the feed was answered this way
 abbrev pub AreAnsweredFrom : ℕ → ℕ → List (Cmd × Outcome) → Type 0
 AreAnsweredFrom limit feed all =
     (earlier later : List (Cmd × Outcome)) (cmd : Cmd) (is : Outcome) → all ≡ earlier ++ (cmd, is) ∷ later → IsAnsweredFrom limit feed earlier cmd is
 
 pub answered_from : FeedsStandAlone → EntriesOfVisits → (limit batch feed : ℕ) (journal : List Entry) (text : List ℕ) (lines : List LineOutcome)
     → IsLawfulJournal limit journal
-    → Explains batch feed journal text lines → has_refusal (report_lines 1 lines) ≡ false → AreAnsweredFrom limit feed (asked_of lines)
+    → Explains batch feed journal text lines → has_refusal (report_lines 1 lines) ≡ false → AreAnsweredFrom limit feed (commands_of lines)
 answered_from alone law limit batch feed journal text lines lawful explains none earlier later cmd is split =
-    let visit = visit_of (asked_of lines) in
+    let visit = visit_of (commands_of lines) in
     let one = among visit earlier later cmd is (sym (all_did 1 lines none) ∙ split) in
     let e : Entry = record { feed = feed; cmd = cmd; reply = one.reply } in
     let parts : feed_entries feed journal ≡ entries feed one.front ++ e ∷ entries feed one.back =
@@ -230,23 +230,23 @@ answered_from alone law limit batch feed journal text lines lawful explains none
       alone = λ own. (alone limit feed here.earlier cmd).1 own ∙ ap (λ table. reply_of limit table feed cmd) same_table;
     }
 
--- a reply on a feed's own routes is what its earlier commands give by themselves
+-- a reply on a feed's own routes follows from the feed's earlier commands by themselves
 answered_alone : FeedsStandAlone → EntriesOfVisits → (limit batch feed : ℕ) (journal : List Entry) (text : List ℕ) (lines : List LineOutcome)
     → IsLawfulJournal limit journal
-    → Explains batch feed journal text lines → has_refusal (report_lines 1 lines) ≡ false → IsAnsweredAlone limit feed (asked_of lines)
+    → Explains batch feed journal text lines → has_refusal (report_lines 1 lines) ≡ false → IsAnsweredAlone limit feed (commands_of lines)
 answered_alone alone law limit batch feed journal text lines lawful explains none earlier later cmd is split own =
     let from = answered_from alone law limit batch feed journal text lines lawful explains none earlier later cmd is split in
     from.reply ∙ ap outcome.Did (from.alone own)
 
--- what a feed has in the table is what its commands leave by themselves
+-- a feed's routes in the table are those that its commands leave by themselves
 routes_alone : FeedsStandAlone → EntriesOfVisits → (limit batch feed : ℕ) (journal : List Entry) (text : List ℕ) (lines : List LineOutcome) (cmd : Cmd)
     → Explains batch feed journal text lines → has_refusal (report_lines 1 lines) ≡ false
-    → feed_routes feed (table_of_journal limit journal) ≡ table_alone limit feed (asked_of lines)
+    → feed_routes feed (table_of_journal limit journal) ≡ table_alone limit feed (commands_of lines)
 routes_alone alone law limit batch feed journal text lines cmd explains none =
     (alone limit feed journal cmd).0 ∙ (ap (table_of_journal limit) (entries_explained law batch feed journal text lines explains)
-    ∙ (table-entries limit feed (visit_of (asked_of lines)) ∙ ap (table_alone limit feed) (sym (all_did 1 lines none))))
+    ∙ (table-entries limit feed (visit_of (commands_of lines)) ∙ ap (table_alone limit feed) (sym (all_did 1 lines none))))
 
--- what the k-th text's lines became, and that the journal explains it as this feed's
+-- the outcomes of the k-th text's lines, which the journal explains as this feed's
 record IsOfFeed (batch feed k : ℕ) (journal : List Entry) (outcomes : List (List LineOutcome)) (text : List ℕ) : Type 0 where
   lines : List LineOutcome
   stands : slice_get outcomes k ≡ Some lines
@@ -270,7 +270,7 @@ of_text batch first (suc k) feed journal (head ∷ texts) (lines ∷ outcomes) t
     let rest = of_text batch (first + 1) k feed journal texts outcomes text (omega arith) all.1 is in
     record { lines = rest.lines; stands = rest.stands; explains = rest.explains }
 
--- there are as many texts as lists of lines
+-- the number of texts is the number of lists of lines
 as_many : (batch feed : ℕ) (journal : List Entry) (texts : List (List ℕ)) (outcomes : List (List LineOutcome))
     → ExplainsFrom batch feed journal texts outcomes → length texts ≡ length outcomes
 as_many batch feed journal [] [] all = refl
@@ -278,13 +278,13 @@ as_many batch feed journal [] (lines ∷ outcomes) all = absurd all
 as_many batch feed journal (text ∷ texts) [] all = absurd all
 as_many batch feed journal (text ∷ texts) (lines ∷ outcomes) all = omega (arith, as_many batch (feed + 1) journal texts outcomes all.1)
 
--- a list has an element at each place within
+-- a list has an element at each position below its length
 at_place : {X : Type 0} (xs : List X) (k : ℕ) → k < length xs → (x : X) × (slice_get xs k ≡ Some x)
 at_place [] k within = absurd (omega (arith, within))
 at_place (x ∷ xs) zero within = (x, refl)
 at_place (x ∷ xs) (suc k) within = at_place xs k (omega (arith, within))
 
--- where no command was refused at all, none of one feed's was
+-- if no command was refused, no command of one feed was
 none_of_one : (outcomes : List (List LineOutcome)) (k : ℕ) (lines : List LineOutcome)
     → some_refused outcomes ≡ false → slice_get outcomes k ≡ Some lines → has_refusal (report_lines 1 lines) ≡ false
 none_of_one [] k lines none is = absurd (cc)
@@ -294,13 +294,13 @@ none_of_one (first ∷ outcomes) zero lines none is =
 none_of_one (first ∷ outcomes) (suc k) lines none is =
     none_of_one outcomes k lines ((or_parts (has_refusal (report_lines 1 first)) (some_refused outcomes) none).1) is
 
--- a status that is not 5 tells that none was
+-- if the status isn't 5, no command was refused
 by_status : (refused left_out : Bool) (status : ℕ) → status ≡ status_where refused left_out → status ≢ 5 → refused ≡ false
 by_status true left_out status e not = absurd (not e)
 by_status false left_out status e not = refl
 
--- what some report tells, its tally counts
-module _ (tells : List Line → Bool) (counts : Tally → Bool) (same : (report : List Line) → tells report ≡ counts (tally_of report)) where
+-- a tally counts the refused commands and rejected input of its report
+module _ (tells : List Line → Bool) (counts : RejectedInput → Bool) (same : (report : List Line) → tells report ≡ counts (tally_of report)) where
   some-tallies : (reports : List (List Line)) → list_any tells reports ≡ list_any counts (map tally_of reports)
   some-tallies [] = refl
   some-tallies (report ∷ reports) =
@@ -309,25 +309,25 @@ module _ (tells : List Line → Bool) (counts : Tally → Bool) (same : (report 
 refused-tallies : (reports : List (List Line)) → list_any has_refusal reports ≡ list_any has_refused (map tally_of reports)
 refused-tallies = some-tallies has_refusal has_refused (λ report. sym (counts_some (λ (line : Line). is_refusal line.answer) report))
 
-abbrev has_faulty : Tally → Bool
+abbrev has_faulty : RejectedInput → Bool
 has_faulty tally = nat_lt 0 tally.faulty.count
 
 faulty-tallies : (reports : List (List Line)) → list_any has_fault reports ≡ list_any has_faulty (map tally_of reports)
 faulty-tallies = some-tallies has_fault has_faulty some_faulty
 
--- so the status of reports is told by their tallies
+-- hence the status of reports follows from their tallies
 status-tallies : (reports : List (List Line))
     → reports_status reports ≡ status_where (list_any has_refused (map tally_of reports)) (list_any has_faulty (map tally_of reports))
 status-tallies reports = rw (refused-tallies reports, faulty-tallies reports) refl
 
--- and where that of a summary is not 5, none was refused
+-- if a summary's status isn't 5, no command was refused
 none_refused : (outcomes : List (List LineOutcome)) (summary : RunSummary) → IsSummary (reports_of outcomes) summary → summary.status ≢ 5
     → some_refused outcomes ≡ false
 none_refused outcomes summary is not =
     let tallies = summary.tallies.items in
     refused-tallies (reports_of outcomes)
     ∙ (ap (list_any has_refused) (sym is.tallied)
-    ∙ by_status (list_any has_refused tallies) (list_any has_left_out tallies) summary.status is.is_status not)
+    ∙ by_status (list_any has_refused tallies) (list_any has_rejected tallies) summary.status is.is_status not)
 
 -- a feed that has an entry has a text
 has_text : (journal : List Entry) (n feed : ℕ) → All (λ e. (1 ≤ e.feed) × (e.feed ≤ n)) journal → (own : List Entry) → feed_entries feed journal ≡ own
@@ -356,12 +356,12 @@ among_own r table c =
     subst (λ l. Contains (filter mine l) r) (sym split)
     (subst (λ l. Contains l r) (sym (filter-append mine front (r ∷ back))) (Contains-append_right (filter mine front) (filter mine (r ∷ back)) r first))
 
--- and the feed's routes are among all
+-- a feed's routes are among all routes
 from_own : (feed : ℕ) (r : Route) (table : List Route) → Contains (feed_routes feed table) r → Contains table r
 from_own feed r table c =
     All-contains (Contains table) (feed_routes feed table) r (All-filter (λ s. s.feed == feed) (Contains table) table (All-contains_itself table)) c
 
--- what a journal leaves is the union of what each text leaves by itself
+-- a journal leaves the union of the sets that each text leaves by itself
 pub leaves_union : FeedsStandAlone → TableByEntry → EntriesOfVisits → TextHasOneReading → LeavesUnion
 leaves_union alone by_entry law once texts limit batch journal outcomes history none =
     let table = table_of_journal limit journal in
@@ -399,7 +399,7 @@ leaves_union alone by_entry law once texts limit batch journal outcomes history 
             let here = of_feed k text some.1.2 in
             let same = one_asking once text some.1.1 here.lines some.1.3 here.explains.becomes in
             let own = subst (λ l. Contains l r)
-            (alone-commands limit (k + 1) (asked_of some.1.1) (asked_of here.lines) same ∙ sym (routes k text here)) some.1.4 in
+            (alone-commands limit (k + 1) (commands_of some.1.1) (commands_of here.lines) same ∙ sym (routes k text here)) some.1.4 in
             from_own (k + 1) r table own),
       );
     }
@@ -415,7 +415,7 @@ ends_in_union leaves texts limit batch bytes status run not = (
   run.printed,
 )
 
--- and a set has one table
+-- a set has only one table
 pub one_union : OneTableOfSet → HaveOneUnion
 one_union one_table texts limit one other here there =
     one_table one other here.table there.table (λ r. (
@@ -423,23 +423,23 @@ one_union one_table texts limit one other here there =
       (λ c. (here.contains r).1 ((there.contains r).0 c)),
     ))
 
-pub answers_alone : FeedsStandAlone → EntriesOfVisits → AnswersAlone
-answers_alone alone law texts limit batch journal outcomes history none k lines is =
+pub own_replies_are_independent : FeedsStandAlone → EntriesOfVisits → AnswersAlone
+own_replies_are_independent alone law texts limit batch journal outcomes history none k lines is =
     let within : k < length texts = omega (arith, slice_get_within outcomes k lines is, as_many batch 1 journal texts outcomes history.explained) in
     let text = at_place texts k within in
     let here = of_text batch 1 k (k + 1) journal texts outcomes text.0 (omega arith) history.explained text.1 in
     let same : here.lines ≡ lines = (let a = here.stands in cc) in
-    subst (λ l. IsAnsweredAlone limit (k + 1) (asked_of l)) same
+    subst (λ l. IsAnsweredAlone limit (k + 1) (commands_of l)) same
     (answered_alone alone law limit batch (k + 1) journal text.0 here.lines history.lawful here.explains (none_of_one outcomes k here.lines none here.stands))
 
-pub end_in_one_table : EndsInUnion → HaveOneUnion → HaveSameTallies → EndInOneTable
-end_in_one_table ends one tallies texts limit batch batch' bytes bytes' status status' run run' not not' =
+pub final_table_is_deterministic : EndsInUnion → HaveOneUnion → HaveSameTallies → EndInOneTable
+final_table_is_deterministic ends one tallies texts limit batch batch' bytes bytes' status status' run run' not not' =
     let here = ends texts limit batch bytes status run not in
     let there = ends texts limit batch' bytes' status' run' not' in
     let same : there.0 ≡ here.0 = one texts limit there.0 here.0 there.1 here.1 in
     let tallied = tallies texts limit batch batch' run.journal run'.journal run.outcomes run'.outcomes run.history run'.history
     (run_refused_none run.outcomes status run.is_status not) (run_refused_none run'.outcomes status' run'.is_status not') in
-    let by_tallies : List Tally → ℕ = λ ts. status_where (list_any has_refused ts) (list_any has_faulty ts) in (
+    let by_tallies : List RejectedInput → ℕ = λ ts. status_where (list_any has_refused ts) (list_any has_faulty ts) in (
       run.is_status
           ∙ (status-tallies (reports_of run.outcomes)
           ∙ (ap by_tallies tallied ∙ (sym (status-tallies (reports_of run'.outcomes)) ∙ sym run'.is_status))),
@@ -449,27 +449,27 @@ end_in_one_table ends one tallies texts limit batch batch' bytes bytes' status s
     )
 
 -- a run that left a table left the union
-pub left_union : LeavesUnion → (one : AskedRun) (table : List Route) (summary : RunSummary) → LeavesTable one table summary → summary.status ≢ 5
+pub left_union : LeavesUnion → (one : RunContents) (table : List Route) (summary : RunSummary) → LeavesTable one table summary → summary.status ≢ 5
     → IsUnion one.texts one.limit table
 left_union leaves one table summary left not =
     subst (IsUnion one.texts one.limit) (sym left.left)
     (leaves one.texts one.limit one.batch left.journal left.outcomes left.history (none_refused left.outcomes summary left.summed not))
 
--- and one that was asked the same is of the same texts and limit
-pub union_of_same : (one one' : AskedRun) (union : List Route) → AskTheSame one one' → IsUnion one'.texts one'.limit union
+-- a run of the same input has the same texts and limit
+pub union_of_same : (one one' : RunContents) (union : List Route) → HaveSameInput one one' → IsUnion one'.texts one'.limit union
     → IsUnion one.texts one.limit union
 union_of_same one one' union (texts, limit) is =
     subst (λ ts. IsUnion ts one.limit union) (sym texts) (subst (λ l. IsUnion one'.texts l union) (sym limit) is)
 
-history_of_same : (one one' : AskedRun) (journal : List Entry) (outcomes : List (List LineOutcome)) → AskTheSame one one'
-    → IsHistory one'.texts one'.limit one'.batch journal outcomes → IsHistory one.texts one.limit one'.batch journal outcomes
+history_of_same : (one one' : RunContents) (journal : List Entry) (outcomes : List (List LineOutcome)) → HaveSameInput one one'
+    → IsJournalOfRun one'.texts one'.limit one'.batch journal outcomes → IsJournalOfRun one.texts one.limit one'.batch journal outcomes
 history_of_same one one' journal outcomes (texts, limit) is =
-    subst (λ ts. IsHistory ts one.limit one'.batch journal outcomes) (sym texts)
-    (subst (λ l. IsHistory one'.texts l one'.batch journal outcomes) (sym limit) is)
+    subst (λ ts. IsJournalOfRun ts one.limit one'.batch journal outcomes) (sym texts)
+    (subst (λ l. IsJournalOfRun one'.texts l one'.batch journal outcomes) (sym limit) is)
 
--- so the summaries of both say the same
-pub say_the_same : HaveSameTallies → (one one' : AskedRun) (table table' : List Route) (summary summary' : RunSummary) → AskTheSame one one'
-    → LeavesTable one table summary → LeavesTable one' table' summary' → summary.status ≢ 5 → summary'.status ≢ 5 → SayTheSame summary summary'
+-- hence both summaries are the same
+pub say_the_same : HaveSameTallies → (one one' : RunContents) (table table' : List Route) (summary summary' : RunSummary) → HaveSameInput one one'
+    → LeavesTable one table summary → LeavesTable one' table' summary' → summary.status ≢ 5 → summary'.status ≢ 5 → HaveSameSummary summary summary'
 say_the_same tallies one one' table table' summary summary' same left left' not not' =
     let tallied : summary.tallies.items ≡ summary'.tallies.items =
     left.summed.tallied
@@ -481,8 +481,8 @@ say_the_same tallies one one' table table' summary summary' same left left' not 
 pub shows_union : LeavesUnion → ShowsUnion
 shows_union leaves one text_of bytes summary is not = (is.table, left_union leaves one is.table summary is.leaves not, is.shown)
 
-pub show_one_table : ShowsUnion → HaveOneUnion → HaveSameTallies → ShowOneTable
-show_one_table shows only tallies one one' text_of bytes bytes' summary summary' same is is' not not' =
+pub query_output_is_deterministic : ShowsUnion → HaveOneUnion → HaveSameTallies → ShowOneTable
+query_output_is_deterministic shows only tallies one one' text_of bytes bytes' summary summary' same is is' not not' =
     let here = shows one text_of bytes summary is not in
     let there = shows one' text_of bytes' summary' is' not' in
     let union = only one.texts one.limit here.0 there.0 here.1 (union_of_same one one' there.0 same there.1) in (

@@ -1,4 +1,4 @@
--- That two runs of the same texts and limit take as much of each: what a tally counts hangs on the feed's own commands alone.
+-- Two runs of the same texts and limit have the same tallies: a tally depends on only the feed's own commands.
 use Rattle.std.proofs.Common.{◌≡◌, ℕ, ◌+◌, false, inl, inr, Option, Some, None, List, [], ◌∷◌, ◌++◌, Bool, map}
 use Rattle.std.proofs.Common.{refl, sym, ap, subst, ◌∙◌, append_assoc}
 use Rattle.std.specs.Prelude.{count_by, cond}
@@ -21,9 +21,9 @@ use Rattle.rt_feed.specs.declared.report.Line.{Line}
 use Rattle.rt_feed.specs.declared.report.Answer.{Answer}
 use Rattle.rt_feed.specs.declared.report.Answer.TheVariants.{Did, Fault}
 use Rattle.rt_feed.specs.Laws.{TextHasOneReading}
-use Rattle.rt_feed.specs.Lines.{LineOutcome, skipped, faulty, asked, reading, command_answer, report_lines, asked_of}
+use Rattle.rt_feed.specs.Lines.{LineOutcome, skipped, faulty, asked, reading, command_answer, report_lines, commands_of}
 use Rattle.rt_feed.specs.Reports.{is_refusal, has_refusal}
-use Rattle.rt_run.specs.declared.tallies.Tally.{Tally}
+use Rattle.rt_run.specs.declared.tallies.RejectedInput.{RejectedInput}
 use Rattle.rt_run.specs.RunText.{ExplainsFrom, reports_of, some_refused}
 use Rattle.rt_run.specs.TableText.{was_full, was_existing, was_missing, fault_at, tally_of}
 use Rattle.rt_run.specs.SameTable.{HaveSameTallies}
@@ -31,7 +31,7 @@ use Rattle.rt_run.proofs.FaultyLines.{with_fault, faults-line}
 use Rattle.rt_run.proofs.SameTables.{commands, alone-commands, IsAnsweredFrom, AreAnsweredFrom, answered_from}
 
 -- a tally with one line more in front
-abbrev with_line : ℕ → Answer → Tally → Tally
+abbrev with_line : ℕ → Answer → RejectedInput → RejectedInput
 with_line number answer tally = record {
   faulty = with_fault (fault_at number answer) tally.faulty;
   full = cond (was_full answer) 1 0 + tally.full;
@@ -51,25 +51,25 @@ tally-line number answer report =
     let count = count-line number answer report in
     rw (faults-line number answer report, count was_full, count was_existing, count was_missing, count is_refusal) refl
 
--- what a look-up found, and how many routes there are, is not counted
-found_or_not : (number : ℕ) (tally : Tally) (found : Option Route)
+-- the results of `lookup` and `dump` aren't counted
+found_or_not : (number : ℕ) (tally : RejectedInput) (found : Option Route)
     → with_line number (Did (option_map_or Found found NoRoute)) tally ≡ with_line number (Did NoRoute) tally
 found_or_not number tally None = refl
 found_or_not number tally (Some route) = refl
 
-uncounted : (limit feed number : ℕ) (tally : Tally) (table : List Route) (cmd : Cmd) → is_own cmd ≡ false
+uncounted : (limit feed number : ℕ) (tally : RejectedInput) (table : List Route) (cmd : Cmd) → is_own cmd ≡ false
     → with_line number (Did (reply_of limit table feed cmd)) tally ≡ with_line number (Did NoRoute) tally
 unfolding reply_of
 uncounted limit feed number tally table (Lookup addr) other = found_or_not number tally (look_up addr table)
 uncounted limit feed number tally table Dump other = refl
 uncounted limit feed number tally table cmd other = absurd (cc)
 
--- so a command counts the same wherever the feed's earlier commands are the same
-counts_alike : (limit feed number : ℕ) (tally : Tally) (before before' : List (Cmd × Outcome)) (cmd : Cmd) (is is' : Outcome)
+-- a command counts the same whenever the feed's earlier commands are the same
+counts_alike : (limit feed number : ℕ) (tally : RejectedInput) (before before' : List (Cmd × Outcome)) (cmd : Cmd) (is is' : Outcome)
     → commands before ≡ commands before' → IsAnsweredFrom limit feed before cmd is → IsAnsweredFrom limit feed before' cmd is'
     → with_line number (command_answer is) tally ≡ with_line number (command_answer is') tally
 counts_alike limit feed number tally before before' cmd is is' same from from' =
-    let counted : Outcome → Tally = λ o. with_line number (command_answer o) tally in
+    let counted : Outcome → RejectedInput = λ o. with_line number (command_answer o) tally in
     elim (cases_Bool (is_own cmd)) [
       | inl own ↦
           let tables = alone-commands limit feed before before' same in
@@ -92,7 +92,7 @@ commands-more before before' cmd cmd' is is' same one =
 -- the rest of a text's lines, in two runs
 module _ (limit feed : ℕ) (all all' : List (Cmd × Outcome)) (from : AreAnsweredFrom limit feed all) (from' : AreAnsweredFrom limit feed all') where
   same_tally : (number : ℕ) (before before' : List (Cmd × Outcome)) (lines lines' : List LineOutcome)
-      → all ≡ before ++ asked_of lines → all' ≡ before' ++ asked_of lines' → commands before ≡ commands before' → map reading lines ≡ map reading lines'
+      → all ≡ before ++ commands_of lines → all' ≡ before' ++ commands_of lines' → commands before ≡ commands before' → map reading lines ≡ map reading lines'
       → tally_of (report_lines number lines) ≡ tally_of (report_lines number lines')
   same_tally number before before' [] [] is is' same read = refl
   same_tally number before before' (skipped ∷ lines) (skipped ∷ lines') is is' same read =
@@ -108,18 +108,18 @@ module _ (limit feed : ℕ) (all all' : List (Cmd × Outcome)) (from : AreAnswer
   same_tally number before before' (asked cmd o ∷ lines) (asked cmd' o' ∷ lines') is is' same read =
       let rest : map reading lines ≡ map reading lines' = cc in
       let one : cmd ≡ cmd' = cc in
-      let here = from before (asked_of lines) cmd o is in
-      let there = subst (λ c. IsAnsweredFrom limit feed before' c o') (sym one) (from' before' (asked_of lines') cmd' o' is') in
+      let here = from before (commands_of lines) cmd o is in
+      let there = subst (λ c. IsAnsweredFrom limit feed before' c o') (sym one) (from' before' (commands_of lines') cmd' o' is') in
       tally-line number (command_answer o) (report_lines (number + 1) lines)
       ∙ (ap (with_line number (command_answer o))
       (same_tally (number + 1) (before ++ (cmd, o) ∷ []) (before' ++ (cmd', o') ∷ []) lines lines'
-      (is ∙ sym (append_assoc before ((cmd, o) ∷ []) (asked_of lines))) (is' ∙ sym (append_assoc before' ((cmd', o') ∷ []) (asked_of lines')))
+      (is ∙ sym (append_assoc before ((cmd, o) ∷ []) (commands_of lines))) (is' ∙ sym (append_assoc before' ((cmd', o') ∷ []) (commands_of lines')))
       (commands-more before before' cmd cmd' o o' same one) rest)
       ∙ (counts_alike limit feed number (tally_of (report_lines (number + 1) lines')) before before' cmd o o' same here there
       ∙ sym (tally-line number (command_answer o') (report_lines (number + 1) lines'))))
   same_tally number before before' lines lines' is is' same read = absurd (cc)
 
--- and those of all texts
+-- the lines of all texts, in two runs
 module _ (alone : FeedsStandAlone) (law : EntriesOfVisits) (once : TextHasOneReading) (limit batch batch' : ℕ) (journal journal' : List Entry)
     (lawful : IsLawfulJournal limit journal) (lawful' : IsLawfulJournal limit journal') where
   all_same : (feed : ℕ) (texts : List (List ℕ)) (outcomes outcomes' : List (List LineOutcome))
@@ -134,7 +134,7 @@ module _ (alone : FeedsStandAlone) (law : EntriesOfVisits) (once : TextHasOneRea
       let parts = or_parts (has_refusal (report_lines 1 lines)) (some_refused outcomes) none in
       let parts' = or_parts (has_refusal (report_lines 1 lines')) (some_refused outcomes') none' in
       let first : tally_of (report_lines 1 lines) ≡ tally_of (report_lines 1 lines') =
-      same_tally limit feed (asked_of lines) (asked_of lines') (answered_from alone law limit batch feed journal text lines lawful is.0 parts.0)
+      same_tally limit feed (commands_of lines) (commands_of lines') (answered_from alone law limit batch feed journal text lines lawful is.0 parts.0)
       (answered_from alone law limit batch' feed journal' text lines' lawful' is'.0 parts'.0) 1 [] [] lines lines' refl refl refl
       (once text lines lines' is.0.becomes is'.0.becomes) in
       ap (λ tally. tally ∷ map tally_of (reports_of outcomes)) first

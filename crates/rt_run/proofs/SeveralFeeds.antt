@@ -1,4 +1,4 @@
--- Several feeds over one table: their reports and the journal that the table settles to explain one another.
+-- Several feeds over one table: the journal to which the table settles explains their reports.
 use Rattle.std.proofs.Common.{◌≡◌, ◌≢◌, ℕ, zero, suc, ◌+◌, ◌-◌, ◌<◌, ◌≤◌, ◌⊎◌, inl, inr, Option, Some}
 use Rattle.std.proofs.Common.{None, List, [], ◌∷◌, ◌++◌, All, length, map, take, drop, get_or, refl}
 use Rattle.std.proofs.Common.{sym, ap, subst, ◌∙◌, arith, length-append, length-drop}
@@ -10,20 +10,20 @@ use Rattle.std.proofs.lemmas.Option.{slice_get-get_or, slice_get_within, same_So
 use Rattle.rt_rib.specs.declared.commands.Entry.{Entry}
 use Rattle.rt_rib.specs.Book.{BookContents, table_of}
 use Rattle.rt_shared.specs.Table.{SharedId, HeldPass, ArePassesOf, Settles}
-use Rattle.rt_shared.specs.Visits.{Since, Uncut, Visit, visit_of, entries}
+use Rattle.rt_shared.specs.Visits.{Since, IsContiguousIn, AnsweredBatch, visit_of, entries}
 use Rattle.rt_feed.specs.declared.report.Line.{Line}
 use Rattle.rt_feed.specs.declared.feeds.Feed.{Feed}
 use Rattle.rt_feed.specs.Lines.{LineOutcome, report_lines}
-use Rattle.rt_feed.specs.FeedRuns.{RunsFeed, StopsWithin, RunsOne}
+use Rattle.rt_feed.specs.FeedRuns.{RunsFeed, RunsPrefixOf, RunsOne}
 use Rattle.rt_feed.specs.Printed.{table_text}
 use Rattle.rt_shared.proofs.Promised.{uncut_since}
-use Rattle.rt_run.specs.AskedRun.{AskedRun}
+use Rattle.rt_run.specs.RunContents.{RunContents}
 use Rattle.rt_run.specs.RunText.{Explains, ExplainsFrom, reports_of, reports_text, reports_status, IsRunText}
 use Rattle.rt_run.specs.inside.RunResults.{RunOverBook}
 
--- what a gate to the table holds, and its name
-abbrev pub holds : HeldPass → List Visit → Type 0
-holds gate visits = Uncut gate.feed (map (entries gate.feed) visits) gate.seen
+-- the visits that a gate to the table holds, and its name
+abbrev pub holds : HeldPass → List AnsweredBatch → Type 0
+holds gate visits = IsContiguousIn gate.feed (map (entries gate.feed) visits) gate.seen
 
 abbrev pub name : HeldPass → SharedId × ℕ
 name gate = (gate.table, gate.feed)
@@ -34,16 +34,16 @@ record IsExplained (batch feed : ℕ) (journal : List Entry) (text : List ℕ) (
   explains : Explains batch feed journal text lines
   reported : report ≡ report_lines 1 lines
 
--- what a feed ran through the gate of a fresh pass is explained by the settled journal
+-- the settled journal explains what a feed executed through the gate of a fresh pass
 explained : (batch feed : ℕ) (journal : List Entry) (text : List ℕ) (old new : HeldPass) (report : List Line)
     → RunsFeed holds batch text old new report → old.seen ≡ [] → new.feed ≡ feed
     → Since feed new.seen journal → IsExplained batch feed journal text report
 explained batch feed journal text old new report runs fresh same since =
     let pieces = runs.asks.pieces in
-    let none : holds old [] = subst (λ (seen : List Entry). Uncut old.feed [] seen) (sym fresh) (All-nil _) in
-    let held : Uncut new.feed (map (entries new.feed) (map visit_of pieces)) new.seen = runs.asks.gained [] none in
-    let mine : Uncut feed (map (entries feed) (map visit_of pieces)) new.seen =
-    subst (λ (n : ℕ). Uncut n (map (entries n) (map visit_of pieces)) new.seen) same held in
+    let none : holds old [] = subst (λ (seen : List Entry). IsContiguousIn old.feed [] seen) (sym fresh) (All-nil _) in
+    let held : IsContiguousIn new.feed (map (entries new.feed) (map visit_of pieces)) new.seen = runs.asks.gained [] none in
+    let mine : IsContiguousIn feed (map (entries feed) (map visit_of pieces)) new.seen =
+    subst (λ (n : ℕ). IsContiguousIn n (map (entries n) (map visit_of pieces)) new.seen) same held in
     record {
       lines = runs.outcomes;
       explains = record {
@@ -84,7 +84,7 @@ le_or_lt zero n = inl (omega arith)
 le_or_lt (suc m) zero = inr (omega arith)
 le_or_lt (suc m) (suc n) = elim (le_or_lt m n) [ inl le ↦ inl (omega (arith, le)) | inr lt ↦ inr (omega (arith, lt)) ]
 
--- what is needed of the places in lists; here a tactic sees nothing else
+-- facts on positions in lists; a tactic sees nothing else here
 below_more : (i m n : ℕ) → i < m → m ≤ n → i < n
 below_more i m n here more = omega (arith, here, more)
 
@@ -106,18 +106,18 @@ one_more i = omega arith
 as_below : (i m n : ℕ) → n ≡ m → i < m → i < n
 as_below i m n same here = subst (λ (k : ℕ). i < k) (sym same) here
 
--- where there is a place there is a text
+-- there is a text at each position below the number of texts
 some_text : {V : Type 0} (texts : List V) (i : ℕ) → i < length texts → V
 some_text [] i here = absurd (omega (arith, here))
 some_text (text ∷ texts) i here = text
 
--- the passes of a table, of which the first are in gates to it: their gates, before and after a run of as many texts
+-- the passes of a table, the first of which are in gates to it: their gates, before and after a run of as many texts
 module _ {V : Type 0} (items : V → List ℕ) (texts : List V) (table : SharedId) (batch : ℕ) (passes : List HeldPass) (dealt : ArePassesOf table passes)
     (fresh : All (λ (p : HeldPass). p.seen ≡ []) passes) (few : length texts ≤ length passes) (feeds feeds' : List (Feed HeldPass))
     (opened : feeds ≡ map (λ p. record { gate = p; report = None }) (take (length texts) passes)) (as_many : length feeds' ≡ length feeds)
     (ran : (i : ℕ) (t : V) (d : Feed HeldPass) → i < length texts
     → RunsOne name holds batch (items (get_or texts i t)) (get_or feeds i d).gate (get_or feeds' i d).gate (get_or feeds' i d).report) where
-  -- a pass and a feed that stand in no list
+  -- a pass and a feed for positions outside of the lists
   no_pass : HeldPass
   no_pass = record { table = table; feed = 0; seen = [] }
 
@@ -140,7 +140,7 @@ module _ {V : Type 0} (items : V → List ℕ) (texts : List V) (table : SharedI
       ∙ (ap (λ (f : Feed HeldPass). f.gate) (get_or-map open_feed (take (length texts) passes) i no_pass no_feed within)
       ∙ get_or-take (length texts) passes i no_pass here)
 
-  -- the passes as they come back: those of the gates, and those that were idle
+  -- the passes after the run: those of the gates, and those that were idle
   back : List HeldPass
   back = map (λ (f : Feed HeldPass). f.gate) feeds' ++ drop (length texts) passes
 
@@ -154,14 +154,14 @@ module _ {V : Type 0} (items : V → List ℕ) (texts : List V) (table : SharedI
       ∙ (ap (λ (n : ℕ). n + length (drop (length texts) passes)) n_gates
       ∙ (ap (λ (n : ℕ). length texts + n) (length-drop (length texts) passes) ∙ with_rest (length texts) (length passes) few))
 
-  -- the first come back from the gates
+  -- the first passes are those of the gates
   ran_back : (i : ℕ) → i < length texts → get_or back i no_pass ≡ (get_or feeds' i no_feed).gate
   unfolding back no_pass no_feed
   ran_back i here =
       get_or_append_left (map (λ (f : Feed HeldPass). f.gate) feeds') (drop (length texts) passes) no_pass i (as_below i _ _ n_gates here)
       ∙ get_or-map (λ (f : Feed HeldPass). f.gate) feeds' i no_feed no_pass (as_below i _ _ n_feeds here)
 
-  -- and the others as they were
+  -- the other passes are unchanged
   idle_back : (i : ℕ) → length texts ≤ i → get_or back i no_pass ≡ get_or passes i no_pass
   unfolding back
   idle_back i idle =
@@ -169,7 +169,7 @@ module _ {V : Type 0} (items : V → List ℕ) (texts : List V) (table : SharedI
       get_or-append_right (map (λ (f : Feed HeldPass). f.gate) feeds') (drop (length texts) passes) (length texts) i no_pass n_gates idle
       ∙ (get_or-drop (length texts) passes (i - length texts) no_pass ∙ ap (λ (k : ℕ). get_or passes k no_pass) at)
 
-  -- all of them with the names that they had
+  -- all passes keep their names
   named_back : (i : ℕ) → name (get_or back i no_pass) ≡ name (get_or passes i no_pass)
   named_back i = elim (le_or_lt (length texts) i) [
     | inl idle ↦ ap name (idle_back i idle)
@@ -194,13 +194,13 @@ module _ {V : Type 0} (items : V → List ℕ) (texts : List V) (table : SharedI
   }
 
   module _ (journal : List Entry) (settled : Settles table (map (λ (f : Feed HeldPass). f.gate) feeds' ++ drop (length texts) passes) journal) where
-    -- what a pass has not seen is not its feed's
+    -- an entry that a pass has not seen isn't its feed's
     since_back : (i : ℕ) → i < length passes → Since (i + 1) (get_or back i no_pass).seen journal
     unfolding back
     since_back i here =
         subst (λ (feed : ℕ). Since feed (get_or back i no_pass).seen journal) (feed_back i here) (settled.since i no_pass (as_below i _ _ n_back here))
 
-    -- so no entry is of a feed that has no text
+    -- hence no entry is of a feed without a text
     pub no_other : All (λ (e : Entry). (1 ≤ e.feed) × (e.feed ≤ length texts)) journal
     no_other k d here =
         let of = settled.of_feeds k d here in
@@ -220,7 +220,7 @@ module _ {V : Type 0} (items : V → List ℕ) (texts : List V) (table : SharedI
               absurd (other (sym next))
         ]
 
-    -- and each report is explained
+    -- each report is explained
     module _ (reports : List (List Line)) (reported : map Some reports ≡ map (λ (f : Feed HeldPass). f.report) feeds') where
       n_reports : length reports ≡ length texts
       n_reports = sym (length-map reports Some) ∙ (ap length reported ∙ (length-map feeds' (λ (f : Feed HeldPass). f.report) ∙ n_feeds))
@@ -239,7 +239,7 @@ module _ {V : Type 0} (items : V → List ℕ) (texts : List V) (table : SharedI
           let new = (get_or feeds' i no_feed).gate in
           let report = get_or reports i r in
           let runs : RunsFeed holds batch (items (get_or texts i t')) old new report =
-          subst (λ (o : Option (List Line)). MatchOption o (StopsWithin holds batch (items (get_or texts i t')) old new)
+          subst (λ (o : Option (List Line)). MatchOption o (RunsPrefixOf holds batch (items (get_or texts i t')) old new)
           (λ lines. RunsFeed holds batch (items (get_or texts i t')) old new lines)) (report_at i r here) run.runs in
           let unseen : old.seen ≡ [] = ap (λ (p : HeldPass). p.seen) (gate_before i here) ∙ fresh i no_pass within in
           let next : m ≡ i + 1 = is ∙ one_more i in
@@ -249,7 +249,7 @@ module _ {V : Type 0} (items : V → List ℕ) (texts : List V) (table : SharedI
           (subst (λ (f : ℕ). Since f (get_or back i no_pass).seen journal) (sym next) (since_back i within)) in
           explained batch m journal (items (get_or texts i t')) old new report runs unseen mine since
 
-      -- so the texts were run to their ends
+      -- hence the texts were run to their ends
       pub run_over_book : (book : BookContents) → book.journal ≡ journal
           → book.limit ≡ table.limit → RunOverBook (record { texts = map items texts; limit = table.limit; batch = batch }) reports book
       run_over_book book journaled limited =
@@ -266,8 +266,8 @@ module _ {V : Type 0} (items : V → List ℕ) (texts : List V) (table : SharedI
             counted = n_reports ∙ sym (length-map texts items);
           }
 
--- what is written of them is a run's text
-pub run_text : (asked : AskedRun) (reports : List (List Line)) (book : BookContents) → RunOverBook asked reports book
+-- their output is a run's text
+pub run_text : (asked : RunContents) (reports : List (List Line)) (book : BookContents) → RunOverBook asked reports book
     → IsRunText asked.texts asked.limit asked.batch (reports_text 1 reports ++ table_text (table_of book)) (reports_status reports)
 run_text asked reports book ran = record {
   journal = book.journal;

@@ -1,38 +1,39 @@
--- What is written of two runs: the ranges of addresses that their finished tables answer otherwise.
+-- The output of a comparison: the ranges of addresses for which the final tables of two runs give different answers.
 use Rattle.std.specs.Prelude.{◌≡◌, ℕ, max, List, [], ◌∷◌}
 use Rattle.rt_rib.specs.declared.routes.Route.{Route}
-use Rattle.rt_diff.specs.declared.table_answers.By.{By}
+use Rattle.rt_diff.specs.declared.table_answers.CompareBy.{CompareBy}
 use Rattle.rt_diff.specs.declared.comparison.Difference.{Difference}
-use Rattle.rt_diff.specs.Answers.{ToldTable, by_own}
+use Rattle.rt_diff.specs.Answers.{RenumberedTable, own_numbers}
 use Rattle.rt_diff.specs.Differences.{AreDifferences}
 use Rattle.rt_feed.specs.DifferenceText.{SideStylesContents, differences_as}
-use Rattle.rt_run.specs.declared.compared.DiffSummary.{DiffSummary}
-use Rattle.rt_run.specs.AskedRun.{AskedRun}
+use Rattle.rt_run.specs.declared.comparisons.DiffSummary.{DiffSummary}
+use Rattle.rt_run.specs.RunContents.{RunContents}
 use Rattle.rt_run.specs.TableText.{LeavesTable}
 
--- by what answers are told apart, by which numbers the feeds of the new table are told, and in which style the ranges are
-pub record AskedDiff : Type 0 where
-  pub by : By
+-- the part of an answer that is compared, the numbers that identify the feeds of the new table, and the styles of the
+-- output
+pub record DiffContents : Type 0 where
+  pub by : CompareBy
   pub numbers : List ℕ
   pub styles : SideStylesContents
 
--- the new table, its feeds told by these numbers
-abbrev pub new_told : AskedDiff → List Route → ToldTable
-new_told asked routes = record { routes = routes; numbers = asked.numbers }
+-- the new table, its feeds identified by these numbers
+abbrev pub renumbered_new : DiffContents → List Route → RenumberedTable
+renumbered_new asked routes = record { routes = routes; numbers = asked.numbers }
 
--- 1 where some address is answered otherwise, else 0
+-- 1 if the tables differ for some address, else 0
 abbrev pub differ_status : List Difference → ℕ
 differ_status [] = 0
 differ_status (d ∷ list) = 1
 
--- the bytes are the lines of all the ranges that the tables of two runs answer otherwise, and of the statuses of both runs and of
--- whether there is a line this is the greatest
-pub record IsDiffText (asked : AskedDiff) (old new : AskedRun) (bytes : List ℕ) (given : DiffSummary) : Type 0 where
+-- the bytes are the lines of all ranges for which the tables of two runs give different answers; the status is the
+-- maximum of both runs' statuses and, if there is a line, of 1
+pub record IsDiffText (asked : DiffContents) (old new : RunContents) (bytes : List ℕ) (given : DiffSummary) : Type 0 where
   pub old_table : List Route
   pub new_table : List Route
   pub old_left : LeavesTable old old_table given.old
   pub new_left : LeavesTable new new_table given.new
   pub list : List Difference
-  pub differences : AreDifferences asked.by (by_own old_table) (new_told asked new_table) list
+  pub differences : AreDifferences asked.by (own_numbers old_table) (renumbered_new asked new_table) list
   pub printed : bytes ≡ differences_as asked.styles list
   pub is_status : given.status ≡ max (differ_status list) (max given.old.status given.new.status)

@@ -1,4 +1,5 @@
-pub mod AskedRun
+pub mod RunContents
+pub mod ChosenFeeds
 pub mod RunText
 pub mod SameTable
 pub mod LeftOut

@@ -2,5 +2,5 @@
 pub mod Outputs
 pub mod Comparisons
 pub mod RunResults
-pub mod AskedAddresses
+pub mod LookupAddresses
 pub mod Turns

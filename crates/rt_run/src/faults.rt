@@ -1,4 +1,4 @@
-//! What the program's work can be refused for.
+//! The errors of runs, queries, comparisons and replays.
 ghost use Rattle.std.specs.Prelude.{◌≡◌};
 ghost use Rattle.rt_feed.specs.declared.faults.RunFault.TheVariants.{Memory};
 ghost use Rattle.rt_run.specs.declared.faults.AppFault.TheVariants.{Run};
@@ -9,16 +9,16 @@ use std::alloc::AllocError;
 use thiserror::Error;
 use ya_core::ReplayFault;
 
-/// Why the program's work was not done.
+/// The reason why a run, query, comparison or replay failed.
 #[derive(Clone, Copy, PartialEq, Eq, Debug, Error)]
 pub enum AppFault {
-    /// The run was refused, and nothing was written.
+    /// The run failed, and nothing was written.
     #[error("{0}")]
     Run(RunFault),
-    /// The replay was refused, and nothing was written.
+    /// The replay failed, and nothing was written.
     #[error("{0}")]
     Replay(ReplayFault),
-    /// The output could not be written; what was written is a beginning of it.
+    /// The output could not be written; a beginning of it was.
     #[error("cannot write")]
     Write,
 }
@@ -31,7 +31,7 @@ impl From<RunFault> for AppFault {
     }
 }
 
-/// Want of memory outside of a command refuses a run.
+/// A run fails if memory runs out outside of a command.
 impl From<AllocError> for AppFault {
     ghost from_gives = { λ _ fault. fault ≡ Run Memory };
 
@@ -40,7 +40,7 @@ impl From<AllocError> for AppFault {
     }
 }
 
-/// So does what is refused for it.
+/// A run fails if a call of the table runs out of memory.
 impl From<Refused> for AppFault {
     ghost from_gives = { λ _ fault. fault ≡ Run Memory };
 

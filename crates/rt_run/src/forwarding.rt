@@ -1,5 +1,5 @@
-//! Look-ups of the finished table: by the table itself, or by a forwarding table made of it where so many addresses are asked that
-//! this is faster.
+//! Look-ups in the final table: in the table itself, or in a forwarding table made from it if that is faster for the number
+//! of addresses.
 ghost use Rattle.std.specs.Prelude.{◌≡◌, IfSome, length, map};
 ghost use Rattle.rt_rib.specs.LookUp.{look_up};
 
@@ -8,22 +8,22 @@ use rt_fib::Fib;
 use rt_rib::{Route, Table};
 use std::alloc::Global;
 
-/// From so many addresses on a forwarding table is faster, where the table has at least [`MANY_ROUTES`].
+/// With at least this many addresses a forwarding table is faster, if the table has at least [`MANY_ROUTES`].
 const MANY_ADDRESSES: usize = 1 << 19;
 
-/// With fewer routes the table's own look-ups find all in cache.
+/// With fewer routes the whole table is in the processor's cache.
 const MANY_ROUTES: u32 = 1 << 14;
 
-/// To make a forwarding table takes about as long as the table takes for two look-ups a route, so it is made for more than that.
+/// Making a forwarding table takes as long as about two look-ups per route in the table, so it needs more addresses than that.
 const ADDRESSES_A_ROUTE: usize = 3;
 
-/// Whether a forwarding table of so many routes, made for so many addresses, is faster than the table.
+/// Returns true if a forwarding table of `routes` routes is faster than the table for `asked` addresses.
 fn is_faster(routes: u32, asked: usize) -> bool {
     let enough = asked / ADDRESSES_A_ROUTE >= routes as usize;
     routes >= MANY_ROUTES && asked >= MANY_ADDRESSES && enough
 }
 
-/// A forwarding table of the table, where it is faster for so many addresses and there is memory for it.
+/// Returns a forwarding table of the table if that is faster for `asked` addresses and there is memory for it.
 pub(crate) fn fib_for(alloc: Global, table: &Table<Global>, asked: usize) -> Option<Fib<Global>>
     ensures { IfSome result (λ fib. fib ≡ table.now.routes) }
 {
@@ -33,8 +33,8 @@ pub(crate) fn fib_for(alloc: Global, table: &Table<Global>, asked: usize) -> Opt
     Fib::of(alloc, table).ok()
 }
 
-/// What a look-up of each address finds, in order, by the forwarding table where there is one, and else by the table itself: it takes the
-/// place of what stood in the list.
+/// Replaces the elements of `answers` by the results of looking up each address, in order: in the forwarding table if there
+/// is one, else in the table itself.
 pub(crate) fn look_up_by(
     table: &Table<Global>,
     fib: &Option<Fib<Global>>,

@@ -1,22 +1,22 @@
-//! What is written: a run's reports and table, what its finished table says, what two tables answer otherwise, or a
-//! replay. All goes through one buffer.
+//! Output: a run's reports and table, the result of a query, the differences between two tables, or a replay. All of it
+//! goes through one buffer.
 ghost use Rattle.std.specs.Prelude.{◌≡◌, ◌++◌, [], ◌<◌, ◌≤◌, true, false, length, IfSome};
 ghost use Rattle.rt_cidr.specs.Output.{WritesText};
-ghost use Rattle.rt_rib.specs.declared.limits.TheConstants.{MOST_FEEDS};
+ghost use Rattle.rt_rib.specs.declared.limits.TheConstants.{MAX_FEEDS};
 ghost use Rattle.rt_feed.specs.Printed.{table_text};
 ghost use Rattle.rt_run.specs.RunText.{reports_text};
 ghost use Rattle.rt_run.specs.TableText.{answers_text};
 ghost use Rattle.rt_run.specs.inside.Outputs.{IsOutput, matches_text, output_text, Writes};
 ghost use Rattle.rt_run.specs.inside.Comparisons.{IsFirstOf, lines_of};
 
-use crate::diff_terms::DiffTerms;
+use crate::diff_options::DiffOptions;
 use crate::faults::AppFault;
 use crate::forwarding::look_up_by;
 use rt_cidr::{Addr, OutputBuffer, OutputRoom};
 use rt_diff::Difference;
 use rt_feed::{
-    Report, RunFault, Style, write_all_found_as, write_counts_as, write_difference_as,
-    write_found_as, write_report, write_rows_as, write_table,
+    Report, RunFault, Style, write_all_matches_styled, write_counts_as, write_difference_as,
+    write_lookup_styled, write_report, write_routes_styled, write_table,
 };
 use rt_fib::Fib;
 use rt_rib::{Route, Table};
@@ -25,37 +25,37 @@ use std::io::{self, Write};
 use ya_core::Step;
 use ya_replay::write_replay;
 
-/// So many addresses are looked up together.
+/// The number of addresses that are looked up together.
 const PIECE: usize = 256;
 
-/// An address, and all routes that cover it, the best first.
+/// An address and all routes that cover it, the best first.
 #[derive(Drop)]
 pub(crate) struct AddressMatches {
     pub(crate) addr: Addr,
     pub(crate) routes: Vec<Route>,
 }
 
-/// What is to be written.
+/// The output, not yet written.
 #[derive(Clone, Copy)]
 pub(crate) enum Output<'a> {
-    /// The reports, the k-th as feed k's, and then the table of these routes.
+    /// The reports, the k-th for feed k, and then the table of these routes.
     Run(&'a [Report], &'a [Route]),
-    /// In which style, what a look-up of each address finds in the table, by its forwarding table where there is one.
+    /// The style; then the result of looking up each address in the table, with its forwarding table if there is one.
     Answers(&'a Style<'a>, &'a Table<Global>, &'a Option<Fib<Global>>, &'a [Addr]),
-    /// In which style, all routes that cover each address.
+    /// The style, and all routes that cover each address.
     Matches(&'a Style<'a>, &'a [AddressMatches]),
-    /// On which terms, what the two tables answer otherwise, of which this is the first.
-    Differences(&'a DiffTerms<'a>, &'a Table<Global>, &'a Table<Global>, Option<Difference>),
-    /// In which style, the routes alone.
+    /// The terms, the two tables to compare, and their first difference.
+    Differences(&'a DiffOptions<'a>, &'a Table<Global>, &'a Table<Global>, Option<Difference>),
+    /// The style, and the routes to list.
     Routes(&'a Style<'a>, &'a [Route]),
-    /// In which style, how many routes there are.
+    /// The style, and the routes to count.
     Counts(&'a Style<'a>, &'a [Route]),
-    /// The steps of a replay, and who is inside after them.
+    /// The steps of a replay, and the place that is inside after them.
     Replay(&'a [Step], Option<usize>),
 }
 
 impl Output<'_> {
-    /// Whether there is nothing to write.
+    /// Returns true if there is nothing to write.
     fn is_empty(&self) -> bool
         requires { IsOutput self.now }
         ensures none { result ≡ true → output_text self.now ≡ [] }
@@ -73,7 +73,7 @@ impl Output<'_> {
     }
 }
 
-/// Writes the output in few large writes, where there is anything to write.
+/// Writes the output in few large writes, if there is anything to write.
 pub(crate) fn write_output<W: Write>(
     alloc: Global,
     output: Output<'_>,
@@ -92,7 +92,7 @@ pub(crate) fn write_output<W: Write>(
     }
 }
 
-/// Writes the output in few large writes. Takes no memory.
+/// Writes the output in few large writes. Doesn't allocate.
 pub(crate) fn write_buffered<W: Write>(
     w: &mut W,
     room: OutputRoom,
@@ -113,7 +113,7 @@ pub(crate) fn write_buffered<W: Write>(
     flushed
 }
 
-/// Writes the output, one part after another.
+/// Writes the output part by part.
 fn write_parts<W: Write>(w: &mut W, output: Output<'_>) -> Result<(), io::Error>
     requires { IsOutput output }
     ensures { WritesText (W.contents w.old) (W.contents w.new) (output_text output.entry) result }
@@ -125,24 +125,24 @@ fn write_parts<W: Write>(w: &mut W, output: Output<'_>) -> Result<(), io::Error>
         }
         Output::Matches(style, all) => write_matches(w, style, all),
         Output::Differences(terms, old, new, first) => write_differences(w, terms, old, new, first),
-        Output::Routes(style, routes) => write_rows_as(w, style, routes),
+        Output::Routes(style, routes) => write_routes_styled(w, style, routes),
         Output::Counts(style, routes) => write_counts_as(w, style, routes),
         Output::Replay(steps, inside) => write_replay(w, steps, inside),
     }
 }
 
-/// Writes the reports, the k-th as feed k's, and then the table.
+/// Writes the reports, the k-th for feed k, and then the table.
 fn write_run<W: Write>(w: &mut W, reports: &[Report], routes: &[Route]) -> Result<(), io::Error>
-    requires few { length reports.now ≤ MOST_FEEDS }
+    requires few { length reports.now ≤ MAX_FEEDS }
     ensures { WritesText (W.contents w.old) (W.contents w.new) (reports_text 1 reports.now ++ table_text routes.now) result }
 {
     write_reports(w, reports)?;
     write_table(w, routes)
 }
 
-/// Writes the reports, the k-th as feed k's.
+/// Writes the reports, the k-th for feed k.
 fn write_reports<W: Write>(w: &mut W, reports: &[Report]) -> Result<(), io::Error>
-    requires few { length reports.now ≤ MOST_FEEDS }
+    requires few { length reports.now ≤ MAX_FEEDS }
     ensures { WritesText (W.contents w.old) (W.contents w.new) (reports_text 1 reports.now) result }
 {
     for (index, report) in reports.iter().enumerate() {
@@ -151,7 +151,7 @@ fn write_reports<W: Write>(w: &mut W, reports: &[Report]) -> Result<(), io::Erro
     Ok(())
 }
 
-/// Writes what a look-up of each address finds in the table.
+/// Writes the result of looking up each address in the table.
 fn write_answers<W: Write>(
     w: &mut W,
     style: &Style<'_>,
@@ -171,7 +171,7 @@ fn write_answers<W: Write>(
     Ok(())
 }
 
-/// Writes what a look-up of each of a few addresses finds in the table.
+/// Writes the result of looking up each of at most [`PIECE`] addresses in the table.
 fn write_piece<W: Write>(
     w: &mut W,
     style: &Style<'_>,
@@ -187,12 +187,12 @@ fn write_piece<W: Write>(
     let found = &mut places[..piece.len()];
     look_up_by(table, fib, piece, found);
     for (index, address) in piece.iter().enumerate() {
-        write_found_as(w, style, *address, found[index])?;
+        write_lookup_styled(w, style, *address, found[index])?;
     }
     Ok(())
 }
 
-/// Writes for each address all routes that cover it.
+/// Writes all routes that cover each address.
 fn write_matches<W: Write>(
     w: &mut W,
     style: &Style<'_>,
@@ -201,15 +201,15 @@ fn write_matches<W: Write>(
     ensures { WritesText (W.contents w.old) (W.contents w.new) (matches_text style.now all.now) result }
 {
     for one in all {
-        write_all_found_as(w, style, one.addr, one.routes.as_slice())?;
+        write_all_matches_styled(w, style, one.addr, one.routes.as_slice())?;
     }
     Ok(())
 }
 
-/// Writes what two tables answer otherwise, of which this is the first.
+/// Writes the differences between two tables, starting with the given first one.
 fn write_differences<'a, W: Write>(
     w: &mut W,
-    terms: &DiffTerms<'a>,
+    terms: &DiffOptions<'a>,
     old: &'a Table<Global>,
     new: &'a Table<Global>,
     first: Option<Difference>,
@@ -221,7 +221,7 @@ fn write_differences<'a, W: Write>(
     let mut next = first;
     while let Some(difference) = next {
         write_difference_as(w, terms.styles(), &difference)?;
-        next = tables.difference_behind(difference.last);
+        next = tables.difference_after(difference.last);
     }
     Ok(())
 }

@@ -12,10 +12,10 @@ use std::io::Write;
 use ya_core::{ReplayFault, replay};
 use ya_replay::inside_place;
 
-/// Replays a schedule of the lock in a tree of that many levels, in which the picked places step one after another from
-/// the start, and writes to `w` one line for each step and then who is inside. Gives 0 where all was written. Refuses
-/// levels other than 1 to 6 with P2, else a pick that is no place with P1, else want of memory with P3, and then nothing
-/// was written. After `Write` a beginning of the text was written.
+/// Replays a schedule of the lock in a tree of `levels` levels: from the start, the picked places make one step each, in
+/// order. Writes to `w` one line for each step, and then the place that is inside. Returns 0 if everything was written.
+/// Errors, in this order: P2 if `levels` isn't 1 to 6; P1 if a pick isn't a place; P3 if memory ran out. Nothing was
+/// written then. After `Write` a beginning of the text was written.
 pub fn replay_text<W: Write>(
     alloc: Global,
     levels: u32,

@@ -1,20 +1,20 @@
 //! A run: feed texts in, their reports and the table out.
 ghost use Rattle.std.specs.Prelude.{◌≡◌, ◌≢◌, ◌↔◌, ◌⊎◌, ◌+◌, ◌*◌, ◌^◌, ◌<◌, ◌≤◌, ◌++◌, [], map, length, vec_len, vec_capacity, All, Some, None, IfOk, IsSome};
-ghost use Rattle.rt_rib.specs.declared.limits.TheConstants.{MOST_FEEDS};
+ghost use Rattle.rt_rib.specs.declared.limits.TheConstants.{MAX_FEEDS};
 ghost use Rattle.rt_rib.specs.Book.{IsLimit};
 ghost use Rattle.std.specs.List.{list_any};
 ghost use Rattle.rt_feed.specs.Reports.{has_refusal, has_fault};
-ghost use Rattle.rt_run.specs.AskedRun.{AskedRun};
-ghost use Rattle.rt_run.specs.RunText.{IsRunText, Leaves, reports_status};
+ghost use Rattle.rt_run.specs.RunContents.{RunContents};
+ghost use Rattle.rt_run.specs.RunText.{IsRunText, WritesOrFails, reports_status};
 ghost use Rattle.rt_run.specs.inside.RunResults.{RunOverBook, RunBeforeSettle};
 ghost use Rattle.rt_shared.specs.Table.{ArePassesOf};
 
 use crate::faults::AppFault;
-use crate::feed_texts::FeedTexts;
 use crate::output::{Output, write_output};
+use crate::run_input::RunInput;
 use crate::tallies::status_where;
 use rt_feed::{Feed, Report, RunFault, TableGate, run_feeds};
-use rt_rib::{Book, MOST_FEEDS, Refused};
+use rt_rib::{Book, MAX_FEEDS, Refused};
 use rt_shared::{FeedPass, SharedRib};
 use std::alloc::{AllocError, Global};
 use std::io::Write;
@@ -22,14 +22,14 @@ use std::mem;
 use std::sync::Wait;
 use std::thread::Threads;
 
-/// The most texts that a run takes: as many as the highest lock has places.
-pub const MOST_TEXTS: usize = MOST_FEEDS;
+/// The maximum number of texts of a run: the number of places of the highest lock.
+pub const MAX_FEED_FILES: usize = MAX_FEEDS;
 
-/// Runs each text as a feed on a thread of its own, the k-th as feed k with at most `limit` routes, each asking up to
-/// `batch` commands at once of one table, and writes to `w` each feed's report in order and then the table. Gives the
-/// status where all was written: 5 where some command was refused for want of memory, else 2 where some line was faulty,
-/// else 0. No text at all is F1 and want of memory outside of a command F3, and then nothing was written. After `Write` a
-/// beginning of such a text was written. The table's memory is held to the end of the process.
+/// Runs each text as a feed on its own thread, all over one table. The k-th text is feed k; a feed has at most `limit`
+/// routes, and executes up to `batch` commands together. Then writes to `w` each feed's report in order and then the table.
+/// Returns the status if everything was written: 5 if some command ran out of memory, else 2 if some line was faulty, else
+/// 0. Errors: F1 if there is no text; F3 if memory ran out outside of a command; nothing was written then. After `Write` a
+/// beginning of such an output was written. The table's memory isn't freed before the process ends.
 pub fn run_texts<R: Threads + Wait + Sync, W: Write>(
     rt: &R,
     alloc: Global,
@@ -39,19 +39,19 @@ pub fn run_texts<R: Threads + Wait + Sync, W: Write>(
     w: &mut W,
 ) -> Result<u8, AppFault>
     requires limited { IsLimit limit }
-    requires few { length texts.now ≤ MOST_FEEDS }
+    requires few { length texts.now ≤ MAX_FEEDS }
     requires batched { 1 ≤ batch }
-    ensures text { Leaves (IsRunText (map (λ text. text.items) texts.now) limit batch) (W.contents w.old) (W.contents w.new) result }
+    ensures text { WritesOrFails (IsRunText (map (λ text. text.items) texts.now) limit batch) (W.contents w.old) (W.contents w.new) result }
     ensures no_text { (result ≡ Err (AppFault.Run RunFault.NoText)) ↔ (texts.now ≡ []) }
 {
-    let asked = FeedTexts::new(texts, limit, batch);
+    let asked = RunInput::new(texts, limit, batch);
     let run = run_all(rt, alloc, &asked)?;
     let written = report_run(alloc, &run, w);
-    run.leave_table();
+    run.leak_table();
     written
 }
 
-/// What a run has done: each feed's report, in order, and the book.
+/// The result of a run: each feed's report, in order, and the book.
 #[derive(Drop)]
 struct FinishedRun {
     reports: Vec<Report>,
@@ -59,18 +59,17 @@ struct FinishedRun {
 }
 
 impl FinishedRun {
-    /// Leaves the table where it is: to free it node by node would take a tenth of a run, and the system takes its
-    /// pages back at once.
-    fn leave_table(self) {
+    /// Leaks the table: freeing it node by node would take a tenth of a run, and the system takes its pages back at once.
+    fn leak_table(self) {
         mem::forget(self.book);
     }
 }
 
-/// Runs the texts over one table. No text at all is F1, and want of memory outside of a command F3.
+/// Runs the texts over one table. Errors: F1 if there is no text; F3 if memory ran out outside of a command.
 fn run_all<R: Threads + Wait + Sync>(
     rt: &R,
     alloc: Global,
-    asked: &FeedTexts<'_>,
+    asked: &RunInput<'_>,
 ) -> Result<FinishedRun, RunFault>
     ensures ran { IfOk result (λ run. RunOverBook asked.now run.reports.items run.book) }
     ensures refused { result ≢ Err RunFault.FeedCount }
@@ -89,7 +88,7 @@ fn run_all<R: Threads + Wait + Sync>(
 fn run_in_lowest_tree<R: Threads + Wait + Sync>(
     rt: &R,
     alloc: Global,
-    asked: &FeedTexts<'_>,
+    asked: &RunInput<'_>,
 ) -> Result<FinishedRun, Refused>
     ensures { IfOk result (λ run. RunOverBook asked.now run.reports.items run.book) }
 {
@@ -103,11 +102,11 @@ fn run_in_lowest_tree<R: Threads + Wait + Sync>(
     }
 }
 
-/// Runs the texts over one table behind a lock of L levels: as few as have a place for each text.
+/// Runs the texts over one table behind a lock of L levels, the fewest that have a place for each text.
 fn run_in_tree<R: Threads + Wait + Sync, const L: u32>(
     rt: &R,
     alloc: Global,
-    asked: &FeedTexts<'_>,
+    asked: &RunInput<'_>,
 ) -> Result<FinishedRun, Refused>
     requires levels { (1 ≤ L) × (L ≤ 6) }
     requires placed { length asked.now.texts ≤ 2 ^ L }
@@ -127,14 +126,14 @@ fn run_in_tree<R: Threads + Wait + Sync, const L: u32>(
     Ok(FinishedRun { reports, book })
 }
 
-/// The passes of a table and the reports, once all threads are joined.
+/// The passes of a table and the reports, after all threads were joined.
 #[derive(Drop)]
 struct JoinedFeeds {
     passes: Vec<FeedPass>,
     reports: Vec<Report>,
 }
 
-/// Runs the texts, the k-th by the k-th of the table's passes, and gives all its passes back.
+/// Runs the texts, the k-th with the k-th of the table's passes. Returns all passes of the table, and the reports.
 fn run_passes<R: Threads + Wait + Sync, const L: u32>(
     rt: &R,
     alloc: Global,
@@ -158,14 +157,14 @@ fn run_passes<R: Threads + Wait + Sync, const L: u32>(
         return Err(AllocError);
     };
     close_gates(feeds, &mut ended, &mut reports);
-    put_behind(&mut ended, idle);
+    append_passes(&mut ended, idle);
     Ok(JoinedFeeds {
         passes: ended,
         reports,
     })
 }
 
-/// A gate to the table for each pass.
+/// Returns a gate to the table for each pass.
 fn open_gates<'a, const L: u32>(
     alloc: Global,
     table: &'a SharedRib<L>,
@@ -184,7 +183,7 @@ fn open_gates<'a, const L: u32>(
     Ok(feeds)
 }
 
-/// Takes the feeds, which have all been run, apart into their passes and their reports.
+/// Splits the feeds, which have all been run, into their passes and their reports.
 fn close_gates<const L: u32>(
     feeds: Vec<Feed<TableGate<'_, L>>>,
     passes: &mut Vec<FeedPass>,
@@ -205,8 +204,8 @@ fn close_gates<const L: u32>(
     }
 }
 
-/// Puts the passes behind the others.
-fn put_behind(passes: &mut Vec<FeedPass>, mut more: Vec<FeedPass>)
+/// Appends the passes `more`.
+fn append_passes(passes: &mut Vec<FeedPass>, mut more: Vec<FeedPass>)
     requires { vec_len passes.old + vec_len more ≤ vec_capacity passes.old }
     ensures { passes.new.items ≡ passes.old.items ++ more.items }
 {
@@ -215,11 +214,11 @@ fn put_behind(passes: &mut Vec<FeedPass>, mut more: Vec<FeedPass>)
     };
 }
 
-/// Writes what a run has done, and gives its status.
+/// Writes the result of a run, and returns its status.
 fn report_run<W: Write>(alloc: Global, run: &FinishedRun, w: &mut W) -> Result<u8, AppFault>
-    requires few { length run.now.reports.items ≤ MOST_FEEDS }
-    ensures text { (asked : AskedRun) → RunOverBook asked run.now.reports.items run.now.book
-        → Leaves (IsRunText asked.texts asked.limit asked.batch) (W.contents w.old) (W.contents w.new) result }
+    requires few { length run.now.reports.items ≤ MAX_FEEDS }
+    ensures text { (asked : RunContents) → RunOverBook asked run.now.reports.items run.now.book
+        → WritesOrFails (IsRunText asked.texts asked.limit asked.batch) (W.contents w.old) (W.contents w.new) result }
     ensures ran { result ≢ Err (AppFault.Run RunFault.NoText) }
 {
     let routes = run.book.routes(alloc)?;
@@ -228,22 +227,22 @@ fn report_run<W: Write>(alloc: Global, run: &FinishedRun, w: &mut W) -> Result<u
     Ok(status_of(reports))
 }
 
-/// The status of reports whose text was written.
+/// Returns the status of a run with these reports.
 fn status_of(reports: &[Report]) -> u8
     ensures { result ≡ reports_status reports.now }
 {
-    status_where(some_refusal(reports), some_fault(reports))
+    status_where(any_refusal(reports), any_fault(reports))
 }
 
-/// Whether a report tells of a refused command.
-fn some_refusal(reports: &[Report]) -> bool
+/// Returns true if some report contains a refused command.
+fn any_refusal(reports: &[Report]) -> bool
     ensures { result ≡ list_any has_refusal reports.now }
 {
     reports.iter().any(|report| report.has_refusal())
 }
 
-/// Whether a report tells of a faulty line.
-fn some_fault(reports: &[Report]) -> bool
+/// Returns true if some report contains a faulty line.
+fn any_fault(reports: &[Report]) -> bool
     ensures { result ≡ list_any has_fault reports.now }
 {
     reports.iter().any(|report| report.has_fault())

@@ -1,19 +1,19 @@
-//! How a run, and the program, ends.
+//! The exit statuses of a run and of the program.
 
-/// An exit status, by its number (`as u8`). Where several apply, the greatest is given.
+/// An exit status, by its number (`as u8`). If several apply, the result is the highest.
 #[derive(Clone, Copy, PartialEq, Eq, Debug)]
 pub enum Status {
-    /// All was done and taken.
+    /// Success: all input was accepted.
     Done = 0,
-    /// Some address is answered otherwise by the one table than by the other.
+    /// The two tables give different answers for some address.
     Differ = 1,
-    /// Something of a text was not taken: a faulty line, or an `add` over the limit where no report tells of it.
-    NotTaken = 2,
-    /// The command line can't be carried out.
-    Misused = 3,
+    /// Some input was rejected: a faulty line or, for calls that write no report, an `add` over the limit.
+    Rejected = 2,
+    /// The command line is invalid.
+    Usage = 3,
     /// A file could not be read.
     Unreadable = 4,
-    /// Memory was refused.
+    /// Out of memory.
     Refused = 5,
     /// The output could not be written.
     Unwritten = 6,

@@ -1,40 +1,40 @@
-//! How much of its texts a run has taken, for those who don't read its reports.
+//! Tallies of rejected input, for callers that don't read the reports of a run.
 ghost use Rattle.std.specs.Prelude.{◌≡◌, ◌<◌, List, [], ◌∷◌, ◌++◌};
 ghost use Rattle.std.specs.List.{list_any};
 ghost use Rattle.rt_feed.specs.declared.report.Line.{Line};
 ghost use Rattle.rt_run.specs.RunText.{status_where};
-ghost use Rattle.rt_run.specs.TableText.{was_full, was_existing, was_missing, has_refused, has_left_out, tallies_status};
+ghost use Rattle.rt_run.specs.TableText.{was_full, was_existing, was_missing, has_refused, has_rejected, tallies_status};
 
 use crate::status::Status;
 use rt_feed::{Answer, FaultyLines};
 use rt_rib::Reply;
 
-/// What of a feed's text was not taken.
+/// The rejected input of a feed's text, by kind.
 #[derive(Clone, Copy, Debug)]
-pub struct Tally {
+pub struct RejectedInput {
     /// Its faulty lines.
     pub faulty: FaultyLines,
-    /// How many `add`s were over the limit.
+    /// The number of `add`s over the limit.
     pub full: usize,
-    /// How many `add`s found their prefix there already.
+    /// The number of `add`s to a prefix to which the feed already had a route.
     pub existing: usize,
-    /// How many `replace`s and `withdraw`s found no route of their prefix.
+    /// The number of `replace`s and `withdraw`s to a prefix to which the feed had no route.
     pub missing: usize,
-    /// How many commands were refused for want of memory.
+    /// The number of commands that ran out of memory.
     pub refused: usize,
 }
 
-impl Tally {
+impl RejectedInput {
     ghost use Rattle.rt_feed.specs.Lines.{numbered};
     ghost use Rattle.rt_feed.specs.Addresses.{faulty_lines};
     ghost use Rattle.rt_run.specs.TableText.{tally_of, faults_of};
     ghost use Rattle.rt_run.specs.inside.Turns.{IsBelow};
 
     /// Returns the tally of a report without lines.
-    pub(crate) fn new() -> Tally
+    pub(crate) fn new() -> RejectedInput
         ensures { result ≡ tally_of [] }
     {
-        Tally {
+        RejectedInput {
             faulty: FaultyLines::none(),
             full: 0,
             existing: 0,
@@ -43,7 +43,7 @@ impl Tally {
         }
     }
 
-    /// Counts what a report would say of the line of this number, if anything.
+    /// Counts the answer that a report would have for the line of this number, if it would have one.
     pub(crate) fn count(&mut self, number: usize, said: Option<Answer>)
         requires { IsBelow number self.old }
         ensures { (report : List Line) → self.old ≡ tally_of report → self.new ≡ tally_of (report ++ numbered number said) }
@@ -70,33 +70,33 @@ impl Tally {
         }
     }
 
-    /// Whether a command was refused for want of memory.
+    /// Returns true if a command ran out of memory.
     fn has_refused(&self) -> bool
         ensures { result ≡ has_refused self.now }
     {
         self.refused > 0
     }
 
-    /// Whether a line was faulty, or an `add` over the limit.
-    fn has_left_out(&self) -> bool
-        ensures { result ≡ has_left_out self.now }
+    /// Returns true if a line was faulty or an `add` was over the limit.
+    fn has_rejected(&self) -> bool
+        ensures { result ≡ has_rejected self.now }
     {
         self.faulty.count > 0 || self.full > 0
     }
 }
 
-/// What a run comes to: its exit status, and what of its texts was not taken.
+/// The summary of a run: its exit status and its rejected input.
 #[derive(Debug, Drop)]
 pub struct RunSummary {
-    /// The exit status: 5 where some command was refused for want of memory, else 2 where some line was faulty or some
-    /// `add` over the limit, else 0.
+    /// The exit status: 5 if some command ran out of memory, else 2 if some line was faulty or some `add` was over the
+    /// limit, else 0.
     pub status: u8,
-    /// What was not taken of each text, in the order of the feeds.
-    pub tallies: Vec<Tally>,
+    /// The rejected input of each text, in the order of the feeds.
+    pub tallies: Vec<RejectedInput>,
 }
 
-/// Returns how much of the texts was taken, of which these are the tallies.
-pub(crate) fn summary_of(tallies: Vec<Tally>) -> RunSummary
+/// Returns the summary of a run with these tallies.
+pub(crate) fn summary_of(tallies: Vec<RejectedInput>) -> RunSummary
     ensures tallies { result.tallies ≡ tallies }
     ensures is_status { result.status ≡ tallies_status tallies.items }
 {
@@ -104,7 +104,7 @@ pub(crate) fn summary_of(tallies: Vec<Tally>) -> RunSummary
     RunSummary { status, tallies }
 }
 
-/// Whether an `add` was over the limit.
+/// Returns true if an `add` was over the limit.
 fn was_full(answer: Answer) -> bool
     ensures { result ≡ was_full answer }
 {
@@ -114,7 +114,7 @@ fn was_full(answer: Answer) -> bool
     }
 }
 
-/// Whether an `add` found its prefix there already.
+/// Returns true if the feed of an `add` already had a route to its prefix.
 fn was_existing(answer: Answer) -> bool
     ensures { result ≡ was_existing answer }
 {
@@ -124,7 +124,7 @@ fn was_existing(answer: Answer) -> bool
     }
 }
 
-/// Whether a `replace` or `withdraw` found no route of its prefix.
+/// Returns true if the feed of a `replace` or `withdraw` had no route to its prefix.
 fn was_missing(answer: Answer) -> bool
     ensures { result ≡ was_missing answer }
 {
@@ -134,34 +134,34 @@ fn was_missing(answer: Answer) -> bool
     }
 }
 
-/// The status of a run of which this was not taken.
-fn status_of(tallies: &[Tally]) -> u8
+/// Returns the status of a run with these tallies.
+fn status_of(tallies: &[RejectedInput]) -> u8
     ensures { result ≡ tallies_status tallies.now }
 {
     status_where(any_refused(tallies), any_left_out(tallies))
 }
 
-/// The status, by whether some command was refused for want of memory, and whether something else was not taken.
+/// Returns the status: `refused` means that some command ran out of memory, `left_out` that other input was rejected.
 pub(crate) fn status_where(refused: bool, left_out: bool) -> u8
     ensures { result ≡ status_where refused left_out }
 {
     if refused {
         Status::Refused as u8
     } else if left_out {
-        Status::NotTaken as u8
+        Status::Rejected as u8
     } else {
         Status::Done as u8
     }
 }
 
-fn any_refused(tallies: &[Tally]) -> bool
+fn any_refused(tallies: &[RejectedInput]) -> bool
     ensures { result ≡ list_any has_refused tallies.now }
 {
     tallies.iter().any(|tally| tally.has_refused())
 }
 
-fn any_left_out(tallies: &[Tally]) -> bool
-    ensures { result ≡ list_any has_left_out tallies.now }
+fn any_left_out(tallies: &[RejectedInput]) -> bool
+    ensures { result ≡ list_any has_rejected tallies.now }
 {
-    tallies.iter().any(|tally| tally.has_left_out())
+    tallies.iter().any(|tally| tally.has_rejected())
 }

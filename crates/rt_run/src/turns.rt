@@ -1,21 +1,22 @@
-//! A run for those who print neither its journal nor its reports: the texts are executed one after another, on the caller's
-//! thread, and nothing is stored of them but the table and a tally of each text.
+//! Runs for callers that print neither journal nor reports: the texts are executed one after another, on the caller's
+//! thread. Only the table and a tally of each text are stored.
 ghost use Rattle.std.specs.Prelude.{◌≡◌, ◌≢◌, ◌↔◌, ◌≤◌, ℕ, List, [], length, map, IfOk};
-ghost use Rattle.rt_rib.specs.declared.limits.TheConstants.{MOST_FEEDS};
+ghost use Rattle.rt_rib.specs.declared.limits.TheConstants.{MAX_FEEDS};
 ghost use Rattle.rt_rib.specs.declared.routes.Route.{Route};
 ghost use Rattle.rt_rib.specs.Book.{IsLimit, IsFeed, table_state};
-ghost use Rattle.rt_run.specs.AskedRun.{AskedRun};
+ghost use Rattle.rt_run.specs.RunContents.{RunContents};
+ghost use Rattle.rt_run.specs.ChosenFeeds.{is_left_out, texts_kept};
 ghost use Rattle.rt_run.specs.TableText.{LeavesTable};
 ghost use Rattle.rt_run.specs.inside.Turns.{ExecutesText, ExecutesLine, ExecutesCommand};
 
-use crate::feed_texts::FeedTexts;
-use crate::tallies::{RunSummary, Tally, summary_of};
+use crate::chosen::{ChosenTexts, FeedChoice};
+use crate::tallies::{RejectedInput, RunSummary, summary_of};
 use rt_feed::{Answer, RunFault, Version, next_line, parse_line, text_body};
 use rt_rib::{Cmd, Refused, Table};
 use std::alloc::{AllocError, Global};
 use std::mem;
 
-/// What a query stores of a run: the table that all texts leave, and how much of them was taken.
+/// The result of a run for a query: the table that all texts leave, and the summary.
 #[derive(Drop)]
 pub(crate) struct FinishedQuery {
     pub(crate) table: Table<Global>,
@@ -25,7 +26,7 @@ pub(crate) struct FinishedQuery {
 impl FinishedQuery {
     /// Returns a copy of the summary.
     pub(crate) fn summary(&self, alloc: Global) -> Result<RunSummary, AllocError>
-        ensures { IfOk result (λ summary. (asked : AskedRun) (table : List Route)
+        ensures { IfOk result (λ summary. (asked : RunContents) (table : List Route)
             → LeavesTable asked table self.now.summary → LeavesTable asked table summary) }
     {
         let tallies = self.summary.tallies.as_slice().to_vec(alloc)?;
@@ -35,15 +36,16 @@ impl FinishedQuery {
         })
     }
 
-    /// Leaves the table where it is, as `FinishedRun::leave_table` does.
-    pub(crate) fn leave_table(self) {
+    /// Leaks the table, as `FinishedRun::leak_table` does.
+    pub(crate) fn leak_table(self) {
         mem::forget(self.table);
     }
 }
 
-/// Executes the texts one after another over one table, the k-th as feed k's. This is one of the runs that threads could have
-/// made. No text at all is F1, and want of memory outside of a command F3.
-pub(crate) fn run_in_turn(alloc: Global, asked: &FeedTexts<'_>) -> Result<FinishedQuery, RunFault>
+/// Executes the texts one after another over one table, the k-th for feed k, and an empty text for each feed that is left out.
+/// This is one of the runs that threads could have made. Errors: F1 if there is no text; F3 if memory ran out outside of a
+/// command.
+pub(crate) fn run_in_turn(alloc: Global, asked: &ChosenTexts<'_>) -> Result<FinishedQuery, RunFault>
     ensures ran { IfOk result (λ run. LeavesTable asked.now run.table.routes run.summary) }
     ensures refused { result ≢ Err RunFault.FeedCount }
     ensures no_text { (result ≡ Err RunFault.NoText) ↔ (asked.now.texts ≡ []) }
@@ -51,36 +53,47 @@ pub(crate) fn run_in_turn(alloc: Global, asked: &FeedTexts<'_>) -> Result<Finish
     if asked.count() == 0 {
         return Err(RunFault::NoText);
     }
-    match execute_texts(alloc, asked.texts, asked.limit) {
+    match execute_texts(alloc, asked.texts, asked.limit, asked.choice) {
         Ok(run) => Ok(run),
         Err(AllocError) => Err(RunFault::Memory),
     }
 }
 
-/// Executes the texts one after another over one table. Its result doesn't depend on how many commands a batch has.
-fn execute_texts(alloc: Global, texts: &[Vec<u8>], limit: u32) -> Result<FinishedQuery, AllocError>
+/// Executes the texts one after another over one table. Its result doesn't depend on the batch.
+fn execute_texts(
+    alloc: Global,
+    texts: &[Vec<u8>],
+    limit: u32,
+    choice: FeedChoice<'_>,
+) -> Result<FinishedQuery, AllocError>
     requires limited { IsLimit limit }
-    requires few { length texts.now ≤ MOST_FEEDS }
+    requires few { length texts.now ≤ MAX_FEEDS }
     ensures { IfOk result (λ run. (batch : ℕ) → 1 ≤ batch
-        → LeavesTable (record { texts = map (λ text. text.items) texts.now; limit = limit; batch = batch }) run.table.routes run.summary) }
+        → LeavesTable (record {
+          texts = texts_kept (is_left_out choice.entry.only.now choice.entry.without.now) 1 (map (λ text. text.items) texts.now);
+          limit = limit;
+          batch = batch;
+        }) run.table.routes run.summary) }
 {
     let mut table = Table::new(alloc, limit);
     let mut tallies = Vec::with_capacity(alloc, texts.len())?;
     for (index, text) in texts.iter().enumerate() {
-        let tally = execute_text(&mut table, index as u32 + 1, text.as_slice());
+        let feed = index as u32 + 1;
+        let kept = choice.text_of(feed, text.as_slice());
+        let tally = execute_text(&mut table, feed, kept);
         tallies.push_reserved(tally);
     }
     let summary = summary_of(tallies);
     Ok(FinishedQuery { table, summary })
 }
 
-/// Executes the commands of the feed's text in order, and tallies what was not taken.
-fn execute_text(table: &mut Table<Global>, feed: u32, text: &[u8]) -> Tally
+/// Executes the commands of the feed's text in order, and returns the tally of rejected input.
+fn execute_text(table: &mut Table<Global>, feed: u32, text: &[u8]) -> RejectedInput
     requires { IsFeed feed }
     ensures { ExecutesText feed text.now (table_state table.old) (table_state table.new) result }
 {
     let (version, lines) = text_body(text);
-    let mut tally = Tally::new();
+    let mut tally = RejectedInput::new();
     let mut rest = lines;
     let mut number = version.first_line() - 1;
     while let Some((line, next)) = next_line(rest) {
@@ -92,7 +105,7 @@ fn execute_text(table: &mut Table<Global>, feed: u32, text: &[u8]) -> Tally
     tally
 }
 
-/// Executes the line's command, and returns what a report would say of the line, if anything.
+/// Executes the line's command, and returns the answer that a report would have for the line, if it would have one.
 fn execute_line(
     table: &mut Table<Global>,
     feed: u32,

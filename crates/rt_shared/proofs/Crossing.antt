@@ -1,4 +1,5 @@
--- What a thread may be given of the shared table: a reference to it, and the pass of a feed. The lent book crosses with them.
+-- The parts of the shared table that a thread may be given: a reference to it, and the pass of a feed. The lent book
+-- crosses with them.
 use denote.RattleType.{RattleType}
 use denote.Param.Send.{IsSend, IsSync, sendable}
 use Rattle.std.proofs.Crossing.{send, frees}

@@ -46,7 +46,7 @@ all_answered feed (cmd ∷ cmds) (Did reply ∷ os) =
     All-cons (λ (e : Entry). e.feed ≡ feed) (record { feed = feed; cmd = cmd; reply = reply }) (answered feed cmds os) refl (all_answered feed cmds os)
 all_answered feed (cmd ∷ cmds) (Refused ∷ os) = all_answered feed cmds os
 
--- without an outcome there is none
+-- without an outcome there are no entries
 pub nothing_answered : (feed : ℕ) (cmds : List Cmd) → answered feed cmds [] ≡ []
 nothing_answered feed [] = refl
 nothing_answered feed (cmd ∷ cmds) = refl

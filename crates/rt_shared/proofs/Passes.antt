@@ -11,32 +11,32 @@ use Rattle.rt_shared.specs.declared.lent.Lent.{Lent}
 use Rattle.rt_shared.specs.Table.{SharedId, HeldPass, ArePassesOf, feed_of, GrowsByOthers}
 use Rattle.rt_shared.specs.inside.PassModel.{of_feed, held_pass, HoldsLockPass}
 
--- the place of a pass of the lock is that of a feed
+-- the place of a pass of the lock belongs to a feed
 abbrev pub HasFeed : IdlePass Lent → Type 0
 HasFeed p = p.place < p.seen.feeds
 
--- what a pass has seen is lawful
+-- the journal that a pass has seen is lawful
 pub seen_is_lawful : (feed : ℕ) (pass : Option (IdlePass Lent)) → HoldsLockPass feed pass
     → IsLawfulJournal (held_pass feed pass).table.limit (held_pass feed pass).seen
 seen_is_lawful feed (Some pass) there = pass.seen.lawful
 seen_is_lawful feed None there = absurd there
 
--- what holds of all holds of one in their midst
+-- a property of all elements holds for one among them
 pub all_amid : {X : Type 0} (P : X → Type 0) (xs ys : List X) (x : X) → All P (xs ++ x ∷ ys) → P x
 all_amid P [] ys x all = All-head P x ys all
 all_amid P (y ∷ xs) ys x all = all_amid P xs ys x (All-tail P y (xs ++ x ∷ ys) all)
 
--- what holds of all holds of a beginning of them
+-- a property of all elements holds for a prefix of them
 pub all_front : {X : Type 0} (P : X → Type 0) (xs ys : List X) → All P (xs ++ ys) → All P xs
 all_front P [] ys all = All-nil P
 all_front P (x ∷ xs) ys all = All-cons P x xs (All-head P x (xs ++ ys) all) (all_front P xs ys (All-tail P x (xs ++ ys) all))
 
--- the last pass is one of the table's
+-- the last pass is a pass of the table
 pub last_of : (table : SharedId) (passes rest : List HeldPass) (last : HeldPass) → ArePassesOf table passes → passes ≡ rest ++ last ∷ [] → last.table ≡ table
 last_of table passes rest last are is = all_amid (λ (p : HeldPass). p.table ≡ table) rest [] last
     (subst (All (λ (p : HeldPass). p.table ≡ table)) is are.tables)
 
--- a pass of a table is one of its lock
+-- a pass of a table is a pass of its lock
 pub lock_of : (feed : ℕ) (pass : Option (IdlePass Lent)) (idle : IdlePass Lent) (held : HeldPass) (table own : SharedId)
     → pass ≡ Some idle → held_pass feed pass ≡ held → held.table ≡ table → own ≡ table → idle.lock ≡ own.lock
 lock_of feed pass idle held table own there view of self =
@@ -46,7 +46,7 @@ lock_of feed pass idle held table own there view of self =
 pub spaced : 64 < 9223372036854775808
 spaced = omega arith
 
--- what the lock says of its pass holds of the feed's
+-- the lock's promise on its pass holds for the feed's pass
 pub since_of : (idle : IdlePass Lent) (pass : HeldPass) (now : Lent) → feed_of idle.place ≡ pass.feed
     → idle.seen.book.journal ≡ pass.seen → GrowsByOthers idle.place idle.seen now
     → Since pass.feed pass.seen now.book.journal
@@ -67,10 +67,10 @@ passes_kept table old new are long each = record {
       ap (λ (q : HeldPass). q.feed) is ∙ ((each i p (omega arith)).1 ∙ are.feeds i (get_or old i p) (slice_get-get_or old i p (omega arith)));
 }
 
--- the passes of a lock that has just been made, as those of the feeds of a table
+-- the passes of a new lock, as the passes of the feeds of a table
 module _ (lock : LockId) (levels : ℕ) (lent : Lent) (passes : List (IdlePass Lent))
     (deal : ArePassesInOrder lock levels lent passes) (few : 2 ^ levels ≡ lent.feeds) where
-  -- the k-th of them
+  -- the k-th pass
   at_place : (k : ℕ) (d : IdlePass Lent) → k < length passes → get_or passes k d ≡ new_pass lock k lent
   at_place k d h = let e = slice_get-get_or passes k d h in let f = deal.each k (omega (arith, deal.count)) in cc
 

@@ -1,4 +1,4 @@
--- What every run of the core's worlds says of the journal.
+-- The journal of every run of the core's worlds.
 use Rattle.std.proofs.Common.{◌≡◌, ℕ, List, [], ◌∷◌, ◌++◌, map, Some, None, Option, refl, sym, ap, ◌∙◌, subst, inl, inr, append_assoc, append-nil, arith}
 use Rattle.std.specs.Option.{option_map_or}
 use Rattle.std.proofs.lemmas.List.{map-append}
@@ -28,7 +28,7 @@ lawful_from law limit before (x ∷ content) follows lawful =
     subst (λ (l : List (Marked Act)). IsLawfulJournal limit (journal_of l)) (append_assoc before (x ∷ []) content)
     (lawful_from law limit (before ++ x ∷ []) content follows.1 next)
 
--- the entries of a place are those of its feed
+-- the entries of a place are the entries of its feed
 pub entries_same : (place : ℕ) (content : List (Marked Act))
     → feed_entries (feed_of place) (journal_of content) ≡ map (entry_of place) (entries_of place content)
 entries_same place [] = refl

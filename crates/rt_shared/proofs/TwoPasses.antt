@@ -2,7 +2,7 @@
 use Rattle.std.proofs.Common.{◌≡◌, ◌∙◌, List, [], ◌∷◌, ◌++◌, Option, Some, length, length-append, subst, ap, arith}
 use Rattle.std.specs.Option.{option_to_list}
 
--- a list of two elements is the two that stood last
+-- a list of two elements has only its last two
 two_of : {X : Type 0} (rest xs : List X) (first second : X) → length xs ≡ 2 → xs ≡ (rest ++ first ∷ []) ++ second ∷ [] → xs ≡ first ∷ second ∷ []
 two_of [] xs first second two is = is
 two_of {X} (p ∷ rest) xs first second two is =

@@ -1,4 +1,4 @@
--- The sentence that everything serves, said of the core's worlds: what places do there is to answer commands.
+-- The main theorem's terms for the core's worlds, where places answer commands.
 use Rattle.std.specs.Prelude.{◌≡◌, ℕ, ◌≤◌, List, ◌∷◌, ◌++◌, map}
 use Rattle.ya_core.specs.Worlds.{Marked, World, Event, IsReached, IsInside}
 use Rattle.rt_cidr.specs.declared.address.Addr.{Addr}
@@ -16,7 +16,7 @@ use Rattle.rt_shared.specs.Table.{feed_of}
 abbrev pub Act : Type 0
 Act = Cmd × Reply
 
--- what a place did, as an entry of the journal
+-- a place's act as an entry of the journal
 abbrev pub entry_of : ℕ → Act → Entry
 entry_of place act = record { feed = feed_of place; cmd = act.0; reply = act.1 }
 
@@ -24,12 +24,12 @@ entry_of place act = record { feed = feed_of place; cmd = act.0; reply = act.1 }
 abbrev pub journal_of : List (Marked Act) → List Entry
 journal_of content = map (λ x. entry_of x.0 x.1) content
 
--- the reply is the sequential table's in the set that these acts leave
+-- the reply is the sequential table's after these acts
 abbrev pub IsSequential : ℕ → List (Marked Act) → Marked Act → Type 0
 IsSequential limit earlier x = IsAnswered limit (journal_of earlier) (entry_of x.0 x.1)
 
--- in a tree of at least one level some list of events leads to the world, and each command was so answered in the copy
--- that it was appended to
+-- in a tree of at least one level some list of events leads to the world, and each command was answered so after the
+-- copy to which it was appended
 abbrev pub IsRunTo : (limit levels : ℕ) → World Act → Type 0
 IsRunTo limit levels world = (1 ≤ levels) × (events : List (Event Act)) × IsReached levels (IsSequential limit) events world
 
@@ -41,7 +41,8 @@ NoTwoInside world = (p q : ℕ) → IsInside world.state p → IsInside world.st
 abbrev pub HasAllMade : World Act → Type 0
 HasAllMade world = (place : ℕ) → feed_entries (feed_of place) (journal_of world.content) ≡ map (entry_of place) (world.made place)
 
--- what a look-up found is the best feed's route of the longest matching prefix, in the table that the entries before it left
+-- each look-up that found a route found the best feed's route of the longest matching prefix, in the table that the
+-- entries before it left
 abbrev pub FindsBest : ℕ → List Entry → Type 0
 FindsBest limit journal =
     (feed : ℕ) (addr : Addr) (r : Route) (earlier later : List Entry) → journal ≡ earlier ++ record { feed = feed; cmd = Lookup addr; reply = Found r } ∷ later

@@ -1,4 +1,4 @@
--- What holds of every journal and of the visits in it.
+-- Properties of every journal and of the visits in it.
 use Rattle.std.specs.Prelude.{◌≡◌, ℕ, ◌<◌, List, [], ◌∷◌, ◌++◌, length, slice_index_or}
 use Rattle.std.specs.List.{flat_map}
 use Rattle.rt_rib.specs.declared.commands.Cmd.{Cmd}
@@ -6,13 +6,14 @@ use Rattle.rt_rib.specs.declared.commands.Entry.{Entry}
 use Rattle.rt_rib.specs.Laws.{feed_entries}
 use Rattle.rt_shared.specs.declared.outcome.Outcome.{Outcome}
 use Rattle.rt_shared.specs.Table.{SharedId, HeldPass, ArePassesOf}
-use Rattle.rt_shared.specs.Visits.{AllBy, Since, answered, MakesVisit, Uncut}
+use Rattle.rt_shared.specs.Visits.{AllBy, Since, answered, CommitsBatch, IsContiguousIn}
 
--- what may have happened once may happen again
+-- two changes by others in a row are one such change
 abbrev pub SinceAgain : Type 0
 SinceAgain = (feed : ℕ) (a b c : List Entry) → Since feed a b → Since feed b c → Since feed a c
 
--- the entries of two pieces of a feed's commands are those of the first, and then those of the second; all are the feed's
+-- the entries of two pieces of a feed's commands are the entries of the first and then those of the second; all
+-- are the feed's
 abbrev pub AnsweredInPieces : Type 0
 AnsweredInPieces =
     (feed : ℕ) (xs ys : List Cmd) (os ps : List Outcome) → length os ≡ length xs
@@ -20,28 +21,28 @@ AnsweredInPieces =
 
 -- in the empty journal a feed has no visit
 abbrev pub UncutAtFirst : Type 0
-UncutAtFirst = (feed : ℕ) → Uncut feed [] []
+UncutAtFirst = (feed : ℕ) → IsContiguousIn feed [] []
 
 -- a feed's visits stay uncut while it is away
 abbrev pub UncutSince : Type 0
-UncutSince = (feed : ℕ) (visits : List (List Entry)) (a b : List Entry) → Uncut feed visits a → Since feed a b → Uncut feed visits b
+UncutSince = (feed : ℕ) (visits : List (List Entry)) (a b : List Entry) → IsContiguousIn feed visits a → Since feed a b → IsContiguousIn feed visits b
 
--- and one more call adds one more
+-- one more call adds one more visit
 abbrev pub UncutByVisit : Type 0
 UncutByVisit =
-    (limit feed : ℕ) (visits : List (List Entry)) (seen now : List Entry) (cmds : List Cmd) (outcomes : List Outcome) → Uncut feed visits seen
-    → MakesVisit limit feed seen cmds outcomes now → Uncut feed (visits ++ answered feed cmds outcomes ∷ []) now
+    (limit feed : ℕ) (visits : List (List Entry)) (seen now : List Entry) (cmds : List Cmd) (outcomes : List Outcome) → IsContiguousIn feed visits seen
+    → CommitsBatch limit feed seen cmds outcomes now → IsContiguousIn feed (visits ++ answered feed cmds outcomes ∷ []) now
 
 -- the entries of the feed are those of its visits, one visit after another
 abbrev pub EntriesOfVisits : Type 0
-EntriesOfVisits = (feed : ℕ) (visits : List (List Entry)) (journal : List Entry) → Uncut feed visits journal
+EntriesOfVisits = (feed : ℕ) (visits : List (List Entry)) (journal : List Entry) → IsContiguousIn feed visits journal
     → feed_entries feed journal ≡ flat_map (λ visit. visit) visits
 
--- what a feed has seen has all its entries
+-- the journal that a feed has seen has all its entries
 abbrev pub EntriesSince : Type 0
 EntriesSince = (feed : ℕ) (a b : List Entry) → Since feed a b → feed_entries feed b ≡ feed_entries feed a
 
--- passes of which each has the table and feed that it had are still all passes of their table
+-- passes that have kept their table and feed are still all passes of their table
 abbrev pub PassesKept : Type 0
 PassesKept =
     (table : SharedId) (old new : List HeldPass) → ArePassesOf table old → length new ≡ length old

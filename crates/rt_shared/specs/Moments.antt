@@ -1,4 +1,4 @@
--- The sentence that everything serves, said of the running lock at any moment between two atomic steps.
+-- The main theorem's terms for the running lock at any moment between two atomic steps.
 use Rattle.std.specs.Prelude.{◌≡◌, ℕ, ◌⊎◌, List, [], ◌∷◌, Some}
 use Rattle.std.specs.Prelude as std
 use mathlib.Core.Option.{some}
@@ -16,13 +16,14 @@ use Rattle.rt_shared.specs.Visits.{Since}
 abbrev pub Moment : Type 0
 Moment = State (std.Option Lent) (View Lent)
 
--- the book lies in its slot
+-- the book is in its slot
 abbrev pub BookInSlot : Moment → Lent → Type 0
 BookInSlot s lent = s.homes ≡ some (Some lent) ∷ []
 
--- nobody is inside; the book's trie is lawful and holds exactly the routes left by its journal; the journal is lawful; what
--- a look-up found is the best feed's route of the longest matching prefix; and what each pass away has seen begins the
--- journal, with no entry of that pass's feed behind, as does what was given where a pass is still to be made
+-- no process is inside. The book's trie is lawful and holds exactly the routes left by its journal; the journal is
+-- lawful; each look-up found the best feed's route of the longest matching prefix. The journal that a pass away has
+-- seen, or that was given to a pass still to be made, is a prefix of the book's, with no entry of that pass's feed
+-- after it
 pub record IsAtRest (s : Moment) (lent : Lent) : Type 0 where
   pub nobody : NoneInside s
   pub holds : HoldsTable lent.book
@@ -31,8 +32,8 @@ pub record IsAtRest (s : Moment) (lent : Lent) : Type 0 where
   pub since : (seat place : ℕ) (seen : Lent) → IsAway s seat place seen ⊎ IsToMake s seat place seen
       → Since (feed_of place) seen.book.journal lent.book.journal
 
--- no two are inside; whenever a book lies in its slot, it is at rest; and so one does whenever none is inside, by the views
--- of all seats, once it was given
+-- no two processes are inside. A book in its slot is at rest. Once it was given, a book is in its slot whenever the
+-- views of all seats show no process inside
 pub record MeetsHeadline (s : Moment) : Type 0 where
   pub exclusion : OneInside s
   pub at_rest : (lent : Lent) → BookInSlot s lent → IsAtRest s lent

@@ -1,4 +1,4 @@
--- What contracts see of a shared table and of a pass, and how what is lent changes.
+-- A shared table and a pass in the view of contracts, and the changes of the lent value.
 use Rattle.std.specs.Prelude.{◌≡◌, ℕ, ◌+◌, ◌≤◌, List, ◌++◌, slice_get, length, Some, All}
 use Rattle.rt_rib.specs.declared.commands.Entry.{Entry}
 use Rattle.rt_rib.specs.Sequential.{IsLawfulJournal}
@@ -6,7 +6,7 @@ use Rattle.ya_lock.specs.Lock.{LockId}
 use Rattle.rt_shared.specs.declared.lent.Lent.{Lent}
 use Rattle.rt_shared.specs.Visits.{AllBy, Since}
 
--- which table it is: its lock, how many routes each feed may have, and how many feeds there are
+-- the identity of a table: its lock, the maximum number of routes of a feed, and the number of feeds
 pub record SharedId : Type 0 where
   pub lock : LockId
   pub limit : ℕ
@@ -24,8 +24,8 @@ pub record ArePassesOf (table : SharedId) (passes : List HeldPass) : Type 0 wher
   pub tables : All (λ p. p.table ≡ table) passes
   pub feeds : (i : ℕ) (p : HeldPass) → slice_get passes i ≡ Some p → p.feed ≡ i + 1
 
--- the journal is lawful, each of its entries is a feed's of the table, and nothing in it that a pass hasn't seen is of
--- the pass's feed
+-- the journal is lawful, each of its entries is of a feed of the table, and no entry that a pass hasn't seen is of the
+-- pass's feed
 pub record Settles (table : SharedId) (passes : List HeldPass) (journal : List Entry) : Type 0 where
   pub lawful : IsLawfulJournal table.limit journal
   pub of_feeds : All (λ e. (1 ≤ e.feed) × (e.feed ≤ table.feeds)) journal
@@ -40,12 +40,12 @@ pub record HasSameBounds (a b : Lent) : Type 0 where
   pub limit : b.book.limit ≡ a.book.limit
   pub feeds : b.feeds ≡ a.feeds
 
--- others may have been answered, but not the place's feed
+-- feeds other than the place's may have been answered
 pub record GrowsByOthers (place : ℕ) (a b : Lent) : Type 0 where
   pub same : HasSameBounds a b
   pub since : Since (feed_of place) a.book.journal b.book.journal
 
--- the place's feed may have been answered, and no other
+-- only the place's feed may have been answered
 pub record GrowsByFeed (place : ℕ) (a b : Lent) : Type 0 where
   pub same : HasSameBounds a b
   pub own : List Entry

@@ -1,4 +1,4 @@
--- The visits of a feed to the shared table: what each adds to the journal, and how they lie in it.
+-- The visits of a feed to the shared table: the entries that each adds to the journal, and their positions in it.
 use Rattle.std.specs.Prelude.{◌≡◌, ◌≢◌, ℕ, List, [], ◌∷◌, ◌++◌, length, map, zip, All}
 use Rattle.rt_rib.specs.declared.commands.Cmd.{Cmd}
 use Rattle.rt_rib.specs.declared.commands.Reply.{Reply}
@@ -15,37 +15,37 @@ AllBy feed part = All (λ e. e.feed ≡ feed) part
 abbrev pub NoneBy : ℕ → List Entry → Type 0
 NoneBy feed part = All (λ e. e.feed ≢ feed) part
 
--- what the feed has seen begins the journal as it is now, and nothing behind it is the feed's
+-- the journal that the feed has seen is a prefix of the current one, and no entry after it is the feed's
 pub record Since (feed : ℕ) (seen now : List Entry) : Type 0 where
   pub others : List Entry
   pub grown : now ≡ seen ++ others
   pub by_others : NoneBy feed others
 
 -- the commands that one call answered, in order, each with its reply
-abbrev pub Visit : Type 0
-Visit = List (Cmd × Reply)
+abbrev pub AnsweredBatch : Type 0
+AnsweredBatch = List (Cmd × Reply)
 
 -- the command with its reply, if it had one
-abbrev pub reply_to : Cmd → Outcome → Visit
+abbrev pub reply_to : Cmd → Outcome → AnsweredBatch
 reply_to cmd (Did reply) = (cmd, reply) ∷ []
 reply_to cmd Refused = []
 
--- of these commands those that had a reply, in order, each with it
-abbrev pub visit_of : List (Cmd × Outcome) → Visit
+-- the commands that had a reply, in order, each with its reply
+abbrev pub visit_of : List (Cmd × Outcome) → AnsweredBatch
 visit_of [] = []
 visit_of (one ∷ asked) = reply_to one.0 one.1 ++ visit_of asked
 
 -- the visit as entries of this feed
-abbrev pub entries : ℕ → Visit → List Entry
+abbrev pub entries : ℕ → AnsweredBatch → List Entry
 entries feed visit = map (λ p. record { feed = feed; cmd = p.0; reply = p.1 }) visit
 
--- the entries of a feed's commands, in order: one for each that has a reply, and none for one that was refused
+-- the entries of a feed's commands, in order: one for each command with a reply, and none for a refused command
 abbrev pub answered : ℕ → List Cmd → List Outcome → List Entry
 answered feed cmds outcomes = entries feed (visit_of (zip cmds outcomes))
 
--- a visit: the feed finds a journal to which others alone have added since it last saw it, and leaves it with the
--- entries of its commands at the end, in one piece. What it leaves is lawful, so each reply is the sequential table's
-pub record MakesVisit (limit feed : ℕ) (seen : List Entry) (cmds : List Cmd) (outcomes : List Outcome) (now : List Entry) : Type 0 where
+-- a visit: only other feeds have added entries to the journal since the feed last saw it, and the feed appends the
+-- entries of its commands in one piece. The resulting journal is lawful, so each reply is the sequential table's
+pub record CommitsBatch (limit feed : ℕ) (seen : List Entry) (cmds : List Cmd) (outcomes : List Outcome) (now : List Entry) : Type 0 where
   pub found : List Entry
   pub since : Since feed seen found
   pub each : length outcomes ≡ length cmds
@@ -56,11 +56,11 @@ pub record MakesVisit (limit feed : ℕ) (seen : List Entry) (cmds : List Cmd) (
 pub record MakesVisitWith (limit feed : ℕ) (seen : List Entry) (cmds : List Cmd) (before after : List Outcome) (now : List Entry) : Type 0 where
   pub outcomes : List Outcome
   pub appended : after ≡ before ++ outcomes
-  pub visit : MakesVisit limit feed seen cmds outcomes now
+  pub visit : CommitsBatch limit feed seen cmds outcomes now
 
--- these visits of the feed, each a list of entries, lie uncut in the journal: each stands in it in one piece, in this
+-- these visits of the feed, each a list of entries, are uncut in the journal: each is in it in one piece, in this
 -- order, and no other entry of the journal is the feed's
-abbrev pub Uncut : ℕ → List (List Entry) → List Entry → Type 0
-Uncut feed [] journal = NoneBy feed journal
-Uncut feed (visit ∷ visits) journal =
-    (before rest : List Entry) × (journal ≡ before ++ (visit ++ rest)) × NoneBy feed before × AllBy feed visit × Uncut feed visits rest
+abbrev pub IsContiguousIn : ℕ → List (List Entry) → List Entry → Type 0
+IsContiguousIn feed [] journal = NoneBy feed journal
+IsContiguousIn feed (visit ∷ visits) journal =
+    (before rest : List Entry) × (journal ≡ before ++ (visit ++ rest)) × NoneBy feed before × AllBy feed visit × IsContiguousIn feed visits rest

@@ -1,2 +1,2 @@
--- What the contracts of tests alone speak of.
+-- Definitions that only the contracts of tests use.
 pub mod Testing

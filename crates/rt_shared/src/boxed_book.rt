@@ -1,4 +1,5 @@
-//! The lent book in memory of its own: what a feed takes out of the lock and puts back is a pointer to it, and no copy of it.
+//! The lent book in its own allocation: a feed takes a pointer to it out of the lock and puts the pointer back, without
+//! a copy of the book.
 ghost use Rattle.std.specs.Prelude.{◌≡◌, IfOk, OnErr};
 ghost use Rattle.rt_rib.specs.Book.{IsFeed, Applies, Refuses, HoldsTable};
 
@@ -26,7 +27,7 @@ impl Model for BoxedBook {
 }
 
 impl BoxedBook {
-    /// The book in a box. M1: `Refused` where memory was refused.
+    /// Returns the book in a box. M1: `Refused` if memory runs out.
     pub(crate) fn new(alloc: Global, book: Book<Global>) -> Result<BoxedBook, Refused>
         ensures { IfOk result (λ boxed. boxed ≡ book) }
     {
@@ -36,7 +37,7 @@ impl BoxedBook {
         Ok(BoxedBook { inner })
     }
 
-    /// The book.
+    /// Returns the book.
     pub(crate) fn get(&self) -> &Book<Global>
         ensures { result.now ≡ self.now }
     {
@@ -53,7 +54,7 @@ impl BoxedBook {
         self.inner.apply(feed, cmd)
     }
 
-    /// The book, out of its box.
+    /// Returns the book, out of its box.
     pub(crate) fn into_book(self) -> Book<Global>
         ensures { result ≡ self }
     {

@@ -1,6 +1,6 @@
-//! What the lock lends to one feed at a time, and what a feed does to it.
+//! The value that the lock lends to one feed at a time, and a feed's changes to it.
 ghost use Rattle.std.specs.Prelude.{◌≡◌, ◌≤◌, All};
-ghost use Rattle.rt_rib.specs.declared.limits.TheConstants.{MOST_FEEDS};
+ghost use Rattle.rt_rib.specs.declared.limits.TheConstants.{MAX_FEEDS};
 ghost use Rattle.rt_rib.specs.Sequential.{IsLawfulJournal};
 ghost use Rattle.rt_rib.specs.Book.{HoldsTable};
 ghost use Rattle.rt_rib.specs.inside.OneProof.{HoldsTable-prop};
@@ -8,13 +8,13 @@ ghost use Rattle.rt_rib.specs.inside.OneProof.{HoldsTable-prop};
 use crate::boxed_book::BoxedBook;
 use crate::outcome::Outcome;
 use rt_rib::laws::lawful_by_entry;
-use rt_rib::{AHEAD, Book, Cmd, Refused, Reply};
+use rt_rib::{Book, Cmd, READ_AHEAD_COMMANDS, Refused, Reply};
 use std::alloc::Global;
 use std::fmt;
 use ya_lock::Kept;
 
-/// The book that all feeds change. Its journal is lawful, each of its entries is of a feed of the table, and its trie is
-/// lawful and holds exactly the routes that the journal leaves.
+/// The book that all feeds change. Its journal is lawful, each entry is of a feed of the table, and its trie is lawful
+/// and holds exactly the routes that the journal leaves.
 #[derive(Drop)]
 pub struct Lent {
     pub(crate) book: BoxedBook,
@@ -22,7 +22,7 @@ pub struct Lent {
     ghost lawful: { IsLawfulJournal book.limit book.journal },
     ghost holds: { HoldsTable book } by { HoldsTable-prop book },
     ghost of_feeds: { All (λ e. (1 ≤ e.feed) × (e.feed ≤ feeds)) book.journal },
-    ghost few: { feeds ≤ MOST_FEEDS },
+    ghost few: { feeds ≤ MAX_FEEDS },
 }
 
 impl Kept for Lent {
@@ -47,9 +47,9 @@ impl Lent {
     ghost use Rattle.rt_shared.specs.inside.Visits.{AreServed};
     ghost use Rattle.rt_shared.specs.Table.{HasSameBounds};
 
-    /// An empty book for so many feeds. M1: `Refused` where memory was refused.
+    /// Returns an empty book for `feeds` feeds. M1: `Refused` if memory runs out.
     pub(crate) fn new(alloc: Global, limit: u32, feeds: u32) -> Result<Lent, Refused>
-        requires { IsLimit limit × (feeds ≤ MOST_FEEDS) }
+        requires { IsLimit limit × (feeds ≤ MAX_FEEDS) }
         ensures limit { IfOk result (λ lent. lent.book.limit ≡ limit) }
         ensures journal { IfOk result (λ lent. lent.book.journal ≡ []) }
         ensures feeds { IfOk result (λ lent. lent.feeds ≡ feeds) }
@@ -70,7 +70,7 @@ impl Lent {
         self.book.apply(feed, cmd)
     }
 
-    /// The same, with the outcome in place of a result.
+    /// Answers a command like `apply`, and returns an outcome instead of a result.
     fn serve(&mut self, feed: u32, cmd: Cmd) -> Outcome
         requires { (1 ≤ feed) × (feed ≤ self.old.feeds) }
         ensures same { HasSameBounds self.old self.new }
@@ -82,8 +82,8 @@ impl Lent {
         }
     }
 
-    /// Answers commands of the feed in order, with an outcome of each. One that is refused memory changes nothing, and the
-    /// rest go on.
+    /// Answers commands of the feed in order, and appends an outcome of each. A command for which memory runs out
+    /// changes nothing, and the rest go on.
     pub(crate) fn serve_all(&mut self, feed: u32, cmds: &[Cmd], out: &mut Vec<Outcome>)
         requires feed { (1 ≤ feed) × (feed ≤ self.old.feeds) }
         requires room { vec_len out.old + length cmds.now ≤ vec_capacity out.old }
@@ -91,7 +91,7 @@ impl Lent {
         ensures served { AreServed feed cmds.now self.old.book.journal out.old.items self.new.book.journal out.new.items }
     {
         for (index, cmd) in cmds.iter().enumerate() {
-            if index % AHEAD == 0 {
+            if index % READ_AHEAD_COMMANDS == 0 {
                 self.book.get().read_ahead(&cmds[index..]);
             }
             let outcome = self.serve(feed, *cmd);

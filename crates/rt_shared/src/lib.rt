@@ -1,5 +1,5 @@
-//! The shared table: several feeds, each on a thread of its own, change one book behind the lock, and its journal explains
-//! every answer.
+//! The shared table: several feeds, each on a thread of its own, change one book under the lock, and its journal
+//! explains every answer.
 //!
 //! ```text
 //! let (table, passes) = SharedRib::<6>::new(alloc, limit)?;

@@ -1,9 +1,9 @@
-//! The shared table, and the right of each feed to change it.
+//! The shared table, and each feed's right to change it.
 ghost use Rattle.std.specs.Prelude.{◌≡◌, ℕ, ◌+◌, ◌^◌, ◌<◌, ◌≤◌, [], ◌∷◌, ◌++◌, length, IfOk, OnErr, IsOk, OnOk, All, vec_len, vec_capacity};
-ghost use Rattle.rt_rib.specs.declared.limits.TheConstants.{MOST_FEEDS};
+ghost use Rattle.rt_rib.specs.declared.limits.TheConstants.{MAX_FEEDS};
 ghost use Rattle.rt_rib.specs.Book.{IsLimit};
 ghost use Rattle.rt_rib.specs.Sequential.{table_of_journal, IsLawfulJournal};
-ghost use Rattle.rt_shared.specs.Visits.{Since, MakesVisit, MakesVisitWith};
+ghost use Rattle.rt_shared.specs.Visits.{Since, CommitsBatch, MakesVisitWith};
 ghost use Rattle.rt_shared.specs.Table.{ArePassesOf, Settles, feed_of};
 ghost use Rattle.rt_shared.specs.inside.PassModel.{shared_id, of_feed};
 
@@ -20,7 +20,7 @@ use ya_lock::{Pass, TreeLock};
 /// last seen it.
 #[derive(Drop)]
 pub struct FeedPass {
-    /// It is there but for the time of a call.
+    /// `None` only during a call.
     pub(crate) pass: Option<Pass<Lent>>,
     pub(crate) feed: u32,
 }
@@ -38,14 +38,14 @@ impl Model for FeedPass {
 }
 
 impl FeedPass {
-    /// The number of its feed, from 1 on.
+    /// Returns the number of its feed, from 1 on.
     pub fn feed(&self) -> u32
         ensures { result ≡ self.now.feed }
     {
         self.feed
     }
 
-    /// The pass of the feed of this place.
+    /// Returns the pass of the feed of this place.
     pub(crate) fn of(idle: Pass<Lent>) -> FeedPass
         requires { idle.place < idle.seen.feeds }
         ensures { result ≡ of_feed idle }
@@ -57,7 +57,7 @@ impl FeedPass {
         }
     }
 
-    /// Its pass of the lock.
+    /// Returns its pass of the lock.
     pub(crate) fn into_idle(self) -> Pass<Lent>
         ensures table { shared_id result ≡ self.table }
         ensures feed { feed_of result.place ≡ self.feed }
@@ -78,9 +78,9 @@ impl fmt::Debug for FeedPass {
     }
 }
 
-/// A routing table with its journal, which 2 to the power of L feeds change, each by a pass of its own. L is 1 to 6. A
-/// thread that uses it holds a reference to it and a pass. Contracts see which table it is, how many routes each feed may
-/// have, and how many feeds there are.
+/// A routing table with its journal, which 2 to the power of L feeds change, each by its own pass. L is 1 to 6. A
+/// thread that uses it holds a reference to it and a pass. Contracts see its identity, the maximum number of routes of
+/// a feed, and the number of feeds.
 #[derive(Drop)]
 pub struct SharedRib<const L: u32> {
     lock: TreeLock<Lent, L>,
@@ -97,8 +97,8 @@ impl<const L: u32> Model for SharedRib<L> {
 }
 
 impl<const L: u32> SharedRib<L> {
-    /// A table without routes, in which each feed may have so many, and the pass of each feed in order. M1: `Refused`
-    /// where memory was refused.
+    /// Returns a table without routes, in which each feed may have up to `limit` routes, and the pass of each feed in
+    /// order. M1: `Refused` if memory runs out.
     pub fn new(alloc: Global, limit: u32) -> Result<(SharedRib<L>, Vec<FeedPass>), Refused>
         requires levels { (1 ≤ L) × (L ≤ 6) }
         requires limit { IsLimit limit }
@@ -118,24 +118,24 @@ impl<const L: u32> SharedRib<L> {
         Ok((SharedRib { lock, limit }, feed_passes))
     }
 
-    /// How many feeds it has.
+    /// Returns the number of feeds.
     fn feeds() -> u32
         requires { (1 ≤ L) × (L ≤ 6) }
         ensures value { result ≡ 2 ^ L }
-        ensures most { result ≤ MOST_FEEDS }
+        ensures most { result ≤ MAX_FEEDS }
     {
         1 << L
     }
 
-    /// Answers a command of the pass's feed as the sequential table does at the journal's end. The pass has then seen that
-    /// journal, with its own entry last. M1: `Refused` where memory was refused; the journal that the pass has then seen is
-    /// the one that it found. It may wait.
+    /// Answers a command of the pass's feed as the sequential table does at the journal's end. The pass has then seen
+    /// that journal, with its own entry last. M1: `Refused` if memory runs out; the pass has then seen the journal that
+    /// it found. May wait.
     pub fn apply<R: Wait>(&self, rt: &R, pass: &mut FeedPass, cmd: Cmd) -> Result<Reply, Refused>
         requires { pass.old.table ≡ self.now }
         ensures table { pass.new.table ≡ pass.old.table }
         ensures feed { pass.new.feed ≡ pass.old.feed }
-        ensures ok { IfOk result (λ reply. MakesVisit self.now.limit pass.old.feed pass.old.seen (cmd ∷ []) (Outcome.Did reply ∷ []) pass.new.seen) }
-        ensures err { OnErr result (MakesVisit self.now.limit pass.old.feed pass.old.seen (cmd ∷ []) (Outcome.Refused ∷ []) pass.new.seen) }
+        ensures ok { IfOk result (λ reply. CommitsBatch self.now.limit pass.old.feed pass.old.seen (cmd ∷ []) (Outcome.Did reply ∷ []) pass.new.seen) }
+        ensures err { OnErr result (CommitsBatch self.now.limit pass.old.feed pass.old.seen (cmd ∷ []) (Outcome.Refused ∷ []) pass.new.seen) }
     {
         let Some(idle) = pass.pass.take() else {
             unreachable!()
@@ -146,10 +146,10 @@ impl<const L: u32> SharedRib<L> {
         answer
     }
 
-    /// Answers commands of the pass's feed in order, in one piece of the journal, and appends an outcome of each to `out`.
-    /// A command that is refused memory (M1) leaves no entry, and the rest go on. Where there is no command, nothing is
-    /// entered. M2: `Refused` where `out` had no room for the outcomes and was refused memory; then nothing was entered. It
-    /// may wait.
+    /// Answers commands of the pass's feed in order, in one piece of the journal, and appends an outcome of each to
+    /// `out`. A command for which memory runs out (M1) leaves no entry, and the rest go on. An empty list of commands
+    /// enters nothing. M2: `Refused` if `out` has no room for the outcomes and can't grow; then nothing was entered.
+    /// May wait.
     pub fn apply_batch<R: Wait>(
         &self,
         rt: &R,
@@ -179,8 +179,9 @@ impl<const L: u32> SharedRib<L> {
         Ok(())
     }
 
-    /// The routes of the table in dump order: what a journal leaves which the pass has then seen. They are copied while no
-    /// feed can enter. M1: `Refused` where memory was refused; the pass has seen that journal all the same. It may wait.
+    /// Returns the routes of the table in dump order: those left by the journal that the pass has then seen. They are
+    /// copied while no feed can enter. M1: `Refused` if memory runs out; the pass has seen that journal all the same.
+    /// May wait.
     pub fn routes<R: Wait>(
         &self,
         rt: &R,
@@ -203,8 +204,8 @@ impl<const L: u32> SharedRib<L> {
         routes
     }
 
-    /// Ends the table, and gives its book. What each pass has seen begins the book's journal, with no entry of the pass's
-    /// feed behind. It takes no memory. It may wait.
+    /// Ends the table, and returns its book. The journal that each pass has seen is a prefix of the book's journal,
+    /// with no entry of the pass's feed after it. Doesn't allocate. May wait.
     pub fn settle<R: Wait>(self, rt: &R, passes: Vec<FeedPass>) -> Book<Global>
         requires { ArePassesOf self passes.items }
         ensures limit { result.limit ≡ self.entry.limit }

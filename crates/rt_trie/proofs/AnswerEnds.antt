@@ -1,4 +1,4 @@
--- How far an answer goes: up to where a prefix begins or ends.
+-- How far an answer holds: up to where a prefix begins or ends.
 use Rattle.std.proofs.Common.{◌≡◌, ℕ, ◌+◌, ◌-◌, ◌<◌, ◌≤◌, false, Some, None, inl, arith}
 use Rattle.std.specs.Prelude.{IfSome}
 use Rattle.rt_cidr.specs.declared.prefixes.Prefix.{Prefix}
@@ -13,12 +13,12 @@ use Rattle.rt_trie.proofs.NodePairs.{covers-outside}
 use Rattle.rt_trie.proofs.JoinedPairs.{AllKeys-map, last_cover-none}
 use Rattle.rt_trie.proofs.LinkOrder.{if_some_map, pairs_within}
 
--- what comes before the base that a link keeps comes before its node
+-- an address before the base that a link keeps is before its node
 pub before_key : {V A : Type 0} (link : Link V A) (q : Prefix) (base x a : ℕ) → root link ≡ Some q → base ≡ q.base
     → IfSome (root link) (λ y. a < y.base) → x ≤ base - 1 → IfSome (root link) (λ y. x < y.base)
 before_key link q base x a e k after h = let s = rw e at after in rw e (omega arith)
 
--- nothing below a link covers an address before those of its node
+-- nothing below a link covers an address before its node's
 pub none_before : {V A : Type 0} (link : Link V A) (a : Addr) → IsLawfulBelow link → IfSome (root link) (λ q. a.0 < q.base)
     → last_cover (pairs link) a ≡ None
 none_before link a h k =

@@ -1,4 +1,4 @@
--- How the blocks of two prefixes lie to each other: in a half, or apart.
+-- How the blocks of two prefixes relate: one is in a half of the other, or they are disjoint.
 use Rattle.std.proofs.Common.{◌≡◌, ◌≢◌, ℕ, ◌+◌, ◌-◌, ◌*◌, ◌/◌, ◌^◌, ◌<◌, ◌≤◌, ◌⊎◌, inl, inr, ⊎_elim, ◌↔◌, ◌%◌, Bool}
 use Rattle.std.proofs.Common.{true, false, cond, refl, sym, subst, ap, ◌∙◌, arith, add-mul}
 use Rattle.std.proofs.lemmas.Nat.{pow_pos, pow-add, div-add-mod', mod_below, div-mul-add}
@@ -18,31 +18,31 @@ use Rattle.rt_trie.specs.Halves.{IsChild, middle, middle_at, past}
 use Rattle.rt_trie.specs.inside.Lawful.{IsKeyOf}
 use Rattle.rt_trie.proofs.PrefixOrder.{rank}
 
--- a prefix's middle is found by its key
+-- the middle of a prefix, computed from its key
 pub middle_of_key : {len base : ℕ} {q : Prefix} → IsKeyOf len base q → middle_at len base ≡ middle q
 middle_of_key k = rw (k.len_is, k.base_is) refl
 
--- what is at most a number is below it or it
+-- a number that is at most another is below it or equal to it
 lt_or_eq : (a b : ℕ) → a ≤ b → (a < b) ⊎ (a ≡ b)
 lt_or_eq a b h = elim (cases_lt a b) [ inl lt ↦ inl lt | inr ge ↦ inr (omega arith) ]
 
--- what is shorter covers twice some number of the blocks of what is longer
+-- the block of a shorter prefix is twice some multiple of a longer one's
 pub size_doubles : (a b : ℕ) → a < b → b ≤ 32 → size_of a ≡ 2 * (size_of b * 2 ^ (b - (a + 1)))
 size_doubles a b h k =
     let e : 32 - a ≡ 1 + ((32 - b) + (b - (a + 1))) = omega arith in
     ap (λ n. 2 ^ n) e ∙ pow-add 2 1 ((32 - b) + (b - (a + 1))) ∙ ap (λ n. 2 ^ 1 * n) (pow-add 2 (32 - b) (b - (a + 1)))
 
--- half of what is shorter is a number of blocks of what is longer
+-- half the block of a shorter prefix is a multiple of a longer one's
 pub half_size : (a b : ℕ) → a < b → b ≤ 32 → size_of a / 2 ≡ size_of b * 2 ^ (b - (a + 1))
 half_size a b h k = ap (λ n. n / 2) (size_doubles a b h k) ∙ mul-div_cancel_left (size_of b * 2 ^ (b - (a + 1))) (omega arith)
 
--- the blocks of what is longer fill what is shorter, and its half
+-- a shorter prefix's block, and half of it, are multiples of a longer one's
 pub size_divides : (a b : ℕ) → a < b → b ≤ 32 → (size_of b ∣ size_of a) × (size_of b ∣ size_of a / 2)
 size_divides a b h k =
     let d : size_of b ∣ size_of b * 2 ^ (b - (a + 1)) = dvd-mul_right (size_of b) (2 ^ (b - (a + 1))) in
     (rw (size_doubles a b h k) (dvd-mul_left_of_dvd (size_of b) d 2), rw (half_size a b h k) d)
 
--- a block that begins before another end of blocks of its size ends by it
+-- a block that begins before a multiple of its size ends at or before this multiple
 pub block_end : (s b hi : ℕ) → s ∣ b → s ∣ hi → b < hi → b + s ≤ hi
 block_end s b hi p q h =
     let pos : 0 < hi - b = omega arith in
@@ -68,35 +68,35 @@ cover_of_range q a h k =
     let e : a ≡ q.base / size_of q.len * size_of q.len + (a - q.base) = omega arith in
     ap (λ n. n / size_of q.len) e ∙ div-mul-add (q.base / size_of q.len) (size_of q.len) (a - q.base) r
 
--- the base is a number of blocks of the size of any length from the prefix's own on
+-- the base is a multiple of the block size of any length from the prefix's own on
 pub base_divides : (q : Prefix) (len : ℕ) → q.len ≤ len → len ≤ 32 → size_of len ∣ q.base
 base_divides q len h k =
     let d : size_of q.len ∣ q.base = dvd_of_mod-eq-zero (size_of q.len) q.is_prefix.clear in
     ⊎_elim (λ lt. dvd_trans (size_of len) (size_divides q.len len lt k).0 d)
     (λ e. subst (λ n. size_of n ∣ q.base) e d) (lt_or_eq q.len len h)
 
--- what begins within a number of its own blocks from the base of a shorter prefix ends there
+-- a prefix that begins within n of a shorter prefix's base ends within n, if n is a multiple of its block size
 ends_within : (q p : Prefix) (n : ℕ) → q.len < p.len → size_of p.len ∣ n → p.base < q.base + n → past p ≤ q.base + n
 ends_within q p n h d k =
     let s = p.is_prefix.short in
     block_end (size_of p.len) p.base (q.base + n) (base_divides p p.len (omega arith) s)
     (dvd-add (size_of p.len) (base_divides q p.len (omega arith) s) d) k
 
--- what begins in the lower half of a shorter prefix ends in it
+-- a longer prefix that begins in the lower half of a shorter one ends in it
 pub lower_half : (q p : Prefix) → q.len < p.len → p.base < middle q → past p ≤ middle q
 lower_half q p h k = ends_within q p (size_of q.len / 2) h (size_divides q.len p.len h p.is_prefix.short).1 k
 
--- what begins in the upper half of a shorter prefix ends in it
+-- a longer prefix that begins in the upper half of a shorter one ends in it
 pub upper_half : (q p : Prefix) → q.len < p.len → p.base < past q → past p ≤ past q
 upper_half q p h k = ends_within q p (size_of q.len) h (size_divides q.len p.len h p.is_prefix.short).0 k
 
--- what is no shorter and begins before a prefix ends before it
+-- a prefix that isn't shorter than another and begins before it ends before it
 pub ends_before : (q p : Prefix) → q.len ≤ p.len → p.base < q.base → past p ≤ q.base
 ends_before q p h k =
     let s = p.is_prefix.short in
     block_end (size_of p.len) p.base q.base (base_divides p p.len (omega arith) s) (base_divides q p.len h s) k
 
--- what `covers` and `contains` say, as ranges
+-- `covers` as a range
 pub covers_tells : (q : Prefix) (a : Addr)
     → ((covers q a ≡ true) × (q.base ≤ a.0) × (a.0 < past q)) ⊎ ((covers q a ≡ false) × ((a.0 < q.base) ⊎ (past q ≤ a.0)))
 covers_tells q a =
@@ -120,7 +120,7 @@ range_of_covers q a h = elim (covers_tells q a) [ inl r ↦ (r.1, r.2) | inr r �
 pub outside_of_covers : (q : Prefix) (a : Addr) → covers q a ≡ false → (a.0 < q.base) ⊎ (past q ≤ a.0)
 outside_of_covers q a h = elim (covers_tells q a) [ inl r ↦ cc | inr r ↦ r.1 ]
 
--- and the other way round
+-- the converse: an address in the range is covered
 pub covered_of_range : (q : Prefix) (a : Addr) → q.base ≤ a.0 → a.0 < past q → covers q a ≡ true
 covered_of_range q a h k = elim (covers_tells q a) [
   | inl r ↦ r.0
@@ -145,7 +145,7 @@ contains_tells p q =
       | inr l ↦ inr (rw l.0 refl, inl l.1)
     ]
 
--- of two prefixes, one no longer than the other and with its base in its block, and not it
+-- if a prefix isn't longer than another, contains its base, and differs from it, then it is shorter
 pub longer_of : (p q : Prefix) → (p.len ≤ q.len) × (p.base ≤ q.base) × (q.base < past p) → rank q ≢ rank p → p.len < q.len
 longer_of p q r n = elim (lt_or_eq p.len q.len r.0) [
   | inl lt ↦ lt
@@ -155,7 +155,7 @@ longer_of p q r n = elim (lt_or_eq p.len q.len r.0) [
   ]
 ]
 
--- the bit after a prefix's length, of an address that it covers, by the half where the address lies
+-- the bit after a prefix's length, of a covered address, by the half that the address is in
 pub next_bit : (q : Prefix) (a : ℕ) → q.len < 32 → q.base ≤ a → a < past q
     → (a < middle q → (a / (size_of q.len / 2)) % 2 ≡ 0) × (middle q ≤ a → (a / (size_of q.len / 2)) % 2 ≡ 1)
 next_bit q a short from to =
@@ -181,7 +181,7 @@ next_bit q a short from to =
           ∙ omega arith,
     )
 
--- how far from the base on, as a machine counts it, in 2^32ths of the prefix's addresses
+-- the distance from the base on, as a machine computes it, in 2^32ths of the prefix's addresses
 abbrev pub offset_of : ℕ → ℕ → ℕ → ℕ
 offset_of len base a = (a + (4294967296 - base)) % 4294967296 * 2 ^ len % 18446744073709551616
 
@@ -198,7 +198,7 @@ half_whole len h =
     let f : size_of len / 2 ≡ 2 ^ (32 - (len + 1)) = omega (arith, half_size len 32 h (omega arith)) in
     ap (λ n. n * 2 ^ len) f ∙ sym (pow-add 2 (32 - (len + 1)) len) ∙ ap (λ n. 2 ^ n) e
 
--- a prefix ends among the addresses
+-- a prefix ends at or before 2^32
 pub past_fits : (q : Prefix) → past q ≤ 4294967296
 past_fits q =
     let s = q.is_prefix.short in
@@ -211,7 +211,7 @@ past_fits q =
           omega (arith, ap size_of e)
     ]
 
--- no product of these is cut off
+-- these products don't overflow
 uncut : (d len : ℕ) → d < 4294967296 → len ≤ 32 → d * 2 ^ len % 18446744073709551616 ≡ d * 2 ^ len
 uncut d len h k =
     let m : 2 ^ len ≤ 2 ^ 32 = pow_mono k in
@@ -255,7 +255,7 @@ offset_half q a covered short =
           (λ t. omega arith, λ t. omega (arith, m))
     ]
 
--- the halves by the bit
+-- a child by ranges is a child by bits, and conversely
 pub child_reading : (parent c : Prefix) (upper : Bool)
     → IsChild parent upper c ↔ ((parent.len < c.len) × (contains parent c ≡ true) × ((c.base / (size_of parent.len / 2)) % 2 ≡ cond upper 1 0))
 child_reading parent c false = (

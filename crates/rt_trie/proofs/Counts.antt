@@ -1,4 +1,4 @@
--- How many nodes and pairs a lawful link can have, and how a change of the pairs changes their number.
+-- The numbers of nodes and pairs that a lawful link can have, and how a change of the pairs changes them.
 use Rattle.std.proofs.Common.{◌≡◌, ℕ, ◌+◌, ◌-◌, ◌*◌, ◌^◌, ◌<◌, ◌≤◌, true, false, [], cond, ◌∷◌, ◌++◌, length, Option}
 use Rattle.std.proofs.Common.{Some, None, refl, sym, ap, ◌∙◌, arith, length-append, inl, inr}
 use Rattle.std.specs.Prelude.{IfSome, is_some}
@@ -15,7 +15,8 @@ use Rattle.rt_trie.proofs.PrefixOrder.{same_tells, before_tells, rank_of_before}
 use Rattle.rt_trie.proofs.JoinedPairs.{AllKeys, AllKeys-map, IsOther, IsOther-higher, IsHigher, get-none}
 use Rattle.rt_trie.proofs.LinkOrder.{filled_first}
 
--- one more than the nodes that fit below a block, whose prefixes have at least that length: a half has one bit fewer
+-- one more than the number of nodes that fit below a block with prefixes of at least that length; a half has one bit
+-- fewer
 abbrev pub room : ℕ → ℕ
 room len = 2 ^ (33 - len)
 
@@ -36,7 +37,7 @@ first_some [] p e = cc
 first_some (x ∷ xs) p e = omega arith
 
 module _ {V A : Type 0} where
-  -- a lawful link has fewer nodes than there is room for
+  -- a lawful link has fewer nodes than `room`
   pub count_fits : (link : Link V A) (len : ℕ) → IsLawfulBelow link → IfSome (root link) (λ q. len ≤ q.len) → count link + 1 ≤ room len
   count_fits Empty len h on = pow_pos (33 - len)
   count_fits (Leaf i j b) len h on =
@@ -53,7 +54,7 @@ module _ {V A : Type 0} where
       let r = count_fits right (q.len + 1) h.2.0 (long_root (root right) _ _ (q.len + 1) h.0.upper) in
       omega (arith, room_halves q.len s, room_mono len q.len on)
 
-  -- a whole trie has less than 2^33 nodes
+  -- a whole trie has fewer than 2^33 nodes
   pub count_small : (link : Link V A) → IsLawfulTrie link → count link < 2 ^ 33
   count_small link h = omega (arith, count_fits link 0 h.0 (any_root (root link)))
     where
@@ -61,7 +62,7 @@ module _ {V A : Type 0} where
       any_root None = tt
       any_root (Some q) = omega arith
 
-  -- there are no more pairs than nodes
+  -- a link has at most as many pairs as nodes
   pub pairs_few : (link : Link V A) → length (pairs link) ≤ count link
   pairs_few Empty = omega arith
   pairs_few (Leaf i j b) = omega arith
@@ -76,7 +77,7 @@ module _ {V A : Type 0} where
       → 1 ≤ length (pairs left) → 1 ≤ length (pairs right) → count left + count right + 1 ≤ 2 * length (pairs left ++ pairs right) - 1
   few_of_both left right l r some_left some_right = omega (arith, length-append (pairs left) (pairs right))
 
-  -- a lawful link has at most twice as many nodes as pairs, less one
+  -- a lawful link with n pairs has at most 2n - 1 nodes
   pub nodes_few : (link : Link V A) → IsLawfulTrie link → count link ≤ 2 * length (pairs link) - 1
   nodes_few Empty h = omega arith
   nodes_few (Leaf i j b) h = omega arith
@@ -87,7 +88,7 @@ module _ {V A : Type 0} where
   nodes_few (Full' i j p left right q (Some v)) h =
       omega (arith, nodes_few left h.0.1, nodes_few right h.0.2, length-append (pairs left) (pairs right))
 
--- the list with w in the place of the value at p, if there is one
+-- the list with the value at p, if there is one, replaced by w
 abbrev pub set_value : {V : Type 0} → Pairs V → Prefix → V → Pairs V
 set_value [] p w = []
 set_value ((q, v) ∷ m) p w = (q, cond (same_prefix q p) w v) ∷ set_value m p w
@@ -97,7 +98,7 @@ module _ {V : Type 0} where
   AllKeys-higher q [] h = tt
   AllKeys-higher q ((x, v) ∷ xs) h = (rank_of_before q x h.0, AllKeys-higher q xs h.1)
 
-  -- a new prefix makes the map one longer, and one that is stored doesn't
+  -- a new prefix makes the map longer by 1, and a stored one doesn't
   pub length-put_absent : (m : Pairs V) (p : Prefix) (v : V) → get m p ≡ None → length (put m p v) ≡ length m + 1
   length-put_absent [] p v h = omega arith
   length-put_absent ((q, w) ∷ m) p v h = elim (before_tells p q) [
@@ -116,7 +117,7 @@ module _ {V : Type 0} where
   set_value-other [] p w h = refl
   set_value-other ((q, v) ∷ xs) p w h = rw h.0 (ap (λ m. (q, v) ∷ m) (set_value-other xs p w h.1))
 
-  -- putting in where something stands
+  -- inserting at a stored prefix replaces its value
   pub put-stored : (m : Pairs V) (p : Prefix) (w v : V) → IsOrdered m → get m p ≡ Some v → put m p w ≡ set_value m p w
   put-stored [] p w v o h = cc
   put-stored ((q, u) ∷ m) p w v o h = elim (before_tells p q) [
@@ -145,7 +146,7 @@ module _ {V : Type 0} where
     | inr s ↦ let e : get m p ≡ Some w = rw s.0 at h in rw s.0 (omega (arith, length-erase_stored m p w e))
   ]
 
-  -- by what the look-up answered
+  -- the same, by the answer of the look-up
   pub length-put_known : (m : Pairs V) (p : Prefix) (v : V) (o : Option V) → IsOrdered m → get m p ≡ o → is_some o ≡ true → length (put m p v) ≡ length m
   length-put_known m p v None h e k = absurd (false≢true k)
   length-put_known m p v (Some w) h e k = length-put_stored m p v w h e

@@ -1,5 +1,6 @@
--- The pairs that are no longer than that and cover an address: a node's own, and then those on the side where the address
--- lies. Of any length they are those that cover it, and of a prefix's length and base those that contain it.
+-- The pairs with at most `most` bits that cover an address: a node's own, then those on the side that the address is
+-- on. If any length is allowed, these are the pairs that cover the address; with a prefix's length and base, those that
+-- contain it.
 use Rattle.std.proofs.Common.{◌≡◌, ℕ, ◌+◌, ◌<◌, ◌≤◌, Bool, true, false, leb, [], ◌∷◌, ◌++◌, Option, Some, None, inl, inr, refl, sym, ap, ◌∙◌, arith}
 use Rattle.std.proofs.lemmas.List.Elements.{filter-append}
 use Rattle.std.proofs.lemmas.List.{append-nil}
@@ -19,7 +20,7 @@ use Rattle.rt_trie.proofs.JoinedPairs.{AllKeys, AllKeys-map}
 use Rattle.rt_trie.proofs.NodePairs.{upper_clear, lower_clear, rest_clear, sides_longer}
 use Rattle.rt_trie.proofs.LinkOrder.{sides_of}
 
--- how many nodes the walk has before it, with one for the link itself
+-- the number of nodes that the walk still has to visit, plus one for the link itself
 abbrev pub nodes_below : {V A : Type 0} → Option (Bor (Link V A)) → ℕ
 nodes_below None = 0
 nodes_below (Some link) = count link.now + 1
@@ -71,7 +72,7 @@ module _ {V A : Type 0} (link : Link V A) (q : Prefix) (v : Option V) (left righ
       ∙ ap (λ m. own_pair q v ++ m) (covering-append most a (pairs left) (pairs right)
       ∙ ap (λ m. m ++ covering_to most (pairs right) a) (covering-clear most a (pairs left) clear))
 
-  -- below a node that is longer all are, and below one that does not cover the address none does
+  -- below a node that is longer than `most` all pairs are, and below one that doesn't cover the address no pair does
   rest_none : covers_to most q a ≡ false → AllKeys (λ x. covers_to most x a ≡ false) (pairs left ++ pairs right)
   rest_none h =
       let sides = sides_of link q v left right n in
@@ -89,7 +90,7 @@ module _ {V A : Type 0} (link : Link V A) (q : Prefix) (v : Option V) (left righ
       parts ∙ ap (λ m. m ++ covering_to most (pairs left ++ pairs right) a) (covering_other most a q v h)
       ∙ covering-clear most a (pairs left ++ pairs right) (rest_none h)
 
-  -- a node that covers it gives way to its own pair and the side where the address lies
+  -- a node that covers the address is replaced by its own pair and the side that the address is on
   pub covering_step : (below : Link V A) → covers_to most q a ≡ true → (a.0 < middle q → below ≡ left) → (middle q ≤ a.0 → below ≡ right)
       → IsLawfulBelow below × (own_pair q v ++ covering_to most (pairs below) a ≡ covering_to most (pairs link) a) × (count below < count link)
   covering_step below h lower upper = elim (cases_lt a.0 (middle q)) [
@@ -97,12 +98,12 @@ module _ {V A : Type 0} (link : Link V A) (q : Prefix) (v : Option V) (left righ
     | inr ge ↦ rw (upper ge) (n.right_lawful.0, sym (covering_right h ge), omega (arith, n.count_is))
   ]
 
--- a leaf that doesn't cover it
+-- a leaf that doesn't cover the address
 pub covering_single : {V A : Type 0} (link : Link V A) (q : Prefix) (v : V) (most : ℕ) (a : Addr) → pairs link ≡ (q, v) ∷ [] → covers_to most q a ≡ false
     → covering_to most (pairs link) a ≡ []
 covering_single link q v most a e h = rw (e, h) refl
 
--- no prefix is longer than an address has bits
+-- every prefix has at most 32 bits
 pub covering_any : {V : Type 0} (m : Pairs V) (a : Addr) → covering_to 32 m a ≡ covering m a
 covering_any [] a = refl
 covering_any ((q, v) ∷ m) a =

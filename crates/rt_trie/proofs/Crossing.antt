@@ -1,4 +1,4 @@
--- A trie may go to another thread where its values and its allocator may.
+-- A trie may be sent to another thread if its values and its allocator may.
 use denote.RattleType.{RattleType}
 use denote.Param.Send.{IsSend, Frees, sendable}
 use Rattle.std.specs.declared.alloc.Allocator.{Ghosts}

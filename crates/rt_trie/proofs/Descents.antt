@@ -1,4 +1,4 @@
--- What is found on a way down is the map's, and a write there is the map's.
+-- A descent finds what the map has, and a write at its end changes the map accordingly.
 use Rattle.std.proofs.Common.{◌≡◌, ℕ, zero, suc, ◌+◌, ◌<◌, ◌≤◌, Bool, true, false, cond, [], ◌∷◌, ◌++◌, length, Option}
 use Rattle.std.proofs.Common.{Some, None, inl, inr, refl, sym, ap, ◌∙◌, arith, length-append}
 use Rattle.std.specs.Prelude.{IfSome, IfNone, is_some}
@@ -24,7 +24,7 @@ use Rattle.rt_trie.proofs.NodePairs.{AreSides, own_other, upper_other, lower_oth
 use Rattle.rt_trie.proofs.LinkOrder.{if_some_map, sides_at, pairs_ordered}
 use Rattle.rt_trie.proofs.Counts.{set_value, set_value-other, put-stored}
 
--- so many steps go past every node below
+-- `d` steps reach past every node below
 abbrev pub IsDeep : {V A : Type 0} → ℕ → Link V A → Type 0
 IsDeep d link = IfSome (root link) (λ q. 33 ≤ q.len + d)
 
@@ -33,7 +33,7 @@ module _ {V : Type 0} where
   set_value-append [] ys p w = refl
   set_value-append ((q, v) ∷ xs) ys p w = ap (λ m. (q, cond (same_prefix q p) w v) ∷ m) (set_value-append xs ys p w)
 
-  -- a value that is written keeps its place
+  -- a value that is replaced stays a value
   some_kept : (c s : Bool) (v : Option V) (w : V) → cond c (cond s (overwritten v w) v) v ≡ None → v ≡ None
   some_kept c s None w h = refl
   some_kept true true (Some y) w h = cc
@@ -46,7 +46,7 @@ module _ {V : Type 0} where
   own_kept true false q v w = refl
   own_kept false s q v w = refl
 
-  -- a write at a node, by where the prefix stands
+  -- a write at a node, by the position of the prefix
   own_here : (q p : Prefix) (v : Option V) (w : V) → same_prefix q p ≡ true → set_value (own_pair q v) p w ≡ own_pair q (overwritten v w)
   own_here q p None w e = refl
   own_here q p (Some y) w e = rw e refl
@@ -73,12 +73,12 @@ module _ {V : Type 0} where
         ∙ ap (λ m. m ++ set_value ys p w) (set_value-other xs p w (lower_other q v xs ys s p h))
 
 module _ {V A : Type 0} where
-  -- a step goes past the node, on either side
+  -- a step passes the node, on either side
   deep_side : (d : ℕ) (q : Prefix) (upper : Bool) (link : Link V A) → 33 ≤ q.len + suc d → IsChildLink q upper link → IsDeep d link
   deep_side d q false link h c = if_some_map (root link) (IsChild q false) (λ x. 33 ≤ x.len + d) (λ x k. omega (arith, k.long)) c
   deep_side d q true link h c = if_some_map (root link) (IsChild q true) (λ x. 33 ≤ x.len + d) (λ x k. omega (arith, k.long)) c
 
-  -- what is found is the map's
+  -- a descent finds the map's value
   pub found_get : (d : ℕ) (link : Link V A) (p : Prefix) → IsLawfulTrie link → IsDeep d link → found d link p ≡ get (pairs link) p
   found_get zero Empty p h deep = refl
   found_get zero (Leaf i j b) p h deep = let s = b.value.prefix.is_prefix.short in absurd (omega arith)
@@ -176,7 +176,7 @@ module _ {V A : Type 0} where
       valued None (Some z) e = absurd (omega (arith, e))
       valued (Some y) None e = absurd (omega (arith, e))
 
-  -- a write keeps the link lawful, with its nodes and its pairs
+  -- a write keeps the link lawful, with the same nodes and the same number of pairs
   pub written_kept : (d : ℕ) (link : Link V A) (p : Prefix) (w : V) → IsLawfulTrie link → IsKept link (written d link p w)
   written_kept zero link p w h = kept_same link h
   written_kept (suc d) Empty p w h = kept_same Empty h
@@ -196,7 +196,7 @@ module _ {V A : Type 0} where
       (kept_cond (leb p.len i) left left _ (kept_same left h.0.1) (kept_cond low left (written d left p w) left l (kept_same left h.0.1)))
       (kept_cond (leb p.len i) right right _ (kept_same right h.0.2) (kept_cond low right right (written d right p w) (kept_same right h.0.2) r))
 
-  -- a write is one in the list
+  -- a write changes the list at that prefix
   written_pairs : (d : ℕ) (link : Link V A) (p : Prefix) (w : V) → IsLawfulTrie link → IsDeep d link
       → pairs (written d link p w) ≡ set_value (pairs link) p w
   written_pairs zero Empty p w h deep = refl
@@ -243,7 +243,7 @@ module _ {V A : Type 0} where
             ]
       ])
 
-  -- 33 steps go past every node
+  -- 33 steps reach past every node
   all_deep : (link : Link V A) → IsDeep 33 link
   all_deep link = any (root link)
     where
@@ -254,18 +254,18 @@ module _ {V A : Type 0} where
   pub found_is : (d : ℕ) (link : Link V A) (p : Prefix) → d ≡ 33 → IsLawfulTrie link → found d link p ≡ get (pairs link) p
   found_is d link p e h = found_get d link p h (rw e (all_deep link))
 
--- two readings of what is lent are the same where they agree on each value that can be written
+-- two functions of the value lent give the same result if they agree on each value that can be written
 same_readings : {D E : Type 0} (o : Option (MutBor E)) (F G : E → D) (u v : D) → u ≡ v → ((r : MutBor E) → o ≡ Some r → (w : E) → F w ≡ G w)
     → read_of (ghost_name_of o) F u ≡ read_of (ghost_name_of o) G v
 same_readings None F G u v e h = ap inr e
 same_readings (Some r) F G u v e h = ap (λ f. inl (r.ghost_name, f)) (fun_ext (h r refl))
 
--- what a link holds, for its trie's callers
+-- the contents of a link, as callers of its trie see them
 abbrev pub held : {V A : Type 0} → Link V A → TrieContents V
 held link = record { pairs = pairs link; nodes = count link; tree = tree_of link }
 
 module _ {V A : Type 0} where
-  -- a write where a value stands puts it there
+  -- a write at a stored prefix inserts the value there
   written_is : (d : ℕ) (link : Link V A) (p : Prefix) (w v : V) → d ≡ 33 → IsLawfulTrie link → get (pairs link) p ≡ Some v
       → held (written d link p w) ≡ contents_with (held link) p w
   written_is d link p w v e h at =
@@ -276,7 +276,7 @@ module _ {V A : Type 0} where
       let tree : tree_of (written d link p w) ≡ tree_of link = kept.tree_is in
       rw (same, many, tree) refl
 
-  -- so what is lent of the link is lent of what it holds
+  -- hence what is lent of the link is lent of its contents
   pub lent : (d : ℕ) (link : Link V A) (p : Prefix) (o : Option (MutBor V)) (t : TrieContents V) → d ≡ 33 → IsLawfulTrie link → held link ≡ t
       → option_copied_mut o ≡ found d link p
       → read_of (ghost_name_of o) (λ w. held (written d link p w)) (held link) ≡ read_of (ghost_name_of o) (λ w. contents_with t p w) t

@@ -1,5 +1,5 @@
--- The pairs from a prefix on: of a node those on its sides, by where the prefix stands as seen from it, and what a walk's stack
--- has of them.
+-- The pairs from a prefix on: those on the sides of a node, by the position of the prefix relative to the node, and
+-- those on a walk's stack.
 use Rattle.std.proofs.Common.{◌≡◌, ℕ, suc, ◌+◌, ◌<◌, ◌≤◌, ◌⊎◌, true, false, [], ◌∷◌, ◌++◌, List, length, Option, Some, None}
 use Rattle.std.proofs.Common.{inl, inr, refl, sym, subst, ap, ◌∙◌, arith}
 use Rattle.std.proofs.lemmas.Bool.{cases_lt, false≢true}
@@ -42,7 +42,7 @@ module _ {V : Type 0} (p : Prefix) where
   from_own q None h = refl
   from_own q (Some v) h = rw (lower_rank q p h) refl
 
-  -- what is left of pairs in order is in order
+  -- filtering keeps the pairs in order
   before-from : (q : Prefix) (m : Pairs V) → IsBeforeAll q m → IsBeforeAll q (from_prefix m p)
   before-from q [] h = tt
   before-from q ((x, v) ∷ m) h = elim (before_tells x p) [
@@ -57,7 +57,7 @@ module _ {V : Type 0} (p : Prefix) where
     | inr b ↦ rw b.0 (before-from x m h.0, ordered_from m h.1)
   ]
 
--- what lies where a prefix does, or in it, is in order no earlier than it, and each that comes before p's addresses comes before p
+-- a prefix at another or in it isn't earlier in the order; one whose block ends before p's addresses comes before p
 no_earlier : (q x : Prefix) → IsInBlock q.base (past q) q.len x → rank q ≤ rank x
 no_earlier q x w = omega (arith, w.long, w.from)
 
@@ -68,7 +68,7 @@ begins_later : (lo hi len : ℕ) (p x : Prefix) → past p ≤ lo → IsInBlock 
 begins_later lo hi len p x h w = let s = p.is_prefix.short in omega (arith, w.from, size_pos p.len)
 
 module _ {V A : Type 0} (link : Link V A) (q : Prefix) (v : Option V) (left right : Link V A) (n : IsNode link q v left right) (p : Prefix) where
-  -- the node's own pair comes before p: the pairs are those on the sides
+  -- if the node's own pair comes before p, the pairs from p on are those on the sides
   parts : rank q < rank p → from_prefix (pairs link) p ≡ from_prefix (pairs left) p ++ from_prefix (pairs right) p
   parts h =
       ap (λ m. from_prefix m p) n.pairs_are ∙ from-append p (own_pair q v) (pairs left ++ pairs right)
@@ -78,14 +78,14 @@ module _ {V A : Type 0} (link : Link V A) (q : Prefix) (v : Option V) (left righ
   whole_block =
       all_within link q v left right n q.base (past q) q.len (record { long = omega arith; from = omega arith; to = omega arith })
 
-  -- where the node's prefix comes from p on, all does
+  -- if the node's prefix is at or after p, all pairs are from p on
   pub from_whole : before q p ≡ false → from_prefix (pairs link) p ≡ pairs link
   from_whole h =
       let b = rank_of_not_before q p h in
       from-all p (pairs link) (AllKeys-map (IsInBlock q.base (past q) q.len) (λ x. rank p ≤ rank x) (pairs link)
       (λ x w. omega (arith, b, no_earlier q x w)) whole_block)
 
-  -- where it comes before p, which is not on one of its sides, nothing does
+  -- if the node's prefix comes before p, and p isn't on one of its sides, no pair is from p on
   pub from_nothing : (r : Position) → StandsAt q p r → (r ≡ Here) ⊎ ((r ≡ Above) ⊎ (r ≡ Apart)) → before q p ≡ true
       → from_prefix (pairs link) p ≡ []
   from_nothing r s e h =
@@ -104,7 +104,7 @@ module _ {V A : Type 0} (link : Link V A) (q : Prefix) (v : Option V) (left righ
         ]
       ]
 
-  -- where p is on the lower side, they are those there from p on, and all on the upper
+  -- if p is on the lower side, the pairs are those there from p on, and all on the upper side
   pub from_lower : (r : Position) → StandsAt q p r → r ≡ Left → from_prefix (pairs link) p ≡ from_prefix (pairs left) p ++ pairs right
   from_lower r s e =
       let c : IsChild q false p = subst (StandsAt q p) e s in
@@ -112,7 +112,7 @@ module _ {V A : Type 0} (link : Link V A) (q : Prefix) (v : Option V) (left righ
       (from-all p (pairs right) (AllKeys-map (IsInBlock (middle q) (past q) (q.len + 1)) (λ x. rank p ≤ rank x) (pairs right)
       (λ x. begins_later (middle q) (past q) (q.len + 1) p x c.to) (sides_of link q v left right n).upper))
 
-  -- where it is on the upper side, they are those there
+  -- if p is on the upper side, the pairs are those there from p on
   pub from_upper : (r : Position) → StandsAt q p r → r ≡ Right → from_prefix (pairs link) p ≡ from_prefix (pairs right) p
   from_upper r s e =
       let c : IsChild q true p = subst (StandsAt q p) e s in
@@ -145,14 +145,14 @@ room_of None k h f = absurd (false≢true f)
 room_of (Some q) k h f = let s = q.is_prefix.short in omega (arith, h)
 
 module _ {V A : Type 0} where
-  -- a link with a node has room on the stack at each index that is no greater than the node's length
+  -- a link with a node fits on the stack at each index up to the node's length
   pub filled_room : (link : Link V A) (k : ℕ) → IsFrom k link → IsFilled link → k ≤ 32
   filled_room link k from f = room_of (root link) k from.1 f
 
   pub from_less : (link : Link V A) (k : ℕ) → IsFrom (k + 1) link → IsFrom k link
   from_less link k from = (from.0, if_some_map (root link) (λ q. k + 1 ≤ q.len) (λ q. k ≤ q.len) (λ q l. omega (arith, l)) from.1)
 
-  -- a link is put on the stack
+  -- a link is pushed on the stack
   pub pushed : (xs ys : List (Bor (Link V A))) (k n : ℕ) (link : Link V A) → IsWalkStack xs k → n ≡ suc k → k ≤ 33 → IsFrom k link
       → link_at ys k ≡ Some link → ((j : ℕ) → j < k → link_at ys j ≡ link_at xs j) → length ys ≡ length xs
       → IsWalkStack ys n × (stack_pairs ys n ≡ pairs link ++ stack_pairs xs k)

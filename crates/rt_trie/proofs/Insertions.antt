@@ -1,4 +1,4 @@
--- What each way to put a pair in makes of a link.
+-- The effect on a link of each way to insert a pair.
 use Rattle.std.proofs.Common.{◌≡◌, ℕ, ◌+◌, ◌<◌, ◌≤◌, Bool, true, false, [], ◌∷◌, ◌++◌, ◌⊎◌, Option, Some, None, inl}
 use Rattle.std.proofs.Common.{inr, refl, sym, subst, ap, ◌∙◌, arith, append-nil}
 use Rattle.std.specs.Prelude.{Box}
@@ -28,7 +28,7 @@ use Rattle.rt_trie.proofs.LinkOrder.{if_some_map, if_some_is, IsOn, IsView, pair
 use Rattle.rt_trie.proofs.LinkOrder.{own_key, key_of_leaf, key_of_fork, key_of_full, view_fork, view_full}
 use Rattle.rt_trie.proofs.LinkOrder.{node_get-unstored, get_left, get_right, get_own}
 
--- what is within a prefix lies in one of its halves
+-- a prefix contained in another is in one of its halves
 pub half_above : (q p : Prefix) → StandsAt q p Above → q.base < middle p → IsChild p false q
 half_above q p w h = record { long = w.long; from = w.from; to = lower_half p q (omega (arith, w.long)) h }
 
@@ -68,7 +68,7 @@ module _ {V A : Type 0} where
     rw (e, i, j) ((h, k, m, own_key q), (f, g)),
   )
 
-  -- where the new root is p, or the old one
+  -- the new link is a child where the old one was, if its root is p, or the old root
   stays_new : (old new : Link V A) (p : Prefix) → root new ≡ Some p
       → (parent : Prefix) (upper : Bool) → IsChildLink parent upper old → IsChild parent upper p → IsChildLink parent upper new
   stays_new old new p e parent upper h k = rw e k
@@ -91,7 +91,7 @@ module _ {V A : Type 0} where
     stays = stays_new old new p m.root_is;
   }
 
-  -- a value goes in the place of another
+  -- a value replaces another
   pub put_value : (old new : Link V A) (p : Prefix) (w : Option V) (v : V) (l r : Link V A) → IsNode old p w l r → IsNode new p (Some v) l r
       → IsLawfulTrie new → IsPut old new p v
   put_value old new p None v l r n m h = put_fill old new p v l r n m h
@@ -102,7 +102,7 @@ module _ {V A : Type 0} where
     stays = stays_new old new p m.root_is;
   }
 
-  -- p is put in below, on the left or on the right
+  -- p is inserted below, on the left or on the right
   pub put_left : (old new : Link V A) (q : Prefix) (w : Option V) (l r k : Link V A) (p : Prefix) (v : V) → IsNode old q w l r
       → IsNode new q w k r → IsLawfulTrie new → IsChild q false p → IsPut l k p v → IsPut old new p v
   put_left old new q w l r k p v n m h c i = record {
@@ -144,7 +144,7 @@ module _ {V A : Type 0} where
       → IsChildLink parent upper link
   child_link parent upper link q e h = rw e h
 
-  -- everything in a link comes after what contains its root
+  -- everything in a link comes after a prefix that contains its root
   below_higher : (old : Link V A) (q p : Prefix) → IsLawfulTrie old → root old ≡ Some q → StandsAt q p Above → AllKeys (IsHigher p) (pairs old)
   below_higher old q p h e w =
       let on : IsOn q.base (past q) q.len old = rw e (record { long = omega arith; from = omega arith; to = omega arith }) in
@@ -155,7 +155,7 @@ module _ {V A : Type 0} where
   get_above old q p h e w =
       get-none (pairs old) p (AllKeys-map (IsHigher p) (IsOther p) (pairs old) (λ x. IsOther-higher p x) (below_higher old q p h e w))
 
-  -- p is put in above
+  -- p is inserted above
   pub put_above : (old new : Link V A) (q p : Prefix) (v : V) → IsLawfulTrie old → root old ≡ Some q → StandsAt q p Above → IsLawfulTrie new
       → root new ≡ Some p → pairs new ≡ (p, v) ∷ pairs old → IsPut old new p v
   put_above old new q p v h e w k i j = record {
@@ -174,7 +174,7 @@ module _ {V A : Type 0} where
       → IsNode new p (Some v) Empty old → IsPut old new p v
   put_above_right old new q p v h e w k n = put_above old new q p v h e w k n.root_is n.pairs_are
 
-  -- a full node for p, with the old link on the side where its root lies
+  -- a full node for p, with the old link on the side that its root is on
   pub put_above_side : (old : Link V A) (q p : Prefix) (v : V) → IsLawfulTrie old → root old ≡ Some q → StandsAt q p Above → (sides : Link V A × Link V A)
       → (q.base < middle p → sides ≡ (old, Empty)) → (middle p ≤ q.base → sides ≡ (Empty, old)) → (b : Box (FullNode V A) A)
       → b.value.prefix ≡ p → b.value.value ≡ Some v → b.value.left ≡ sides.0 → b.value.right ≡ sides.1 → IsPut old (full_link b) p v
@@ -191,7 +191,7 @@ module _ {V A : Type 0} where
         put_above_right old (full_link b) q p v h e w n.1 n.0
   ]
 
-  -- nothing in a link is a prefix that is apart from its root
+  -- a prefix disjoint from a link's root isn't stored in the link
   pub get_apart : (old : Link V A) (q p : Prefix) → IsLawfulTrie old → root old ≡ Some q → StandsAt q p Apart → get (pairs old) p ≡ None
   get_apart old q p h e w =
       let on : IsOn q.base (past q) q.len old = rw e (record { long = omega arith; from = omega arith; to = omega arith }) in
@@ -205,7 +205,7 @@ module _ {V A : Type 0} where
       ])
       (pairs_within old q.base (past q) q.len h.0 on))
 
-  -- a fork where p and the old link part, p on the left
+  -- a fork where p and the old link diverge, with p on the left
   pub part_left : (old leaf : Link V A) (q p c : Prefix) (v : V) → IsLawfulTrie old → root old ≡ Some q → IsLeafWith leaf p v → PartsAt c p q
       → (b : Box (ForkNode V A) A) → b.value.prefix ≡ c → b.value.left ≡ leaf → b.value.right ≡ old → IsPut old (fork_link b) p v
   part_left old leaf q p c v h e m k b i j o =
@@ -224,7 +224,7 @@ module _ {V A : Type 0} where
             (child_of_parts parent c p q upper k u (rw e at w));
       }
 
-  -- a fork where p and the old link part, p on the right
+  -- a fork where p and the old link diverge, with p on the right
   pub part_right : (old leaf : Link V A) (q p c : Prefix) (v : V) → IsLawfulTrie old → root old ≡ Some q → IsLeafWith leaf p v → PartsAt c q p
       → (b : Box (ForkNode V A) A) → b.value.prefix ≡ c → b.value.left ≡ old → b.value.right ≡ leaf → IsPut old (fork_link b) p v
   part_right old leaf q p c v h e m k b i j o =
@@ -248,7 +248,7 @@ some_same : {X : Type 0} {x y : X} → Some x ≡ Some y → x ≡ y
 some_same e = cc
 
 module _ {V A : Type 0} where
-  -- p is put in below, in a side that k takes the place of
+  -- p is inserted below, in a side that k replaces
   inserted_below : (old new side k : Link V A) (p : Prefix) (given after : NewValue V A) (done : Bool) → ((v : V) → IsPut side k p v → IsPut old new p v)
       → get (pairs old) p ≡ get (pairs side) p → count new + count side ≡ count old + count k → (k ≡ side → new ≡ old)
       → Inserts side k p given after done → Inserts old new p given after done
@@ -278,7 +278,7 @@ module _ {V A : Type 0} where
         put_right old (make l k) q w l r k p v x.node u.0 (u.1, x.needed l k (λ e. ((x.filled h.1 e).0, j.filled))) c j)
         (get_right old q w l r x.node p c) (omega (arith, x.node.count_is, x.counts l k)) (λ e. ap (λ y. make l y) e ∙ x.same)
 
-  -- p is put in on a side of a fork
+  -- p is inserted on a side of a fork
   module _ {len base : ℕ} {b : Box (ForkNode V A) A} {n : ForkNode V A} {old : Link V A} (e : old ≡ Fork len base b) (f : n ≡ b.value) (h : IsLawfulTrie old)
       {p : Prefix} (given after : NewValue V A) (k : Link V A) (done : Bool) where
     pub insert_left_of_fork : ((q : Prefix) → IsKeyOf len base q → IsChild q false p) → Inserts n.left k p given after done
@@ -291,7 +291,7 @@ module _ {V A : Type 0} where
     insert_right_of_fork position =
         insert_right old n.prefix None n.left n.right k _ p given after done (view_fork b n old e f h.0) h (position n.prefix (key_of_fork b n old e f h.0))
 
-  -- or of a full node
+  -- p is inserted on a side of a full node
   module _ {len base : ℕ} {b : Box (FullNode V A) A} {n : FullNode V A} {old : Link V A} (e : old ≡ Full len base b) (f : n ≡ b.value) (h : IsLawfulTrie old)
       {p : Prefix} (given after : NewValue V A) (k : Link V A) (done : Bool) where
     pub insert_left_of_full : ((q : Prefix) → IsKeyOf len base q → IsChild q false p) → Inserts n.left k p given after done
@@ -304,7 +304,7 @@ module _ {V A : Type 0} where
     insert_right_of_full position =
         insert_right old n.prefix n.value n.left n.right k _ p given after done (view_full b n old e f h.0) h (position n.prefix (key_of_full b n old e f h.0))
 
-  -- the value of a full node, and what is in the slot, change places
+  -- the value of a full node and the one in the slot are exchanged
   pub insert_here : {len base : ℕ} (f : Box (FullNode V A) A) (m : FullNode V A) (old : Link V A) (n : ℕ) (p : Prefix)
       (given stored slot : Option V) → old ≡ Full len base f
       → m ≡ f.value → IsLawfulTrie old → p ≡ m.prefix → stored ≡ given → slot ≡ m.value
@@ -321,7 +321,7 @@ module _ {V A : Type 0} where
         counted = omega (arith, x.count_is);
       }
 
-  -- the value given was put where nothing stood, and the slot is left empty
+  -- the given value was inserted at a new prefix, and the slot is left empty
   inserted : (old new : Link V A) (n m : ℕ) (p : Prefix) (given slot stored : Option V) → stored ≡ given → slot ≡ None → get (pairs old) p ≡ None
       → m + count old ≡ n + count new → ((v : V) → stored ≡ Some v → IsPut old new p v) → IsInserted old new n m p given slot
   inserted old new n m p given slot stored e none absent counted put = record {
@@ -330,7 +330,7 @@ module _ {V A : Type 0} where
     counted = counted;
   }
 
-  -- nothing was done, and nothing stands at p
+  -- nothing was done, and p isn't stored
   pub refused : (link : Link V A) (n : ℕ) (p : Prefix) (given : Option V) → get (pairs link) p ≡ None → IsRefused link link n n p given given
   refused link n p given h = record { absent = h; back_is = refl; same = refl; counted = refl }
 
@@ -349,7 +349,7 @@ module _ {V A : Type 0} where
       → IsNode old q (Some b.value.value) Empty Empty
   leaf_node {len} {base} b old q e f = subst (λ y. IsNode old y (Some b.value.value) Empty Empty) f (rw e (leaf_at len base b))
 
-  -- a leaf is put in where nothing was
+  -- a leaf is inserted into an empty link
   put_leaf : (k : Box (LeafNode V) A) (p : Prefix) (v : V) → k.value.prefix ≡ p → k.value.value ≡ v → IsPut Empty (leaf_link k) p v
   put_leaf k p v e f =
       let leaf = made_leaf k p v e f in
@@ -366,7 +366,7 @@ module _ {V A : Type 0} where
       rw e (inserted Empty (leaf_link k) n m p given slot (Some k.value.value) (sym g) none refl (omega (arith, o))
       (λ v t. put_leaf k p v f (some_same t)))
 
-  -- the value of a leaf, and what is in the slot, change places
+  -- the value of a leaf and the one in the slot are exchanged
   pub insert_leaf : {len base : ℕ} (b : Box (LeafNode V) A) (m : LeafNode V) (old : Link V A) (n : ℕ) (p : Prefix)
       (given slot : Option V) (stored : V) → old ≡ Leaf len base b
       → m ≡ b.value → IsLawfulTrie old → p ≡ m.prefix → given ≡ Some stored → slot ≡ Some m.value
@@ -384,7 +384,7 @@ module _ {V A : Type 0} where
         counted = omega (arith, x.count_is);
       }
 
-  -- the leaf at q becomes a full node, with the leaf of p on the side where p lies
+  -- the leaf at q becomes a full node, with the leaf of p on the side that p is on
   pub below_insert : {len base : ℕ} (b : Box (LeafNode V) A) (old : Link V A) (n m : ℕ) (q p : Prefix) (given slot : Option V) (v above : V)
       → old ≡ Leaf len base b → b.value.prefix ≡ q → above ≡ b.value.value → IsChild q false p ⊎ IsChild q true p → Some v ≡ given → slot ≡ None
       → m ≡ n + 1 → (k : Box (LeafNode V) A) → k.value.prefix ≡ p → k.value.value ≡ v → (sides : Link V A × Link V A)
@@ -438,7 +438,7 @@ module _ {V A : Type 0} where
       inserted old (full_link f) n m p given slot stored same none (get_above old q p h e w) (omega (arith, o, c, ap count k, ap count l))
       (λ v t. put_above_side old q p v h e w sides lo hi f i (j ∙ t) k l)
 
-  -- a fork where p and the old link part, with the leaf of p on the side where p lies
+  -- a fork where p and the old link diverge, with the leaf of p on the side that p is on
   pub beside_insert : (old : Link V A) (n m : ℕ) (q p c : Prefix) (given slot : Option V) (k : Box (LeafNode V) A) → IsLawfulTrie old → root old ≡ Some q
       → StandsAt q p Apart → k.value.prefix ≡ p → given ≡ Some k.value.value → slot ≡ None → m ≡ n + 2 → (f : Box (ForkNode V A) A)
       → f.value.prefix ≡ c

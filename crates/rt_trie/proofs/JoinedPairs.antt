@@ -1,4 +1,4 @@
--- Looking up, putting in and taking out, in a list of pairs that is joined from parts.
+-- Look-up, insertion and removal in a list of pairs that is the concatenation of parts.
 use Rattle.std.proofs.Common.{◌≡◌, ◌<◌, ◌≤◌, false, cond, [], ◌∷◌, ◌++◌, Option, Some, None, refl, sym, ap, ◌∙◌, arith, inl, inr}
 use Rattle.rt_cidr.specs.declared.prefixes.Prefix.{Prefix}
 use Rattle.rt_cidr.specs.declared.address.Addr.{Addr}
@@ -7,7 +7,7 @@ use Rattle.rt_trie.specs.Map.{Pairs, same_prefix, get, put, erase, first, next_a
 use Rattle.rt_trie.specs.inside.Links.{or_else, last_cover}
 use Rattle.rt_trie.proofs.PrefixOrder.{rank, same_tells, before_tells, same_rank, other_rank, lower_rank, higher_rank}
 
--- every prefix of the list meets P
+-- every prefix of the list satisfies P
 abbrev pub AllKeys : {V : Type 0} → (Prefix → Type 0) → Pairs V → Type 0
 AllKeys P [] = Unit {0}
 AllKeys P ((q, v) ∷ rest) = P q × AllKeys P rest
@@ -20,7 +20,7 @@ pub AllKeys-map : {V : Type 0} (P Q : Prefix → Type 0) (xs : Pairs V) → ((q 
 AllKeys-map P Q [] f h = tt
 AllKeys-map P Q ((q, v) ∷ xs) f h = (f q h.0, AllKeys-map P Q xs f h.1)
 
--- what stands for another prefix than p, before p, or after p
+-- q is another prefix than p, is before p, or is after p
 abbrev pub IsOther : Prefix → Prefix → Type 0
 IsOther p q = same_prefix q p ≡ false
 
@@ -59,7 +59,7 @@ module _ {V : Type 0} where
   get-front [] ys p h = get-none ys p h
   get-front ((q, v) ∷ xs) ys p h = ap (λ r. cond (same_prefix q p) (Some v) r) (get-front xs ys p h)
 
-  -- putting in
+  -- insertion
 
   pub put-first : (xs : Pairs V) (p : Prefix) (v : V) → AllKeys (IsHigher p) xs → put xs p v ≡ (p, v) ∷ xs
   put-first [] p v h = refl
@@ -84,7 +84,7 @@ module _ {V : Type 0} where
   pub put-here : (xs : Pairs V) (q : Prefix) (w v : V) → put ((q, w) ∷ xs) q v ≡ (q, v) ∷ xs
   put-here xs q w v = rw (higher_rank q q (omega arith), same_rank q q refl refl) refl
 
-  -- taking out
+  -- removal
 
   pub erase-skip : (xs ys : Pairs V) (p : Prefix) → AllKeys (IsOther p) xs → erase (xs ++ ys) p ≡ xs ++ erase ys p
   erase-skip [] ys p h = refl
@@ -104,7 +104,7 @@ module _ {V : Type 0} where
   pub erase-here : (xs : Pairs V) (q : Prefix) (v : V) → erase ((q, v) ∷ xs) q ≡ xs
   erase-here xs q v = rw (same_rank q q refl refl) refl
 
-  -- the least, and the least after a prefix
+  -- the first prefix, and the next after a prefix
 
   pub first-append : (xs ys : Pairs V) → first (xs ++ ys) ≡ or_else (first xs) (first ys)
   first-append [] ys = refl

@@ -1,4 +1,4 @@
--- Look-ups that go on in turn: what one step in one lane makes of all.
+-- Look-ups that proceed in turn: the effect of one step in one lane on all of them.
 use Rattle.std.proofs.Common.{◌≡◌, ◌≢◌, ℕ, zero, suc, ◌+◌, ◌<◌, ◌≤◌, ◌⊎◌, List, [], ◌∷◌, Option, Some, None, length}
 use Rattle.std.proofs.Common.{set, get_or, inl, inr, refl, sym, ap, ◌∙◌, arith, get_or-set_same, get_or-set_other}
 use Rattle.std.proofs.Common.{length-set}
@@ -13,7 +13,7 @@ use Rattle.rt_trie.specs.inside.Links.{pairs, count, or_else, last_cover}
 use Rattle.rt_trie.specs.inside.Lawful.{IsLawfulBelow}
 use Rattle.rt_trie.proofs.JoinedPairs.{or_none}
 
--- what is read at an index of the list, with any value for past its end
+-- a read within the list doesn't depend on the default value
 pub read_at : {X : Type 0} (xs : List X) (k : ℕ) (d e : X) → k < length xs → get_or xs k d ≡ get_or xs k e
 read_at [] k d e h = absurd (omega arith)
 read_at (x ∷ xs) zero d e h = refl
@@ -22,11 +22,11 @@ read_at (x ∷ xs) (suc k) d e h = read_at xs k d e (omega arith)
 same_or : (j k : ℕ) → (j ≡ k) ⊎ (j ≢ k)
 same_or j k = elim (eqb_tells j k) [ inl e ↦ inl e.1 | inr n ↦ inr n.1 ]
 
--- lane j is among the first lanes of the order, so many as go on
+-- lane j is among the first `going` lanes of the order
 abbrev pub IsListed : List ℕ → ℕ → ℕ → Type 0
 IsListed order going j = (i : ℕ) × (i < going) × (get_or order i 0 ≡ j)
 
--- where the last takes the place of another, all but that other are still listed
+-- if the last listed lane replaces another, all but that other are still listed
 pub listed_without : (order : List ℕ) (going k j : ℕ) → going < length order → k ≤ going → IsListed order (going + 1) j → j ≢ get_or order k 0
     → IsListed (set order k (get_or order going 0)) going j
 listed_without order going k j h l w n = elim (same_or w.0 going) [
@@ -38,19 +38,19 @@ listed_without order going k j h l w n = elim (same_or w.0 going) [
       (w.0, omega (arith, w.1, d), get_or-set_other order k w.0 (get_or order going 0) 0 other ∙ w.2)
 ]
 
--- a first answer stands before a second one, however often
+-- `or_else` is idempotent in its first argument
 or_again : {X : Type 0} (x y : Option X) → or_else x (or_else x y) ≡ or_else x y
 or_again None y = refl
 or_again (Some z) y = refl
 
 module _ {V A : Type 0} where
-  -- the link at which lane j goes on, or ended
+  -- the link at which lane j continues, or ended
   abbrev pub link_at : List (Bor (Link V A)) → ℕ → Link V A
   link_at [] j = Empty
   link_at (b ∷ lanes) zero = b.now
   link_at (b ∷ lanes) (suc j) = link_at lanes j
 
-  -- which is what is read there
+  -- it is the link that is read there
   pub link_read : (xs : List (Bor (Link V A))) (k : ℕ) (d : Bor (Link V A)) → k < length xs → link_at xs k ≡ (get_or xs k d).now
   link_read [] k d h = absurd (omega arith)
   link_read (x ∷ xs) zero d h = refl
@@ -72,17 +72,17 @@ module _ {V A : Type 0} where
   abbrev pub AreLawful : List (Bor (Link V A)) → ℕ → Type 0
   AreLawful lanes size = (j : ℕ) → j < size → IsLawfulBelow (link_at lanes j)
 
-  -- how many nodes the first lanes have before them, at most
+  -- an upper bound on the nodes that the first lanes have still to visit
   abbrev pub work_of : List (Bor (Link V A)) → ℕ → ℕ
   work_of lanes zero = 0
   work_of lanes (suc size) = count (link_at lanes size) + work_of lanes size
 
-  -- what is found at last in lane j, whose answer stands at start + j
+  -- the final answer of lane j, whose answer so far is at start + j
   abbrev pub lane_sought : List (Bor (Link V A)) → List Addr → List (Option (Prefix × Bor V)) → ℕ → ℕ → Option (Prefix × V)
   lane_sought lanes addresses answers start j =
       or_else (last_cover (pairs (link_at lanes j)) (address_at addresses (start + j))) (answer_at answers (start + j))
 
-  -- what is found at last in a lane, by what is read of it
+  -- the final answer of a lane, in terms of what is read
   pub as_read : (lanes : List (Bor (Link V A))) (us : List Addr) (answers : List (Option (Prefix × Bor V))) (start lane : ℕ) (d : Bor (Link V A))
       (e : Option (Prefix × Bor V)) → lane < length lanes → start + lane < length answers
       → or_else (last_cover (pairs (get_or lanes lane d).now) (address_at us (start + lane))) (pair_copied (get_or answers (start + lane) e))
@@ -96,7 +96,7 @@ module _ {V A : Type 0} where
       let e : link_at (set xs k x) n ≡ link_at xs n = link_set_other xs k n x ne in
       omega (arith, ap count e, work-below xs k n x (omega arith))
 
-  -- how a step in one lane changes the work of all
+  -- how a step in one lane changes the total work
   pub work-set : (xs : List (Bor (Link V A))) (k n : ℕ) (x : Bor (Link V A)) → k < n → k < length xs
       → work_of (set xs k x) n + count (link_at xs k) ≡ work_of xs n + count x.now
   work-set xs k zero x h l = absurd (omega arith)
@@ -111,8 +111,8 @@ module _ {V A : Type 0} where
         omega (arith, ap count e, work-below xs k n x ge, ap (λ m. count (link_at (set xs k x) m)) i, ap (λ m. count (link_at xs m)) i)
   ]
 
-  -- the lanes, the first of which go on in this order: what each finds at last, below its link or as its answer, is what
-  -- there is below the root, and its answer where it is not listed
+  -- the lanes, the first `going` of which in this order still proceed: each lane's final answer is the one below the
+  -- root, and the answer of a lane that isn't listed is final
   pub record AreOnTheWay (root : Link V A) (us : List Addr) (start size : ℕ) (lanes : List (Bor (Link V A))) (order : List ℕ) (going : ℕ)
       (answers : List (Option (Prefix × Bor V))) : Type 0 where
     pub lawful : AreLawful lanes size
@@ -124,7 +124,7 @@ module _ {V A : Type 0} where
     pub order_long : size ≤ length order
     pub answers_long : start + size ≤ length answers
 
-  -- so many lanes at one link
+  -- `n` lanes at the same link
   abbrev pub copies : ℕ → Bor (Link V A) → List (Bor (Link V A))
   copies zero link = []
   copies (suc n) link = link ∷ copies n link
@@ -134,7 +134,7 @@ module _ {V A : Type 0} where
   link_copies (suc n) zero link h = refl
   link_copies (suc n) (suc j) link h = link_copies n j link (omega arith)
 
-  -- how the lanes set out
+  -- the start of the lanes
   pub set_out : (root : Bor (Link V A)) (us : List Addr) (start size most : ℕ) (order : List ℕ) (answers : List (Option (Prefix × Bor V)))
       → IsLawfulBelow root.now → size ≤ most → size ≤ length (copies most root) → size ≤ length order → start + size ≤ length answers
       → ((j : ℕ) → j < size → get_or order j 0 ≡ j) → ((j : ℕ) → j < size → answer_at answers (start + j) ≡ None)
@@ -162,7 +162,7 @@ module _ {V A : Type 0} where
     pub in_answers : start + lane < length answers
     in_answers = let s = in_size in omega (arith, w.answers_long)
 
-    -- a step to a link below the lane's takes work away
+    -- a step to a link below the lane's reduces the work
     pub gone_less : (below d : Bor (Link V A)) → count below.now < count (get_or lanes lane d).now
         → work_of (set lanes lane below) size + going < work_of lanes size + going
     gone_less below d less =

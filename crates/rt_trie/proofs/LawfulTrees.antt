@@ -1,4 +1,4 @@
--- The nodes that a lawful link holds are those of a lawful tree: what lies in a half is a child by bits.
+-- The nodes of a lawful link form a lawful tree: a prefix in a half is a child by bits.
 use Rattle.std.proofs.Common.{◌≡◌, true, false, [], ◌∷◌, ◌++◌, Option, Some, None, map, refl, subst, sym}
 use Rattle.std.proofs.lemmas.List.{map-append}
 use Rattle.std.specs.Prelude.{IfSome, IfNone, IsSome, is_some, if◌then◌else◌}
@@ -21,7 +21,7 @@ child_by_bit parent c upper = (
   λ w. (child_reading parent c upper).1 (w.longer, w.contained, w.next_bit),
 )
 
--- a node's own value stands at its prefix
+-- if a node has a value, its prefix is the one stored
 own_stored : {V : Type 0} (q : Prefix) (v : Option V) → (if is_some v then q ∷ [] else []) ≡ map (λ (x : Prefix × V). x.0) (own_pair q v)
 own_stored q None = refl
 own_stored q (Some v) = refl
@@ -34,7 +34,7 @@ module _ {V A : Type 0} where
   top_is (Fork' i j p left right q) = refl
   top_is (Full' i j p left right q v) = refl
 
-  -- a lawful node of links is one of the tree
+  -- a lawful node of links is a lawful node of the tree
   node_is : (q : Prefix) (v : Option V) (left right : Link V A) → AreHalves q left right → IfNone v (IsFilled left × IsFilled right)
       → IsLawfulAt q (is_some v) (tree_of left) (tree_of right)
   node_is q v left right h n = record {
@@ -55,7 +55,7 @@ module _ {V A : Type 0} where
   tree_is_lawful (Fork' i j p left right q) h = (node_is q None left right h.0.0 h.1, tree_is_lawful left h.0.1, tree_is_lawful right h.0.2)
   tree_is_lawful (Full' i j p left right q v) h = (node_is q v left right h.0.0 h.1, tree_is_lawful left h.0.1, tree_is_lawful right h.0.2)
 
-  -- values stand at the prefixes of the pairs
+  -- the stored prefixes of the tree are the prefixes of the pairs
   stored_is : (link : Link V A) → stored (tree_of link) ≡ map (λ x. x.0) (pairs link)
   stored_is Empty = refl
   stored_is (Leaf i j b) = refl
@@ -76,7 +76,7 @@ module _ {V A : Type 0} where
   size_is (Fork' i j p left right q) = rw (size_is left, size_is right) refl
   size_is (Full' i j p left right q v) = rw (size_is left, size_is right) refl
 
-  -- so what callers see of a lawful trie is lawful
+  -- hence the contents of a lawful trie are lawful
   pub held_is_lawful : (link : Link V A) → IsLawfulTrie link → IsLawful (held link)
   held_is_lawful link h = record {
     tree = tree_is_lawful link h;

@@ -18,7 +18,7 @@ pub mod NodePairs
 pub mod Partings
 pub mod PrefixOrder
 pub mod Removals
-pub mod Sieves
+pub mod Filters
 pub mod StoredPairs
 pub mod WalkStacks
 pub mod WaysDown

@@ -1,4 +1,4 @@
--- The pairs of a lawful link lie where its root lies, and in order.
+-- The pairs of a lawful link are within its root's block, and in order.
 use Rattle.std.proofs.Common.{◌≡◌, ℕ, suc, ◌⊎◌, ◌↔◌, ◌+◌, ◌<◌, ◌≤◌, [], ◌++◌, Option, Some, None, Bool, true, false}
 use Rattle.std.proofs.Common.{cond, leb, inl, inr, refl, sym, subst, ap, ◌∙◌, arith}
 use Rattle.rt_cidr.specs.declared.prefixes.Prefix.{Prefix}
@@ -31,11 +31,11 @@ use Rattle.rt_trie.proofs.JoinedPairs.{AllKeys, AllKeys-append, AllKeys-map, fir
 use Rattle.rt_trie.proofs.LongestMatches.{longest_is}
 use Rattle.rt_trie.proofs.Blocks.{past_fits}
 
--- the pairs lie within a block
+-- the pairs are within a block
 abbrev pub AllWithin : {V : Type 0} → ℕ → ℕ → ℕ → Pairs V → Type 0
 AllWithin lo hi len xs = AllKeys (IsInBlock lo hi len) xs
 
--- a half of a prefix lies where the prefix does
+-- a half of a prefix is within every block that the prefix is in
 pub within_lower : (lo hi len : ℕ) (q x : Prefix) → IsInBlock lo hi len q → IsInBlock q.base (middle q) (q.len + 1) x → IsInBlock lo hi len x
 within_lower lo hi len q x h k =
     record { long = omega (arith, h.long, k.long); from = omega (arith, h.from, k.from); to = omega (arith, h.to, k.to) }
@@ -45,7 +45,7 @@ within_upper lo hi len q x h k =
     record { long = omega (arith, h.long, k.long); from = omega (arith, h.from, k.from); to = omega (arith, h.to, k.to) }
 
 module _ {V : Type 0} where
-  -- the pairs of two halves lie where the whole does
+  -- the pairs of two halves are within every block that the whole is in
   pub halves_within : (lo hi len : ℕ) (q : Prefix) (xs ys : Pairs V) → IsInBlock lo hi len q
       → AllWithin q.base (middle q) (q.len + 1) xs → AllWithin (middle q) (past q) (q.len + 1) ys → AllWithin lo hi len (xs ++ ys)
   halves_within lo hi len q xs ys h l r =
@@ -53,19 +53,19 @@ module _ {V : Type 0} where
       (AllKeys-map (IsInBlock q.base (middle q) (q.len + 1)) (IsInBlock lo hi len) xs (λ x. within_lower lo hi len q x h) l)
       (AllKeys-map (IsInBlock (middle q) (past q) (q.len + 1)) (IsInBlock lo hi len) ys (λ x. within_upper lo hi len q x h) r)
 
-  -- the pairs of two halves and the prefix's own lie where the whole does
+  -- the pairs of two halves and the prefix's own are within every block that the prefix is in
   pub node_within : (lo hi len : ℕ) (q : Prefix) (v : Option V) (xs ys : Pairs V) → IsInBlock lo hi len q
       → AllWithin q.base (middle q) (q.len + 1) xs → AllWithin (middle q) (past q) (q.len + 1) ys
       → AllWithin lo hi len (own_pair q v ++ (xs ++ ys))
   node_within lo hi len q None xs ys h l r = halves_within lo hi len q xs ys h l r
   node_within lo hi len q (Some v) xs ys h l r = (h, halves_within lo hi len q xs ys h l r)
 
--- what holds of what an option holds, where it holds something
+-- a property of an option's value, if there is one, implies another
 pub if_some_map : {X : Type 0} (o : Option X) (P Q : X → Type 0) → ((x : X) → P x → Q x) → IfSome o P → IfSome o Q
 if_some_map None P Q f h = h
 if_some_map (Some x) P Q f h = f x h
 
--- the link holds nothing, or a node within a block
+-- the link is empty, or holds a node within a block
 abbrev pub IsOn : {V A : Type 0} → ℕ → ℕ → ℕ → Link V A → Type 0
 IsOn lo hi len link = IfSome (root link) (IsInBlock lo hi len)
 
@@ -85,11 +85,11 @@ module _ {V A : Type 0} where
 pub own_key : (q : Prefix) → IsKeyOf q.len q.base q
 own_key q = record { len_is = refl; base_is = refl }
 
--- a key's length is no more than an address has bits
+-- a key's length is at most 32
 pub key_short : {len base : ℕ} (q : Prefix) → IsKeyOf len base q → len ≤ 32
 key_short q k = let s = q.is_prefix.short in omega (arith, k.len_is)
 
--- one view of a fork and a full node: the node, and what it is with other sides
+-- a common view of a fork and a full node: the node, and the same with other sides
 pub record IsView {V A : Type 0} (link : Link V A) (q : Prefix) (v : Option V) (left right : Link V A)
     (with_sides : Link V A → Link V A → Link V A) : Type 0 where
   pub node : IsNode link q v left right
@@ -177,7 +177,7 @@ module _ {V A : Type 0} where
     pub key_of_full : IsLawfulBelow link → IsKeyOf len base n.prefix
     key_of_full h = let k : IsLawfulBelow (Full len base b) = subst IsLawfulBelow e h in rw f k.3
 
-    -- it has both sides, where it has no value
+    -- it has both sides if it has no value
     pub full_filled : IsNeeded link → n.value ≡ None → IsFilled n.left × IsFilled n.right
     full_filled h v =
         let k : IfNone b.value.value (IsFilled b.value.left × IsFilled b.value.right) = subst IsNeeded e h in
@@ -189,7 +189,7 @@ module _ {V A : Type 0} where
         (λ l r. Full len base (with_value b (record { prefix = n.prefix; value = n.value; left = l; right = r })))
     view_full h = rw (f, e) (view_full_at len base b (subst IsLawfulBelow e h))
 
-  -- the length that a link keeps is no more than an address has bits
+  -- the length that a link keeps is at most 32
   pub short_leaf : {len base : ℕ} (b : Box (LeafNode V) A) (link : Link V A) → link ≡ Leaf len base b → IsLawfulBelow link → len ≤ 32
   short_leaf b link e h = key_short b.value.prefix (key_of_leaf b b.value link e refl h)
 
@@ -199,12 +199,12 @@ module _ {V A : Type 0} where
   pub short_full : {len base : ℕ} (b : Box (FullNode V A) A) (link : Link V A) → link ≡ Full len base b → IsLawfulBelow link → len ≤ 32
   short_full b link e h = key_short b.value.prefix (key_of_full b b.value link e refl h)
 
-  -- where a prefix stands, as seen from the link's two numbers, it stands as seen from the node
+  -- a position relative to the link's two numbers is the position relative to the node
   pub seen_from : {len base : ℕ} (link : Link V A) (q p : Prefix) (position : Position) → root link ≡ Some q → IsKeyOf len base q
       → ((x : Prefix) → IsKeyOf len base x → StandsAt x p position) → IsSeenFrom link base p position
   seen_from link q p position e k s = record { node = q; root_is = e; base_is = k.base_is; stands = s q k }
 
-  -- the pairs of two lawful sides lie in the halves
+  -- the pairs of two lawful sides are in the halves
   pub sides_at : (q : Prefix) (left right : Link V A) → AreHalves q left right → IsLawfulTrie left → IsLawfulTrie right → AreSides q (pairs left) (pairs right)
   sides_at q left right h l r = record {
     lower = pairs_within left q.base (middle q) (q.len + 1) l.0 h.lower;
@@ -222,7 +222,7 @@ module _ {V A : Type 0} where
     pub below_right : IsLawfulTrie right × (count right < count link)
     below_right = (n.right_lawful, omega (arith, n.count_is))
 
-    -- the look-up goes to one side, or ends here
+    -- a look-up continues on one side, or ends here
     pub node_get-lower : (p : Prefix) → q.len < p.len → p.base < middle q → get (pairs link) p ≡ get (pairs left) p
     node_get-lower p h k =
         ap (λ m. get m p) n.pairs_are ∙ get-lower q v (pairs left) (pairs right) sides_of p h k
@@ -239,11 +239,11 @@ module _ {V A : Type 0} where
     node_get-past p h k =
         ap (λ m. get m p) n.pairs_are ∙ get-past q v (pairs left) (pairs right) sides_of p h k
 
-    -- the link's pairs are joined from its node's own and those on its sides
+    -- the link's pairs are the node's own followed by those on its sides
     pub joined : IsJoined (pairs link) q v (pairs left) (pairs right)
     joined = record { pairs_are = n.pairs_are; sides = sides_of }
 
-    -- and so are those that are no longer than that, where the node is
+    -- the same of the pairs with at most `most` bits, if the node has at most `most` bits
     kept_joined : (most : ℕ) → IsNoLonger most link → IsJoined (no_longer most (pairs link)) q v (no_longer most (pairs left)) (no_longer most (pairs right))
     kept_joined most h = joined_to most (pairs link) q v (pairs left) (pairs right) joined (rw n.root_is at h)
 
@@ -263,7 +263,7 @@ module _ {V A : Type 0} where
   pairs_ordered (Full' i j p left right q v) h =
       IsOrdered-node q v (pairs left) (pairs right) (sides_at q left right h.0 h.1 h.2) (pairs_ordered left h.1.0) (pairs_ordered right h.2.0)
 
-  -- a look-up of what is no longer than that goes on where `side` says, of an address so far into the node's
+  -- a look-up among pairs with at most `most` bits continues on the side that `side` selects for the address's offset
   pub step_side : (link : Link V A) (q : Prefix) (v : Option V) (left right below : Bor (Link V A)) (n : IsNode link q v left.now right.now)
       (most : ℕ) → IsNoLonger most link → (a : Addr) (best found : Option (Prefix × V)) (offset : ℕ)
       → (q.len < 32 → (2147483648 ≤ offset) ↔ (middle q ≤ a.0)) → (q.len ≡ 32 → offset < 2147483648)
@@ -284,13 +284,13 @@ module _ {V A : Type 0} where
             ]) f)
       ]
 
-  -- and ends here where the address is not the node's
+  -- it ends here if the node doesn't cover the address
   pub step_ends : (link : Link V A) (q : Prefix) (v : Option V) (left right : Link V A) (n : IsNode link q v left right)
       (most : ℕ) → IsNoLonger most link → (a : Addr) (best : Option (Prefix × V)) → covers q a ≡ false
       → best ≡ or_else (last_cover (no_longer most (pairs link)) a) best
   step_ends link q v left right n most short a best h = step_none _ q v _ _ (kept_joined link q v left right n most short) a best h
 
-  -- nothing at a longer node or below it is no longer
+  -- a node longer than `most` bits, and everything below it, is longer than `most` bits
   pub none_no_longer : (link : Link V A) (most : ℕ) → IsLawfulBelow link → IfSome (root link) (λ q. most < q.len) → no_longer most (pairs link) ≡ []
   none_no_longer link most h on =
       let block = IsInBlock 0 4294967296 (most + 1) in
@@ -298,7 +298,7 @@ module _ {V A : Type 0} where
       (pairs_within link 0 4294967296 (most + 1) h
       (if_some_map (root link) (λ q. most < q.len) block (λ q lt. record { long = omega arith; from = omega arith; to = past_fits q }) on)))
 
-  -- at a link that is lawful, with fewer nodes
+  -- the side that is picked is lawful, and has fewer nodes
   picked_below : (link : Link V A) (q : Prefix) (v : Option V) (left right below : Bor (Link V A)) (n : IsNode link q v left.now right.now) (lower : Bool)
       → below ≡ cond lower left right → IsLawfulBelow below.now × (count below.now < count link)
   picked_below link q v left right below n true e = rw e (n.left_lawful.0, omega (arith, n.count_is))
@@ -352,7 +352,7 @@ none_of (Some x) h = absurd (false≢true h)
 
 module _ {V A : Type 0} where
   module _ (link : Link V A) (q : Prefix) (v : Option V) (left right : Link V A) (n : IsNode link q v left right) where
-    -- the least prefix after p, by where p stands as seen from the node
+    -- the next prefix after p, by the position of p relative to the node
     pub node_after-lower : (p : Prefix) (r : Position) → StandsAt q p r → (r ≡ Here) ⊎ (r ≡ Left)
         → next_after (pairs link) p ≡ or_else (next_after (pairs left) p) (first (pairs right))
     node_after-lower p r s e =
@@ -392,7 +392,7 @@ module _ {V A : Type 0} where
           ]
         ])
 
--- nothing is stored at a fork
+-- a fork's prefix isn't stored
 pub fork_absent : {V A : Type 0} (link : Link V A) (p : Prefix) → IsLawfulTrie link → IsForkOf p link → get (pairs link) p ≡ None
 fork_absent Empty p h f = refl
 fork_absent (Leaf i j b) p h f = absurd f
@@ -414,14 +414,14 @@ if_some_is (Some x) P f = f x refl
 
 module _ {V A : Type 0} where
   module _ (link : Link V A) (q : Prefix) (v : Option V) (left right : Link V A) (n : IsNode link q v left right) where
-    -- what stands at a prefix on one side of a node stands there in that side's link
+    -- the value at a prefix on one side of a node is the value in that side's link
     pub get_left : (p : Prefix) → IsChild q false p → get (pairs link) p ≡ get (pairs left) p
     get_left p c = node_get-lower link q v left right n p (omega (arith, c.long)) (omega (arith, c.to, size_pos p.len))
 
     pub get_right : (p : Prefix) → IsChild q true p → get (pairs link) p ≡ get (pairs right) p
     get_right p c = node_get-upper link q v left right n p (omega (arith, c.long)) c.from
 
-    -- what stands at a node's own prefix is its value
+    -- the value at a node's own prefix is the node's value
     pub get_own : (p : Prefix) → p ≡ q → get (pairs link) p ≡ v
     get_own p i =
         node_get-here link q v left right n p (omega (arith, ap (λ (x : Prefix). x.len) i))

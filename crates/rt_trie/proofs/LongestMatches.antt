@@ -13,7 +13,7 @@ use Rattle.rt_trie.proofs.PrefixOrder.{before_tells, same_tells, rank_of_before}
 use Rattle.rt_cidr.proofs.Promised.{size_pos}
 use Rattle.rt_trie.proofs.Blocks.{range_of_covers, ends_before, covered_of_range, uncovered_of_range}
 
--- of two prefixes that cover one address, the later one is the longer
+-- if two prefixes cover the same address, the later one is the longer
 pub later_is_longer : (q x : Prefix) (a : Addr) → before q x ≡ true → covers q a ≡ true → covers x a ≡ true → q.len ≤ x.len
 later_is_longer q x a b h k =
     let r = range_of_covers q a h in
@@ -30,7 +30,7 @@ later_is_longer q x a b h k =
     ]
 
 module _ {V : Type 0} where
-  -- what comes before each pair of the list
+  -- q comes before each pair of the list
   All-before : (q : Prefix) (rest : Pairs V) → IsBeforeAll q rest → All (λ y. before q y.0 ≡ true) rest
   All-before q [] h = All-nil (λ y. before q y.0 ≡ true)
   All-before q ((p, v) ∷ rest) h = All-cons (λ y. before q y.0 ≡ true) (p, v) rest h.0 (All-before q rest h.1)
@@ -64,7 +64,7 @@ value_at p None = None
 value_at p (Some x) = cond (same_prefix x.0 p) (Some x.1) None
 
 module _ {V : Type 0} where
-  -- behind p nothing that is no longer covers its first address
+  -- after p, no prefix of at most p's length covers p's first address
   none_behind : (q p : Prefix) (rest : Pairs V) → q.base ≡ p.base → q.len ≡ p.len → IsBeforeAll q rest
       → last_cover (no_longer p.len rest) (record { 0 = p.base }) ≡ None
   none_behind q p [] b l h = refl
@@ -86,14 +86,14 @@ module _ {V : Type 0} where
         | inl short ↦ rw (short.0, none_behind q p rest b l h, covers, s) refl
       ]
 
-  -- another prefix than p, before the others, adds nothing
+  -- another prefix than p in front adds nothing
   other_value : (q p : Prefix) (v : V) (c : Bool) (o : Option (Prefix × V)) → same_prefix q p ≡ false
       → value_at p (or_else o (cond c (Some (q, v)) None)) ≡ value_at p o
   other_value q p v true None n = rw n refl
   other_value q p v false None n = refl
   other_value q p v c (Some x) n = refl
 
-  -- what stands at p is the value of the last that covers its first address, of those that are no longer
+  -- the value at p is the one of the last pair that covers p's first address among those that aren't longer than p
   pub get_of_last : (m : Pairs V) (p : Prefix) → IsOrdered m → get m p ≡ value_at p (last_cover (no_longer p.len m) (record { 0 = p.base }))
   get_of_last [] p h = refl
   get_of_last ((q, v) ∷ rest) p h = elim (same_tells q p) [

@@ -1,4 +1,4 @@
--- What a look-up finds after a change, and that a change keeps the order.
+-- The result of a look-up after a change; a change keeps the order.
 use Rattle.std.proofs.Common.{◌≡◌, true, cond, [], ◌∷◌, Some, None, inl, inr, refl, sym, ◌∙◌, arith}
 use Rattle.rt_cidr.specs.declared.prefixes.Prefix.{Prefix}
 use Rattle.rt_trie.specs.Map.{Pairs, same_prefix, before, get, put, erase, IsBeforeAll, IsOrdered}
@@ -6,7 +6,7 @@ use Rattle.rt_trie.proofs.PrefixOrder.{same_tells, before_tells, same_rank, othe
 use Rattle.rt_trie.proofs.JoinedPairs.{AllKeys-map, IsOther, IsOther-higher, IsHigher, get-none}
 use Rattle.rt_trie.proofs.Counts.{AllKeys-higher}
 
--- what is one with a prefix is one with the same others
+-- equal prefixes are equal to the same prefixes
 same_as : (x p q : Prefix) → x.base ≡ p.base → x.len ≡ p.len → same_prefix x q ≡ same_prefix p q
 same_as x p q b l = elim (same_tells p q) [
   | inl h ↦ same_rank x q (omega arith) (omega arith) ∙ sym h.0
@@ -14,7 +14,7 @@ same_as x p q b l = elim (same_tells p q) [
 ]
 
 module _ {V : Type 0} where
-  -- after v was put in at p, it stands at p, and elsewhere what stood there
+  -- after v was inserted at p, p has the value v, and every other prefix has its old value
   pub get-put : (m : Pairs V) (p : Prefix) (v : V) (q : Prefix) → get (put m p v) q ≡ cond (same_prefix p q) (Some v) (get m q)
   get-put [] p v q = refl
   get-put ((x, w) ∷ m) p v q = elim (before_tells p x) [
@@ -28,7 +28,7 @@ module _ {V : Type 0} where
     ]
   ]
 
-  -- after p was taken out, nothing stands at p, and elsewhere what stood there
+  -- after p was removed, p has no value, and every other prefix has its old value
   pub get-erase : (m : Pairs V) (p q : Prefix) → IsOrdered m → get (erase m p) q ≡ cond (same_prefix p q) None (get m q)
   get-erase [] p q o = elim (same_tells p q) [ inl t ↦ rw t.0 refl | inr t ↦ rw t.0 refl ]
   get-erase ((x, w) ∷ m) p q o = elim (same_tells x p) [
@@ -57,7 +57,7 @@ module _ {V : Type 0} where
   before-trans p x ((y, w) ∷ m) b h =
       (lower_rank p y (omega (arith, rank_of_before p x b, rank_of_before x y h.0)), before-trans p x m b h.1)
 
-  -- both keep the order
+  -- both changes keep the order
   pub ordered-put : (m : Pairs V) (p : Prefix) (v : V) → IsOrdered m → IsOrdered (put m p v)
   ordered-put [] p v o = (tt, tt)
   ordered-put ((x, w) ∷ m) p v o = elim (before_tells p x) [

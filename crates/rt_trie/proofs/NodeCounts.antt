@@ -1,4 +1,4 @@
--- The nodes of a lawful link stand where a prefix is stored or two that are stored part, each once.
+-- A lawful link has one node for each prefix that is stored or at which two stored ones diverge.
 use Rattle.std.proofs.Common.{◌≡◌, ℕ, ◌+◌, ◌<◌, ◌⊎◌, [], ◌∷◌, ◌++◌, Option, Some, None, length, inl, inr, refl, ap, subst, arith, ◌↔◌, length-append}
 use Rattle.std.specs.Prelude.{IfNone}
 use Rattle.std.proofs.lemmas.Bool.{cases_lt, false≢true}
@@ -17,7 +17,7 @@ use Rattle.rt_trie.proofs.NodePairs.{AreSides, IsOrdered-node}
 use Rattle.rt_trie.proofs.LinkOrder.{IsOn, AllWithin, node_within, pairs_within, filled_first}
 use Rattle.rt_trie.proofs.StoredPairs.{stored-here, stored-more, stored-cases}
 
--- of two prefixes at which the same two part, neither is the shorter
+-- if the same two prefixes diverge at two prefixes, neither of these is shorter
 not_shorter : (c q a b : Prefix) → IsInBlock c.base (middle c) (c.len + 1) a → IsInBlock (middle c) (past c) (c.len + 1) b
     → IsInBlock q.base (middle q) (q.len + 1) a → IsInBlock (middle q) (past q) (q.len + 1) b → c.len < q.len → ⊥
 not_shorter c q a b ca cb qa qb short = elim (cases_lt q.base c.base) [
@@ -28,7 +28,7 @@ not_shorter c q a b ca cb qa qb short = elim (cases_lt q.base c.base) [
   ]
 ]
 
--- two prefixes part at one prefix
+-- two prefixes diverge at only one prefix
 one_parting : (c q a b : Prefix) → IsInBlock c.base (middle c) (c.len + 1) a → IsInBlock (middle c) (past c) (c.len + 1) b
     → IsInBlock q.base (middle q) (q.len + 1) a → IsInBlock (middle q) (past q) (q.len + 1) b → (q.base ≡ c.base) × (q.len ≡ c.len)
 one_parting c q a b ca cb qa qb = elim (cases_lt c.len q.len) [
@@ -64,7 +64,7 @@ module _ {V : Type 0} where
     | inr t ↦ elim (stored-append xs ys p t) [ inl i ↦ inl (stored-more x w xs p i) | inr i ↦ inr i ]
   ]
 
-  -- where a stored prefix lies
+  -- a stored prefix is in the block
   stored-within : (xs : Pairs V) (lo hi len : ℕ) (p : Prefix) → AllWithin lo hi len xs → IsStored xs p → IsInBlock lo hi len p
   stored-within [] lo hi len p a h = absurd (false≢true h)
   stored-within ((x, w) ∷ xs) lo hi len p a h = elim (stored-cases x w xs p h) [
@@ -80,18 +80,18 @@ module _ {V : Type 0} where
   first-stored [] p h = cc
   first-stored ((x, w) ∷ m) p h = let e : x ≡ p = cc in subst (λ y. IsStored ((x, w) ∷ m) y) e (stored-here x w m)
 
-  -- where the pairs of a node's own and of its two sides are stored
+  -- a prefix stored as a node's own pair is the node's prefix
   own-stored : (q : Prefix) (v : Option V) (p : Prefix) → IsStored (own_pair q v) p → (q.base ≡ p.base) × (q.len ≡ p.len)
   own-stored q None p h = absurd (false≢true h)
   own-stored q (Some w) p h = elim (stored-cases q w [] p h) [ inl e ↦ e | inr t ↦ absurd (false≢true t) ]
 
-  -- what stands on a side stands in the whole
+  -- a node of one side is a node of the whole
   node-more : (xs ys : Pairs V) (c : Prefix) → ((p : Prefix) → IsStored xs p → IsStored ys p) → IsNodeAt xs c → IsNodeAt ys c
   node-more xs ys c f (inl s) = inl (f c s)
   node-more xs ys c f (inr p) =
       inr (record { low = p.low; high = p.high; low_stored = f p.low p.low_stored; high_stored = f p.high p.high_stored; parts = p.parts })
 
-  -- where the parts of a node's pairs are stored
+  -- the part of a node's pairs in which a prefix is stored
   data Side (q : Prefix) (v : Option V) (xs ys : Pairs V) (p : Prefix) : Type 0 where
     own_side : (q.base ≡ p.base) × (q.len ≡ p.len) × IsStored (own_pair q v) p → Side q v xs ys p
     low_side : IsStored xs p → Side q v xs ys p
@@ -104,7 +104,7 @@ module _ {V : Type 0} where
   ]
 
 module _ {V : Type 0} where
-  -- the nodes of a whole, by those of its sides
+  -- the nodes of the whole, in terms of those of its sides
   node_each : (q : Prefix) (v : Option V) (xs ys : Pairs V) (ns ms : Pairs (Unit {0})) → AreSides q xs ys
       → (v ≡ None → (a : Prefix) × (b : Prefix) × (IsStored xs a) × (IsStored ys b))
       → ((c : Prefix) → IsStored ns c ↔ IsNodeAt xs c) → ((c : Prefix) → IsStored ms c ↔ IsNodeAt ys c)
@@ -186,7 +186,7 @@ module _ {V : Type 0} where
       back (inr p) =
           parted p.low p.high (side_of q v xs ys p.low p.low_stored) (side_of q v xs ys p.high p.high_stored) p.parts.0 p.parts.1
 
--- where nothing is stored no node stands
+-- an empty map has no nodes
 none_each : {V : Type 0} (c : Prefix) → IsStored {V = Unit {0}} [] c ↔ IsNodeAt {V = V} [] c
 none_each c = (λ s. absurd (false≢true s), λ n. elim n [ inl s ↦ absurd (false≢true s) | inr p ↦ absurd (false≢true p.low_stored) ])
 
@@ -237,7 +237,7 @@ module _ {V A : Type 0} where
   some_stored : (link : Link V A) → IsLawfulTrie link → IsFilled link → (p : Prefix) × IsStored (pairs link) p
   some_stored link h f = let i = filled_first link h f in (i.0, first-stored (pairs link) i.0 i.1)
 
-  -- the nodes of a node's link, by those of its sides
+  -- the nodes of a node's link, in terms of those of its sides
   sides_each : (q : Prefix) (v : Option V) (left right : Link V A) → AreHalves q left right → IsLawfulTrie left → IsLawfulTrie right
       → IfNone v (IsFilled left × IsFilled right) → ((c : Prefix) → IsStored (nodes_of left) c ↔ IsNodeAt (pairs left) c)
       → ((c : Prefix) → IsStored (nodes_of right) c ↔ IsNodeAt (pairs right) c)

@@ -1,4 +1,4 @@
--- The prefix where two that have no address in common part.
+-- The prefix at which two disjoint prefixes diverge.
 use Rattle.std.proofs.Common.{◌≡◌, ◌≢◌, ℕ, suc, Bool, true, false, ◌+◌, ◌-◌, ◌*◌, ◌/◌, ◌%◌, ◌^◌, ◌<◌, ◌≤◌, ◌⊎◌, inl, inr, sym, subst, ap, ◌∙◌, arith, add-mul}
 use Rattle.std.specs.Int.Bits.{bit_xor, xor_assoc, xor_self, xor_zero_r}
 use Rattle.std.specs.Int.Count.{count_leading_zeros}
@@ -16,17 +16,17 @@ use Rattle.rt_trie.specs.Halves.{IsChild, PartsAt, middle, past}
 use Rattle.rt_cidr.proofs.Promised.{size_pos}
 use Rattle.rt_trie.proofs.Blocks.{lower_half, upper_half, ends_before}
 
--- two numbers that have no digit in which they differ are one
+-- two numbers whose exclusive or is zero are equal
 xor_zero : (a b : ℕ) → bit_xor a b ≡ 0 → a ≡ b
 xor_zero a b e = sym (xor_zero_r a) ∙ ap (λ n. bit_xor a n) (sym (xor_self b)) ∙ sym (xor_assoc a b b) ∙ ap (λ n. bit_xor n b) e
 
--- they agree above the highest digit in which they differ
+-- two numbers agree above their highest differing bit
 same_above : (a b k : ℕ) → bit_xor a b < 2 ^ k → a / 2 ^ k ≡ b / 2 ^ k
 same_above a b k h =
     let e : bit_xor a b ≡ 0 * 2 ^ k + bit_xor a b = omega arith in
     xor_zero (a / 2 ^ k) (b / 2 ^ k) (sym (xor_shr a b k) ∙ ap (λ n. n / 2 ^ k) e ∙ div-mul-add 0 (2 ^ k) (bit_xor a b) h)
 
--- they don't agree from that digit on
+-- two numbers differ from that bit on
 differ_in : (a b j : ℕ) → 2 ^ j ≤ bit_xor a b → a / 2 ^ j ≢ b / 2 ^ j
 differ_in a b j h e =
     let z : bit_xor a b / 2 ^ j ≡ 0 = xor_shr a b j ∙ ap (λ n. bit_xor (a / 2 ^ j) n) (sym e) ∙ xor_self (a / 2 ^ j) in
@@ -38,7 +38,7 @@ differ_in a b j h e =
 differ_some : (a b : ℕ) → a ≢ b → 0 < bit_xor a b
 differ_some a b d = elim (cases_lt 0 (bit_xor a b)) [ inl lt ↦ lt | inr ge ↦ absurd (d (xor_zero a b (omega arith))) ]
 
--- that digit, by the leading zeros of the digits in which they differ
+-- that bit, computed from the leading zeros of the exclusive or
 pub highest_digit : (a b n : ℕ) → a < 2 ^ 32 → b < 2 ^ 32 → a ≢ b → n + count_leading_zeros 32 (bit_xor a b) ≡ 31
     → (a / 2 ^ (n + 1) ≡ b / 2 ^ (n + 1)) × (a / 2 ^ n ≢ b / 2 ^ n)
 highest_digit a b n h k d e =
@@ -49,19 +49,19 @@ highest_digit a b n h k d e =
       differ_in a b n (subst (λ m. 2 ^ m ≤ bit_xor a b) i t.2),
     )
 
--- the digits in which two addresses differ have at most 31 leading zeros
+-- the exclusive or of two different addresses has at most 31 leading zeros
 pub few_zeros : (a b : ℕ) → a < 2 ^ 32 → b < 2 ^ 32 → a ≢ b → count_leading_zeros 32 (bit_xor a b) ≤ 31
 few_zeros a b h k d =
     let t = leading_top 32 (bit_xor a b) (differ_some a b d) (xor_of_32 a b h k) in omega (arith, t.1)
 
--- the highest digit in which two numbers differ is that many below the highest of 32
+-- the highest differing bit of two numbers is that many below the highest of 32
 pub highest_by_zeros : (a b : ℕ) → a < 2 ^ 32 → b < 2 ^ 32 → a ≢ b
     → (a / 2 ^ (31 - count_leading_zeros 32 (bit_xor a b) + 1) ≡ b / 2 ^ (31 - count_leading_zeros 32 (bit_xor a b) + 1))
     × (a / 2 ^ (31 - count_leading_zeros 32 (bit_xor a b)) ≢ b / 2 ^ (31 - count_leading_zeros 32 (bit_xor a b)))
 highest_by_zeros a b h k d =
     highest_digit a b (31 - count_leading_zeros 32 (bit_xor a b)) h k d (omega (arith, few_zeros a b h k d))
 
--- two numbers that agree down to a bit and differ in it: the lower one lies in the lower half of what they share
+-- if two numbers agree down to a bit and differ in it, the lower one is in the lower half of the block that they share
 pub parts : (a b j : ℕ) → a / 2 ^ (j + 1) ≡ b / 2 ^ (j + 1) → a / 2 ^ j ≢ b / 2 ^ j → a < b
     → (a / 2 ^ (j + 1) * 2 ^ (j + 1) ≤ a) × (a < a / 2 ^ (j + 1) * 2 ^ (j + 1) + 2 ^ j)
     × (a / 2 ^ (j + 1) * 2 ^ (j + 1) + 2 ^ j ≤ b) × (b < a / 2 ^ (j + 1) * 2 ^ (j + 1) + 2 ^ (j + 1))
@@ -101,11 +101,11 @@ parts a b j e d lt =
     ] in
     (omega arith, omega arith, omega arith, omega arith)
 
--- a shorter prefix covers no fewer addresses
+-- a shorter prefix covers at least as many addresses
 size_mono : (a b : ℕ) → a ≤ b → size_of b ≤ size_of a
 size_mono a b h = pow_mono (omega arith)
 
--- the prefix that two share down to the bit where they part
+-- the prefix that two prefixes share down to the bit at which they diverge
 pub parts_at : (p q c : Prefix) (j : ℕ) → j ≤ 31 → p.base / 2 ^ (j + 1) ≡ q.base / 2 ^ (j + 1) → p.base / 2 ^ j ≢ q.base / 2 ^ j → p.base < q.base
     → ((past q ≤ p.base) ⊎ (past p ≤ q.base)) → c.base ≡ p.base / 2 ^ (j + 1) * 2 ^ (j + 1) → c.len ≡ 31 - j → PartsAt c p q
 parts_at p q c j short e d lt apart b l =
@@ -132,7 +132,7 @@ parts_at p q c j short e d lt apart b l =
       record { long = omega arith; from = high; to = upper_half c q longer_q inside },
     )
 
--- the base and length that they share make a prefix
+-- the base and length that two addresses share make a prefix
 pub is_prefix : (a j : ℕ) → a < 2 ^ 32 → j ≤ 31 → IsPrefix (a / 2 ^ (j + 1) * 2 ^ (j + 1)) (31 - j)
 is_prefix a j h k =
     let e : 32 - (31 - j) ≡ j + 1 = omega arith in
@@ -140,17 +140,17 @@ is_prefix a j h k =
     ap (λ n. n % 2 ^ (j + 1)) (omega arith) ∙ mod-mul-add (a / 2 ^ (j + 1)) (2 ^ (j + 1)) 0 (pow_pos (j + 1)) in
     record { short = omega arith; fits = omega (arith, div-add-mod' a (2 ^ (j + 1))); clear = rw e clear }
 
--- a pair that is a prefix is not refused
+-- a pair that is a prefix isn't rejected
 pub not_refused : (base len : ℕ) (fault : TextFault) → IsPrefix base len → AnswersPair base len (Err fault) → ⊥
 not_refused base len Text p h = h
 not_refused base len Length p h = omega (arith, p.short, h)
 not_refused base len Bits p h = h.1 p
 
--- what is shifted down and up again keeps within 64 bits
+-- a number shifted down and up again fits in 64 bits
 pub shifted_back : (a j : ℕ) → a < 2 ^ 32 → (a / 2 ^ (j + 1) * 2 ^ (j + 1)) % 18446744073709551616 ≡ a / 2 ^ (j + 1) * 2 ^ (j + 1)
 shifted_back a j h = let d = div-add-mod' a (2 ^ (j + 1)) in omega arith
 
--- the prefix where two part is longer than what both lie in a half of
+-- the prefix at which two diverge is longer than a prefix that has both in the same half
 parent_shorter : (parent c low high : Prefix) (upper : Bool) → PartsAt c low high → IsChild parent upper low → IsChild parent upper high
     → parent.len < c.len
 parent_shorter parent c low high upper k l h = elim (cases_lt parent.len c.len) [
@@ -187,7 +187,7 @@ parent_shorter parent c low high upper k l h = elim (cases_lt parent.len c.len) 
       ]
     ]
 
--- that prefix lies in the half, too
+-- that prefix is in the same half, too
 pub child_of_parts : (parent c low high : Prefix) (upper : Bool) → PartsAt c low high → IsChild parent upper low → IsChild parent upper high
     → IsChild parent upper c
 child_of_parts parent c low high false k l h =

@@ -11,7 +11,7 @@ use Rattle.rt_trie.specs.Map.{same_prefix, before}
 abbrev pub rank : Prefix → ℕ
 rank p = 64 * p.base + p.len
 
--- two prefixes are the same exactly where base and length are
+-- two prefixes are the same if and only if their bases and lengths are
 pub same_tells : (p q : Prefix)
     → ((same_prefix p q ≡ true) × (p.base ≡ q.base) × (p.len ≡ q.len)) ⊎ ((same_prefix p q ≡ false) × (rank p ≢ rank q))
 same_tells p q =
@@ -25,7 +25,7 @@ same_tells p q =
       | inr b ↦ inr (rw b.0 refl, λ e. b.1 (omega arith))
     ]
 
--- a prefix comes before another exactly where its rank is lower
+-- a prefix comes before another if and only if its rank is lower
 pub before_tells : (p q : Prefix)
     → ((before p q ≡ true) × (rank p < rank q)) ⊎ ((before p q ≡ false) × (rank q ≤ rank p))
 before_tells p q =

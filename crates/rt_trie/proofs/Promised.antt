@@ -1,7 +1,7 @@
--- What this crate promises to those above it, beside the contracts of its functions: lemmas that their proofs may cite. No
--- other file of this folder is part of the promise.
+-- The lemmas of this crate that proofs of the crates above may cite, besides the contracts of its functions. No other
+-- file of this directory is part of its interface.
 
--- which of its types a thread may be given
+-- which of its types may be sent to another thread
 pub use Rattle.rt_trie.proofs.Crossing.{trie_send}
--- of two prefixes that cover one address, the later one is the longer
+-- if two prefixes cover the same address, the later one is the longer
 pub use Rattle.rt_trie.proofs.LongestMatches.{later_is_longer}

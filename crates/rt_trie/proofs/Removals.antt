@@ -1,4 +1,4 @@
--- What taking a pair out, and then a node that isn't needed, makes of a link.
+-- The effect on a link of removing a pair, and then a node that isn't needed.
 use Rattle.std.proofs.Common.{◌≡◌, ℕ, ◌⊎◌, ◌+◌, ◌<◌, Bool, true, false, [], ◌∷◌, ◌++◌, Option, Some, None, inl, inr}
 use Rattle.std.proofs.Common.{refl, sym, subst, ap, ◌∙◌, arith, rules}
 use Rattle.std.specs.Prelude.{Box}
@@ -33,7 +33,7 @@ child_upper : (parent : Prefix) (upper : Bool) (q x : Prefix) → IsChild parent
 child_upper parent false q x h k = within_upper parent.base (middle parent) (parent.len + 1) q x h k
 child_upper parent true q x h k = within_upper (middle parent) (past parent) (parent.len + 1) q x h k
 
--- what is not there is not taken out
+-- removing a prefix that isn't stored changes nothing
 pub erase-absent : {V : Type 0} (xs : Pairs V) (p : Prefix) → get xs p ≡ None → erase xs p ≡ xs
 erase-absent [] p h = refl
 erase-absent ((q, v) ∷ xs) p h = elim (same_tells q p) [
@@ -73,7 +73,7 @@ module _ {V A : Type 0} where
       sides_apart link n.prefix n.left n.right
       (subst (λ o. IsNode link n.prefix o n.left n.right) none (of_full b n link e f h)) (rw f one.1)
 
-  -- the side beside a vacant one has all pairs of the node, and moves up
+  -- if one side is empty, the other has all pairs of the node, and moves up
   pub right_moves_up : {old link left right : Link V A} → link ≡ old → AreSidesOf link left right → IsVacant left
       → IsSpliced old right × (count old ≡ count right + 1)
   right_moves_up e s h = search rules
@@ -82,7 +82,7 @@ module _ {V A : Type 0} where
       → IsSpliced old left × (count old ≡ count left + 1)
   left_moves_up e s h = search rules
 
-  -- what is taken out below a node is taken out of its sides
+  -- removing a prefix below a node removes it from the node's sides
   erase_below : (old mid : Link V A) (q : Prefix) (w : Option V) (l r : Link V A) (p : Prefix) (rest : Pairs V) → IsNode old q w l r → q.len < p.len
       → pairs mid ≡ own_pair q w ++ rest → erase (pairs l ++ pairs r) p ≡ rest → pairs mid ≡ erase (pairs old) p
   erase_below old mid q w l r p rest n long e f =
@@ -90,7 +90,7 @@ module _ {V A : Type 0} where
       ∙ erase-skip (own_pair q w) (pairs l ++ pairs r) p (own_other q w (pairs l) (pairs r) (sides_of old q w l r n) p long)
       ∙ ap (λ x. own_pair q w ++ x) f)
 
-  -- p is taken out on one side
+  -- p is removed on one side
   module _ (old mid : Link V A) (q : Prefix) (w : Option V) (l r k : Link V A) (p : Prefix) (n : IsNode old q w l r) where
     erase_left : IsNode mid q w k r → IsChild q false p → IsErased l k p → pairs mid ≡ erase (pairs old) p
     erase_left m c i =
@@ -104,7 +104,7 @@ module _ {V A : Type 0} where
         (erase-skip (pairs l) (pairs r) p (lower_other q w (pairs l) (pairs r) (sides_of old q w l r n) p c.from)
         ∙ ap (λ x. pairs l ++ x) (sym i.pairs_are))
 
-  -- a node's own value is taken out
+  -- a node's own value is removed
   erase_own : (old mid : Link V A) (q : Prefix) (w : Option V) (l r : Link V A) → IsNode old q w l r → IsNode mid q None l r
       → pairs mid ≡ erase (pairs old) q
   erase_own old mid q None l r n m =
@@ -114,13 +114,13 @@ module _ {V A : Type 0} where
   erase_own old mid q (Some v) l r n m =
       m.pairs_are ∙ sym (ap (λ x. erase x q) n.pairs_are ∙ erase-here (pairs l ++ pairs r) q v)
 
-  -- the node after a change of one side, and before what isn't needed is taken away
+  -- the node after a change of one side, and before a node that isn't needed is removed
   pub record IsHalfway (old mid : Link V A) (p : Prefix) : Type 0 where
     pub pairs_are : pairs mid ≡ erase (pairs old) p
     pub below : IsLawfulBelow mid
     pub root_is : root mid ≡ root old
 
-  -- p was taken out on one side of a node, with what stood there
+  -- p was removed on one side of a node, together with its value
   module _ (old : Link V A) (q : Prefix) (w : Option V) (l r k : Link V A) (make : Link V A → Link V A → Link V A) (p : Prefix) (gone : Option V)
       (x : IsView old q w l r make) where
     pub taken_left : IsChild q false p → IsErased l k p → gone ≡ get (pairs l) p → IsHalfway old (make k r) p × (gone ≡ get (pairs old) p)
@@ -150,7 +150,7 @@ module _ {V A : Type 0} where
     taken_right_of_fork position =
         taken_right old n.prefix None n.left n.right k _ p gone (view_fork b n old e f h) (position n.prefix (key_of_fork b n old e f h))
 
-  -- or a full node
+  -- the node is a full node
   module _ {len base : ℕ} {b : Box (FullNode V A) A} {n : FullNode V A} {old k : Link V A} {p : Prefix} {gone : Option V}
       (e : old ≡ Full len base b) (f : n ≡ b.value) (h : IsLawfulBelow old) where
     pub taken_left_of_full : ((q : Prefix) → IsKeyOf len base q → IsChild q false p) → IsErased n.left k p → gone ≡ get (pairs n.left) p
@@ -171,7 +171,7 @@ module _ {V A : Type 0} where
       let u = made_full_below len base b m.prefix None m.left m.right (key_of_full f m old e g h.0) x w y z n.halves n.left_lawful n.right_lawful in
       rw i (record { pairs_are = erase_own old (Full len base b) m.prefix m.value m.left m.right n u.0; below = u.1; root_is = u.0.root_is ∙ sym n.root_is })
 
-  -- the whole removal of p, by what became of its side
+  -- the whole removal of p, from the removal on a side
   pub erased_of : (old mid new : Link V A) (p : Prefix) → IsHalfway old mid p → IsSpliced mid new → IsErased old new p
   erased_of old mid new p h s = record {
     pairs_are = s.pairs_are ∙ h.pairs_are;
@@ -179,7 +179,7 @@ module _ {V A : Type 0} where
     stays = λ parent upper k. s.stays parent upper (rw h.root_is k);
   }
 
-  -- nothing is taken out where nothing stands
+  -- removing a prefix that isn't stored leaves the link unchanged
   pub erased_none : (old : Link V A) (p : Prefix) → IsLawfulTrie old → get (pairs old) p ≡ None → IsErased old old p
   erased_none old p h e = record {
     pairs_are = sym (erase-absent (pairs old) p e);
@@ -187,7 +187,7 @@ module _ {V A : Type 0} where
     stays = λ parent upper k. k;
   }
 
-  -- at a fork nothing is stored but on its sides
+  -- at a fork, prefixes are only stored on its sides
   pub fork_none : {len base : ℕ} (b : Box (ForkNode V A) A) (n : ForkNode V A) (old : Link V A) (p : Prefix)
       (r : Position) → old ≡ Fork len base b → n ≡ b.value
       → IsLawfulTrie old → StandsAt n.prefix p r → (r ≡ Left → ⊥) → (r ≡ Right → ⊥) → get (pairs old) p ≡ None
@@ -198,7 +198,7 @@ module _ {V A : Type 0} where
   fork_none b n old p Above e f h s x y = get_above old n.prefix p h (of_fork b n old e f h.0).root_is s
   fork_none b n old p Apart e f h s x y = get_apart old n.prefix p h (of_fork b n old e f h.0).root_is s
 
-  -- at a full node, its own value aside
+  -- the same at a full node, except for its own value
   pub full_none : {len base : ℕ} (b : Box (FullNode V A) A) (n : FullNode V A) (old : Link V A) (p : Prefix)
       (r : Position) → old ≡ Full len base b → n ≡ b.value
       → IsLawfulTrie old → StandsAt n.prefix p r → (r ≡ Above) ⊎ (r ≡ Apart) → get (pairs old) p ≡ None
@@ -210,7 +210,7 @@ module _ {V A : Type 0} where
   pub erased_same : (old new : Link V A) (p : Prefix) → IsLawfulTrie old → get (pairs old) p ≡ None → old ≡ new → IsErased old new p
   erased_same old new p h e i = subst (λ x. IsErased old x p) i (erased_none old p h e)
 
-  -- a leaf is taken out
+  -- a leaf is removed
   pub erased_leaf : (old new : Link V A) (p : Prefix) → IsLeafOf p old → new ≡ Empty → IsErased old new p
   erased_leaf Empty new p h e = absurd h
   erased_leaf (Leaf i j b) new p h e =

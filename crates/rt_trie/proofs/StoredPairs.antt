@@ -1,4 +1,4 @@
--- What stands in a list in order: the pairs that are found, and the first and the next of their prefixes.
+-- An ordered list of pairs: the pairs that are found, and the first and the next of their prefixes.
 use Rattle.std.proofs.Common.{◌≡◌, zero, suc, ◌<◌, ◌⊎◌, true, false, [], ◌∷◌, Some, None, inl, inr, refl, sym, ◌∙◌, ap, subst, arith, ◌↔◌}
 use Rattle.std.specs.Prelude.{Contains, is_some}
 use Rattle.std.proofs.lemmas.Bool.{false≢true}
@@ -10,7 +10,7 @@ use Rattle.rt_trie.proofs.JoinedPairs.{AllKeys-map, IsHigher, IsOther, IsOther-h
 use Rattle.rt_trie.proofs.Counts.{AllKeys-higher}
 
 module _ {V : Type 0} where
-  -- what is stored in the rest is stored
+  -- a prefix stored in the rest is stored
   pub stored-more : (x : Prefix) (w : V) (m : Pairs V) (p : Prefix) → IsStored m p → IsStored ((x, w) ∷ m) p
   stored-more x w m p h = elim (same_tells x p) [ inl s ↦ rw s.0 refl | inr s ↦ rw s.0 h ]
 
@@ -18,12 +18,12 @@ module _ {V : Type 0} where
   pub stored-here : (x : Prefix) (w : V) (m : Pairs V) → IsStored ((x, w) ∷ m) x
   stored-here x w m = rw (same_rank x x refl refl) refl
 
-  -- what is stored is the prefix in front, or is stored in the rest
+  -- a stored prefix is the one in front, or is stored in the rest
   pub stored-cases : (x : Prefix) (w : V) (m : Pairs V) (p : Prefix) → IsStored ((x, w) ∷ m) p
       → ((x.base ≡ p.base) × (x.len ≡ p.len)) ⊎ IsStored m p
   stored-cases x w m p h = elim (same_tells x p) [ inl s ↦ inl (s.1, s.2) | inr s ↦ inr (rw s.0 at h) ]
 
-  -- what is stored comes after what comes before all
+  -- a stored prefix comes after a prefix that comes before all
   pub stored-higher : (x : Prefix) (m : Pairs V) (p : Prefix) → IsBeforeAll x m → IsStored m p → rank x < rank p
   stored-higher x [] p b h = absurd (false≢true h)
   stored-higher x ((y, w) ∷ m) p b h = elim (stored-cases y w m p h) [
@@ -31,7 +31,7 @@ module _ {V : Type 0} where
     | inr s ↦ stored-higher x m p b.1 s
   ]
 
-  -- nothing stands in the rest at the prefix in front
+  -- the prefix in front isn't stored in the rest
   none-behind : (x : Prefix) (m : Pairs V) (p : Prefix) → IsBeforeAll x m → rank x ≡ rank p → get m p ≡ None
   none-behind x m p b e =
       get-none m p (AllKeys-map (IsHigher x) (IsOther p) m (λ y k. IsOther-higher p y (omega arith)) (AllKeys-higher x m b))
@@ -71,7 +71,7 @@ module _ {V : Type 0} where
   first-is-none [] = (λ h. refl, λ h. refl)
   first-is-none ((x, w) ∷ m) = (λ h. cc, λ h. cc)
 
--- two prefixes of equal base and length are equal
+-- two prefixes with the same base and length are equal
 module _ (equal : SamePrefix) {V : Type 0} where
   pub contained-found : (m : Pairs V) (p : Prefix) (v : V) → get m p ≡ Some v → Contains m (p, v)
   contained-found [] p v h = cc

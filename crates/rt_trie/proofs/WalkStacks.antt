@@ -1,4 +1,4 @@
--- What is on a walk's stack, as links are taken from it and put there.
+-- A walk's stack, as links are popped and pushed.
 use Rattle.std.proofs.Common.{◌≡◌, ◌≢◌, ℕ, zero, suc, ◌+◌, ◌-◌, ◌*◌, ◌<◌, ◌≤◌, List, [], ◌∷◌, ◌++◌, length, get_or, set}
 use Rattle.std.proofs.Common.{Option, Some, None, refl, sym, subst, ap, ◌∙◌, arith, append_assoc}
 use Rattle.std.proofs.Common.{true, false, inl, inr}
@@ -14,12 +14,12 @@ use Rattle.rt_trie.specs.inside.References.{link_at}
 use Rattle.rt_trie.specs.inside.Links.{own_pair, pairs, count, IsNode}
 use Rattle.rt_trie.specs.inside.WalkStack.{pairs_of, stack_pairs, IsFrom, IsWalkStack}
 
--- how much work a link is: one, and two for each of its nodes
+-- the work for a link: one, and two for each of its nodes
 abbrev pub work_of : {V A : Type 0} → Option (Link V A) → ℕ
 work_of None = 0
 work_of (Some link) = 2 * count link + 1
 
--- how much work is left
+-- the remaining work
 abbrev pub weight_of : {V A : Type 0} → List (Bor (Link V A)) → ℕ → ℕ
 weight_of xs zero = 0
 weight_of xs (suc k) = work_of (link_at xs k) + weight_of xs k
@@ -44,13 +44,13 @@ link_at-set_other (x ∷ xs) (suc j) (suc k) r n = link_at-set_other xs j k r (�
 pub longer_root : (k : ℕ) (o : Option Prefix) (q : Prefix) → o ≡ Some q → IfSome o (λ x. k ≤ x.len) → k ≤ q.len
 longer_root k o q e h = rw e at h
 
--- the last link of the stack, a node, has given way to its two sides, and nothing else has changed
+-- the last link of the stack, a node, was replaced by its two sides, and nothing else has changed
 abbrev pub GivesWay : {V A : Type 0} → List (Bor (Link V A)) → List (Bor (Link V A)) → ℕ → Prefix → Option V → Type 0
 GivesWay xs ys m q v =
     IsWalkStack ys (m - 1 + 2) × (own_pair q v ++ stack_pairs ys (m - 1 + 2) ≡ stack_pairs xs m) × (weight_of ys (m - 1 + 2) < weight_of xs m)
 
 module _ {V A : Type 0} where
-  -- what is changed at an index and after it leaves what is before
+  -- a change at an index and after it keeps the pairs before it
   pub rest_below : (xs ys : List (Bor (Link V A))) (k : ℕ) → ((j : ℕ) → j < k → link_at ys j ≡ link_at xs j) → stack_pairs ys k ≡ stack_pairs xs k
   rest_below xs ys zero h = refl
   rest_below xs ys (suc k) h = rw (h k (omega arith)) (ap (λ m. pairs_of (link_at xs k) ++ m) (rest_below xs ys k (λ j l. h j (omega arith))))
@@ -59,7 +59,7 @@ module _ {V A : Type 0} where
   weight_below xs ys zero h = refl
   weight_below xs ys (suc k) h = rw (h k (omega arith)) (ap (λ m. work_of (link_at xs k) + m) (weight_below xs ys k (λ j l. h j (omega arith))))
 
-  -- a node gives way to its two sides
+  -- a node is replaced by its two sides
   pub walk_step : (xs ys : List (Bor (Link V A))) (m n k : ℕ) (link left right : Link V A) (q : Prefix) (v : Option V) → IsWalkStack xs m → m ≡ suc k
       → n ≡ suc (suc k) → link_at xs k ≡ Some link → IsNode link q v left right → link_at ys k ≡ Some right → link_at ys (suc k) ≡ Some left
       → ((j : ℕ) → j < k → link_at ys j ≡ link_at xs j) → length ys ≡ length xs
@@ -97,7 +97,7 @@ module _ {V A : Type 0} where
   pub last_from : (xs : List (Bor (Link V A))) (m k : ℕ) (link : Link V A) → IsWalkStack xs m → m ≡ suc k → link_at xs k ≡ Some link → IsFrom k link
   last_from xs m k link a em at = rw at at (a.each k (omega arith))
 
-  -- the last link gives way to its two sides, which are put in its place and after it
+  -- the last link is replaced by its two sides, at its index and after it
   pub walk_at : (xs ys : List (Bor (Link V A))) (m : ℕ) (link left right : Link V A) (q : Prefix) (v : Option V) → IsWalkStack xs m → 0 < m
       → link_at xs (m - 1) ≡ Some link → (IsLawfulBelow link → IsNode link q v left right) → link_at ys (m - 1) ≡ Some right
       → link_at ys (m - 1 + 1) ≡ Some left → ((j : ℕ) → j < m - 1 → link_at ys j ≡ link_at xs j) → length ys ≡ length xs
@@ -109,11 +109,11 @@ module _ {V A : Type 0} where
       walk_step xs ys m (m - 1 + 2) (m - 1) link left right q v a em en at (node (last_from xs m (m - 1) link a em at).0.0) r
       (subst (λ j. link_at ys j ≡ Some left) one l) below size
 
-  -- the last link is passed over: without it the stack has the same pairs
+  -- the last link is skipped: without it the stack has the same pairs
   abbrev pub IsPassed : List (Bor (Link V A)) → ℕ → ℕ → Type 0
   IsPassed xs m k = IsWalkStack xs k × (stack_pairs xs k ≡ stack_pairs xs m) × (weight_of xs k < weight_of xs m)
 
-  -- a link without pairs is passed over
+  -- a link without pairs is skipped
   empty_step : (xs : List (Bor (Link V A))) (m k : ℕ) (link : Link V A) → IsWalkStack xs m → m ≡ suc k → link_at xs k ≡ Some link → pairs link ≡ []
       → IsPassed xs m k
   empty_step xs m k link a em at e = (
@@ -126,7 +126,7 @@ module _ {V A : Type 0} where
       → IsPassed xs m (m - 1)
   empty_at xs m link a pos at e = empty_step xs m (m - 1) link a (omega arith) at e
 
-  -- a leaf is given
+  -- a leaf's pair is returned
   pub leaf_step : (xs : List (Bor (Link V A))) (m k : ℕ) (link : Link V A) (x : Prefix × V) → m ≡ suc k → link_at xs k ≡ Some link
       → pairs link ≡ x ∷ [] → stack_pairs xs m ≡ x ∷ stack_pairs xs k
   leaf_step xs m k link x em at e = rw (em, at) (ap (λ t. t ++ stack_pairs xs k) e)

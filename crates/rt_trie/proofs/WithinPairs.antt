@@ -1,4 +1,4 @@
--- The pairs that lie in a prefix: those of one branch, which is found by where the prefix stands as seen from a node.
+-- The pairs in a prefix: those of one branch, found by the position of the prefix relative to a node.
 use Rattle.std.proofs.Common.{◌≡◌, ℕ, ◌+◌, ◌≤◌, ◌⊎◌, true, false, [], ◌∷◌, ◌++◌, Option, Some, None, inl, inr, refl, sym, subst, ap, ◌∙◌, arith}
 use Rattle.std.proofs.lemmas.List.Elements.{filter-append}
 use Rattle.std.proofs.lemmas.List.{append-nil}
@@ -16,7 +16,7 @@ use Rattle.rt_trie.proofs.Blocks.{contains_tells}
 use Rattle.rt_trie.proofs.JoinedPairs.{AllKeys, AllKeys-map}
 use Rattle.rt_trie.proofs.LinkOrder.{AllWithin, node_within, sides_of}
 
--- what lies in a prefix's block and is no shorter, it contains
+-- a prefix contains every prefix in its block that isn't shorter
 in_block : (p x : Prefix) → IsInBlock p.base (past p) p.len x → contains p x ≡ true
 in_block p x w = elim (contains_tells p x) [
   | inl r ↦ r.0
@@ -26,14 +26,14 @@ in_block p x w = elim (contains_tells p x) [
   ]
 ]
 
--- what lies in a block that ends before the prefix's addresses, or begins behind them, it doesn't
+-- a prefix contains nothing in a block that ends before its addresses, or begins after them
 off_block : (p x : Prefix) (lo hi len : ℕ) → (hi ≤ p.base) ⊎ (past p ≤ lo) → IsInBlock lo hi len x → contains p x ≡ false
 off_block p x lo hi len off w = elim (contains_tells p x) [
   | inr r ↦ r.0
   | inl r ↦ elim off [ inl low ↦ absurd (omega (arith, w.to, r.2, size_pos x.len)) | inr high ↦ absurd (omega (arith, w.from, r.3)) ]
 ]
 
--- nor what is shorter
+-- a prefix contains no shorter prefix
 shorter : (p x : Prefix) → x.len + 1 ≤ p.len → contains p x ≡ false
 shorter p x h = elim (contains_tells p x) [
   | inr r ↦ r.0
@@ -60,7 +60,7 @@ module _ {V : Type 0} (p : Prefix) where
   within_own q None h = refl
   within_own q (Some v) h = rw h refl
 
-  -- what is left of pairs in order is in order
+  -- filtering keeps the pairs in order
   before-within : (q : Prefix) (m : Pairs V) → IsBeforeAll q m → IsBeforeAll q (within m p)
   before-within q [] h = tt
   before-within q ((x, v) ∷ m) h = elim (contains_tells p x) [
@@ -75,7 +75,7 @@ module _ {V : Type 0} (p : Prefix) where
     | inr r ↦ rw r.0 (ordered_within m h.1)
   ]
 
--- of one pair all lies in p, or nothing does
+-- a single pair is in p, or no pair is
 pub single_within : {V : Type 0} (m : Pairs V) (q : Prefix) (v : V) (p : Prefix) → m ≡ (q, v) ∷ [] → contains p q ≡ true → within m p ≡ m
 single_within m q v p e h = rw (e, h) refl
 
@@ -83,7 +83,7 @@ pub single_off : {V : Type 0} (m : Pairs V) (q : Prefix) (v : V) (p : Prefix) �
 single_off m q v p e h = rw (e, h) refl
 
 module _ {V A : Type 0} (link : Link V A) (q : Prefix) (v : Option V) (left right : Link V A) (n : IsNode link q v left right) where
-  -- the pairs of the node, of a block where its prefix lies
+  -- the pairs of the node are in every block that its prefix is in
   pub all_within : (lo hi len : ℕ) → IsInBlock lo hi len q → AllWithin lo hi len (pairs link)
   all_within lo hi len w =
       let sides = sides_of link q v left right n in
@@ -99,7 +99,7 @@ module _ {V A : Type 0} (link : Link V A) (q : Prefix) (v : Option V) (left righ
       ap (λ m. within m p) n.pairs_are ∙ within-append p (own_pair q v) (pairs left ++ pairs right)
       ∙ ap (λ m. m ++ within (pairs left ++ pairs right) p) (within_own p q v h) ∙ within-append p (pairs left) (pairs right)
 
-  -- where p is the node's prefix, or contains it, all lies in p
+  -- if p is the node's prefix, or contains it, all pairs are in p
   pub within-all_below : (r ≡ Here) ⊎ (r ≡ Above) → within (pairs link) p ≡ pairs link
   within-all_below e = elim e [
     | inl h ↦ let i : p ≡ q = subst (StandsAt q p) h s in
@@ -108,7 +108,7 @@ module _ {V A : Type 0} (link : Link V A) (q : Prefix) (v : Option V) (left righ
         all_in (record { long = omega (arith, w.long); from = w.from; to = w.to })
   ]
 
-  -- where it is on one side, what lies in it is there
+  -- if p is on one side, the pairs in p are there
   pub within-left : r ≡ Left → within (pairs link) p ≡ within (pairs left) p
   within-left h =
       let c : IsChild q false p = subst (StandsAt q p) h s in
@@ -124,7 +124,7 @@ module _ {V A : Type 0} (link : Link V A) (q : Prefix) (v : Option V) (left righ
       ∙ ap (λ m. m ++ within (pairs right) p)
       (within-off p (pairs left) q.base (middle q) (q.len + 1) (inl c.from) (sides_of link q v left right n).lower)
 
-  -- where it is apart, nothing is in it
+  -- if p is disjoint from the node, no pair is in p
   pub within-apart : r ≡ Apart → within (pairs link) p ≡ []
   within-apart h =
       let off : (past q ≤ p.base) ⊎ (past p ≤ q.base) = subst (StandsAt q p) h s in

@@ -1,4 +1,4 @@
--- The part of a map that comes from a prefix on.
+-- The part of a map from a prefix on.
 use Rattle.std.specs.Prelude.{not, filter}
 use Rattle.rt_cidr.specs.declared.prefixes.Prefix.{Prefix}
 use Rattle.rt_trie.specs.Map.{Pairs, before}

@@ -1,4 +1,4 @@
--- What a lawful trie is, of the nodes that callers see.
+-- When a trie is lawful, by the nodes that callers see.
 use Rattle.std.specs.Prelude.{◌≡◌, Bool, true, false, IsSome, IfSome, map}
 use Rattle.rt_cidr.specs.declared.prefixes.Prefix.{Prefix}
 use Rattle.rt_trie.specs.Tree.{Tree, Vacant, Node, top, size, stored}
@@ -12,12 +12,13 @@ pub record IsLawfulAt (q : Prefix) (valued : Bool) (left right : Tree) : Type 0 
   pub lower : IfSome (top left) (IsChildByBit q false)
   pub upper : IfSome (top right) (IsChildByBit q true)
 
--- so it is at every node
+-- every node is lawful
 abbrev pub IsLawfulTree : Tree → Type 0
 IsLawfulTree Vacant = Unit {0}
 IsLawfulTree (Node q valued left right) = IsLawfulAt q valued left right × IsLawfulTree left × IsLawfulTree right
 
--- the trie is lawful: its tree is, a value stands there at just the prefixes of the map, and so many are its nodes
+-- the trie is lawful: its tree is, exactly the prefixes of the map have values there, and `nodes` is its number of
+-- nodes
 pub record IsLawful {V : Type 0} (t : TrieContents V) : Type 0 where
   pub tree : IsLawfulTree t.tree
   pub stored : stored t.tree ≡ map (λ x. x.0) t.pairs

@@ -7,7 +7,7 @@ pub mod Lawful
 pub mod Laws
 pub mod Map
 pub mod Nodes
-pub mod Sifted
+pub mod Retained
 pub mod Tree
 pub mod TrieLends
 pub mod inside

@@ -2,7 +2,7 @@
 use Rattle.std.specs.Prelude.{ℕ, Bool, ◌+◌, ◌++◌, List, [], ◌∷◌, Option, Some, None, if◌then◌else◌}
 use Rattle.rt_cidr.specs.declared.prefixes.Prefix.{Prefix}
 
--- no node, or one: its prefix, whether a value stands there, and what is on its lower and on its upper side
+-- no node, or a node: its prefix, whether it has a value, its lower and its upper side
 pub data Tree : Type 0 where
   Vacant : Tree
   Node : Prefix → Bool → Tree → Tree → Tree
@@ -12,12 +12,12 @@ abbrev pub top : Tree → Option Prefix
 top Vacant = None
 top (Node q valued left right) = Some q
 
--- how many nodes
+-- the number of nodes
 abbrev pub size : Tree → ℕ
 size Vacant = 0
 size (Node q valued left right) = size left + size right + 1
 
--- the prefixes at which a value stands: a node's own, then those on its lower side, then those on its upper side
+-- the prefixes that have values: a node's own, then those on its lower side, then those on its upper side
 abbrev pub stored : Tree → List Prefix
 stored Vacant = []
 stored (Node q valued left right) = (if valued then q ∷ [] else []) ++ (stored left ++ stored right)

@@ -1,4 +1,4 @@
--- What no public clause speaks of: the words of private contracts, of invariants and of proofs.
+-- Definitions that no public clause uses: those of private contracts, of invariants and of proofs.
 pub mod References
 pub mod Places
 pub mod Blocks
@@ -8,7 +8,7 @@ pub mod Lends
 pub mod Lawful
 pub mod Links
 pub mod OneProof
-pub mod Sifted
+pub mod Retained
 pub mod Tree
 pub mod TreeCode
 pub mod Trie

@@ -1,4 +1,4 @@
-//! Going over the pairs whose prefix covers an address, or contains a prefix.
+//! Iterating over the pairs whose prefix covers an address, or contains a prefix.
 
 ghost use Rattle.std.specs.Prelude.{◌≡◌, ◌<◌, ◌≤◌};
 ghost use Rattle.rt_trie.specs.Halves.{middle};
@@ -12,14 +12,14 @@ use std::alloc::Allocator;
 use std::fmt;
 use std::marker::Model;
 
-/// An iterator over the pairs of a trie whose prefix covers an address, or contains a prefix, the shortest first. It
-/// takes no memory, and goes down once.
+/// An iterator over the pairs of a trie whose prefix covers an address, or contains a prefix, the shortest first.
+/// Descends once. Doesn't allocate.
 #[derive(Drop)]
 pub struct Covering<'a, V, A: Allocator> {
-    // The link below which the pairs are that are still to come.
+    // The link below which the remaining pairs are.
     below: Option<&'a Link<V, A>>,
     address: Addr,
-    /// How long a prefix may be.
+    /// The maximum length of a prefix.
     most: u8,
 }
 
@@ -32,7 +32,7 @@ impl<'a, V, A: Allocator> Model for Covering<'a, V, A> {
 }
 
 impl<'a, V, A: Allocator> Covering<'a, V, A> {
-    /// Over the pairs whose prefix is no longer than that and covers the address.
+    /// Returns an iterator over the pairs whose prefix has at most `most` bits and covers the address.
     pub(crate) fn new(root: &'a Link<V, A>, address: Addr, most: u8) -> Covering<'a, V, A>
         requires { IsLawfulTrie root.now }
         ensures { result ≡ covering_to most (pairs root.now) address }
@@ -45,7 +45,7 @@ impl<'a, V, A: Allocator> Covering<'a, V, A> {
     }
 }
 
-/// Shows the address, and no node.
+/// Shows the address, but no nodes.
 impl<'a, V, A: Allocator> fmt::Debug for Covering<'a, V, A> {
     fn fmt<W: fmt::Write>(&self, f: &mut fmt::Formatter<W>) -> fmt::Result {
         f.debug_struct("Covering")
@@ -84,14 +84,14 @@ impl<'a, V, A: Allocator> Iterator for Covering<'a, V, A> {
     }
 }
 
-/// Whether the prefix is no longer than that, and covers the address.
+/// Returns true if the prefix has at most `most` bits and covers the address.
 fn covers_to(prefix: &Prefix, address: Addr, most: u8) -> bool
     ensures { result ≡ covers_to most prefix.now address }
 {
     prefix.len() <= most && prefix.covers(address)
 }
 
-/// Of what lies on the two sides of the prefix's node, that on the side of the address.
+/// Returns the side of the prefix's node that the address is on.
 fn half<'a, V, A: Allocator>(
     prefix: &Prefix,
     address: Addr,

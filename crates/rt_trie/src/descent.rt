@@ -1,5 +1,5 @@
-//! Lending the value at a prefix. A `&mut` that goes down a trie in a loop can't be handed out, so each step down is a
-//! type of its own, and the way down has as many steps as a trie can have levels.
+//! Lending the value at a prefix. A `&mut` that was found by descending in a loop can't be returned. So each step down
+//! is a type of its own, and a descent has as many steps as a trie can have levels.
 
 ghost use Rattle.std.specs.Prelude.{◌≡◌, ℕ, suc};
 ghost use Rattle.std.specs.Borrow.{sem};
@@ -12,20 +12,20 @@ use rt_cidr::Prefix;
 use std::alloc::Allocator;
 use std::marker::PhantomData;
 
-/// A way down of so many steps.
+/// A descent of `depth` steps.
 pub(crate) trait Descent {
     ghost depth: { ℕ };
 
-    /// The value at p, if a node that is no deeper than this way down stores it.
+    /// Returns the value at p, if a node within `depth` levels stores it.
     fn find<V, A: Allocator>(link: &mut Link<V, A>, p: Prefix) -> Option<&mut V>
         ensures* writes_back { sem 𝓛 (lends_found V.row A.row A.Allocator depth link.entry p result) }
         ensures value { option_copied_mut result ≡ found depth link.old p };
 }
 
-/// No step.
+/// A descent of no steps.
 pub(crate) struct Stop;
 
-/// One step more.
+/// A descent of one step more than `L`.
 pub(crate) struct Deeper<L>(PhantomData<L>);
 
 impl Descent for Stop {
@@ -79,5 +79,5 @@ type Eleven<L> = Deeper<
     Deeper<Deeper<Deeper<Deeper<Deeper<Deeper<Deeper<Deeper<Deeper<Deeper<L>>>>>>>>>>,
 >;
 
-/// A way down of 33 steps: one for each length that a prefix can have.
+/// A descent of 33 steps: one for each length that a prefix can have.
 pub(crate) type WayDown = Eleven<Eleven<Eleven<Stop>>>;

@@ -1,7 +1,7 @@
-//! Putting a value into a trie. Every box is made before the first link is changed.
+//! Inserting a value into a trie. Every box is allocated before the first link is changed.
 //!
-//! The value comes in an option, in which what stood in its place goes back. So the way down carries a `bool` alone,
-//! each call of it is its function's last act, and what it may change at its end stands in functions of their own: it
+//! The value is passed in an option, in which the replaced value is returned. So the descent only returns a `bool`.
+//! Each recursive call is the last action of its function, and the changes at its end are in functions of their own: it
 //! becomes a loop.
 
 ghost use Rattle.std.specs.Prelude.{◌≡◌, ◌≢◌, ◌+◌, ◌/◌, ◌<◌, ◌≤◌, ◌^◌, ◌⊎◌, false, true, None, Some, IsSome, IfSome, IfNone};
@@ -20,8 +20,8 @@ use rt_cidr::Prefix;
 use std::alloc::Allocator;
 use std::mem;
 
-/// A value to put in, and then what stood at its prefix. With it go the memory for nodes, and how many nodes the
-/// trie has.
+/// A value to insert; after the insertion, the value that was stored at its prefix. With it are the allocator of the
+/// nodes, and the number of nodes of the trie.
 #[derive(Drop)]
 pub(crate) struct NewValue<V, A: Allocator> {
     pub value: Option<V>,
@@ -29,7 +29,7 @@ pub(crate) struct NewValue<V, A: Allocator> {
     pub nodes: usize,
 }
 
-/// Puts the value in at p below the link. Where memory is refused the answer is `false`, and nothing has changed.
+/// Inserts the value at p below the link. Returns `false` if memory runs out, and then nothing has changed.
 pub(crate) fn insert<V: Drop, A: Allocator + Copy>(
     link: &mut Link<V, A>,
     p: Prefix,
@@ -68,7 +68,7 @@ pub(crate) fn insert<V: Drop, A: Allocator + Copy>(
     }
 }
 
-/// The given value and the one that is stored change places.
+/// Exchanges the given value and the stored one.
 #[inline(never)]
 fn exchange<V: Drop>(stored: &mut V, value: &mut Option<V>)
     requires given { IsSome value.old }
@@ -82,7 +82,7 @@ fn exchange<V: Drop>(stored: &mut V, value: &mut Option<V>)
 }
 
 impl<V: Drop, A: Allocator + Copy> NewValue<V, A> {
-    /// A leaf where nothing was.
+    /// Inserts a leaf into an empty link.
     #[inline(never)]
     fn insert_at_empty(&mut self, link: &mut Link<V, A>, p: Prefix) -> bool
         requires empty { link.old ≡ Empty }
@@ -97,7 +97,7 @@ impl<V: Drop, A: Allocator + Copy> NewValue<V, A> {
         true
     }
 
-    /// Where a leaf stands: in its place, below it, above it or beside it.
+    /// Inserts at a leaf: in its place, below it, above it or next to it.
     #[inline(never)]
     fn insert_at_leaf(&mut self, link: &mut Link<V, A>, p: Prefix) -> bool
         requires leaf { (q : Prefix) × IsLeafOf q link.old }
@@ -121,7 +121,7 @@ impl<V: Drop, A: Allocator + Copy> NewValue<V, A> {
         }
     }
 
-    /// The leaf at q becomes a full node, and its box holds p below it.
+    /// Turns the leaf at q into a full node, and reuses the leaf's box for p below it.
     #[inline(never)]
     fn insert_below_leaf(&mut self, link: &mut Link<V, A>, p: Prefix, q: Prefix) -> bool
         requires leaf { IsLeafOf q link.old }
@@ -148,7 +148,7 @@ impl<V: Drop, A: Allocator + Copy> NewValue<V, A> {
         true
     }
 
-    /// The fork at p becomes a full node, as its prefix is stored now.
+    /// Turns the fork at p into a full node, since its prefix is now stored.
     #[inline(never)]
     fn insert_at_fork(&mut self, link: &mut Link<V, A>, p: Prefix) -> bool
         requires lawful { IsLawfulTrie link.old }
@@ -171,7 +171,7 @@ impl<V: Drop, A: Allocator + Copy> NewValue<V, A> {
         true
     }
 
-    /// A full node for p, with what was here, whose base this is, on one of its sides.
+    /// Inserts a full node for p, with the old node, whose base is given, on one of its sides.
     #[inline(never)]
     fn insert_above(&mut self, link: &mut Link<V, A>, p: Prefix, base: u32) -> bool
         requires lawful { IsLawfulTrie link.old }
@@ -188,7 +188,7 @@ impl<V: Drop, A: Allocator + Copy> NewValue<V, A> {
         true
     }
 
-    /// A fork where p and what was here, whose base this is, go to two sides.
+    /// Inserts a fork with p on one side and the old node, whose base is given, on the other.
     #[inline(never)]
     fn insert_beside(&mut self, link: &mut Link<V, A>, p: Prefix, base: u32) -> bool
         requires lawful { IsLawfulTrie link.old }
@@ -226,7 +226,7 @@ impl<V: Drop, A: Allocator + Copy> NewValue<V, A> {
     }
 }
 
-/// A leaf of p with the given value, which stays there where memory is refused.
+/// Returns a leaf of p with the given value, or `None` if memory runs out; the value then stays in the option.
 fn leaf_of<V: Drop, A: Allocator + Copy>(
     alloc: A,
     p: Prefix,
@@ -258,7 +258,7 @@ fn leaf_of<V: Drop, A: Allocator + Copy>(
     }
 }
 
-/// A full node with neither value nor branches yet.
+/// Returns a full node that has neither value nor branches yet, or `None` if memory runs out.
 fn new_full<V: Drop, A: Allocator + Copy>(
     alloc: A,
     prefix: Prefix,
@@ -274,7 +274,7 @@ fn new_full<V: Drop, A: Allocator + Copy>(
     Box::new(alloc, node).ok()
 }
 
-/// Makes a full node of that prefix, value and sides in the box, and puts the box into the link.
+/// Makes a full node with that prefix, value and sides in the box, and puts the box into the link.
 fn fill<V: Drop, A: Allocator + Drop>(
     link: &mut Link<V, A>,
     mut full: Box<FullNode<V, A>, A>,
@@ -294,7 +294,7 @@ fn fill<V: Drop, A: Allocator + Drop>(
     *link = Link::of_full(full);
 }
 
-/// The child in the place of a left and a right one: on the side of the parent where its first address lies.
+/// Returns the child as the left or the right of two sides, by its first address; the other side is empty.
 fn on_side<V, A: Allocator>(
     parent: &Prefix,
     base: u32,
@@ -310,7 +310,7 @@ fn on_side<V, A: Allocator>(
     }
 }
 
-/// The longest prefix that contains both p and one with this base, which share no address.
+/// Returns the longest prefix that contains both p and a prefix with this base; the two share no address.
 fn common_prefix(p: &Prefix, base: u32) -> Prefix
     requires { (q : Prefix) × (base ≡ q.base) × StandsAt q p.now Apart }
     ensures { (q : Prefix) → base ≡ q.base → StandsAt q p.now Apart
@@ -325,7 +325,7 @@ fn common_prefix(p: &Prefix, base: u32) -> Prefix
     prefix
 }
 
-/// The first bit in which two addresses differ, counted from the last bit of an address.
+/// Returns the first bit in which two addresses differ, counted from the last bit of an address.
 fn highest_difference(a: u32, b: u32) -> u8
     requires differ { a ≢ b }
     ensures bit { result ≤ 31 }

@@ -1,12 +1,12 @@
-//! Laws of the map that the contracts speak of, and of the halves of a prefix. Each function does nothing: its contract is
-//! the law.
+//! Theorems about the map in the contracts, and about the halves of a prefix. Each function does nothing: its contract
+//! is the theorem.
 
 ghost use Rattle.rt_trie.specs.Laws.{PutIsSeen, EraseIsSeen, PutKeepsOrder, EraseKeepsOrder, PairsAreFound, MapHasOneList};
 ghost use Rattle.rt_trie.specs.Laws.{FirstIsLeast, NoneIsFirst, AfterIsNext, NoneIsAfter, ChildByNextBit};
 
 use rt_cidr::laws::same_prefix;
 
-/// An insertion and a removal are seen at their own prefix alone, and keep the pairs in order.
+/// An insertion and a removal only change the value at their own prefix, and keep the pairs in order.
 pub fn changes<V>()
     ensures put { PutIsSeen V }
     ensures erase { EraseIsSeen V }
@@ -14,7 +14,7 @@ pub fn changes<V>()
     ensures erase_in_order { EraseKeepsOrder V }
 {}
 
-/// A pair is in the list of a map exactly where its value stands at its prefix, and a map has one list.
+/// A pair is in the list of a map if and only if its value is stored at its prefix. Each map has only one list.
 pub fn one_list<V>()
     ensures found { PairsAreFound V }
     ensures one { MapHasOneList V }
@@ -22,7 +22,7 @@ pub fn one_list<V>()
     same_prefix();
 }
 
-/// The first prefix is the least that is stored, and the one after p is the stored prefix after it with no other
+/// The first prefix is the lowest stored one. The next one after p is the stored prefix after p with no other in
 /// between.
 pub fn least<V>()
     ensures first { FirstIsLeast V }
@@ -33,8 +33,8 @@ pub fn least<V>()
     same_prefix();
 }
 
-/// What is longer than a prefix and lies in the lower or the upper half of its addresses is what is longer, contained in it
-/// and on that side of the first bit after its length: its child, where it is a node's.
+/// A longer prefix is in the lower or upper half of a prefix's addresses if and only if it is contained in the prefix
+/// and has the bit 0 or 1, respectively, after the prefix's length. A node's children are such prefixes.
 pub fn halves()
     ensures { ChildByNextBit }
 {}

@@ -8,16 +8,22 @@
 //! let (prefix, hop) = hops.longest(Addr::parse(b"10.1.2.3")?).ok_or("no route")?; // 10.1.0.0/16 and 2
 //! ```
 //!
-//! A contract sees a trie as three things: `pairs`, the list of its prefixes with their values in the order of base and
-//! then length, `nodes`, how many nodes keep them, and `tree`, these nodes with their prefixes. Its type keeps the trie
-//! lawful, and [`Trie::nodes`] says so of its tree: each child is longer than its parent, contained in it and on the
-//! side of the next bit, a node without a value has two children, and values stand at the stored prefixes alone.
-//! [`laws`] says what the words for the list mean. Each call is proved to do to the list what its clause says, to end,
-//! and to be safe; an insertion that is refused memory leaves list and nodes as they were.
+//! A contract sees a trie as three things:
 //!
-//! Only tested, since no clause says it: that an insertion succeeds where there is memory, that no other call needs
-//! any, that what an insertion made is given back where it is refused a later box, and in how few calls
-//! [`Matches::until`] goes over all addresses.
+//! - `pairs`: the list of its prefixes with their values, ordered by base and then by length;
+//! - `nodes`: the number of its nodes;
+//! - `tree`: these nodes with their prefixes.
+//!
+//! An invariant keeps the trie lawful, and a clause of [`Trie::nodes`] states this for the tree. Each child is longer
+//! than its parent, contained in it and on the side of the next bit. A node without a value has two children. Exactly
+//! the stored prefixes have values. [`laws`] has theorems that explain the definitions for the list.
+//!
+//! Each call is proved to change the list as its clause says, to terminate, and to be safe. An insertion that runs out
+//! of memory leaves list and nodes unchanged.
+//!
+//! Only tested, since no clause says it: an insertion succeeds if there is memory, and no other call needs any. An
+//! insertion that can't allocate a later box frees the earlier ones. [`LongestMatchCursor::match_range`] covers all addresses in a small
+//! number of calls.
 #![tactic(auto)]
 
 mod covering;
@@ -28,13 +34,13 @@ mod matches;
 mod nodes;
 mod places;
 mod removal;
+mod retaining;
 mod search;
-mod sifting;
 mod tries;
 mod walks;
 
 pub use covering::Covering;
-pub use matches::Matches;
-pub use sifting::Sieve;
+pub use matches::LongestMatchCursor;
+pub use retaining::RetainFilter;
 pub use tries::Trie;
 pub use walks::Walk;

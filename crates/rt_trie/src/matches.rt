@@ -1,4 +1,5 @@
-//! The longest matches of one address after another, as these rise: each look-up goes on from the way down of the last.
+//! The longest matches of rising addresses, one after another: each look-up continues from the path of the previous
+//! one.
 
 ghost use Rattle.std.specs.Prelude.{◌≡◌, ◌≤◌, ◌⊎◌, IfSome, All, Contains, slice_set};
 ghost use Rattle.rt_cidr.specs.declared.address.Addr.{Addr};
@@ -13,17 +14,16 @@ use std::alloc::Allocator;
 use std::fmt;
 use std::marker::Model;
 
-/// The longest matches that a map has of one address after another. It keeps the way down of the last look-up, and takes no
-/// memory.
+/// A cursor for longest matches of successive addresses. It keeps the path of the last look-up. Doesn't allocate.
 #[derive(Drop)]
-pub struct Matches<'a, V, A: Allocator> {
+pub struct LongestMatchCursor<'a, V, A: Allocator> {
     root: &'a Link<V, A>,
-    /// The address that was last asked about.
+    /// The address of the last look-up.
     from: Addr,
     way: Way<'a, V, A>,
 }
 
-impl<'a, V, A: Allocator> Model for Matches<'a, V, A> {
+impl<'a, V, A: Allocator> Model for LongestMatchCursor<'a, V, A> {
     ghost use Rattle.rt_trie.specs.Map.{Pairs};
     ghost use Rattle.rt_trie.specs.inside.Links.{pairs};
     ghost use Rattle.rt_trie.specs.inside.Places.{AreMatches};
@@ -35,23 +35,26 @@ impl<'a, V, A: Allocator> Model for Matches<'a, V, A> {
     ghost invariant = { λ w. AreMatches w.root.now w.from w.way };
 }
 
-impl<'a, V, A: Allocator> Matches<'a, V, A> {
-    pub(crate) fn new(root: &'a Link<V, A>) -> Matches<'a, V, A>
+impl<'a, V, A: Allocator> LongestMatchCursor<'a, V, A> {
+    pub(crate) fn new(root: &'a Link<V, A>) -> LongestMatchCursor<'a, V, A>
         requires { IsLawfulTrie root.now }
         ensures { result ≡ pairs root.now }
     {
-        Matches {
+        LongestMatchCursor {
             root,
             from: Addr(0),
             way: Way::new(root),
         }
     }
 
-    /// `Trie::longest` of the address, and how far it goes: up to this last address each from the given one on has the
-    /// very same. It is as far as the nodes show: the last before a prefix, the last of a prefix, or the last of all. So a
-    /// caller who goes on past it goes over all addresses in some two calls a node (which no clause says). Of an address
-    /// that is no lesser than the one before, the way down goes on from where theirs part; of a lesser one it begins anew.
-    pub fn until(&mut self, a: Addr) -> (Option<(Prefix, &'a V)>, Addr)
+    /// Returns the longest match of the address, as `Trie::longest` does, and a last address: every address from the
+    /// given one to the last one has this same longest match.
+    ///
+    /// The last address is as far as the nodes show: the last before a prefix, the last of a prefix, or the last of
+    /// all. A caller who continues after it visits all addresses in about two calls per node (no clause says so). If
+    /// the address isn't lower than the previous one, the look-up continues where their paths diverge; if it is lower,
+    /// it starts from the root.
+    pub fn match_range(&mut self, a: Addr) -> (Option<(Prefix, &'a V)>, Addr)
         ensures kept { self.new ≡ self.old }
         ensures onward { a.0 ≤ result.1.0 }
         ensures same { (b : Addr) → a.0 ≤ b.0 → b.0 ≤ result.1.0 → IsLongest self.old b (pair_copied result.0) }
@@ -66,20 +69,20 @@ impl<'a, V, A: Allocator> Matches<'a, V, A> {
     }
 }
 
-/// Shows the address that was last asked about, and no node.
-impl<'a, V, A: Allocator> fmt::Debug for Matches<'a, V, A> {
+/// Shows the address of the last look-up, but no nodes.
+impl<'a, V, A: Allocator> fmt::Debug for LongestMatchCursor<'a, V, A> {
     fn fmt<W: fmt::Write>(&self, f: &mut fmt::Formatter<W>) -> fmt::Result {
-        f.debug_struct("Matches")
+        f.debug_struct("LongestMatchCursor")
             .field("from", &self.from)
             .finish_non_exhaustive()
     }
 }
 
-/// The places of a way down, from the top on.
+/// The places of a path, from the top down.
 #[derive(Drop)]
 struct Way<'a, V, A: Allocator> {
     places: [Place<'a, V, A>; PLACES],
-    /// How many of them are kept.
+    /// The number of places that are kept.
     len: usize,
 }
 
@@ -89,7 +92,7 @@ impl<'a, V, A: Allocator> Way<'a, V, A> {
     ghost use Rattle.rt_trie.specs.inside.Links.{pairs};
     ghost use Rattle.rt_trie.specs.inside.Places.{IsPlace, AreMatches};
 
-    /// A way down that is at its top.
+    /// Returns a path that is at its top.
     fn new(root: &'a Link<V, A>) -> Way<'a, V, A>
         requires { IsLawfulTrie root.now }
         ensures few { result.len ≤ PLACES }
@@ -102,8 +105,8 @@ impl<'a, V, A: Allocator> Way<'a, V, A> {
         }
     }
 
-    /// The place from which a look-up of the address goes on, after one of `from`: the last that is kept and reaches it,
-    /// or the top. Of a lesser address the way down begins anew.
+    /// Returns the place from which a look-up of the address continues after one of `from`: the last kept place that
+    /// reaches the address, or the top. For a lower address the path starts from the root again.
     fn place_for(&mut self, root: &'a Link<V, A>, from: Addr, a: Addr) -> Place<'a, V, A>
         requires { AreMatches root.now from self.old }
         ensures matches { AreMatches root.now a self.new }
@@ -119,7 +122,7 @@ impl<'a, V, A: Allocator> Way<'a, V, A> {
         }
     }
 
-    /// Gives up the last places until one reaches the address, and gives that one, if there is any.
+    /// Drops the last places until one reaches the address, and returns that one, if there is any.
     fn back_to(&mut self, address: Addr) -> Option<Place<'a, V, A>>
         requires few { self.old.len ≤ PLACES }
         ensures few { self.new.len ≤ PLACES }
@@ -138,7 +141,7 @@ impl<'a, V, A: Allocator> Way<'a, V, A> {
         None
     }
 
-    /// Keeps a place below the last one, if there is room.
+    /// Appends a place below the last one, if there is room.
     fn keep(&mut self, place: Place<'a, V, A>)
         requires few { self.old.len ≤ PLACES }
         ensures few { self.new.len ≤ PLACES }

@@ -1,6 +1,6 @@
 //! The nodes of a trie, of three kinds, and the links that hold them.
 //!
-//! A node's sides stand first in its memory, so which of them a way down takes is a sum and no branch.
+//! A node's two sides come first in its memory, so that a descent chooses one by an addition instead of a branch.
 
 ghost use Rattle.std.specs.Prelude.{◌≡◌, ◌^◌, ◌<◌, ◌≤◌, ◌↔◌, nat_lt, if◌then◌else◌, IsTrue};
 ghost use Rattle.rt_cidr.specs.declared.prefixes.Prefix.{Prefix};
@@ -13,7 +13,7 @@ ghost use Rattle.rt_trie.specs.inside.Links.{leaf_link, fork_link, full_link, Is
 use rt_cidr::{Addr, Prefix, laws};
 use std::alloc::Allocator;
 
-/// So many places a way down has at most: one at its top, and one below a node of each length.
+/// The maximum number of places on a path: one at its top, and one below a node of each length.
 pub(crate) const PLACES: usize = 34;
 
 /// A stored prefix with nothing below it.
@@ -23,7 +23,7 @@ pub(crate) struct LeafNode<V> {
     pub value: V,
 }
 
-/// A prefix that is not stored, where two branches part.
+/// A prefix that isn't stored, where two branches diverge.
 #[cycle(links)]
 #[derive(Drop)]
 pub(crate) struct ForkNode<V, A: Allocator> {
@@ -32,8 +32,8 @@ pub(crate) struct ForkNode<V, A: Allocator> {
     pub prefix: Prefix,
 }
 
-/// A stored prefix with others below it, or what remains of one: a removal takes no memory, so it makes no node of
-/// another kind.
+/// A stored prefix with others below it, or what remains of one: a removal doesn't allocate, so it doesn't make a node
+/// of another kind.
 #[cycle(links)]
 #[derive(Drop)]
 pub(crate) struct FullNode<V, A: Allocator> {
@@ -43,9 +43,8 @@ pub(crate) struct FullNode<V, A: Allocator> {
     pub value: Option<V>,
 }
 
-/// What the trie, or a node on one of its sides, holds: nothing, or a node in a box of its kind's size, and beside the
-/// box the length and the base of the node's prefix, so that a look-up that ends at a node need not wait for its
-/// memory.
+/// The contents of the trie, or of a side of a node: nothing, or a node in a box of its kind's size. With the box are
+/// the length and base of the node's prefix, so that a look-up that ends at a node need not wait for its memory.
 #[cycle(links)]
 #[derive(Drop)]
 pub(crate) enum Link<V, A: Allocator> {
@@ -55,28 +54,28 @@ pub(crate) enum Link<V, A: Allocator> {
     Full(u8, u32, Box<FullNode<V, A>, A>),
 }
 
-/// What a link holds, with a fork and a full node seen alike.
+/// The contents of a link, without the difference between a fork and a full node.
 #[derive(Drop)]
 pub(crate) enum NodeView<'a, V, A: Allocator> {
     /// No node.
     Vacant,
     /// A leaf: its prefix and its value.
     Single(Prefix, &'a V),
-    /// A fork or a full node: its prefix, its value if it has one, and what its left and its right side hold.
+    /// A fork or a full node: its prefix, its value if it has one, its left and its right side.
     Branch(Prefix, Option<&'a V>, &'a Link<V, A>, &'a Link<V, A>),
 }
 
-/// Where a prefix stands as seen from another.
+/// The position of a prefix relative to another.
 pub(crate) enum Position {
-    /// It is the other.
+    /// The two are equal.
     Here,
-    /// It is longer, and lies in the lower half of the other's addresses.
+    /// It is longer, and in the lower half of the other's addresses.
     Left,
-    /// It is longer, and lies in the upper half of the other's addresses.
+    /// It is longer, and in the upper half of the other's addresses.
     Right,
     /// It is shorter, and contains the other.
     Above,
-    /// The two have no address in common.
+    /// The two share no address.
     Apart,
 }
 
@@ -87,7 +86,7 @@ impl<V, A: Allocator> Link<V, A> {
         matches!(self, Link::Empty)
     }
 
-    /// What the link holds.
+    /// Returns the contents of the link.
     #[inline(always)]
     pub fn view(&self) -> NodeView<'_, V, A>
         ensures { IsNodeView self.now result }
@@ -109,21 +108,21 @@ impl<V, A: Allocator> Link<V, A> {
         }
     }
 
-    /// The link to a leaf.
+    /// Returns the link to a leaf.
     pub fn of_leaf(leaf: Box<LeafNode<V>, A>) -> Link<V, A>
         ensures { result ≡ leaf_link leaf }
     {
         Link::Leaf(leaf.prefix.len(), leaf.prefix.base(), leaf)
     }
 
-    /// The link to a fork.
+    /// Returns the link to a fork.
     pub fn of_fork(fork: Box<ForkNode<V, A>, A>) -> Link<V, A>
         ensures { result ≡ fork_link fork }
     {
         Link::Fork(fork.prefix.len(), fork.prefix.base(), fork)
     }
 
-    /// The link to a full node.
+    /// Returns the link to a full node.
     pub fn of_full(full: Box<FullNode<V, A>, A>) -> Link<V, A>
         ensures { result ≡ full_link full }
     {
@@ -131,8 +130,8 @@ impl<V, A: Allocator> Link<V, A> {
     }
 }
 
-/// The first address of the upper half of those that the prefix of that length and base covers, or its base where it
-/// covers but one.
+/// Returns the first address of the upper half of the prefix with that length and base, or its base if it covers only
+/// one address.
 #[inline(always)]
 pub(crate) fn middle(len: u8, base: u32) -> u64
     requires { len ≤ 32 }
@@ -141,14 +140,14 @@ pub(crate) fn middle(len: u8, base: u32) -> u64
     base as u64 + (1u64 << (32 - len)) / 2
 }
 
-/// Where the upper half of a prefix's addresses begins, as `offset` counts them.
+/// The start of the upper half of a prefix's addresses, in units of `offset`.
 const HALF: u64 = 1 << 31;
 
-/// Where a prefix's addresses end, as `offset` counts them.
+/// The end of a prefix's addresses, in units of `offset`.
 pub(crate) const END: u64 = 1 << 32;
 
-/// How far into the addresses of the prefix of that length and base the address lies, where all of them together count
-/// as 2^32, however many they are. At an address before them it is no less, as at one past them.
+/// Returns the distance from the base of the prefix with that length and base to the address, in units of which the
+/// prefix covers 2^32, however many addresses these are. For an address before or past the prefix it is at least 2^32.
 #[inline(always)]
 pub(crate) fn offset(len: u8, base: u32, address: u32) -> u64
     requires { len ≤ 32 }
@@ -160,7 +159,7 @@ pub(crate) fn offset(len: u8, base: u32, address: u32) -> u64
     u64::from(address.wrapping_sub(base)) << len
 }
 
-/// Of what lies on the two sides of a node, that on the side of the address so far into the node's addresses.
+/// Returns the left or the right side of a node, whichever the address at that offset is on.
 #[inline(always)]
 pub(crate) fn side<T: Copy>(offset: u64, left: T, right: T) -> T
     ensures { result ≡ (if nat_lt offset (2 ^ 31) then left else right) }
@@ -168,7 +167,7 @@ pub(crate) fn side<T: Copy>(offset: u64, left: T, right: T) -> T
     if offset < HALF { left } else { right }
 }
 
-/// Whether that length and base are those of p.
+/// Returns true if the length and the base are those of p.
 #[inline(always)]
 pub(crate) fn is_key_of(len: u8, base: u32, p: &Prefix) -> bool
     ensures value { result ≡ is_key len base p.now }
@@ -177,7 +176,7 @@ pub(crate) fn is_key_of(len: u8, base: u32, p: &Prefix) -> bool
     base == p.base() && len == p.len()
 }
 
-/// Where p stands as seen from the prefix of that length and base.
+/// Returns the position of p relative to the prefix with that length and base.
 #[inline(always)]
 pub(crate) fn position_of(len: u8, base: u32, p: &Prefix) -> Position
     requires { len ≤ 32 }

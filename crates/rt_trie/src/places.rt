@@ -1,5 +1,5 @@
-//! The way down of a look-up that also tells how far its answer goes. So all addresses, whose answers change only at the
-//! borders of prefixes, are gone through piece by piece.
+//! The descent of a look-up that also returns how far its answer holds. With it one visits all addresses interval by
+//! interval, since answers only change at the boundaries of prefixes.
 
 ghost use Rattle.std.specs.Prelude.{◌≡◌, ◌-◌, ◌^◌, ◌<◌, ◌≤◌, None, IfSome, IsTrue};
 ghost use Rattle.std.specs.Option.{option_copied};
@@ -15,13 +15,14 @@ use crate::nodes::{Link, NodeView, middle};
 use rt_cidr::{Addr, Prefix};
 use std::alloc::{AllocError, Allocator};
 
-/// Where a look-up stands on its way down, and what it knows there of each address from its own to a last one.
+/// A point on the descent of a look-up, and what is known there about each address from the look-up's own to a last
+/// one.
 pub(crate) struct Place<'a, V, A: Allocator> {
-    /// The link below which the longest prefix may still be, if it goes on.
+    /// The link below which the longest prefix may still be, if the descent continues.
     pub below: Option<&'a Link<V, A>>,
     /// The pair of the longest prefix above.
     pub best: Option<(Prefix, &'a V)>,
-    /// The last address of which this holds.
+    /// The last address for which this holds.
     pub last: u32,
 }
 
@@ -34,7 +35,7 @@ impl<'a, V, A: Allocator> Clone for Place<'a, V, A> {
 }
 
 impl<'a, V, A: Allocator> Place<'a, V, A> {
-    /// Where each look-up begins.
+    /// Returns the place at which every look-up starts.
     pub fn top(root: &'a Link<V, A>) -> Place<'a, V, A>
         requires { IsLawfulTrie root.now }
         ensures place { (from : Addr) → IsPlace (pairs root.now) from result }
@@ -48,7 +49,7 @@ impl<'a, V, A: Allocator> Place<'a, V, A> {
     }
 }
 
-/// One step of a look-up down from a place, at its link.
+/// Descends one step from a place, at its link.
 #[inline(always)]
 pub(crate) fn step<'a, V, A: Allocator>(
     link: &'a Link<V, A>,
@@ -80,7 +81,7 @@ pub(crate) fn step<'a, V, A: Allocator>(
     }
 }
 
-/// One step of a look-up down from a place, at a node of that prefix and value with these two sides.
+/// Descends one step from a place, at a node with that prefix, value and two sides.
 #[inline(always)]
 fn step_at_branch<'a, V, A: Allocator>(
     prefix: Prefix,
@@ -119,7 +120,7 @@ fn step_at_branch<'a, V, A: Allocator>(
     }
 }
 
-/// The best pair from a node on that covers the address: its own, or the one above where it has none.
+/// Returns the best pair down to a node that covers the address: the node's own, or the one above if it has no value.
 #[inline(always)]
 fn best_from<'a, V>(
     prefix: Prefix,
@@ -135,7 +136,7 @@ fn best_from<'a, V>(
     }
 }
 
-/// An address up to which the prefix covers each from the given one on, or none of them.
+/// Returns an address such that the prefix covers all addresses from the given one to it, or none of them.
 fn reach(prefix: &Prefix, address: Addr) -> u32
     ensures onward { address.0 ≤ result }
     ensures alike { (b : Addr) → address.0 ≤ b.0 → b.0 ≤ result → covers prefix.now b ≡ covers prefix.now address }
@@ -149,15 +150,15 @@ fn reach(prefix: &Prefix, address: Addr) -> u32
     }
 }
 
-/// The first address that comes after those that the prefix covers, which is 2^32 where it covers the last of all.
+/// Returns the first address after those that the prefix covers, which is 2^32 if it covers the last of all.
 fn past(prefix: &Prefix) -> u64
     ensures { result ≡ past prefix.now }
 {
     u64::from(prefix.base()) + (1u64 << (32 - prefix.len()))
 }
 
-/// The last address before those of the link's node, which lie after the given one, or the last of all where there is
-/// none.
+/// Returns the last address before those of the link's node, which come after the given one, or the last of all if the
+/// link holds no node.
 fn last_before<V, A: Allocator>(link: &Link<V, A>, address: Addr) -> u32
     requires lawful { IsLawfulBelow link.now }
     requires after { IfSome (root link.now) (λ q. address.0 < q.base) }

@@ -1,4 +1,4 @@
-//! Taking a value out of a trie, which takes no memory.
+//! Removing a value from a trie, which doesn't allocate.
 
 ghost use Rattle.std.specs.Prelude.{◌≡◌, ◌+◌, ◌<◌, ◌≤◌, ◌⊎◌, false, IsTrue};
 ghost use Rattle.rt_cidr.specs.declared.prefixes.Prefix.{Prefix};
@@ -13,7 +13,7 @@ use rt_cidr::Prefix;
 use std::alloc::Allocator;
 use std::mem;
 
-/// Takes out the value at p below the link.
+/// Removes the value at p below the link, and returns it if there was one.
 pub(crate) fn remove<V: Drop, A: Allocator + Drop>(
     link: &mut Link<V, A>,
     nodes: &mut usize,
@@ -50,7 +50,7 @@ pub(crate) fn remove<V: Drop, A: Allocator + Drop>(
     gone
 }
 
-/// Whether the leaf is that of p.
+/// Returns true if the leaf is that of p.
 fn is_leaf_of<V, A: Allocator>(link: &Link<V, A>, p: &Prefix) -> bool
     requires { (q : Prefix) × IsLeafOf q link.now }
     ensures here { IsTrue result → IsLeafOf p.now link.now }
@@ -62,7 +62,7 @@ fn is_leaf_of<V, A: Allocator>(link: &Link<V, A>, p: &Prefix) -> bool
     leaf.prefix == *p
 }
 
-/// Takes the leaf away.
+/// Removes the leaf, and returns its value.
 fn remove_leaf<V: Drop, A: Allocator + Drop>(link: &mut Link<V, A>, nodes: &mut usize) -> Option<V>
     requires leaf { (q : Prefix) × IsLeafOf q link.old }
     requires counted { 1 ≤ nodes.old }
@@ -78,7 +78,7 @@ fn remove_leaf<V: Drop, A: Allocator + Drop>(link: &mut Link<V, A>, nodes: &mut 
     Some(value)
 }
 
-/// Takes away a node that has no value and fewer than two branches; what stands below it moves up.
+/// Removes a node that has no value and fewer than two branches; the branch below it, if any, moves up.
 #[inline(always)]
 pub(crate) fn splice<V: Drop, A: Allocator + Drop>(link: &mut Link<V, A>, nodes: &mut usize)
     requires lawful { IsLawfulBelow link.old }
@@ -91,7 +91,7 @@ pub(crate) fn splice<V: Drop, A: Allocator + Drop>(link: &mut Link<V, A>, nodes:
     }
 }
 
-/// Puts what stands below a node in its place. It is no part of the way back, which takes a smaller frame so.
+/// Replaces a node by the branch below it, if any. Not inlined, so that the recursion has smaller stack frames.
 #[inline(never)]
 fn move_up<V: Drop, A: Allocator + Drop>(link: &mut Link<V, A>, nodes: &mut usize)
     requires lone { IsLone link.old }
@@ -106,7 +106,7 @@ fn move_up<V: Drop, A: Allocator + Drop>(link: &mut Link<V, A>, nodes: &mut usiz
     *nodes -= 1;
 }
 
-/// Whether the node has a value or two branches.
+/// Returns true if the link is empty, or its node has a value or two branches.
 fn is_needed<V, A: Allocator>(link: &Link<V, A>) -> bool
     ensures needed { IsTrue result → IsNeeded link.now }
     ensures lone { result ≡ false → IsLone link.now }
@@ -118,7 +118,7 @@ fn is_needed<V, A: Allocator>(link: &Link<V, A>) -> bool
     }
 }
 
-/// Whether both links hold a node.
+/// Returns true if both links hold a node.
 fn has_both<V, A: Allocator>(left: &Link<V, A>, right: &Link<V, A>) -> bool
     ensures both { IsTrue result → IsFilled left.now × IsFilled right.now }
     ensures lacking { result ≡ false → IsVacant left.now ⊎ IsVacant right.now }
@@ -126,7 +126,7 @@ fn has_both<V, A: Allocator>(left: &Link<V, A>, right: &Link<V, A>) -> bool
     !left.is_empty() && !right.is_empty()
 }
 
-/// What stands on the two sides of a node that has no value and fewer than two branches.
+/// Returns the two sides of a node that has no value and fewer than two branches.
 fn into_sides<V: Drop, A: Allocator + Drop>(link: Link<V, A>) -> (Link<V, A>, Link<V, A>)
     requires lone { IsLone link }
     requires lawful { IsLawfulBelow link }

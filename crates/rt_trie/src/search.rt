@@ -1,6 +1,6 @@
-//! The look-ups, which go down from the root by a loop and take no memory. That of a prefix and that of an address are
-//! one descent; no `&mut` comes out of a loop, so the value for writing has its own (`descent`). All that lies in a prefix
-//! is one branch.
+//! The look-ups. They descend from the root in a loop, and don't allocate. The look-ups of a prefix and of an address
+//! are the same descent; a loop can't return a `&mut`, so the look-up for writing has its own (`descent`). All pairs in
+//! a prefix are one branch.
 
 ghost use Rattle.std.specs.Prelude.{◌≡◌, ℕ, ◌+◌, ◌<◌, ◌≤◌, false, Option, None, IfSome, IsTrue, length};
 ghost use Rattle.std.specs.Option.{option_copied};
@@ -13,7 +13,8 @@ use crate::nodes::{END, Link, NodeView, Position, offset, position_of, side};
 use rt_cidr::{Addr, Prefix};
 use std::alloc::Allocator;
 
-/// The value at a prefix: the longest match of its first address, of the prefixes that are no longer, if that is it.
+/// Returns the value at a prefix, if it is stored. It looks up the longest match of the prefix's first address among
+/// the prefixes that aren't longer.
 pub(crate) fn get<V, A: Allocator>(root: &Link<V, A>, p: Prefix) -> Option<&V>
     requires { IsLawfulTrie root.now }
     ensures { option_copied result ≡ get (pairs root.now) p }
@@ -24,7 +25,7 @@ pub(crate) fn get<V, A: Allocator>(root: &Link<V, A>, p: Prefix) -> Option<&V>
     }
 }
 
-/// The pair of the longest prefix that covers the address.
+/// Returns the pair of the longest prefix that covers the address.
 pub(crate) fn longest<V, A: Allocator>(root: &Link<V, A>, address: Addr) -> Option<(Prefix, &V)>
     requires { IsLawfulTrie root.now }
     ensures { IsLongest (pairs root.now) address (pair_copied result) }
@@ -32,7 +33,7 @@ pub(crate) fn longest<V, A: Allocator>(root: &Link<V, A>, address: Addr) -> Opti
     longest_to(root, address, 32)
 }
 
-/// The pair of the longest prefix that covers the address, of those that are no longer than that.
+/// Returns the pair of the longest prefix that has at most `most` bits and covers the address.
 #[inline(always)]
 fn longest_to<V, A: Allocator>(root: &Link<V, A>, address: Addr, most: u8) -> Option<(Prefix, &V)>
     requires { IsLawfulTrie root.now }
@@ -49,8 +50,8 @@ fn longest_to<V, A: Allocator>(root: &Link<V, A>, address: Addr, most: u8) -> Op
     best
 }
 
-/// Whether the link's node, if it holds one, is no longer than that. None is longer than an address, so where that is
-/// asked the link isn't read.
+/// Returns true if the link's node, if it holds one, has at most `most` bits. For 32 bits, which no prefix exceeds, the
+/// link isn't read.
 #[inline(always)]
 fn is_no_longer<V, A: Allocator>(link: &Link<V, A>, most: u8) -> bool
     requires { IsLawfulBelow link.now }
@@ -66,8 +67,8 @@ fn is_no_longer<V, A: Allocator>(link: &Link<V, A>, most: u8) -> bool
     }
 }
 
-/// One step of a look-up, at a link: the link at which it goes on, if it goes on. What the node stores is the best so
-/// far from then on, and is written only where there is some.
+/// Does one step of a look-up at a link, and returns the link at which it continues, if it does. If the node stores a
+/// pair that covers the address, `best` becomes that pair; in all other cases it isn't written.
 #[inline(always)]
 pub(crate) fn step<'a, V, A: Allocator>(
     link: &'a Link<V, A>,
@@ -112,10 +113,10 @@ pub(crate) fn step<'a, V, A: Allocator>(
     }
 }
 
-/// So many look-ups go on in turn, so that while one waits for memory the others do too.
+/// The number of look-ups that proceed in turn, so that their waits for memory overlap.
 const LANES: usize = 8;
 
-/// The pair of the longest prefix for each address, each in the place of what stood among the answers.
+/// Replaces each answer by the pair of the longest prefix for the address with the same index.
 pub(crate) fn longest_many<'a, V, A: Allocator>(
     root: &'a Link<V, A>,
     addresses: &[Addr],
@@ -133,8 +134,8 @@ pub(crate) fn longest_many<'a, V, A: Allocator>(
     }
 }
 
-/// The answers of so many addresses from a place on, one in each lane. The first lanes of the order go on, a step in
-/// each in turn; one that has ended gives its place there to the last of them.
+/// Computes the answers for `size` addresses from `start` on, one in each lane. The first `going` lanes of `order`
+/// still proceed, one step each in turn; a lane that ends is replaced in `order` by the last of them.
 fn longest_in_lanes<'a, V, A: Allocator>(
     root: &'a Link<V, A>,
     addresses: &[Addr],
@@ -178,7 +179,7 @@ fn longest_in_lanes<'a, V, A: Allocator>(
     }
 }
 
-/// Whose turn is next of so many: that of k, or of the first where k is past the last.
+/// Returns the index whose turn is next: k, or 0 if there is no lane at k.
 #[inline(always)]
 fn turn(k: usize, going: usize) -> usize
     ensures { 0 < going → result < going }
@@ -186,7 +187,7 @@ fn turn(k: usize, going: usize) -> usize
     if k < going { k } else { 0 }
 }
 
-/// The branch that has all pairs whose prefix is p or lies in it and no others, if there are any.
+/// Returns the branch with exactly the pairs whose prefix is p or in p, if there are any.
 pub(crate) fn branch_within<V, A: Allocator>(root: &Link<V, A>, p: Prefix) -> Option<&Link<V, A>>
     requires { IsLawfulTrie root.now }
     ensures pairs { within (pairs root.now) p ≡ pairs_below result }
@@ -215,7 +216,7 @@ pub(crate) fn branch_within<V, A: Allocator>(root: &Link<V, A>, p: Prefix) -> Op
     }
 }
 
-/// The least prefix that is stored below the link, by base and then by length.
+/// Returns the lowest prefix stored below the link, by base and then by length.
 pub(crate) fn first<V, A: Allocator>(root: &Link<V, A>) -> Option<Prefix>
     requires { IsLawfulTrie root.now }
     ensures { result ≡ first (pairs root.now) }
@@ -235,7 +236,7 @@ pub(crate) fn first<V, A: Allocator>(root: &Link<V, A>) -> Option<Prefix>
     }
 }
 
-/// The least prefix that is stored below the link and comes after p, by base and then by length.
+/// Returns the lowest prefix stored below the link that comes after p, by base and then by length.
 pub(crate) fn after<V, A: Allocator>(link: &Link<V, A>, p: Prefix) -> Option<Prefix>
     requires { IsLawfulTrie link.now }
     ensures { result ≡ next_after (pairs link.now) p }

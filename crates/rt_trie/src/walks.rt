@@ -1,4 +1,4 @@
-//! Going over all pairs, in order.
+//! Iterating over all pairs, in order.
 
 ghost use Rattle.std.specs.Prelude.{◌≡◌, ℕ, ◌+◌, ◌<◌, Some, length};
 ghost use Rattle.rt_trie.specs.Map.{Pairs, within};
@@ -15,11 +15,11 @@ use std::alloc::Allocator;
 use std::fmt;
 use std::marker::Model;
 
-/// An iterator over the pairs of a trie, by base and then by length. It takes no memory, and a whole walk goes to each
-/// node once.
+/// An iterator over the pairs of a trie, by base and then by length. A whole walk visits each node once. Doesn't
+/// allocate.
 #[derive(Drop)]
 pub struct Walk<'a, V, A: Allocator> {
-    // The links whose pairs are still to come, the next one last. A node at index k has a length of at least k.
+    // The links whose pairs remain, the next one last. A node at index k has a length of at least k.
     stack: [&'a Link<V, A>; PLACES],
     len: usize,
 }
@@ -43,7 +43,7 @@ impl<'a, V, A: Allocator> Walk<'a, V, A> {
         }
     }
 
-    /// Over the pairs whose prefix is p or lies in it.
+    /// Returns an iterator over the pairs whose prefix is p or in p.
     pub(crate) fn within(root: &'a Link<V, A>, p: Prefix) -> Walk<'a, V, A>
         requires { IsLawfulTrie root.now }
         ensures { result ≡ within (pairs root.now) p }
@@ -57,8 +57,8 @@ impl<'a, V, A: Allocator> Walk<'a, V, A> {
         }
     }
 
-    /// Over the pairs of p and of the prefixes that come after it. It goes down once, and puts on the stack what lies behind
-    /// its way.
+    /// Returns an iterator over the pairs of p and of the prefixes that come after it. Descends once, and pushes the
+    /// links after its path on the stack.
     pub(crate) fn from_prefix(root: &'a Link<V, A>, p: Prefix) -> Walk<'a, V, A>
         requires { IsLawfulTrie root.now }
         ensures { result ≡ from_prefix (pairs root.now) p }
@@ -87,19 +87,19 @@ impl<'a, V, A: Allocator> Walk<'a, V, A> {
     }
 }
 
-/// Where the pairs of a link are that come from a prefix on.
+/// The part of a link that has the pairs from a prefix on.
 enum StepTo<'a, V, A: Allocator> {
-    /// They are all.
+    /// All of the link.
     Whole,
-    /// There are none.
+    /// Nothing.
     Nothing,
-    /// On the left side, and on the right all are.
+    /// The left side from the prefix on, and all of the right side.
     Lower(&'a Link<V, A>, &'a Link<V, A>),
-    /// On the right side alone.
+    /// The right side from the prefix on.
     Upper(&'a Link<V, A>),
 }
 
-/// Where the pairs of the link are that come from p on.
+/// Returns the part of the link that has the pairs from p on.
 fn step_to<V, A: Allocator>(link: &Link<V, A>, p: Prefix) -> StepTo<'_, V, A>
     requires { IsLawfulTrie link.now }
     ensures { IsStepTo link.now p result }
@@ -129,7 +129,7 @@ fn step_to<V, A: Allocator>(link: &Link<V, A>, p: Prefix) -> StepTo<'_, V, A>
     }
 }
 
-/// Shows how many links are on the stack, and none of them.
+/// Shows the number of links on the stack, but not the links.
 impl<'a, V, A: Allocator> fmt::Debug for Walk<'a, V, A> {
     fn fmt<W: fmt::Write>(&self, f: &mut fmt::Formatter<W>) -> fmt::Result {
         f.debug_struct("Walk")
@@ -167,7 +167,7 @@ impl<'a, V, A: Allocator> Iterator for Walk<'a, V, A> {
     }
 }
 
-/// The link at an index.
+/// Returns the link at an index.
 fn link_at<'a, V, A: Allocator>(stack: &[&'a Link<V, A>], k: usize) -> &'a Link<V, A>
     requires { k < length stack.now }
     ensures { link_at stack.now k ≡ Some result.now }
@@ -175,7 +175,7 @@ fn link_at<'a, V, A: Allocator>(stack: &[&'a Link<V, A>], k: usize) -> &'a Link<
     stack[k]
 }
 
-/// Puts a link at an index.
+/// Stores a link at an index.
 fn put<'a, V, A: Allocator>(stack: &mut [&'a Link<V, A>], k: usize, link: &'a Link<V, A>)
     requires { k < length stack.old }
     ensures here { link_at stack.new k ≡ Some link.now }
@@ -185,7 +185,7 @@ fn put<'a, V, A: Allocator>(stack: &mut [&'a Link<V, A>], k: usize, link: &'a Li
     stack[k] = link;
 }
 
-/// Puts two links at an index and the one after it.
+/// Stores two links, at an index and after it.
 fn put_sides<'a, V, A: Allocator>(
     stack: &mut [&'a Link<V, A>],
     k: usize,

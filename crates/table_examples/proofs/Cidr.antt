@@ -1,5 +1,5 @@
--- Examples by which the definitions of rt_cidr are tested, each under a line with the definition's name. Both sides are
--- computed, and what a relation or a law says is spelled out for some values.
+-- Examples that test the definitions of rt_cidr, each under a line with the definition's name. Both sides are computed;
+-- a relation or a theorem is spelled out for some values.
 use Rattle.std.proofs.Common.{map, ◌/◌, ◌≡◌, ℕ, ◌+◌, ◌<◌, Bool, true, false, List}
 use Rattle.std.proofs.Common.{[], ◌∷◌, ◌++◌, ◌||◌, Some, Ok, Err, codes, take, eqb, refl, ap, subst, ◌∙◌}
 use Rattle.std.proofs.Common.{arith}
@@ -185,18 +185,18 @@ a_prefix_as_it_is_written : prefix_text 167772160 8 ≡ codes "10.0.0.0/8"
 unfolding digits address_text prefix_text
 a_prefix_as_it_is_written = refl
 
--- whether a byte stands in a text
+-- true if a byte occurs in a text
 abbrev pub has_byte : ℕ → List ℕ → Bool
 has_byte mark text = list_any (λ byte. eqb byte mark) text
 
--- a text that has the mark somewhere has it
+-- a text with the mark somewhere has it
 has_byte-joined : (mark : ℕ) (front rest : List ℕ) → has_byte mark (front ++ mark ∷ rest) ≡ true
 has_byte-joined mark front rest =
     list_any-append (λ byte. eqb byte mark) front (mark ∷ rest)
     ∙ or_right (has_byte mark front) (eqb mark mark || has_byte mark rest)
     (ap (λ b. b || has_byte mark rest) (eq-eqb mark mark refl))
 
--- a text without a dot is no address's, and none without a dot or a slash is a prefix's
+-- a text without a dot isn't an address, and a text without a dot or a slash isn't a prefix
 pub no_address_without_a_dot : (text : List ℕ) (address : ℕ) → has_byte dot text ≡ false → ¬ IsAddressText text address
 no_address_without_a_dot text address none h =
     let some = ap (has_byte dot) h.joined ∙ has_byte-joined dot h.first_text _ in cc

@@ -1,4 +1,4 @@
--- Examples by which the definitions of fib_readers are tested, each under a line with the definition's name.
+-- Examples that test the definitions of fib_readers, each under a line with the definition's name.
 use Rattle.std.proofs.Common.{◌≡◌, List, [], ◌∷◌, refl}
 use Rattle.std.specs.Prelude.{◌++◌}
 use Rattle.rt_rib.specs.declared.routes.Route.{Route}
@@ -6,7 +6,7 @@ use Rattle.table_examples.proofs.Cidr.{ten_8}
 use Rattle.table_examples.proofs.Rib.{via_192_0_2, route_via}
 use Rattle.fib_readers.specs.Readers.{BeginWith, EndIn, Found}
 
--- the table of 10.0.0.0/8 alone, by 192.0.2.1
+-- the table that only has 10.0.0.0/8, by 192.0.2.1
 abbrev one_route : List Route
 one_route = route_via ten_8 1 5 (via_192_0_2 1) ∷ []
 
@@ -21,7 +21,7 @@ no_tables_do_not_begin_with_one table begins = let e : [] ≡ (table ∷ []) ++ 
 two_tables_end_in_the_second : EndIn ([] ∷ one_route ∷ []) one_route
 two_tables_end_in_the_second = ([] ∷ [], refl)
 
--- what is found where that table was published behind an empty one
+-- the knowledge after that table was published, with an empty one before it
 abbrev found_one_route : Found
 found_one_route = record { table = one_route; published = [] ∷ one_route ∷ [] }
 

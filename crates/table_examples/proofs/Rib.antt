@@ -1,5 +1,5 @@
--- Examples by which the definitions of rt_rib are tested, each under a line with the definition's name. Both sides are
--- computed, and what a relation or a law says is spelled out for some values.
+-- Examples that test the definitions of rt_rib, each under a line with the definition's name. Both sides are computed;
+-- a relation or a theorem is spelled out for some values.
 use Rattle.std.proofs.Common.{◌≡◌, ℕ, ◌+◌, Bool, true, false, if◌then◌else◌, Some, None, inl, inr, List, [], ◌∷◌, ◌++◌, refl, ap, sym, subst, arith}
 use Rattle.std.proofs.lemmas.List.Elements.{All-nil, All-cons}
 use Rattle.std.proofs.lemmas.List.Kept.{AllPairs-cons}
@@ -21,7 +21,7 @@ use Rattle.rt_rib.specs.Maps.{outranks, is_from, IsRanked, IsOffers, Map, route_
 use Rattle.rt_rib.specs.Table.{below_then, is_of, has, count_of, is_better, precedes, put_in, take_out, purge, IsTable}
 use Rattle.rt_rib.specs.Places.{from_place}
 use Rattle.rt_rib.specs.LookUp.{matching, longest_of, best, look_up, beats, ranking, look_up_all, best_routes}
-use Rattle.rt_rib.specs.declared.selection.Part.TheVariants as part
+use Rattle.rt_rib.specs.declared.selection.PrefixFilter.TheVariants as part
 use Rattle.rt_rib.specs.Selection.{is_in, is_by, selected}
 use Rattle.rt_rib.specs.Sequential.{reply_of, table_after, table_of_journal, IsAnswered, IsLawfulJournal}
 use Rattle.rt_rib.specs.Book.{IsLimit, TableState, TableContents, table_state, BookContents, OfferTrie, table_of, HoldsRoutes, HoldsTable, IsFeed}
@@ -35,7 +35,7 @@ use Rattle.rt_rib.proofs.OfferLists.{IsRanked-one}
 use Rattle.rt_rib.proofs.Journals.{IsTable-of_journal, IsLawfulJournal-nil, IsLawfulJournal-push}
 use Rattle.std.specs.Prelude.{map}
 
--- prefixes of the examples, beside those of rt_cidr: 128.0.0.0/1 and 10.1.0.0/16
+-- prefixes of the examples, besides those of rt_cidr: 128.0.0.0/1 and 10.1.0.0/16
 abbrev upper_half : Prefix
 upper_half = record { base = 2147483648; len = 1; is_prefix = record { short = omega arith; fits = omega arith; clear = refl } }
 
@@ -62,17 +62,17 @@ route prefix feed pref = record { prefix = prefix; feed = feed; pref = pref; hop
 abbrev nested : List Route
 nested = route everything 1 200 ∷ route ten_8 1 100 ∷ route ten_1_16 1 100 ∷ []
 
--- what a feed asked, and what it was answered
+-- a feed's command and its reply
 abbrev pub entry : ℕ → Cmd → Reply → Entry
 entry feed cmd reply = record { feed = feed; cmd = cmd; reply = reply }
 
--- feed 1 looks an address up before and after it puts a route to it in, where a feed may have one route
+-- feed 1 looks up an address before and after it inserts a route to it, in a table with a limit of one route
 abbrev two_look_ups : Reply → List Entry
 two_look_ups first =
     entry 1 (Lookup at_10_1_2_3) first ∷ entry 1 (Add ten_8 5 Discard) Added
     ∷ entry 1 (Lookup at_10_1_2_3) (Found (route ten_8 1 5)) ∷ []
 
--- what the three files of the tutorial ask, one after another, and what they are answered
+-- the commands of the tutorial's three files, one after another, and their replies
 abbrev pub ten_2_16 : Prefix
 ten_2_16 = record { base = 167903232; len = 16; is_prefix = record { short = omega arith; fits = omega arith; clear = refl } }
 
@@ -534,7 +534,7 @@ from_one_up_to_the_greatest = ((omega arith, omega arith), (omega arith, omega a
 neither_none_nor_one_above_the_greatest : (¬ IsLimit 0) × (¬ IsLimit 1000001)
 neither_none_nor_one_above_the_greatest = (λ h. omega (arith, h.0), λ h. omega (arith, h.1))
 
--- what a feed offers, and a map of two prefixes
+-- a feed's offer, and a map of two prefixes
 abbrev offer : ℕ → ℕ → Offer
 offer feed pref = record { feed = feed; pref = pref; hop = Discard }
 
@@ -581,7 +581,7 @@ two_are_offers = record { some = omega arith; ranked = two_ranked }
 none_is_not : ¬ IsOffers []
 none_is_not h = omega (arith, h.some)
 
--- whatever stands at a prefix of the map are offers, where those of its first prefix and of the rest are
+-- all offers at prefixes of the map are valid if those of its first prefix and of the rest are
 each_of : (q : Prefix) (first : List Offer) (rest : Map) → IsOffers first
     → ((p : Prefix) (offers : List Offer) → get rest p ≡ Some offers → IsOffers offers)
     → (p : Prefix) (offers : List Offer) → get ((q, first) ∷ rest) p ≡ Some offers → IsOffers offers
@@ -614,7 +614,7 @@ the_route_of_an_offer = refl
 routes_prefix_by_prefix : routes_of two_prefixes ≡ route ten_8 2 30 ∷ route ten_8 1 50 ∷ route ten_1_16 1 10 ∷ []
 routes_prefix_by_prefix = refl
 
--- a book with this trie, after feed 1 and then feed 2 put routes in
+-- a book with this trie, after feed 1 and then feed 2 inserted routes
 abbrev book_with : OfferTrie → BookContents
 book_with trie = record {
   limit = 2;
@@ -736,7 +736,7 @@ matches_begin_with_the_longest h = let order = h.ordered 0 1 (route ten_8 1 100)
 who_asked_what : asked (entry 1 Dump (Dumped 0) ∷ entry 2 Purge (Purged 0) ∷ []) ≡ (1, Dump) ∷ (2, Purge) ∷ []
 who_asked_what = refl
 
--- what contracts see of a table of one route
+-- a table of one route, as contracts see it
 abbrev table_of_one_route : TableContents
 table_of_one_route = record { limit = 2; routes = route ten_8 1 5 ∷ []; trie = one_offer }
 

@@ -1,5 +1,5 @@
--- Examples by which the definitions of rt_trie are tested, each under a line with the definition's name. Both sides are
--- computed, and what a relation or a law says is spelled out for some values.
+-- Examples that test the definitions of rt_trie, each under a line with the definition's name. Both sides are computed;
+-- a relation or a theorem is spelled out for some values.
 use Rattle.std.proofs.Common.{◌≡◌, ℕ, true, false, Some, None, [], ◌∷◌, refl, arith}
 use Rattle.rt_cidr.specs.declared.prefixes.Prefix.{Prefix}
 use Rattle.table_examples.proofs.Cidr.{ten_8, ten_0_16, last_32}
@@ -26,7 +26,7 @@ ten_1_16 = record { base = 167837696; len = 16; is_prefix = record { short = ome
 abbrev ten_128_9 : Prefix
 ten_128_9 = record { base = 176160768; len = 9; is_prefix = record { short = omega arith; fits = omega arith; clear = refl } }
 
--- two values, and the trie that keeps them below a node that has none
+-- two values, and the trie that stores them below a node without a value
 abbrev two : Pairs ℕ
 two = (ten_1_16, 5) ∷ (ten_128_9, 7) ∷ []
 
@@ -235,7 +235,7 @@ three_nodes_listed_in_order :
     (m : Pairs ℕ) (h : CountsNodes m 3) → IsOrdered h.nodes × (IsStored h.nodes ten_8 ↔ IsNodeAt m ten_8) × (length h.nodes ≡ 3)
 three_nodes_listed_in_order m h = (h.ordered, h.each ten_8, h.count)
 
--- the map of two values, with the nodes that keep it
+-- the map of two values, with its nodes
 abbrev the_two : TrieContents ℕ
 the_two = record { pairs = two; nodes = 3; tree = below_ten_8 }
 

@@ -1,4 +1,4 @@
-//! Texts read and written, and writers that take a byte a call, fail or hold too little.
+//! Texts that are parsed and printed, and writers that accept one byte per call, fail or accept too little.
 use rt_cidr::*;
 use std::alloc::Global;
 use std::fmt::Debug;
@@ -6,17 +6,13 @@ use std::io::{self, ErrorKind, Write};
 use std::process::Abort;
 use test_support::{StumblingWriter, each_fault, misshown};
 
-/// Compares two values, of which a failure tells what they are.
+/// Compares two values; a failure shows what they are.
 fn assert_same<T: PartialEq + Debug + Copy>(rt: &impl Abort, what: &str, found: T, wanted: T) {
     assert_eq!(rt; found, wanted, "{what}");
 }
 
 fn parse_prefix(rt: &impl Abort, text: &str) -> Prefix {
     Prefix::parse(text.as_bytes()).expect(rt, text)
-}
-
-fn parse_address(rt: &impl Abort, text: &str) -> Addr {
-    Addr::parse(text.as_bytes()).expect(rt, text)
 }
 
 fn assert_prefix(rt: &impl Abort, text: &str, base: u32, len: u8) {
@@ -34,7 +30,7 @@ fn assert_prefix_text(rt: &impl Abort, alloc: Global, text: &str) {
     assert_same(rt, text, written.as_slice(), text.as_bytes());
 }
 
-/// Prefixes' texts, bases and lengths.
+/// The texts, bases and lengths of prefixes.
 static PREFIXES: [(&str, u32, u8); 5] = [
     ("0.0.0.0/0", 0, 0),
     ("10.0.0.0/8", 167_772_160, 8),
@@ -43,7 +39,7 @@ static PREFIXES: [(&str, u32, u8); 5] = [
     ("0.0.0.1/32", 1, 32),
 ];
 
-/// Fails where `Prefix::write_to` returns a fault at once.
+/// Catches a `Prefix::write_to` that returns an error at once.
 #[test]
 fn reads_prefixes_and_writes_them_again(rt: HostRuntime) {
     for (text, base, len) in PREFIXES.iter() {
@@ -52,7 +48,7 @@ fn reads_prefixes_and_writes_them_again(rt: HostRuntime) {
     }
 }
 
-/// Texts that are no prefix, each with its fault.
+/// Invalid prefixes, each with its error.
 static NO_PREFIXES: [(&str, TextFault); 23] = [
     ("192.0.2.128/24", TextFault::Bits),
     ("0.0.0.1/31", TextFault::Bits),
@@ -95,7 +91,7 @@ fn assert_address(rt: &impl Abort, alloc: Global, text: &str, address: Addr) {
     assert_same(rt, text, written.as_slice(), text.as_bytes());
 }
 
-/// Addresses' texts and numbers.
+/// The texts and numbers of addresses.
 static ADDRESSES: [(&str, u32); 4] = [
     ("0.0.0.0", 0),
     ("192.0.2.1", 3_221_225_985),
@@ -103,7 +99,7 @@ static ADDRESSES: [(&str, u32); 4] = [
     ("255.255.255.255", 4_294_967_295),
 ];
 
-/// Fails where `Addr::write_to` returns a fault at once.
+/// Catches an `Addr::write_to` that returns an error at once.
 #[test]
 fn reads_addresses_and_writes_them_again(rt: HostRuntime) {
     for (text, address) in ADDRESSES.iter() {
@@ -111,7 +107,7 @@ fn reads_addresses_and_writes_them_again(rt: HostRuntime) {
     }
 }
 
-/// Texts that are no address.
+/// Invalid addresses.
 static NO_ADDRESSES: [&str; 8] = [
     "",
     "1.2.3",
@@ -131,20 +127,20 @@ fn refuses_addresses(rt: HostRuntime) {
     }
 }
 
-/// Each fault, its text and its name.
+/// Each error, its text and its name.
 static FAULTS: [(TextFault, &str, &str); 3] = [
     (TextFault::Text, "the text is not of the form", "Text"),
     (TextFault::Length, "the length is over 32", "Length"),
     (TextFault::Bits, "a bit past the length is set", "Bits"),
 ];
 
-/// Fails where `Display` or `Debug` shows another text for a `TextFault`.
+/// Catches a `Display` or `Debug` that shows another text for a `TextFault`.
 #[test]
 fn faults_have_their_texts(rt: HostRuntime) {
     assert_same(&rt, "misshown", misshown(rt.alloc(), &FAULTS), Ok(None));
 }
 
-/// Texts, and the number of each that is one.
+/// Texts, and the number of each that is a decimal.
 static DECIMALS: [(&str, Option<u32>); 11] = [
     ("0", Some(0)),
     ("100", Some(100)),
@@ -184,34 +180,12 @@ fn builds_a_short_text_from_its_back(rt: HostRuntime) {
     assert_same(&rt, "filled", text.as_bytes().len(), SHORT_TEXT_BYTES);
 }
 
-/// Addresses, prefixes that begin at them, and whether 192.0.2.128/25 covers and contains them.
-static WITHIN: [(&str, &str, bool); 7] = [
-    ("192.0.2.128", "192.0.2.128/25", true),
-    ("192.0.2.128", "192.0.2.128/26", true),
-    ("192.0.2.255", "192.0.2.255/32", true),
-    ("192.0.2.0", "192.0.2.0/24", false),
-    ("192.0.2.0", "192.0.2.0/25", false),
-    ("192.0.2.127", "192.0.2.127/32", false),
-    ("192.0.3.0", "192.0.3.0/32", false),
-];
-
-#[test]
-fn covers_addresses_and_contains_prefixes(rt: HostRuntime) {
-    let block = parse_prefix(&rt, "192.0.2.128/25");
-    for (address, other, is_within) in WITHIN.iter() {
-        let covers = block.covers(parse_address(&rt, address));
-        assert_same(&rt, address, covers, *is_within);
-        let contains = block.contains(&parse_prefix(&rt, other));
-        assert_same(&rt, other, contains, *is_within);
-    }
-}
-
-/// Puts bytes into a writer that takes them.
+/// Puts bytes into a writer that accepts them.
 fn put_whole(rt: &impl Abort, w: &mut impl Write, bytes: &[u8]) {
     put(w, bytes).expect(rt, "no fault");
 }
 
-/// Fails where `put` returns `WriteZero` at once.
+/// Catches a `put` that returns `WriteZero` at once.
 #[test]
 fn puts_all_one_byte_a_call(rt: HostRuntime) {
     let prefix = parse_prefix(&rt, "0.0.0.0/0");
@@ -224,7 +198,7 @@ fn puts_all_one_byte_a_call(rt: HostRuntime) {
     assert_same(&rt, "taken", writer.taken.as_slice(), wanted);
 }
 
-/// That it was answered this very fault: its kind, the system's number or what its maker said.
+/// Checks that the call returned this very error: the same kind, system number or message.
 fn assert_fault(rt: &impl Abort, alloc: Global, written: io::Result<()>, fault: io::Error) {
     let wanted = shown(rt, alloc, &fault);
     match written {
@@ -238,17 +212,17 @@ fn assert_fault(rt: &impl Abort, alloc: Global, written: io::Result<()>, fault: 
     }
 }
 
-/// What `Debug` shows of a fault.
+/// Returns what `Debug` shows of an error.
 fn shown(rt: &impl Abort, alloc: Global, fault: &io::Error) -> String {
     format!(in alloc; "{fault:?}").expect(rt, "memory")
 }
 
-/// Each fault that a writer may have.
+/// Returns each error that a writer can have.
 fn faults(rt: &impl Abort, alloc: Global) -> Vec<io::Error> {
     each_fault(alloc).expect(rt, "memory")
 }
 
-/// Puts a text into a writer that has so much room.
+/// Puts a text into a writer that has `room` bytes of room.
 fn put_into(rt: &impl Abort, alloc: Global, room: usize, fault: io::Error) {
     let mut writer = StumblingWriter::new(alloc, 1, room, Some(fault));
     let written = put(&mut writer, b"10.0.0.0/8");
@@ -256,9 +230,9 @@ fn put_into(rt: &impl Abort, alloc: Global, room: usize, fault: io::Error) {
     assert_same(rt, "taken", writer.taken.len(), room);
 }
 
-/// A fault is handed on at once, whatever it is, and nothing is tried again.
-/// Fails where `put` answers another fault than the writer's.
-/// Fails where `put` tells another kind in place of `TimedOut`: both faults.
+/// An error is returned at once, whatever it is, and nothing is tried again.
+/// Catches a `put` that returns another error than the writer's.
+/// Catches a `put` that returns another kind instead of `TimedOut`: both faults.
 #[test]
 fn hands_on_the_writers_fault(rt: HostRuntime) {
     for fault in &faults(&rt, rt.alloc()) {
@@ -267,12 +241,12 @@ fn hands_on_the_writers_fault(rt: HostRuntime) {
     }
 }
 
-/// A writer that fails at its fourth byte.
+/// Returns a writer that fails at its fourth byte.
 fn failing(alloc: Global, fault: io::Error) -> StumblingWriter {
     StumblingWriter::new(alloc, 1, 3, Some(fault))
 }
 
-/// Room for a buffer.
+/// Returns room for a buffer.
 fn room(rt: &impl Abort, alloc: Global) -> OutputRoom {
     OutputRoom::new(alloc).expect(rt, "memory")
 }
@@ -293,7 +267,7 @@ fn flush_held(rt: &impl Abort, alloc: Global, fault: io::Error) {
     assert_fault(rt, alloc, flushed, fault);
 }
 
-/// Where a text has no room, the fault is that of writing what was held, or that of writing the text.
+/// Checks that the error is that of writing the bytes held, or that of writing the text, if the text doesn't fit.
 fn overfill(rt: &impl Abort, alloc: Global, held: &[u8], long: &[u8], fault: io::Error) {
     let mut writer = failing(alloc, fault);
     let mut buffer = OutputBuffer::new(&mut writer, room(rt, alloc));
@@ -302,13 +276,13 @@ fn overfill(rt: &impl Abort, alloc: Global, held: &[u8], long: &[u8], fault: io:
     assert_fault(rt, alloc, written, fault);
 }
 
-/// A text of so many bytes.
+/// Returns a text of `size` bytes.
 fn long_text(rt: &impl Abort, alloc: Global, size: usize) -> Vec<u8> {
     Vec::from_elem(alloc, b'x', size).expect(rt, "memory")
 }
 
-/// Fails where `write` or `flush` of an `OutputBuffer`, or a `write_to`, answers another fault than the writer's.
-/// Fails where `flush` loses the number of the fault: both faults.
+/// Catches a `write` or `flush` of an `OutputBuffer`, or a `write_to`, that returns another error than the writer's.
+/// Catches a `flush` that loses the number of the error: both faults.
 #[test]
 fn hands_on_the_fault_of_what_it_writes(rt: HostRuntime) {
     let long = long_text(&rt, rt.alloc(), OUTPUT_BYTES + 10);
@@ -320,7 +294,7 @@ fn hands_on_the_fault_of_what_it_writes(rt: HostRuntime) {
     }
 }
 
-/// Fails at its first call and then at each second one, and else takes two bytes.
+/// Fails at its first call and then at each second one, and accepts two bytes at the others.
 #[derive(Drop)]
 struct FalteringWriter {
     taken: Vec<u8>,
@@ -343,8 +317,8 @@ impl Write for FalteringWriter {
     }
 }
 
-/// What a fault leaves is held, so that a buffer which is flushed again and again writes each byte once.
-/// Fails where an `OutputBuffer` tries again by itself after a fault, as std's does after `Interrupted`.
+/// After an error the rest is held, so a buffer that is flushed again and again writes each byte once.
+/// Catches an `OutputBuffer` that tries again by itself after an error, as std's does after `Interrupted`.
 #[test]
 fn holds_what_a_fault_leaves(rt: HostRuntime) {
     let mut writer = FalteringWriter {
@@ -358,7 +332,7 @@ fn holds_what_a_fault_leaves(rt: HostRuntime) {
         let flushed = buffer.flush();
         assert_fault(&rt, rt.alloc(), flushed, fault);
     }
-    // The last two bytes go out by the call after the fifth fault.
+    // The call after the fifth error writes the last two bytes.
     let last = buffer.flush();
     drop(buffer);
     assert_same(&rt, "taken", writer.taken.as_slice(), b"10.0.0.0/8");
@@ -366,8 +340,8 @@ fn holds_what_a_fault_leaves(rt: HostRuntime) {
     assert_same(&rt, "calls", writer.calls, 10);
 }
 
-/// A buffer that is dropped writes nothing, and one that is flushed while it holds nothing doesn't either.
-/// Fails where an `OutputBuffer` writes when it is dropped, as std's `BufWriter` does.
+/// A buffer that is dropped writes nothing, nor does one that is flushed while it holds nothing.
+/// Catches an `OutputBuffer` that writes when it is dropped, as std's `BufWriter` does.
 #[test]
 fn writes_when_it_is_told_to(rt: HostRuntime) {
     let mut writer = UnflushedWriter::new(rt.alloc());
@@ -379,7 +353,7 @@ fn writes_when_it_is_told_to(rt: HostRuntime) {
     assert_same(&rt, "calls", writer.calls, 0);
 }
 
-/// Writes bytes that are taken at once.
+/// Writes bytes that are accepted at once.
 fn write_whole(rt: &impl Abort, w: &mut impl Write, bytes: &[u8]) {
     let written = w.write(bytes).expect(rt, "no fault");
     assert_same(rt, "written", written, bytes.len());
@@ -395,7 +369,7 @@ fn a_write_of_nothing_is_write_zero(rt: HostRuntime) {
     assert_same(&rt, "taken", writer.taken.as_slice(), b"0.0");
 }
 
-/// Takes all that it is given, counts the writes and the flushes, and fails where it is flushed.
+/// Accepts all that it is given, counts the writes and the flushes, and fails if it is flushed.
 #[derive(Drop)]
 struct UnflushedWriter {
     taken: Vec<u8>,
@@ -426,7 +400,7 @@ impl Write for UnflushedWriter {
     }
 }
 
-/// Fails where `put`, or `send` of an `OutputBuffer`, flushes the writer below and ignores its fault: one flush,
+/// Catches a `put`, or a `send` of an `OutputBuffer`, that flushes the writer below and ignores its error: one flush,
 /// instead of none.
 #[test]
 fn never_flushes_the_writer(rt: HostRuntime) {
@@ -441,15 +415,15 @@ fn never_flushes_the_writer(rt: HostRuntime) {
     assert_same(&rt, "flushes", writer.flushes, 0);
 }
 
-/// That the text is these two, one behind the other.
+/// Checks that the text consists of these two, one after the other.
 fn assert_joined(rt: &impl Abort, text: &[u8], first: &[u8], second: &[u8]) {
     assert!(rt; text.starts_with(first) && text.ends_with(second));
     let joined = first.len().wrapping_add(second.len());
     assert_same(rt, "bytes", text.len(), joined);
 }
 
-/// Writes a text of this size behind what is held. It goes out whole, and what was held by itself where the text has no room
-/// behind it.
+/// Writes a text of this size after the bytes held. The text is written as a whole; the bytes held are written
+/// separately if the text doesn't fit after them.
 fn write_long(rt: &impl Abort, alloc: Global, held: &[u8], size: usize, calls: usize) {
     let long = long_text(rt, alloc, size);
     let mut writer = UnflushedWriter::new(alloc);
@@ -463,9 +437,9 @@ fn write_long(rt: &impl Abort, alloc: Global, held: &[u8], size: usize, calls: u
     assert_same(rt, "flushes", writer.flushes, 0);
 }
 
-/// Fails where `write` gives up at a text that just fills the buffer, of 65,536 bytes: the fault.
-/// Fails where an `OutputRoom` takes 16 times as much memory: 1,048,576, instead of 65,536.
-/// Fails where the writer below is flushed: one flush, instead of none.
+/// Catches a `write` that fails for a text that just fills the buffer, of 65,536 bytes: the fault.
+/// Catches an `OutputRoom` that takes 16 times as much memory: 1,048,576, instead of 65,536.
+/// Catches an `OutputBuffer` that flushes the writer below: one flush, instead of none.
 #[test]
 fn takes_texts_about_as_long_as_itself(rt: HostRuntime) {
     assert_same(&rt, "bytes", OUTPUT_BYTES, 65_536);
@@ -478,12 +452,12 @@ fn takes_texts_about_as_long_as_itself(rt: HostRuntime) {
     write_long(&rt, rt.alloc(), b"held", OUTPUT_BYTES - 3, 2);
 }
 
-/// The number's lowest byte, ten times.
+/// Returns the number's lowest byte, ten times.
 fn piece(number: u32) -> [u8; 10] {
     [(number % 256) as u8; 10]
 }
 
-/// Puts 20,000 pieces into the writer: what they are behind one another.
+/// Puts 20,000 pieces into the writer, and returns their concatenation.
 fn put_pieces(rt: &impl Abort, alloc: Global, w: &mut impl Write) -> Vec<u8> {
     let mut wanted = Vec::new(alloc);
     for i in 0u32..20_000 {
@@ -493,7 +467,7 @@ fn put_pieces(rt: &impl Abort, alloc: Global, w: &mut impl Write) -> Vec<u8> {
     wanted
 }
 
-/// Fails where an `OutputBuffer` passes on each piece by itself, or holds more than its 64 KB.
+/// Catches an `OutputBuffer` that passes on each piece separately, or holds more than its 64 KB.
 #[test]
 fn gathers_pieces_into_few_large_writes(rt: HostRuntime) {
     let mut writer = UnflushedWriter::new(rt.alloc());
@@ -503,7 +477,7 @@ fn gathers_pieces_into_few_large_writes(rt: HostRuntime) {
     assert_same(&rt, "calls", writer.calls, 3);
 }
 
-/// A text that is longer than the buffer goes out at once, behind what was held.
+/// A text that is longer than the buffer is written at once, after the bytes held.
 #[test]
 fn gathers_what_is_held_before_a_long_text(rt: HostRuntime) {
     let mut writer = UnflushedWriter::new(rt.alloc());

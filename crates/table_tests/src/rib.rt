@@ -1,6 +1,4 @@
-mod lookups;
 mod memory;
-mod plain;
 mod refusals;
 mod sizes;
 
@@ -13,17 +11,17 @@ use std::fmt::Debug;
 use std::process::Abort;
 use test_support::misshown;
 
-/// The address of four octets.
+/// Returns the address of four octets.
 fn addr(a: u8, b: u8, c: u8, d: u8) -> Addr {
     Addr(u32::from_be_bytes([a, b, c, d]))
 }
 
-/// The prefix with this base and length.
+/// Returns the prefix with this base and length.
 fn prefix(rt: &impl Abort, base: Addr, len: u8) -> Prefix {
     Prefix::new(base.0, len).expect(rt, "no prefix")
 }
 
-/// The next hop 192.0.2.x of the worked runs.
+/// Returns the next hop 192.0.2.x of the worked runs.
 fn via(octet: u8) -> Hop {
     Hop::Via(addr(192, 0, 2, octet))
 }
@@ -40,7 +38,7 @@ fn look_up(addr: Addr) -> Cmd {
     Cmd::Lookup { addr }
 }
 
-/// A route of the worked run, whose next hop has the number of its feed.
+/// Returns a route of the worked run, whose next hop has the number of its feed.
 fn route(prefix: Prefix, feed: u8, pref: u32) -> Route {
     Route {
         prefix,
@@ -50,15 +48,15 @@ fn route(prefix: Prefix, feed: u8, pref: u32) -> Route {
     }
 }
 
-/// A command of a feed, and what it is to be answered.
+/// A command of a feed, and its expected reply.
 type Row = (u32, Cmd, Reply);
 
-/// Compares two values, of which a failure tells what they are.
+/// Compares two values; a failure shows what they are.
 fn assert_same<T: PartialEq + Debug + Copy>(rt: &impl Abort, what: &str, found: T, wanted: T) {
     assert_eq!(rt; found, wanted, "{what}");
 }
 
-/// What the book answers where memory is ample.
+/// Returns the reply of the book, which has enough memory.
 fn answered<A: Allocator + Copy>(
     rt: &impl Abort,
     book: &mut Book<A>,
@@ -69,7 +67,7 @@ fn answered<A: Allocator + Copy>(
     book.apply(feed, cmd).expect(rt, "memory")
 }
 
-/// Asks the book one row and compares the reply, and the entry that the journal has gained.
+/// Executes one row on the book, and compares the reply and the new journal entry.
 fn ask<A: Allocator + Copy>(rt: &impl Abort, book: &mut Book<A>, (feed, cmd, reply): Row) {
     let entries = book.journal().len();
     assert_eq!(rt;
@@ -82,14 +80,14 @@ fn ask<A: Allocator + Copy>(rt: &impl Abort, book: &mut Book<A>, (feed, cmd, rep
     assert_same(rt, "the last entry", last, Some(Entry { feed, cmd, reply }));
 }
 
-/// Asks the book row by row.
+/// Executes the rows on the book, one by one.
 fn ask_all<A: Allocator + Copy>(rt: &impl Abort, book: &mut Book<A>, rows: &[Row]) {
     for row in rows {
         ask(rt, book, *row);
     }
 }
 
-/// Asks the book row by row, and compares how many nodes it has then.
+/// Executes the rows on the book, one by one, and compares the number of nodes after each.
 fn ask_and_count<A: Allocator + Copy>(
     rt: &impl Abort,
     book: &mut Book<A>,
@@ -107,12 +105,12 @@ fn assert_routes<A: Allocator + Copy>(rt: &impl Abort, alloc: A, book: &Book<A>,
     assert_same(rt, "routes", listed.as_slice(), routes);
 }
 
-/// A region of so many bytes.
+/// Returns a region of `size` bytes.
 fn region(rt: &impl Abort, alloc: Global, size: usize) -> LocalHeap {
     LocalHeap::new(alloc, size).expect(rt, "memory")
 }
 
-/// What takes only values that may be moved to another thread, as a lock that lends a book does.
+/// Accepts only values that may be moved to another thread, as a lock that lends a book does.
 fn send<T: Send + Drop>(_value: T) {}
 
 #[test]
@@ -120,7 +118,7 @@ fn a_book_may_go_to_another_thread(rt: HostRuntime) {
     send(Book::new(rt.alloc(), 1));
 }
 
-/// Fails where `Book::apply` or `Book::routes` always returns `Refused`.
+/// Catches a `Book::apply` or `Book::routes` that always returns `Refused`.
 #[test]
 fn worked_run(rt: HostRuntime) {
     let wide = prefix(&rt, addr(10, 0, 0, 0), 8);
@@ -160,10 +158,10 @@ fn nodes_come_and_go_with_their_prefixes(rt: HostRuntime) {
     let rows = [
         (1, add(wide, 10, 1), Reply::Added, 1),
         (1, add(one, 10, 1), Reply::Added, 2),
-        // The two long ones part at 10.0.0.0/14, where no route is.
+        // The two long ones diverge at 10.0.0.0/14, which has no route.
         (1, add(two, 10, 1), Reply::Added, 4),
         (3, look_up, Reply::Found(route(one, 1, 10)), 4),
-        // A second offer for a prefix takes no node, and its going leaves the node of the first.
+        // A second offer for a prefix needs no node, and its removal leaves the node of the first.
         (2, add(one, 9, 2), Reply::Added, 4),
         (3, look_up, Reply::Found(route(one, 2, 9)), 4),
         (2, Cmd::Withdraw { prefix: one }, Reply::Withdrawn, 4),
@@ -177,68 +175,7 @@ fn nodes_come_and_go_with_their_prefixes(rt: HostRuntime) {
     ask_and_count(&rt, &mut book, &rows);
 }
 
-#[test]
-fn a_purge_takes_the_feeds_own_routes_alone(rt: HostRuntime) {
-    let wide = prefix(&rt, addr(10, 0, 0, 0), 8);
-    let narrow = prefix(&rt, addr(10, 1, 0, 0), 16);
-    let other = prefix(&rt, addr(192, 0, 2, 0), 24);
-    let rows = [
-        (1, Cmd::Purge, Reply::Purged(0)),
-        (1, add(wide, 1, 1), Reply::Added),
-        (2, add(wide, 2, 2), Reply::Added),
-        (1, add(narrow, 3, 1), Reply::Added),
-        (3, add(narrow, 1, 3), Reply::Added),
-        (2, add(other, 1, 2), Reply::Added),
-        (1, add(other, 1, 1), Reply::Full),
-        (1, Cmd::Purge, Reply::Purged(2)),
-        (1, Cmd::Purge, Reply::Purged(0)),
-        (1, Cmd::Withdraw { prefix: wide }, Reply::Missing),
-        (4, Cmd::Purge, Reply::Purged(0)),
-    ];
-    let mut book = Book::new(rt.alloc(), 2);
-    ask_all(&rt, &mut book, &rows);
-    let expected = [route(wide, 2, 2), route(narrow, 3, 1), route(other, 2, 1)];
-    assert_routes(&rt, rt.alloc(), &book, &expected);
-    // The root parts 10.0.0.0/8 from 192.0.2.0/24, and 10.1.0.0/16 lies below the former.
-    assert_eq!(rt; book.nodes(), 4);
-}
-
-#[test]
-fn a_purged_feed_starts_anew(rt: HostRuntime) {
-    let wide = prefix(&rt, addr(10, 0, 0, 0), 8);
-    let narrow = prefix(&rt, addr(10, 1, 0, 0), 16);
-    let other = prefix(&rt, addr(192, 0, 2, 0), 24);
-    let discard = Cmd::Add {
-        prefix: narrow,
-        pref: 0,
-        hop: Hop::Discard,
-    };
-    let found = Route {
-        prefix: narrow,
-        feed: 1,
-        pref: 0,
-        hop: Hop::Discard,
-    };
-    let look_up = look_up(addr(10, 1, 2, 3));
-    let rows = [
-        (1, add(wide, 1, 1), Reply::Added, 1),
-        (3, add(narrow, 1, 3), Reply::Added, 2),
-        (1, add(narrow, 3, 1), Reply::Added, 2),
-        (1, add(other, 1, 1), Reply::Full, 2),
-        (1, Cmd::Purge, Reply::Purged(2), 1),
-        // It may have as many routes as its limit again, and a discard route is found like any other.
-        (1, add(other, 1, 1), Reply::Added, 3),
-        (1, discard, Reply::Added, 3),
-        (4, look_up, Reply::Found(found), 3),
-        (3, Cmd::Purge, Reply::Purged(1), 3),
-        (1, Cmd::Purge, Reply::Purged(2), 0),
-        (1, look_up, Reply::NoRoute, 0),
-    ];
-    let mut book = Book::new(rt.alloc(), 2);
-    ask_and_count(&rt, &mut book, &rows);
-}
-
-/// The first route of a prefix takes the memory of a node with a value of 24 bytes, and no more.
+/// The first route of a prefix allocates only a node with a value of 24 bytes.
 #[test]
 fn one_offer_lies_in_its_node(rt: HostRuntime) {
     let wide = prefix(&rt, addr(10, 0, 0, 0), 8);
@@ -248,7 +185,7 @@ fn one_offer_lies_in_its_node(rt: HostRuntime) {
     assert_same(&rt, "bytes", offer, entry.wrapping_add(node));
 }
 
-/// How many bytes a book holds that was asked this row.
+/// Returns the number of bytes that a book holds after this row.
 fn held_by_book(rt: &impl Abort, alloc: Global, row: (u32, Cmd, Reply)) -> usize {
     let heap = region(rt, alloc, 65_536);
     let mut book = Book::new(&heap, 10);
@@ -256,7 +193,7 @@ fn held_by_book(rt: &impl Abort, alloc: Global, row: (u32, Cmd, Reply)) -> usize
     heap.used()
 }
 
-/// How many bytes a trie holds that has one prefix, with a value as large as an offer or a list.
+/// Returns the number of bytes that a trie holds with one prefix, with a value as large as an offer or a list.
 fn held_by_trie(rt: &impl Abort, alloc: Global, prefix: Prefix) -> usize {
     let heap = region(rt, alloc, 65_536);
     let mut trie: Trie<[u64; 3], &LocalHeap> = Trie::new(&heap);
@@ -274,7 +211,7 @@ fn limits_and_feeds(rt: HostRuntime) {
     }
 }
 
-/// Fails where `Display` or `Debug` shows another text for `Refused`, as `no memory`.
+/// Catches a `Display` or `Debug` that shows another text for `Refused`, as `no memory`.
 #[test]
 fn the_fault_has_its_text(rt: HostRuntime) {
     let fault = [(Refused, "memory was refused", "Refused")];

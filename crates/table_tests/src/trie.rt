@@ -1,12 +1,9 @@
-//! What the clauses leave open: worked examples, and below, in modules of their own, refusals of memory and long runs
-//! beside a plain list.
+//! Behaviour that the clauses leave open: worked examples, and in modules below, the memory in use and failed
+//! allocations.
 
-mod matches;
+mod filters;
 mod memory;
-mod random;
 mod refusals;
-mod sieves;
-mod universe;
 
 use linked_list_allocator::LocalHeap;
 use rt_cidr::{Addr, Prefix};
@@ -16,7 +13,7 @@ use std::fmt::Debug;
 use std::process::Abort;
 use test_support::take_the_rest;
 
-/// Prefixes of which some contain others.
+/// Prefixes, some of which contain others.
 static STORED: [&str; 6] = [
     "0.0.0.0/0",
     "10.0.0.0/8",
@@ -26,12 +23,12 @@ static STORED: [&str; 6] = [
     "192.0.2.0/24",
 ];
 
-/// Compares two values, of which a failure tells what they are.
+/// Compares two values; a failure shows what they are.
 fn assert_same<T: PartialEq + Debug + Copy>(rt: &impl Abort, what: &str, found: T, wanted: T) {
     assert_eq!(rt; found, wanted, "{what}");
 }
 
-/// A region of so many bytes.
+/// Returns a region of `size` bytes.
 fn region(rt: &impl Abort, alloc: Global, size: usize) -> LocalHeap {
     LocalHeap::new(alloc, size).expect(rt, "memory")
 }
@@ -40,12 +37,12 @@ fn prefix(rt: &impl Abort, text: &str) -> Prefix {
     Prefix::parse(text.as_bytes()).expect(rt, "a prefix")
 }
 
-/// k.0.0.0/8
+/// Returns k.0.0.0/8.
 fn eighth(rt: &impl Abort, k: u32) -> Prefix {
     Prefix::new(k.wrapping_mul(1 << 24), 8).expect(rt, "a prefix")
 }
 
-/// The first prefixes with the values 1, 2 and so on.
+/// Returns the prefixes with the values 1, 2 and so on.
 fn numbered(rt: &impl Abort, alloc: Global, texts: &[&str]) -> Vec<(Prefix, u32)> {
     let mut pairs = Vec::new(alloc);
     let mut value = 0u32;
@@ -56,7 +53,7 @@ fn numbered(rt: &impl Abort, alloc: Global, texts: &[&str]) -> Vec<(Prefix, u32)
     pairs
 }
 
-/// Puts in a value where none is.
+/// Inserts a value at a new prefix.
 fn put_new<A: Allocator + Copy>(rt: &impl Abort, trie: &mut Trie<u32, A>, p: Prefix, value: u32) {
     assert_same(rt, "put in", trie.insert(p, value), Ok(None));
 }
@@ -67,7 +64,7 @@ fn put_all<A: Allocator + Copy>(rt: &impl Abort, trie: &mut Trie<u32, A>, pairs:
     }
 }
 
-/// The first prefixes with the values 1, 2 and so on.
+/// Returns a trie of the prefixes with the values 1, 2 and so on.
 fn trie_of(rt: &impl Abort, alloc: Global, texts: &[&str]) -> Trie<u32, Global> {
     let mut trie = Trie::new(alloc);
     put_all(rt, &mut trie, &numbered(rt, alloc, texts));
@@ -105,7 +102,7 @@ fn assert_after<A: Allocator + Copy>(
     assert_same(rt, "after", trie.after(p), next);
 }
 
-/// Of 1.0.0.0/8 to 64.0.0.0/8, the first, and what comes after a prefix that is stored or not.
+/// Checks the first of 1.0.0.0/8 to 64.0.0.0/8, and the next after a prefix that is stored or not.
 fn assert_next<A: Allocator + Copy>(rt: &impl Abort, trie: &Trie<u32, A>) {
     assert_same(rt, "first", trie.first(), Some(eighth(rt, 1)));
     assert_after(rt, trie, eighth(rt, 1), Some(eighth(rt, 2)));
@@ -132,7 +129,7 @@ fn take_out<A: Allocator + Copy>(
     assert_same(rt, "remove", trie.remove(p), value);
 }
 
-/// Puts in 1.0.0.0/8 to 64.0.0.0/8, with what `first` and `after` say of them, and takes them out again.
+/// Inserts 1.0.0.0/8 to 64.0.0.0/8, checks `first` and `after`, and removes them again.
 fn fill_and_empty<A: Allocator + Copy>(rt: &impl Abort, alloc: A) {
     let mut trie: Trie<u32, A> = Trie::new(alloc);
     put_eighths(rt, &mut trie);
@@ -142,19 +139,19 @@ fn fill_and_empty<A: Allocator + Copy>(rt: &impl Abort, alloc: A) {
     assert_counts(rt, &trie, 0, 0);
 }
 
-/// Fails where `insert` of a new prefix always returns `Err`.
+/// Catches an `insert` that always returns `Err` for a new prefix.
 #[test]
 fn sixty_four_prefixes(rt: HostRuntime) {
     fill_and_empty(&rt, rt.alloc());
 }
 
-/// The k-th of 2^24 prefixes of length 24, none of which contains another.
+/// Returns the k-th of 2^24 prefixes of length 24, none of which contains another.
 fn numbered_prefix(rt: &impl Abort, k: u32) -> Prefix {
     Prefix::new(k.wrapping_mul(256), 24).expect(rt, "a prefix")
 }
 
-/// More prefixes than a hundred thousand, and the last address by itself.
-/// Fails where `insert` returns `Err` at the last address, or beyond 100,000 prefixes.
+/// Over a hundred thousand prefixes, and the last address alone in a trie.
+/// Catches an `insert` that returns `Err` for the last address, or beyond 100,000 prefixes.
 #[test]
 fn more_than_100_000_prefixes(rt: HostRuntime) {
     let mut trie: Trie<u32, Global> = Trie::new(rt.alloc());
@@ -196,7 +193,7 @@ fn next_pair<A: Allocator + Copy>(walk: &mut Walk<'_, u32, A>) -> Option<(Prefix
     Some((p, *value))
 }
 
-/// What a caller sees of a trie: these pairs, in order.
+/// Checks what a caller sees of a trie: these pairs, in order.
 fn assert_pairs<A: Allocator + Copy>(
     rt: &impl Abort,
     trie: &Trie<u32, A>,
@@ -210,7 +207,7 @@ fn assert_pairs<A: Allocator + Copy>(
     assert_same(rt, "behind the last", next_pair(&mut walk), None);
 }
 
-/// Each pair is the longest match of its base, where no prefix is inside another.
+/// Checks that each pair is the longest match of its base, if no prefix is in another.
 fn assert_found<A: Allocator + Copy>(
     rt: &impl Abort,
     trie: &Trie<u32, A>,
@@ -221,7 +218,7 @@ fn assert_found<A: Allocator + Copy>(
     }
 }
 
-/// The pairs in a region that is full with them and these blocks.
+/// Returns a trie of the pairs in a region that is full with them and these blocks.
 fn hold_all<'h>(
     rt: &impl Abort,
     alloc: Global,
@@ -235,10 +232,10 @@ fn hold_all<'h>(
     (trie, blocks)
 }
 
-/// The blocks that a region is filled with.
+/// The blocks that fill a region.
 type Blocks<'h> = Vec<Box<u8, &'h LocalHeap>>;
 
-/// Takes all memory that the region still has.
+/// Allocates all memory that the region still has.
 fn take_all<'h>(rt: &impl Abort, heap: &'h LocalHeap, blocks: &mut Blocks<'h>) {
     take_the_rest(heap, blocks).expect(rt, "a small region");
 }
@@ -281,21 +278,7 @@ fn a_branch_without_a_value_is_never_found(rt: HostRuntime) {
     assert_value(&rt, &trie, prefix(&rt, "0.0.0.0/0"), None);
 }
 
-#[test]
-fn a_value_is_written_in_place(rt: HostRuntime) {
-    let mut trie = Trie::new(rt.alloc());
-    put_eighths(&rt, &mut trie);
-    write_at(&rt, &mut trie, eighth(&rt, 5), 50);
-    assert!(&rt; trie.get_mut(eighth(&rt, 65)).is_none());
-    for (k, value) in [(5, 50), (4, 4), (6, 6)] {
-        assert_value(&rt, &trie, eighth(&rt, k), Some(value));
-    }
-    put_over(&rt, &mut trie, eighth(&rt, 5), 51, 50);
-    assert_value(&rt, &trie, eighth(&rt, 5), Some(51));
-    assert_same(&rt, "prefixes", trie.len(), 64);
-}
-
-/// The prefix of so many bits, at most 32, that covers the address.
+/// Returns the prefix of `len` bits, at most 32, that covers the address.
 fn covering(rt: &impl Abort, address: u32, len: u32) -> Prefix {
     let len = len % 33;
     let past = 32 - len;

@@ -1,6 +1,6 @@
-//! One line on a terminal that says how far a run has come. A thread of its own writes it each second
-//! ([`ProgressLine::keep`]), so that nothing is said of a run that takes less; it is erased, and not written again, before any
-//! other text comes to that terminal ([`Screen`]). All of this is only tested.
+//! One line on a terminal that shows the progress of a run. A separate thread writes it each second
+//! ([`ProgressLine::keep`]), so nothing is shown of a run that takes less. It is erased, and not written again, before
+//! any other text comes to that terminal ([`Screen`]). All of this is only tested.
 //!
 //! ```
 //! let mut screen = Screen::new(rt, &line, &mut err);

@@ -1,4 +1,4 @@
-//! The line, and what it says.
+//! The line, and its text.
 
 use itoa::Buffer;
 use rt_cidr::put;
@@ -11,14 +11,14 @@ use std::time::Duration;
 /// Erases the line: each of its texts is shorter.
 const BLANK: &[u8] = b"\r                                \r";
 
-/// How far a run has come.
+/// The progress of a run.
 #[derive(Clone, Copy, Debug)]
 pub enum Stage {
-    /// So many files were read, of so many.
+    /// The number of files that were read, and of all files.
     Reading(usize, usize),
-    /// So many feeds are run.
+    /// The number of feeds that run.
     Running(usize),
-    /// The output is written.
+    /// The output is being written.
     Writing,
 }
 
@@ -40,8 +40,8 @@ fn put_count<E: Write>(err: &mut E, what: &[u8], count: usize) -> Result<(), io:
     put(err, Buffer::new().format(count).as_bytes())
 }
 
-/// What the line is to say, if anything, whether it is there, and whether it has ended. A fault of the terminal is
-/// dropped.
+/// The line's text, if any, whether it is on the terminal, and whether it has ended. Errors of the terminal
+/// are dropped.
 #[derive(Drop)]
 struct LineState {
     stage: Option<Stage>,
@@ -54,7 +54,7 @@ impl LineState {
         self.stage = Some(stage);
     }
 
-    /// Writes the line in place of what it said before; false where it has ended.
+    /// Writes the line over its previous text; returns false if it has ended.
     fn write<E: Write>(&mut self, err: &mut E) -> bool {
         if self.has_ended {
             return false;
@@ -84,13 +84,13 @@ impl LineState {
 /// The line, which the run changes and another thread writes.
 #[derive(Drop)]
 pub struct ProgressLine {
-    /// Whether standard output goes to a terminal, too.
+    /// True if standard output goes to a terminal, too.
     pub(crate) beside_output: bool,
     now: Mutex<LineState>,
     ended: Parker,
 }
 
-/// Shows whether standard output goes to a terminal, too, and not what the line says, which another thread may write now.
+/// Shows whether standard output goes to a terminal, too, but not the line's text, which another thread may write now.
 impl fmt::Debug for ProgressLine {
     fn fmt<W: fmt::Write>(&self, f: &mut fmt::Formatter<W>) -> fmt::Result {
         f.debug_struct("ProgressLine")
@@ -100,7 +100,7 @@ impl fmt::Debug for ProgressLine {
 }
 
 impl ProgressLine {
-    /// A line that says nothing yet; whether standard output goes to a terminal, too.
+    /// Returns a line without a text. `beside_output` is true if standard output goes to a terminal, too.
     pub fn new(beside_output: bool) -> ProgressLine {
         ProgressLine {
             beside_output,

@@ -1,4 +1,4 @@
-//! Both outputs of a run beside the line.
+//! Both outputs of a run, together with the line.
 
 use crate::line::{ProgressLine, Stage};
 use std::fmt;
@@ -23,24 +23,24 @@ impl<'a, R, E> fmt::Debug for Screen<'a, R, E> {
 }
 
 impl<'a, R, E> Screen<'a, R, E> {
-    /// Standard error, with a line that another thread may write there.
+    /// Returns standard error, with a line that another thread may write there.
     pub fn new(rt: &'a R, line: &'a ProgressLine, err: &'a mut E) -> Screen<'a, R, E> {
         Screen { rt, line, err }
     }
 }
 
 impl<'a, R: Wait, E: Write> Screen<'a, R, E> {
-    /// From now on the line says this.
+    /// Sets the text of the line.
     pub fn set(&mut self, stage: Stage) {
         self.line.set(self.rt, stage);
     }
 
-    /// Erases the line for good.
+    /// Erases the line, which isn't written again.
     pub fn end(&mut self) {
         self.line.end(self.rt, self.err);
     }
 
-    /// Standard output, for what so many feeds leave; from now on the line says that these run.
+    /// Returns standard output, for the output of `feeds` feeds; from now on the line says that these run.
     pub fn beside<'s, O: Write>(
         &'s mut self,
         feeds: usize,
@@ -66,7 +66,8 @@ impl<R: Wait, E: Write> Write for Screen<'_, R, E> {
     }
 }
 
-/// Standard output beside the line. Its first bytes end the line where both go to a terminal, or else are told there.
+/// Standard output together with the line. Its first bytes end the line if both go to a terminal, or else change
+/// its text.
 #[derive(Drop)]
 pub struct ScreenOutput<'a, 's, R, O, E> {
     out: &'s mut O,

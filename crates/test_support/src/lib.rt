@@ -1,5 +1,5 @@
-//! What several crates of tests share: numbers by lot, a region with no memory left, a writer that stumbles, all faults
-//! that one may have, and how values are shown.
+//! Shared by several test crates: pseudorandom numbers, a memory region without free memory, a writer that fails once,
+//! the errors that a writer can return, and a check of how values are shown.
 #![tactic(auto)]
 
 mod dice;

@@ -1,10 +1,10 @@
-//! A region of memory that has none left.
+//! A memory region without free memory.
 
 use linked_list_allocator::LocalHeap;
 use std::alloc::AllocError;
 
-/// Takes all memory that the region still has, in blocks of its least size. A region of more than 1,000 of them is an
-/// error.
+/// Allocates all memory that the region still has, in blocks of its smallest size. Fails if there are 1,000 of them or
+/// more.
 pub fn take_the_rest<'h>(
     heap: &'h LocalHeap,
     blocks: &mut Vec<Box<u8, &'h LocalHeap>>,

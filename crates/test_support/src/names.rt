@@ -1,9 +1,10 @@
-//! How values are shown.
+//! A check of how values are shown.
 
 use std::alloc::{AllocError, Global};
 use std::fmt::{Debug, Display};
 
-/// The name of the first of these values whose `Display` shows another text, or whose `Debug` another name.
+/// Returns the name of the first of these values whose `Display` isn't the given text, or whose `Debug` isn't the given
+/// name.
 pub fn misshown<T: Display + Debug>(
     alloc: Global,
     values: &[(T, &'static str, &'static str)],

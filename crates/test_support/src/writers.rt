@@ -1,15 +1,15 @@
-//! A writer that stumbles once, and the faults that it may answer then.
+//! A writer that fails once, and the errors that it can return.
 
 use std::alloc::{AllocError, Global};
 use std::io::{self, ErrorKind, Write};
 
-/// Takes at most so many bytes a call and so many in all, then stumbles at one call, and from then on takes the rest:
-/// whoever goes on after a fault is seen by what stands there. A flush counts as a call, and is a fault.
+/// Accepts a limited number of bytes per call and in total, then fails one call, and from then on accepts the rest. So
+/// `taken` shows whether a caller continues after an error. A flush counts as a call, and fails.
 #[derive(Drop)]
 pub struct StumblingWriter {
-    /// What it has taken.
+    /// The bytes that were accepted.
     pub taken: Vec<u8>,
-    /// How often it was called.
+    /// The number of calls.
     pub calls: usize,
     at_once: usize,
     room: usize,
@@ -17,8 +17,8 @@ pub struct StumblingWriter {
 }
 
 impl StumblingWriter {
-    /// Takes at most `at_once` bytes a call. Once it has `room` bytes it answers this fault, or where there is none
-    /// that it took nothing.
+    /// Returns a writer that accepts at most `at_once` bytes per call. After `room` bytes, one call returns this error
+    /// or, if none is given, 0 bytes.
     pub fn new(
         alloc: Global,
         at_once: usize,
@@ -57,8 +57,8 @@ impl Write for StumblingWriter {
     }
 }
 
-/// Each of the system's numbers, its kind without the number, the kinds without one, and a fault that a writer puts in
-/// words.
+/// Returns an error with each of the system's numbers, one with that number's kind only, one of each kind without a
+/// number, and one with a message.
 pub fn each_fault(alloc: Global) -> Result<Vec<io::Error>, AllocError> {
     let mut faults = Vec::new(alloc);
     for code in 1..134i32 {
@@ -78,7 +78,7 @@ pub fn each_fault(alloc: Global) -> Result<Vec<io::Error>, AllocError> {
     Ok(faults)
 }
 
-/// Whether it was answered this very fault: its kind, the system's number or what its maker said.
+/// Returns true if the call returned this very error: the same kind, system number or message.
 pub fn is_told(
     alloc: Global,
     written: io::Result<()>,

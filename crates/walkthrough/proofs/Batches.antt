@@ -1,4 +1,4 @@
--- What two feeds leave that ask a batch each, and then the table is settled.
+-- The table after two feeds have executed a batch each, and the table was settled.
 use Rattle.std.proofs.Common.{◌≡◌, ℕ, List, [], ◌∷◌, subst, arith}
 use Rattle.rt_rib.specs.declared.commands.Cmd.{Cmd}
 use Rattle.rt_rib.specs.declared.commands.Entry.{Entry}
@@ -6,28 +6,28 @@ use Rattle.rt_rib.specs.declared.routes.Route.{Route}
 use Rattle.rt_rib.specs.Sequential.{IsLawfulJournal, table_of_journal}
 use Rattle.rt_shared.specs.declared.outcome.Outcome.{Outcome}
 use Rattle.rt_shared.specs.Table.{SharedId, HeldPass, Settles}
-use Rattle.rt_shared.specs.Visits.{Since, MakesVisit, Uncut, answered}
+use Rattle.rt_shared.specs.Visits.{Since, CommitsBatch, IsContiguousIn, answered}
 use Rattle.rt_shared.specs.Laws.{UncutAtFirst, UncutByVisit, UncutSince}
 use Rattle.walkthrough.specs.Shared.{AreBothUnseen, AreRoutesOfBoth}
 
--- the batch of a feed that had seen nothing stands in one piece in what the journal becomes
+-- the batch of a feed that had seen nothing is contiguous in the later journal
 batch_uncut : UncutAtFirst → UncutByVisit → UncutSince → (limit feed number : ℕ) (before : List Entry)
     (cmds : List Cmd) (outcomes : List Outcome) (seen journal : List Entry)
-    → feed ≡ number → before ≡ [] → MakesVisit limit feed before cmds outcomes seen → Since feed seen journal
-    → Uncut number (answered number cmds outcomes ∷ []) journal
+    → feed ≡ number → before ≡ [] → CommitsBatch limit feed before cmds outcomes seen → Since feed seen journal
+    → IsContiguousIn number (answered number cmds outcomes ∷ []) journal
 batch_uncut first call away limit feed number before cmds outcomes seen journal numbered unseen visit since =
-    let first_visit : MakesVisit limit feed [] cmds outcomes seen =
-    subst (λ (b : List Entry). MakesVisit limit feed b cmds outcomes seen) unseen visit in
-    let visit' : MakesVisit limit number [] cmds outcomes seen =
-    subst (λ (f : ℕ). MakesVisit limit f [] cmds outcomes seen) numbered first_visit in
+    let first_visit : CommitsBatch limit feed [] cmds outcomes seen =
+    subst (λ (b : List Entry). CommitsBatch limit feed b cmds outcomes seen) unseen visit in
+    let visit' : CommitsBatch limit number [] cmds outcomes seen =
+    subst (λ (f : ℕ). CommitsBatch limit f [] cmds outcomes seen) numbered first_visit in
     away number (answered number cmds outcomes ∷ []) seen journal (call limit number [] [] seen cmds outcomes (first number) visit')
     (subst (λ (f : ℕ). Since f seen journal) numbered since)
 
 -- the pass has made a visit with these commands
 abbrev HasVisited : ℕ → HeldPass → List Cmd → HeldPass → Type 0
-HasVisited limit before cmds after = (outcomes : List Outcome) × MakesVisit limit before.feed before.seen cmds outcomes after.seen
+HasVisited limit before cmds after = (outcomes : List Outcome) × CommitsBatch limit before.feed before.seen cmds outcomes after.seen
 
--- what a lawful journal leaves, once both have asked
+-- the routes that a lawful journal leaves after both feeds have executed their batch
 pub left_by_both : UncutAtFirst → UncutByVisit → UncutSince → (table : SharedId) (limit : ℕ) (xs ys : List Cmd)
     (one two one' two' : HeldPass) (journal : List Entry)
     → table.limit ≡ limit → AreBothUnseen table one two → one'.feed ≡ one.feed → two'.feed ≡ two.feed

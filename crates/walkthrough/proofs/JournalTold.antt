@@ -1,4 +1,4 @@
--- What a journal of feed 1 alone tells.
+-- The contents of a journal that only has entries of feed 1.
 use Rattle.std.proofs.Common.{◌≡◌, ℕ, List, [], ◌∷◌, ◌++◌, All, refl, sym, ap, ◌∙◌}
 use Rattle.std.proofs.lemmas.List.{map-append}
 use Rattle.std.proofs.lemmas.List.Elements.{All-head, All-tail}
@@ -8,7 +8,7 @@ use Rattle.rt_rib.specs.declared.commands.Entry.{Entry}
 use Rattle.rt_shared.specs.Visits.{entries}
 use Rattle.walkthrough.specs.inside.JournalTold.{told}
 
--- as entries of feed 1 they are the journal, if it has no others
+-- as entries of feed 1, its commands and replies are the journal
 pub told_by_1 : (journal : List Entry) → All (λ e. e.feed ≡ 1) journal → entries 1 (told journal) ≡ journal
 told_by_1 [] own = refl
 told_by_1 (e ∷ es) own =

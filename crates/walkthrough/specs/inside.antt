@@ -1,3 +1,3 @@
--- What no public clause speaks of.
+-- Definitions that no public clause uses.
 pub mod JournalTold
 pub mod TallyLaws

@@ -5,11 +5,11 @@ ghost use Rattle.rt_rib.specs.LookUp.{look_up};
 
 use rt_cidr::Addr;
 use rt_fib::Fib;
-use rt_fib::laws::commands_keep_outside;
+use rt_fib::laws::commands_preserve_lookups_outside_prefix;
 use rt_rib::{Book, Cmd, Refused, Route};
 use std::alloc::Global;
 
-/// Has the book answer a command of the feed, and its forwarding table follow it. An error where memory is refused.
+/// Executes a command of the feed on the book, and has its forwarding table follow. Fails if memory runs out.
 pub fn follow(
     book: &mut Book<Global>,
     fib: &mut Fib<Global>,
@@ -20,13 +20,14 @@ pub fn follow(
     requires fib { fib.old ≡ table_of book.old }
     ensures { IfOk result (λ _. fib.new ≡ table_of book.new) }
 {
-    // What each command leaves as it was: known from here on.
-    commands_keep_outside();
+    // Makes known what each command leaves unchanged.
+    commands_preserve_lookups_outside_prefix();
     book.apply(feed, cmd)?;
     fib.follow(book, &cmd)
 }
 
-/// The route to an address before a command of feed 1 and after it, by a forwarding table. An error where memory is refused.
+/// Returns the route to an address before a command of feed 1 and after it, by a forwarding table. Fails if memory runs
+/// out.
 pub fn routes_to(
     alloc: Global,
     book: &mut Book<Global>,

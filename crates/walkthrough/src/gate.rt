@@ -1,4 +1,4 @@
-//! `rt_feed`: a feed's text through a gate of one's own, here to a book that no other feed shares.
+//! `rt_feed`: runs a feed's text through a custom gate, here to a book that no other feed shares.
 ghost use Rattle.std.specs.Prelude.{◌≡◌, [], ◌∷◌, ◌++◌, IfOk, All};
 ghost use Rattle.std.proofs.Common.{sym, ◌∙◌, append-nil};
 ghost use Rattle.rt_shared.specs.Visits.{reply_to};
@@ -11,10 +11,10 @@ use rt_rib::{Book, Cmd, Refused, Reply};
 use std::alloc::Global;
 use std::sync::Wait;
 
-/// How many routes the feed may have here.
+/// The maximum number of routes of the feed here.
 const LIMIT: u32 = 10;
 
-/// Answers feed 1 by a book of its own. It holds the visits whose commands and replies its journal tells.
+/// Executes the commands of feed 1 on its own book. It holds the visits whose commands and replies are in its journal.
 #[derive(Drop)]
 pub struct OwnBook {
     /// The book.
@@ -23,7 +23,7 @@ pub struct OwnBook {
 }
 
 impl OwnBook {
-    /// Answers a command, or tells that it was refused.
+    /// Executes a command, and returns its outcome.
     fn serve(&mut self, cmd: Cmd) -> Outcome
         ensures { told self.new.book.journal ≡ told self.old.book.journal ++ reply_to cmd result }
     {
@@ -64,7 +64,7 @@ impl Gate for OwnBook {
     }
 }
 
-/// Runs the text: what its lines were answered, and the book, whose journal has the commands that were.
+/// Runs the text. Returns its report, and the book, whose journal has the commands that were answered.
 pub fn run_alone<R: Wait>(
     rt: &R,
     alloc: Global,

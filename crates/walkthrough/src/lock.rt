@@ -1,4 +1,4 @@
-//! `ya_lock`: a value that two threads change in turn, each its own part, and what is known of it at the end.
+//! `ya_lock`: two threads change a value in turn, each its own part, and its end is known.
 ghost use Rattle.std.specs.Prelude.{◌≡◌, refl, ◌+◌, ◌^◌, ◌<◌, IfOk};
 ghost use Rattle.walkthrough.specs.Tally.{part, KeepsPart, KeepsOthers, IsFreshPass};
 ghost use Rattle.walkthrough.specs.inside.TallyLaws.{keeps_after};
@@ -9,16 +9,16 @@ use std::thread;
 use std::thread::Threads;
 use ya_lock::{Kept, NoMemory, Pass, TreeLock};
 
-/// How often each of two places has counted.
+/// The counts of two places.
 #[derive(Drop)]
 pub struct Tally {
-    /// Place 0.
+    /// The count of place 0.
     pub first: u64,
-    /// Place 1.
+    /// The count of place 1.
     pub second: u64,
 }
 
-/// A place changes its own part and no other, so a pass knows its part as long as it is away.
+/// A place changes only its own part, so a pass knows its part as long as it is outside.
 impl Kept for Tally {
     ghost since = { λ place a b. KeepsPart place a b };
 
@@ -32,7 +32,7 @@ impl Kept for Tally {
 }
 
 impl Tally {
-    /// Counts one more for the place.
+    /// Adds 1 to the place's count.
     fn add(&mut self, place: usize)
         requires place { place < 2 }
         requires room { part place self.old + 1 < 2 ^ 64 }
@@ -47,7 +47,7 @@ impl Tally {
     }
 }
 
-/// Enters so often, and counts one more each time.
+/// Enters `times` times, and adds 1 each time.
 fn count<R: Wait>(rt: &R, lock: &TreeLock<Tally, 1>, pass: Pass<Tally>, times: u32) -> Pass<Tally>
     requires lock { pass.lock ≡ lock.now }
     requires place { pass.place < 2 }
@@ -66,7 +66,7 @@ fn count<R: Wait>(rt: &R, lock: &TreeLock<Tally, 1>, pass: Pass<Tally>, times: u
     pass
 }
 
-/// A lock of two places, and the pass of each.
+/// Returns a lock with two places, and the pass of each.
 fn lock_of_two(alloc: Global) -> Result<(TreeLock<Tally, 1>, Pass<Tally>, Pass<Tally>), NoMemory>
     ensures { IfOk result (λ made. IsFreshPass made.0 0 made.1 × IsFreshPass made.0 1 made.2) }
 {
@@ -82,7 +82,7 @@ fn lock_of_two(alloc: Global) -> Result<(TreeLock<Tally, 1>, Pass<Tally>, Pass<T
     Ok((lock, first, second))
 }
 
-/// What two threads have counted that enter so often each.
+/// Returns the counts of two threads after each has entered `times` times.
 pub fn count_both<R: Threads + Wait + Sync>(
     rt: &R,
     alloc: Global,
@@ -98,7 +98,7 @@ pub fn count_both<R: Threads + Wait + Sync>(
         move || count(rt, shared, second, times),
     );
     let guard = lock.enter(rt, first);
-    // Spends the other pass: what it has counted stands in the tally that the guard has.
+    // Consumes the other pass: its count is in the tally that the guard has.
     let guard = lock.confirm(guard, second);
     Ok(lock.close(guard))
 }

@@ -1,5 +1,5 @@
-//! One caller for each library of the repository, short enough to be copied, with a contract that says what it gives.
-//! Each file uses one crate and what that stands on; the program prints what each caller gives.
+//! One caller for each library of the repository, short enough to be copied, with a contract that states its result.
+//! Each file uses one crate and those that it depends on; the program prints the result of each caller.
 #![tactic(auto)]
 
 mod book;
@@ -23,7 +23,7 @@ use std::io::{self, Write};
 use std::sync::Wait;
 use std::thread::Threads;
 
-/// A command that puts in a route.
+/// Returns a command that inserts a route.
 fn add(prefix: &[u8], pref: u32, hop: &[u8]) -> Result<Cmd> {
     Ok(Cmd::Add {
         prefix: Prefix::parse(prefix)?,
@@ -32,18 +32,18 @@ fn add(prefix: &[u8], pref: u32, hop: &[u8]) -> Result<Cmd> {
     })
 }
 
-/// The command that the tables here begin with.
+/// Returns the command that the tables here begin with.
 fn first_add() -> Result<Cmd> {
     add(b"10.0.0.0/8", 100, b"192.0.2.1")
 }
 
-fn tell_cover<W: Write>(out: &mut W) -> Result<()> {
+fn print_cover<W: Write>(out: &mut W) -> Result<()> {
     let covered = cover::covers_address(b"10.0.0.0/8", b"10.1.2.3")?;
     writeln!(out, "10.0.0.0/8 covers 10.1.2.3: {covered}")?;
     Ok(())
 }
 
-fn tell_port<W: Write>(alloc: Global, out: &mut W) -> Result<()> {
+fn print_port<W: Write>(alloc: Global, out: &mut W) -> Result<()> {
     let wide = (Prefix::parse(b"10.0.0.0/8")?, 1);
     let narrow = (Prefix::parse(b"10.1.0.0/16")?, 2);
     let addr = Addr::parse(b"10.1.2.3")?;
@@ -54,7 +54,7 @@ fn tell_port<W: Write>(alloc: Global, out: &mut W) -> Result<()> {
     Ok(())
 }
 
-fn tell_feeds<W: Write>(alloc: Global, out: &mut W) -> Result<()> {
+fn print_feeds<W: Write>(alloc: Global, out: &mut W) -> Result<()> {
     let addr = Addr::parse(b"10.1.2.3")?;
     let replies = book::two_feeds(alloc, first_add()?, Cmd::Lookup { addr })?;
     if let (Reply::Added, Reply::Found(route)) = replies {
@@ -65,7 +65,7 @@ fn tell_feeds<W: Write>(alloc: Global, out: &mut W) -> Result<()> {
     Ok(())
 }
 
-/// A book with that route.
+/// Returns a book with that route.
 fn book_of_one(alloc: Global) -> Result<Book<Global>> {
     let add = first_add()?;
     let mut book = Book::new(alloc, 10);
@@ -73,19 +73,19 @@ fn book_of_one(alloc: Global) -> Result<Book<Global>> {
     Ok(book)
 }
 
-/// Whether that route in one of two books leaves them answering alike.
+/// Returns true if that route in one of two books doesn't change where packets go.
 fn one_route_alike(alloc: Global) -> Result<bool> {
     let changed = book_of_one(alloc)?;
     Ok(diff::go_alike(&Book::new(alloc, 10), &changed))
 }
 
-fn tell_difference<W: Write>(alloc: Global, out: &mut W) -> Result<()> {
+fn print_difference<W: Write>(alloc: Global, out: &mut W) -> Result<()> {
     let alike = one_route_alike(alloc)?;
     writeln!(out, "the route added changes nothing: {alike}")?;
     Ok(())
 }
 
-fn tell_forwarding<W: Write>(alloc: Global, out: &mut W) -> Result<()> {
+fn print_forwarding<W: Write>(alloc: Global, out: &mut W) -> Result<()> {
     let mut book = book_of_one(alloc)?;
     let narrower = add(b"10.1.0.0/16", 100, b"192.0.2.2")?;
     let addr = Addr::parse(b"10.1.2.3")?;
@@ -100,7 +100,7 @@ fn tell_forwarding<W: Write>(alloc: Global, out: &mut W) -> Result<()> {
     Ok(())
 }
 
-fn tell_schedules<W: Write>(alloc: Global, out: &mut W) -> Result<()> {
+fn print_schedules<W: Write>(alloc: Global, out: &mut W) -> Result<()> {
     let alone = replay::somebody_inside(alloc, 1, &[0, 0, 0, 0])?;
     let between = replay::somebody_inside(alloc, 1, &[0, 1, 0, 1])?;
     writeln!(
@@ -110,13 +110,13 @@ fn tell_schedules<W: Write>(alloc: Global, out: &mut W) -> Result<()> {
     Ok(())
 }
 
-fn tell_counts<W: Write>(tally: &Tally, out: &mut W) -> Result<()> {
+fn print_counts<W: Write>(tally: &Tally, out: &mut W) -> Result<()> {
     let (first, second) = (tally.first, tally.second);
     writeln!(out, "place 0 counted {first}, place 1 {second}")?;
     Ok(())
 }
 
-fn tell_shared<R: Wait, W: Write>(rt: &R, alloc: Global, out: &mut W) -> Result<()> {
+fn print_shared<R: Wait, W: Write>(rt: &R, alloc: Global, out: &mut W) -> Result<()> {
     let first = [add(b"10.0.0.0/8", 20, b"192.0.2.1")?, Cmd::Dump];
     let second = [add(b"10.0.0.0/8", 10, b"192.0.2.2")?];
     let routes = shared::routes_of_both(rt, alloc, &first, &second)?;
@@ -124,7 +124,7 @@ fn tell_shared<R: Wait, W: Write>(rt: &R, alloc: Global, out: &mut W) -> Result<
     Ok(())
 }
 
-fn tell_readers<R: Threads + Wait + Sync, W: Write>(
+fn print_readers<R: Threads + Wait + Sync, W: Write>(
     rt: &R,
     alloc: Global,
     out: &mut W,
@@ -137,7 +137,7 @@ fn tell_readers<R: Threads + Wait + Sync, W: Write>(
     Ok(())
 }
 
-fn tell_gate<R: Wait, W: Write>(rt: &R, alloc: Global, out: &mut W) -> Result<()> {
+fn print_gate<R: Wait, W: Write>(rt: &R, alloc: Global, out: &mut W) -> Result<()> {
     let text = b"add 10.0.0.0/8 100 192.0.2.1\nlookup 10.1.2.3\n";
     let (report, book) = gate::run_alone(rt, alloc, text)?;
     let entries = book.journal().len();
@@ -151,14 +151,14 @@ fn main(rt: HostRuntime) -> Result<()> {
     let alloc = rt.alloc();
     let stdout = rt.stdout();
     let mut out = io::writer(&stdout);
-    tell_cover(&mut out)?;
-    tell_port(alloc, &mut out)?;
-    tell_feeds(alloc, &mut out)?;
-    tell_difference(alloc, &mut out)?;
-    tell_forwarding(alloc, &mut out)?;
-    tell_schedules(alloc, &mut out)?;
-    tell_counts(&lock::count_both(&rt, alloc, 1_000)?, &mut out)?;
-    tell_shared(&rt, alloc, &mut out)?;
-    tell_readers(&rt, alloc, &mut out)?;
-    tell_gate(&rt, alloc, &mut out)
+    print_cover(&mut out)?;
+    print_port(alloc, &mut out)?;
+    print_feeds(alloc, &mut out)?;
+    print_difference(alloc, &mut out)?;
+    print_forwarding(alloc, &mut out)?;
+    print_schedules(alloc, &mut out)?;
+    print_counts(&lock::count_both(&rt, alloc, 1_000)?, &mut out)?;
+    print_shared(&rt, alloc, &mut out)?;
+    print_readers(&rt, alloc, &mut out)?;
+    print_gate(&rt, alloc, &mut out)
 }

@@ -1,5 +1,5 @@
-//! `fib_readers`: feeds change a shared table on threads of their own, a writer follows them and shows readers each forwarding
-//! table, and readers ask on theirs.
+//! `fib_readers`: feeds change a shared table on threads of their own, a writer follows them and publishes each
+//! forwarding table, and readers query it on threads of their own.
 ghost use Rattle.std.specs.Prelude.{◌≡◌, IfOk, IfSome, OnOk};
 ghost use Rattle.rt_rib.specs.Book.{IsFeed, table_of};
 
@@ -14,10 +14,11 @@ use std::alloc::Global;
 use std::sync::Wait;
 use std::thread::{self, JoinHandle, Threads};
 
-/// How many threads read.
+/// The number of reading threads.
 const READERS: usize = 2;
 
-/// The first route of this feed that a reader finds to the address, or none where the writer ends before. It may ask forever.
+/// Returns the first route of this feed that a reader finds for the address, or `None` if the writer ends before. May
+/// query forever.
 fn find<R: Wait>(rt: &R, reader: FibReader, addr: Addr, feed: u32) -> Option<Route>
     ensures { IfSome result (λ route. route.feed ≡ feed) }
 {
@@ -36,7 +37,7 @@ fn find<R: Wait>(rt: &R, reader: FibReader, addr: Addr, feed: u32) -> Option<Rou
     unreachable!()
 }
 
-/// Has the book answer the commands of a feed, and its forwarding table follow each.
+/// Executes the commands of a feed on the book, and has its forwarding table follow each.
 fn follow_all(
     book: &mut Book<Global>,
     fib: &mut Fib<Global>,
@@ -53,7 +54,7 @@ fn follow_all(
     Ok(())
 }
 
-/// Follows the commands of a feed, and shows readers the forwarding table that they leave.
+/// Follows the commands of a feed, and publishes the forwarding table after them.
 fn show<R: Wait>(
     rt: &R,
     alloc: Global,
@@ -77,7 +78,7 @@ fn show<R: Wait>(
     }
 }
 
-/// The book that two feeds leave which ask these commands, each on a thread of its own.
+/// Returns the book after two feeds have executed these commands, each on a thread of its own.
 fn serve_both<R: Threads + Wait + Sync>(
     rt: &R,
     alloc: Global,
@@ -104,8 +105,9 @@ fn serve_both<R: Threads + Wait + Sync>(
     Ok(table.settle(rt, passes))
 }
 
-/// Has two feeds ask their commands, follows them in a book of the writer's own, and shows readers what the first one's leave there
-/// and then what both leave. Where the shared table has another number of routes at the end, memory was refused in one of them.
+/// Has two feeds execute their commands, follows them in the writer's own book, and publishes its table after the first
+/// feed's commands and after both. Fails if the shared table has another number of routes at the end: memory then ran
+/// out in one of the two.
 fn show_both<R: Threads + Wait + Sync>(
     rt: &R,
     alloc: Global,
@@ -133,7 +135,7 @@ fn show_both<R: Threads + Wait + Sync>(
     (writer, done)
 }
 
-/// How many of the threads have found a route.
+/// Returns the number of threads that have found a route.
 fn count_found<R: Threads>(rt: &R, threads: Vec<JoinHandle<Option<Route>>>) -> usize {
     let mut count = 0usize;
     for thread in threads {
@@ -144,8 +146,8 @@ fn count_found<R: Threads>(rt: &R, threads: Vec<JoinHandle<Option<Route>>>) -> u
     count
 }
 
-/// How many of two readers find a route of feed 2 to the address. They ask on threads of their own, while each of two feeds asks its
-/// commands on one, and a writer follows these. An error where memory is refused.
+/// Returns how many of two readers find a route of feed 2 for the address. They query on threads of their own, while
+/// each of two feeds executes its commands on another thread, and a writer follows these. Fails if memory runs out.
 pub fn count_beside<R: Threads + Wait + Sync>(
     rt: &R,
     alloc: Global,
@@ -166,7 +168,7 @@ pub fn count_beside<R: Threads + Wait + Sync>(
             }
         }
         let (writer, done) = show_both(rt, alloc, writer, &mut book, &mut fib, first, second);
-        // Readers ask until they find it: where it isn't there, only the writer's end ends them.
+        // Readers query until they find the route: if it isn't there, only the writer's end stops them.
         let is_there = fib.look_up(addr).is_some_and(|route| route.feed == 2);
         if done.is_err() || !is_there {
             writer.end(rt);

@@ -6,7 +6,8 @@ ghost use Rattle.walkthrough.specs.Replay.{wins, ComesInside};
 use std::alloc::Global;
 use ya_core::{Mark, ReplayFault, Step, replay};
 
-/// Whether some place comes inside where the places step in this order, from the start, in a tree of so many levels.
+/// Returns true if some place enters when the places step in this order, from the start, in a tree with `levels`
+/// levels.
 pub fn somebody_inside(alloc: Global, levels: u32, picks: &[u32]) -> Result<bool, ReplayFault>
     ensures { IfOk result (λ inside. ComesInside levels picks.now inside) }
 {
@@ -20,7 +21,7 @@ fn some_win(steps: &[Step]) -> bool
     steps.iter().any(|step| has_won(step))
 }
 
-/// Whether the step won the root.
+/// Returns true if the step won the root.
 fn has_won(step: &Step) -> bool
     ensures { result ≡ wins step.now }
 {

@@ -1,7 +1,7 @@
-//! `rt_shared`: two feeds change one table, each by a batch, which stands in one piece in the journal.
+//! `rt_shared`: two feeds change the same table, each with a batch, which is contiguous in the journal.
 ghost use Rattle.std.specs.Prelude.{◌≡◌, List, IfOk};
 ghost use Rattle.rt_shared.specs.declared.outcome.Outcome.{Outcome};
-ghost use Rattle.rt_shared.specs.Visits.{MakesVisit};
+ghost use Rattle.rt_shared.specs.Visits.{CommitsBatch};
 ghost use Rattle.walkthrough.specs.Shared.{AreBothUnseen, AreRoutesOfBoth};
 
 use rt_rib::{Cmd, Route};
@@ -10,10 +10,10 @@ use rt_shared::{FeedPass, Refused, SharedRib};
 use std::alloc::Global;
 use std::sync::Wait;
 
-/// How many routes a feed may have here.
+/// The maximum number of routes of a feed here.
 pub(crate) const LIMIT: u32 = 10;
 
-/// A table of two feeds, and the pass of each.
+/// Returns a table of two feeds, and the pass of each.
 pub(crate) fn table_of_two(alloc: Global) -> Result<(SharedRib<1>, FeedPass, FeedPass), Refused>
     ensures { IfOk result (λ made. (made.0.limit ≡ LIMIT) × AreBothUnseen made.0 made.1 made.2) }
 {
@@ -23,7 +23,7 @@ pub(crate) fn table_of_two(alloc: Global) -> Result<(SharedRib<1>, FeedPass, Fee
     Ok((table, first, second))
 }
 
-/// Asks the commands in one critical section, so that no other feed's come between, and gives the pass back.
+/// Executes the commands in one critical section, so that no other feed's come in between, and returns the pass.
 pub(crate) fn ask<R: Wait>(
     rt: &R,
     alloc: Global,
@@ -34,7 +34,7 @@ pub(crate) fn ask<R: Wait>(
     requires { pass.table ≡ table.now }
     ensures table { IfOk result (λ after. after.table ≡ pass.table) }
     ensures feed { IfOk result (λ after. after.feed ≡ pass.feed) }
-    ensures visit { IfOk result (λ after. (outcomes : List Outcome) × MakesVisit table.now.limit pass.feed pass.seen cmds.now outcomes after.seen) }
+    ensures visit { IfOk result (λ after. (outcomes : List Outcome) × CommitsBatch table.now.limit pass.feed pass.seen cmds.now outcomes after.seen) }
 {
     let mut pass = pass;
     let mut outcomes = Vec::new(alloc);
@@ -42,8 +42,8 @@ pub(crate) fn ask<R: Wait>(
     Ok(pass)
 }
 
-/// The routes that two feeds leave which ask these commands, a batch each. A program gives each feed a thread, which has
-/// a reference to the table and the feed's pass; the clause is the same then, whichever comes first.
+/// Returns the routes after two feeds have executed these commands, each in one batch. A program gives each feed a
+/// thread with a reference to the table and the feed's pass; the clause is then the same, whichever comes first.
 pub fn routes_of_both<R: Wait>(
     rt: &R,
     alloc: Global,
@@ -56,7 +56,7 @@ pub fn routes_of_both<R: Wait>(
     let one = ask(rt, alloc, &table, one, first)?;
     let two = ask(rt, alloc, &table, two, second)?;
     let passes = vec![in alloc; one, two]?;
-    // A feed's batch stays in one piece, whatever the other does: known from here on.
+    // Makes known that a feed's batch stays contiguous, whatever the other feed does.
     visits();
     table.settle(rt, passes).routes(alloc)
 }

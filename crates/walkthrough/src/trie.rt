@@ -1,4 +1,4 @@
-//! `rt_trie`: a map from prefixes to values, asked for the longest prefix that covers an address.
+//! `rt_trie`: a map from prefixes to values, with a look-up of the longest prefix that covers an address.
 ghost use Rattle.std.specs.Prelude.{◌≡◌, IfOk};
 ghost use Rattle.rt_trie.specs.Map.{IsLongest};
 ghost use Rattle.walkthrough.specs.Trie.{map_of};
@@ -7,8 +7,8 @@ use rt_cidr::{Addr, Prefix};
 use rt_trie::Trie;
 use std::alloc::{AllocError, Global};
 
-/// The longest of the two prefixes that cover the address, with its value, if one does. An error where memory is
-/// refused.
+/// Returns the longest of the two prefixes that covers the address, with its value, if one does. Fails if memory runs
+/// out.
 pub fn port_of(
     alloc: Global,
     wide: (Prefix, u32),
@@ -24,7 +24,7 @@ pub fn port_of(
     }
 }
 
-/// A map of two pairs.
+/// Returns a map of two pairs.
 #[tactic(auto, unfolding(crate::specs::Trie::map_of))]
 fn both(
     alloc: Global,
@@ -34,7 +34,7 @@ fn both(
     ensures { IfOk result (λ ports. ports.pairs ≡ map_of wide narrow) }
 {
     let mut ports = Trie::new(alloc);
-    // An insertion that is refused memory gives its value back.
+    // An insertion that fails returns its value.
     let Ok(_) = ports.insert(wide.0, wide.1) else {
         return Err(AllocError);
     };

@@ -1,10 +1,10 @@
--- What is so in each case is so.
+-- Properties by case distinction.
 use Rattle.std.proofs.Common.{◌≡◌, ◌≢◌, ℕ, ◌==◌, Bool, true, false, refl, arith, sym, subst, ◌⊎◌, inl, inr}
 use Rattle.std.proofs.lemmas.Bool.Decides.{nat_tests}
 use Rattle.ya_core.specs.declared.process.EntryPoint.{EntryPoint}
 use Rattle.ya_core.specs.declared.process.EntryPoint.TheVariants.{E1, E2, E3, E4, E5, E6, E7, E8, E9, E10}
 
--- of two cases the one that is not refuted
+-- if the second case is refuted, the first one holds
 pub the_first : {A B : Type 0} → A ⊎ B → (B → ⊥) → A
 the_first (inl a) none = a
 the_first (inr b) none = absurd (none b)
@@ -13,7 +13,7 @@ pub the_second : {A B : Type 0} → A ⊎ B → (A → ⊥) → B
 the_second (inl a) none = absurd (none a)
 the_second (inr b) none = b
 
--- what is so of this place and of each other one is so of each
+-- a property of this place and of each other place holds for each place
 pub everywhere : (A : ℕ → Type 0) (p : ℕ) → A p → ((q : ℕ) → q ≢ p → A q) → (q : ℕ) → A q
 everywhere A p own others q = cases (q == p) refl
   where
@@ -21,11 +21,11 @@ everywhere A p own others q = cases (q == p) refl
     cases true is = let same : q ≡ p = grind (arith, nat_tests) in subst A (sym same) own
     cases false is = others q (grind (arith, nat_tests))
 
--- what is so for each other place is so, or it is this place
+-- a property of each other place holds for any place, unless it is this place
 pub or_else : (A : ℕ → Type 0) (p : ℕ) → ((q : ℕ) → q ≢ p → A q) → (q : ℕ) → (q ≡ p) ⊎ A q
 or_else A p others = everywhere (λ q. (q ≡ p) ⊎ A q) p (inl refl) (λ q apart. inr (others q apart))
 
--- what is so at each of the ten points of the way in is so at any
+-- a property of each of the ten points of the way in holds for any point
 pub each_point : (A : EntryPoint → Type 0) → A E1 → A E2 → A E3 → A E4 → ((rival : ℕ) → A (E5 rival))
     → ((rival : ℕ) → A (E6 rival)) → ((rival : ℕ) → A (E7 rival)) → A E8 → A E9 → A E10 → (point : EntryPoint)
     → A point

@@ -1,4 +1,5 @@
--- Whatever happens, the content holds what each place made, in order, and each entry followed lawfully.
+-- After any events, the content has the entries of each place, in order, and each entry was allowed after those
+-- before it.
 use Rattle.std.proofs.Common.{◌≡◌, ◌≢◌, ℕ, ◌≤◌, ◌==◌, Bool, true, false, refl, arith, ap, sym, ◌∙◌, subst}
 use Rattle.std.proofs.Common.{if◌then◌else◌, List, [], ◌∷◌, ◌++◌, append_assoc}
 use Rattle.std.proofs.lemmas.Bool.Decides.{nat_tests}
@@ -32,7 +33,7 @@ entries_of-append place (x ∷ xs) ys = cases (x.0 == place) (entries_of-append 
     cases true rest = ap (λ zs. x.1 ∷ zs) rest
     cases false rest = rest
 
--- all marked entries are those of their place, and of no other
+-- the entries of a place, marked with it, are all its entries
 pub entries_of-marked : {X : Type 0} (place : ℕ) (xs : List X) → entries_of place (marked place xs) ≡ xs
 entries_of-marked place [] = refl
 entries_of-marked place (x ∷ xs) = cases (place == place) (grind (arith, nat_tests)) (entries_of-marked place xs)
@@ -53,7 +54,7 @@ entries_of-marked_other place other (x ∷ xs) apart =
     cases false is rest = rest
     cases true is rest = cc
 
--- one more entry that may follow all the others
+-- one more entry, which may follow all the others
 FollowsFrom-push : {X : Type 0} (ok : List (Marked X) → Marked X → Type 0) (before xs : List (Marked X)) (x : Marked X)
     → FollowsFrom ok before xs → ok (before ++ xs) x → FollowsFrom ok before (xs ++ x ∷ [])
 FollowsFrom-push ok before [] x is may = (subst (λ ys. ok ys x) (append-nil before) may, tt)
@@ -63,7 +64,7 @@ FollowsFrom-push ok before (y ∷ ys) x is may = (
       (subst (λ zs. ok zs x) (sym (append_assoc before (y ∷ []) ys)) may),
 )
 
--- what holds of every world that is reached
+-- the invariant of every reached world
 pub record IsKept {X : Type 0} (levels : ℕ) (ok : List (Marked X) → Marked X → Type 0) (w : World X) : Type 0 where
   pub sound : IsSoundState levels w.state
   pub copies : (p : ℕ) → IsInside w.state p → w.copies p ≡ w.content ++ marked p (w.doing p)
@@ -131,7 +132,7 @@ module _ {X : Type 0} (levels : ℕ) (ok : List (Marked X) → Marked X → Type
             (entries_of-marked_other q place (old.doing place) (λ e. apart (sym e)))
             ∙ append-nil (entries_of q old.content) ∙ is.made q ∙ sym (step.others_made q apart))
 
-    -- any other step leaves the content; where it wins the root, the copy is the content
+    -- any other step leaves the content; if it wins the root, the copy is the content
     kept_step : WorldSteps levels place old new → is_inside (old.state.processes place) ≡ false → IsKept levels ok new
     kept_step step outside =
         record {
@@ -225,7 +226,7 @@ module _ {X : Type 0} (levels : ℕ) (ok : List (Marked X) → Marked X → Type
   kept_run [] old new is run = subst (IsKept levels ok) (sym run) is
   kept_run (event ∷ events) old new is run = kept_run events run.0 new (kept_event event old run.0 is run.1) run.2
 
-  -- so it holds of every world that is reached
+  -- so the invariant holds in every reached world
   pub kept : (events : List (Event X)) (w : World X) → IsReached levels ok events w → IsKept levels ok w
   kept events w run = kept_run events opening_world w (kept_opening levels ok) run
 
@@ -251,7 +252,7 @@ any_run levels ok (Appends place entry ∷ events) old new run = (
   any_run levels ok events run.0 new run.2,
 )
 
--- the state of a world is the one to which its steps lead
+-- the steps of a run lead from its first state to its last
 pub steps_lead : {X : Type 0} (levels : ℕ) (ok : List (Marked X) → Marked X → Type 0) (events : List (Event X))
     (old new : World X) → Runs levels ok old events new → LeadTo levels old.state (places_of events) new.state
 steps_lead levels ok [] old new run = ap (λ w. w.state) run
@@ -260,7 +261,7 @@ steps_lead levels ok (Steps place ∷ events) old new run =
 steps_lead levels ok (Appends place entry ∷ events) old new run =
     subst (λ s. LeadTo levels s (places_of events) new.state) run.1.state (steps_lead levels ok events run.0 new run.2)
 
--- each state to which places lead is sound
+-- each state that steps of places lead to from a sound state is sound
 pub sound_after : (levels : ℕ) (places : List ℕ) (old new : State) → 1 ≤ levels → IsSoundState levels old
     → LeadTo levels old places new → IsSoundState levels new
 sound_after levels [] old new some is lead = subst (IsSoundState levels) (sym lead) is

@@ -15,19 +15,19 @@ use Rattle.ya_core.specs.Steps.{access_of, entry_access, exit_access, next_of, e
 use Rattle.ya_core.specs.Soundness.{IsProper}
 use Rattle.ya_core.proofs.Properness.{either, proper_next, within_access}
 use Rattle.ya_core.proofs.DueAccess.{due_is}
-use Rattle.ya_core.specs.WalkerModel.{MayFind, AccessIsWithin, Walk, IsWalk, walk, walk_after, MovesOn, due, due_of}
+use Rattle.ya_core.specs.WalkerModel.{MayFind, AccessIsWithin, Walk, IsWalk, walk, walk_after, AdvancesOrSpins, due, due_of}
 use Rattle.ya_core.specs.WalkerModel.{MayBeTold, cost_of, cost_of_word, is_waiting, entry_behind, exit_behind, most_of, most_remote}
-use Rattle.ya_core.specs.WalkerModel.{ComesFurther}
+use Rattle.ya_core.specs.WalkerModel.{Advances}
 use Rattle.ya_core.specs.inside.Ahead.{points_of, entry_points, exit_points, ComesNearer}
 use Rattle.ya_core.specs.inside.WalkerModel.{DueIsWithin}
 
--- how many points are still ahead of a process that won a level
+-- the number of points ahead of a process that won a level
 ahead_won : (levels level : ℕ) → level ≤ levels → points_of levels (after_entry levels level) false ≤ 10 * (levels - level)
 ahead_won levels level most =
     either (λ x. points_of levels x false ≤ 10 * (levels - level)) (nat_lt level levels) _ _
     (λ less. grind (arith, nat_tests)) (λ _. omega arith)
 
--- the same of one that left it
+-- the same for a process that left it
 ahead_after_exit : (levels level : ℕ) → points_of levels (after_exit level) false ≤ 3 * (level - 1)
 ahead_after_exit levels level =
     either (λ x. points_of levels x false ≤ 3 * (level - 1)) (nat_lt 1 level) _ _ (λ more. grind (arith, nat_tests))
@@ -85,57 +85,57 @@ nearer levels place Inside false value some proper told = absurd told
 nearer levels place (Leaving level point) begun value some proper told =
     inl (nearer_exit levels level place point value)
 
--- where a process that won a level, or left it, stands is further
+-- a process that won a level, or left it, comes further
 further_won : (levels level : ℕ) (point : EntryPoint) → 1 ≤ level
-    → ComesFurther levels (Entering level point) (after_entry levels level)
+    → Advances levels (Entering level point) (after_entry levels level)
 further_won levels level point least =
-    either (ComesFurther levels (Entering level point)) (nat_lt level levels) _ _ (λ _. inl (omega (arith, least))) (λ _. tt)
+    either (Advances levels (Entering level point)) (nat_lt level levels) _ _ (λ _. inl (omega (arith, least))) (λ _. tt)
 
 further_after_exit : (levels level : ℕ) (point : ExitPoint) → level ≤ levels
-    → ComesFurther levels (Leaving level point) (after_exit level)
+    → Advances levels (Leaving level point) (after_exit level)
 further_after_exit levels level point most =
-    either (ComesFurther levels (Leaving level point)) (nat_lt 1 level) _ _ (λ more. inl (grind (arith, nat_tests))) (λ _. tt)
+    either (Advances levels (Leaving level point)) (nat_lt 1 level) _ _ (λ more. inl (grind (arith, nat_tests))) (λ _. tt)
 
--- so a step on the way in comes further, or waits
+-- a step on the way in comes further, or waits
 further_entry : (levels level place : ℕ) (point : EntryPoint) (value : ℕ) → 1 ≤ level
-    → ComesFurther levels (Entering level point) (entry_next levels level place point value)
+    → Advances levels (Entering level point) (entry_next levels level place point value)
     ⊎ (IsTrue (is_waiting (Entering level point))
     × (entry_next levels level place point value ≡ Entering level point))
 further_entry levels level place E1 value least = inl (inr (refl, omega arith))
 further_entry levels level place E2 value least = inl (inr (refl, omega arith))
 further_entry levels level place E3 value least = inl (inr (refl, omega arith))
 further_entry levels level place E4 value least =
-    inl (either (ComesFurther levels (Entering level E4)) (value == 0) _ _ (λ _. further_won levels level E4 least)
+    inl (either (Advances levels (Entering level E4)) (value == 0) _ _ (λ _. further_won levels level E4 least)
     (λ _. inr (refl, omega arith)))
 further_entry levels level place (E5 rival) value least =
-    inl (either (ComesFurther levels (Entering level (E5 rival))) (value == place + 1) _ _ (λ _. inr (refl, omega arith))
+    inl (either (Advances levels (Entering level (E5 rival))) (value == place + 1) _ _ (λ _. inr (refl, omega arith))
     (λ _. further_won levels level (E5 rival) least))
 further_entry levels level place (E6 rival) value least =
-    inl (either (ComesFurther levels (Entering level (E6 rival))) (value == 0) _ _ (λ _. inr (refl, omega arith))
+    inl (either (Advances levels (Entering level (E6 rival))) (value == 0) _ _ (λ _. inr (refl, omega arith))
     (λ _. inr (refl, omega arith)))
 further_entry levels level place (E7 rival) value least = inl (inr (refl, omega arith))
 further_entry levels level place E8 value least =
-    either (λ x. ComesFurther levels (Entering level E8) x ⊎ (IsTrue true × (x ≡ Entering level E8))) (value == 0) _ _
+    either (λ x. Advances levels (Entering level E8) x ⊎ (IsTrue true × (x ≡ Entering level E8))) (value == 0) _ _
     (λ _. inr (refl, refl)) (λ _. inl (inr (refl, omega arith)))
 further_entry levels level place E9 value least =
-    inl (either (ComesFurther levels (Entering level E9)) (value == place + 1) _ _ (λ _. inr (refl, omega arith))
+    inl (either (Advances levels (Entering level E9)) (value == place + 1) _ _ (λ _. inr (refl, omega arith))
     (λ _. further_won levels level E9 least))
 further_entry levels level place E10 value least =
-    either (λ x. ComesFurther levels (Entering level E10) x ⊎ (IsTrue true × (x ≡ Entering level E10))) (value == 2) _ _
+    either (λ x. Advances levels (Entering level E10) x ⊎ (IsTrue true × (x ≡ Entering level E10))) (value == 2) _ _
     (λ _. inl (further_won levels level E10 least)) (λ _. inr (refl, refl))
 
 -- and a step on the way out comes further
 further_exit : (levels level place : ℕ) (point : ExitPoint) (value : ℕ) → level ≤ levels
-    → ComesFurther levels (Leaving level point) (exit_next level place point value)
+    → Advances levels (Leaving level point) (exit_next level place point value)
 further_exit levels level place X1 value most = inr (refl, omega arith)
 further_exit levels level place X2 value most =
-    either (ComesFurther levels (Leaving level X2)) (value == place + 1) _ _ (λ _. further_after_exit levels level X2 most)
+    either (Advances levels (Leaving level X2)) (value == place + 1) _ _ (λ _. further_after_exit levels level X2 most)
     (λ _. inr (refl, omega arith))
 further_exit levels level place (X3 rival) value most = further_after_exit levels level (X3 rival) most
 
 further : (levels place : ℕ) (x : Process) (begun : Bool) (value : ℕ) → IsProper levels place x
     → MayBeTold (due_of levels place x begun) value
-    → ComesFurther levels x (next_of levels place x value) ⊎ (IsTrue (is_waiting x) × (next_of levels place x value ≡ x))
+    → Advances levels x (next_of levels place x value) ⊎ (IsTrue (is_waiting x) × (next_of levels place x value ≡ x))
 further levels place Idle true value proper told = inl (inr (refl, omega arith))
 further levels place Idle false value proper told = absurd told
 further levels place (Entering level point) begun value proper told =
@@ -154,13 +154,13 @@ cost_at_most place (P level owner) = grind (arith, nat_tests)
 cost_of_own : (level place : ℕ) → cost_of_word place (P level place) ≡ 0
 cost_of_own level place = grind (arith, nat_tests)
 
--- what a process that won a level has made at most
+-- the maximum count of a process that won a level
 most_won : (levels level : ℕ) → 1 ≤ level → level ≤ levels → 7 * (level - 1) + 7 ≤ most_of levels (after_entry levels level) false
 most_won levels level least most =
     either (λ x. 7 * (level - 1) + 7 ≤ most_of levels x false) (nat_lt level levels) _ _ (λ _. omega (arith, least))
     (λ _. omega (arith, least, most))
 
--- and one that left it
+-- the same for a process that left it
 most_after_exit : (levels level : ℕ) → 1 ≤ level → level ≤ levels
     → 7 * levels + 3 * (levels - level) + 3 ≤ most_of levels (after_exit level) false
 most_after_exit levels level least most =
@@ -217,7 +217,7 @@ rises levels place Inside false value proper told = absurd told
 rises levels place (Leaving level point) begun value proper told =
     rises_exit levels level place point value proper.least proper.most
 
--- what is told of the access that is due may be found by it
+-- a value that may complete the due access may be found by it
 found_of : (levels place : ℕ) (x : Process) (begun : Bool) (value : ℕ) → MayBeTold (due_of levels place x begun) value
     → MayFind (access_of levels place x) value
 found_of levels place x begun value told = by_due (due_of levels place x begun) refl told
@@ -227,7 +227,7 @@ found_of levels place x begun value told = by_due (due_of levels place x begun) 
     by_due None is told = absurd told
     by_due (Some a) is told = subst (λ b. MayFind b value) (sym (due_is levels place x begun a is)) told
 
--- a walk that is told a value stays a walk, and comes further and nearer; its count rises by no more than its bound
+-- a walk that is passed a value stays a walk, and comes further and nearer; its count rises by no more than its bound
 pub goes_on : (w : Walk) (value : ℕ) → IsWalk w → MayBeTold (due w) value → IsWalk (walk_after w value)
 goes_on w value is told =
     record {
@@ -239,7 +239,7 @@ goes_on w value is told =
       counted = omega (arith, is.counted, rises w.levels w.place w.process w.begun value is.proper told);
     }
 
-moves_on : (w : Walk) (value : ℕ) → IsWalk w → MayBeTold (due w) value → MovesOn w (walk_after w value)
+moves_on : (w : Walk) (value : ℕ) → IsWalk w → MayBeTold (due w) value → AdvancesOrSpins w (walk_after w value)
 moves_on w value is told = further w.levels w.place w.process w.begun value is.proper told
 
 pub told_nearer : (w new : Walk) (value : ℕ) → IsWalk w → MayBeTold (due w) value → new ≡ walk_after w value
@@ -254,15 +254,15 @@ told_counted w new value is told goes =
     subst (λ (v : Walk). v.remote + most_remote w ≤ w.remote + most_remote v) (sym goes)
     (omega (arith, rises w.levels w.place w.process w.begun value is.proper told))
 
--- so the walk that a walker shows goes on to the one with the process and the cost that it comes to
+-- the walk of a walker goes on to the process and the cost that the walker computes
 pub told_on : {w shown : Walk} (value : ℕ) (process : Process) (cost : ℕ)
     → process ≡ next_of w.levels w.place w.process value
     → cost ≡ cost_of w.place (access_of w.levels w.place w.process) → w ≡ shown → IsWalk w → MayBeTold (due shown) value
     → IsWalk (walk w.levels w.place process false (w.remote + cost))
-    × MovesOn shown (walk w.levels w.place process false (w.remote + cost))
+    × AdvancesOrSpins shown (walk w.levels w.place process false (w.remote + cost))
 told_on {w} value process cost goes costs same walks told =
-    subst (λ (v : Walk). IsWalk after × MovesOn v after) same
-    (subst (λ (u : Walk). IsWalk u × MovesOn w u) (sym is) (goes_on w value walks here, moves_on w value walks here))
+    subst (λ (v : Walk). IsWalk after × AdvancesOrSpins v after) same
+    (subst (λ (u : Walk). IsWalk u × AdvancesOrSpins w u) (sym is) (goes_on w value walks here, moves_on w value walks here))
   where
     after : Walk
     after = walk w.levels w.place process false (w.remote + cost)
@@ -273,7 +273,7 @@ told_on {w} value process cost goes costs same walks told =
     here : MayBeTold (due w) value
     here = subst (λ (v : Walk). MayBeTold (due v) value) (sym same) told
 
--- the word that is due is one of the tree's words
+-- the word of the due access is one of the tree's words
 pub due_within : (w : Walk) → IsWalk w → DueIsWithin w.levels (due w)
 due_within w is = by_due (due w) refl
   where

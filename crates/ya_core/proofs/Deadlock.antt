@@ -1,5 +1,5 @@
--- Where some place takes part, one that takes part can go on: who is stuck at a node is owed a word by one that can
--- step, or that is stuck higher up.
+-- If some place takes part, some place that takes part can go on: a place that is stuck at a node is owed a word by a
+-- place that can step, or that is stuck higher up.
 use Rattle.std.proofs.Common.{◌≡◌, ◌≢◌, ℕ, zero, suc, ◌+◌, ◌-◌, ◌^◌, ◌<◌, ◌≤◌, ◌==◌, Bool, true, false, nat_lt, refl}
 use Rattle.std.proofs.Common.{arith, ap, sym, ◌∙◌, subst, ◌⊎◌, inl, inr, IsTrue, if◌then◌else◌}
 use Rattle.std.proofs.lemmas.Bool.Decides.{nat_tests}
@@ -20,7 +20,8 @@ use Rattle.ya_core.proofs.PhaseKinds.{competes_unwoken, competes_unreleased}
 use Rattle.ya_core.proofs.Phases.{phase_here, competes_at}
 use Rattle.ya_core.proofs.Outcomes.{may_step}
 
--- a process that won a level is not on its way in there, and one that left it not on its way out at a later point
+-- a process that won a level is not on its way in there, and a process that left it is not on its way out at a
+-- later point
 pub won_elsewhere : (levels level : ℕ) (point : EntryPoint) → after_entry levels level ≢ Entering level point
 won_elsewhere levels level point =
     either (λ x. x ≢ Entering level point) (nat_lt level levels) _ _
@@ -32,7 +33,7 @@ left_elsewhere level rival = (
   either (λ x. x ≢ Leaving level (X3 rival)) (nat_lt 1 level) _ _ (λ _ e. cc) (λ _ e. cc),
 )
 
--- who is to wake another at a level stands there, and doesn't sleep or wait to be let in
+-- a place that is to wake another at a level has reached that level, and doesn't sleep or wait to be let in
 awake : (levels level place stands : ℕ) (point : EntryPoint)
     → IsTrue (is_to_wake place (phase_at level stands (entry_phase point)))
     → IsTrue (is_to_wake place (entry_phase point))
@@ -50,7 +51,7 @@ pub data IsStuck (s : State) (q level : ℕ) : Type 0 where
   Outside : s.processes q ≡ Entering level E10 → s.words (P level q) ≢ 2 → IsStuck s q level
 
 module _ (levels : ℕ) (s : State) (some : 1 ≤ levels) (is : IsSoundState levels s) where
-  -- a place that takes part is one of the tree
+  -- a place that takes part is a place of the tree
   pub in_tree : (q : ℕ) (x : Process) → s.processes q ≡ x → x ≢ Idle → q < 2 ^ levels
   in_tree q Idle e busy = absurd (busy refl)
   in_tree q (Entering level point) e busy =
@@ -128,13 +129,13 @@ module _ (levels : ℕ) (s : State) (some : 1 ≤ levels) (is : IsSoundState lev
   goes_or_stuck q (Leaving level (X3 rival)) e busy =
       inl (goes q (Leaving level (X3 rival)) e busy (left_elsewhere level rival).1)
 
-  -- who takes part at a level isn't idle
+  -- a place that takes part at a level isn't idle
   not_idle : (level q : ℕ) → IsTrue (competes (phase_of levels level (s.processes q))) → s.processes q ≢ Idle
   not_idle level q h idle =
       let away : IsTrue (competes (phase_of levels level Idle)) =
       subst (λ x. IsTrue (competes (phase_of levels level x))) idle h in cc
 
-  -- one who is stuck stands at a level of the tree, and waits there
+  -- a place that is stuck has reached a level of the tree, and waits there
   pub stuck_at : (q level : ℕ) → IsStuck s q level
       → (point : EntryPoint) × (s.processes q ≡ Entering level point) × (1 ≤ level) × (level ≤ levels)
   stuck_at q level (Asleep e none) =
@@ -144,7 +145,7 @@ module _ (levels : ℕ) (s : State) (some : 1 ≤ levels) (is : IsSoundState lev
       let proper : IsProper levels q (Entering level E10) = subst (IsProper levels q) e (is.proper q) in
       (E10, e, proper.least, proper.most)
 
-  -- what is owed to one who is stuck
+  -- the words owed to a stuck place
   pub owed_to : (q level : ℕ) → IsStuck s q level
       → IsOwed (node_of level) (side_of level) (λ p. phase_of levels level (s.processes p)) (λ n. s.words (T level n))
       (λ p. s.words (P level p)) q
@@ -154,7 +155,7 @@ module _ (levels : ℕ) (s : State) (some : 1 ≤ levels) (is : IsSoundState lev
       → phase_of levels level (s.processes q) ≡ entry_phase point
   phase_is q level point e = ap (λ x. phase_of levels level x) e ∙ phase_here level (entry_phase point)
 
-  -- one who is stuck is not to wake another
+  -- a stuck place is not to wake another
   pub never_wakes : (q level place other : ℕ) → IsStuck s q other
       → IsTrue (is_to_wake place (phase_of levels level (s.processes q))) → ⊥
   never_wakes q level place other (Asleep e none) h =
@@ -165,7 +166,7 @@ module _ (levels : ℕ) (s : State) (some : 1 ≤ levels) (is : IsSoundState lev
       awake levels level place other E10 (subst (λ x. IsTrue (is_to_wake place (phase_of levels level x))) e h) in
       cc
 
-  -- where another announced itself last, one who is stuck is owed a 1 by a rival that goes on
+  -- if another place announced itself last, a stuck place is owed a 1 by a rival that goes on
   first : (p level : ℕ) → IsStuck s p level → s.words (T level (node_of level p)) ≢ p + 1 → SomeoneGoesOn levels s
   first p level (Asleep e none) other =
       by_waker ((owed_to p level (Asleep e none)).owed_one other (ap saw_itself_last (phase_is p level E8 e)) none)
@@ -183,7 +184,7 @@ module _ (levels : ℕ) (s : State) (some : 1 ≤ levels) (is : IsSoundState lev
   first p level (Outside e apart) other =
       absurd (apart ((owed_to p level (Outside e apart)).has_two other (ap awaits_release (phase_is p level E10 e))))
 
-  -- who announced itself last, and is stuck, has a rival that takes part
+  -- a stuck place that announced itself last has a rival that takes part
   pub last : (p level : ℕ) → IsStuck s p level
       → SomeRival (node_of level) (side_of level) (λ q. phase_of levels level (s.processes q)) p competes
   last p level (Asleep e none) =
@@ -206,7 +207,7 @@ module _ (levels : ℕ) (s : State) (some : 1 ≤ levels) (is : IsSoundState lev
             (phase_of levels level (s.processes rival.0)) rival.2,
       )
 
-  -- a rival that takes part and is stuck is stuck there or higher up
+  -- a rival that takes part and is stuck is stuck at this level or higher up
   stuck_above : (q level other : ℕ) → IsTrue (competes (phase_of levels level (s.processes q))) → IsStuck s q other
       → level ≤ other
   stuck_above q level other h (Asleep e none) =
@@ -214,7 +215,7 @@ module _ (levels : ℕ) (s : State) (some : 1 ≤ levels) (is : IsSoundState lev
   stuck_above q level other h (Outside e apart) =
       competes_at level other (entry_phase E10) (subst (λ x. IsTrue (competes (phase_of levels level x))) e h)
 
-  -- one who is stuck has a rival that goes on, or is stuck there and not last, or higher up
+  -- a stuck place has a rival that goes on, or that is stuck there and not last, or higher up
   one_up : (p level : ℕ) → IsStuck s p level
       → ((q other : ℕ) → level < other → other ≤ levels → IsStuck s q other → SomeoneGoesOn levels s)
       → SomeoneGoesOn levels s
@@ -247,14 +248,14 @@ module _ (levels : ℕ) (s : State) (some : 1 ≤ levels) (is : IsSoundState lev
                   let up : level ≤ other = stuck_above q level other h still in
                   higher q other (grind (arith, apart, up)) (stuck_at q other still).3 still
 
-  -- so by how many levels lie above
+  -- by induction on the number of levels above
   frees : (above p level : ℕ) → levels ≤ level + above → IsStuck s p level → SomeoneGoesOn levels s
   frees zero p level enough stuck =
       one_up p level stuck (λ q other more most still. absurd (omega (arith, enough, most, more)))
   frees (suc n) p level enough stuck =
       one_up p level stuck (λ q other more most still. frees n q other (omega (arith, enough, more)) still)
 
-  -- where some place takes part, one goes on
+  -- if some place takes part, some place that takes part goes on
   pub someone_goes_on : (place : ℕ) → s.processes place ≢ Idle → SomeoneGoesOn levels s
   someone_goes_on place busy = cases (goes_or_stuck place (s.processes place) refl busy)
     where

@@ -1,4 +1,4 @@
--- What an operation of a walker says of the access that is due.
+-- The due access of a walker, by its request.
 use Rattle.std.proofs.Common.{◌≡◌, ◌≢◌, ℕ, Bool, true, false, refl, ap, ◌∙◌, Option, Some, None}
 use Rattle.ya_core.specs.declared.word.Word.{Word}
 use Rattle.ya_core.specs.declared.word.Access.{Access}
@@ -10,7 +10,7 @@ use Rattle.ya_core.specs.ArbitrationTree.{number_of}
 use Rattle.ya_core.specs.Steps.{access_of}
 use Rattle.ya_core.specs.WalkerModel.{Walk, due, due_of, op_of, op_of_due, op_of_access, op_at_rest}
 
--- what asks for no load and no store is at rest
+-- a process at rest requests neither a load nor a store
 at_rest_asks_nothing : (x : Process) → ((n : ℕ) → op_at_rest x ≢ op.Load n) × ((n v : ℕ) → op_at_rest x ≢ op.Store n v)
 at_rest_asks_nothing Idle = (λ n e. cc, λ n v e. cc)
 at_rest_asks_nothing (Entering level point) = (λ n e. cc, λ n v e. cc)
@@ -39,7 +39,7 @@ store_named levels (Store word value) n v e =
     let same : value ≡ v = cc in
     (word, ap (Store word) same, cc)
 
--- the access that is due where a walker asks for a load
+-- the due access of a walker that requests a load
 pub load_due : (w : Walk) (n : ℕ) → op_of w ≡ op.Load n
     → (word : Word) × (access_of w.levels w.place w.process ≡ Load word) × (n ≡ number_of w.levels word)
     × (due w ≡ Some (Load word))
@@ -57,7 +57,7 @@ load_due w n asks = by_due (due w) refl asks
           is ∙ ap (λ b. Some b) named.1,
         )
 
--- and where it asks for a store
+-- the due access of a walker that requests a store
 pub store_due : (w : Walk) (n v : ℕ) → op_of w ≡ op.Store n v
     → (word : Word) × (access_of w.levels w.place w.process ≡ Store word v) × (n ≡ number_of w.levels word)
     × (due w ≡ Some (Store word v))

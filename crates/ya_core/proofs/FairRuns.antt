@@ -1,4 +1,5 @@
--- Runs of a fair schedule: what each step keeps ends where each step of one place takes that place nearer to something.
+-- Runs of a fair schedule: a property that each step keeps or ends does end, if each step of a certain place brings
+-- that place nearer to an end.
 use Rattle.std.proofs.Common.{◌≡◌, ◌≢◌, ℕ, zero, suc, ◌+◌, ◌-◌, ◌<◌, ◌≤◌, arith, ap, subst, ◌⊎◌, inl, inr}
 use Rattle.std.specs.Prelude.{Option, Some}
 use Rattle.ya_core.specs.declared.process.Process.{Process}
@@ -7,11 +8,11 @@ use Rattle.ya_core.specs.Steps.{State}
 use Rattle.ya_core.specs.Fairness.{PickLeadsTo, Eventually}
 use Rattle.ya_core.proofs.Picks.{is_picked, others_stay}
 
--- what is so at a later time is so at a time later than an earlier one
+-- a property of a time later than this one holds at a time later than an earlier one
 pub sooner : (So : ℕ → Type 0) (time later : ℕ) → time ≤ later → Eventually later So → Eventually time So
 sooner So time later less found = (found.0, omega (arith, less, found.1), found.2)
 
--- what each step keeps, or ends with something else, holds at a later time, or it ended before
+-- a property that each step keeps or ends holds at a later time, or has ended before
 pub until : (While So : ℕ → Type 0) → ((n : ℕ) → While n → So (n + 1) ⊎ While (n + 1)) → (d n m : ℕ) → m ≡ n + d
     → While n → Eventually n So ⊎ While m
 until While So keeps zero n m e holds = inr (subst While (let same : n ≡ m = omega (arith, e) in same) holds)
@@ -35,7 +36,7 @@ module _ (levels : ℕ) (schedule : ℕ → Option ℕ) (states : ℕ → State)
   abbrev at : ℕ → ℕ → Process
   at place time = (states time).processes place
 
-  -- what each step keeps ends where each step of one place takes that place nearer to something
+  -- the property that each step keeps or ends does end, if each step of place `q` brings `q` nearer
   module _ (q : ℕ) (While So : ℕ → Type 0) (points : Process → ℕ) (busy : (n : ℕ) → While n → at q n ≢ Idle)
       (keeps : (n : ℕ) → While n → So (n + 1) ⊎ While (n + 1))
       (falls : (n : ℕ) → While n → While (n + 1) → schedule n ≡ Some q → points (at q (n + 1)) < points (at q n)) where

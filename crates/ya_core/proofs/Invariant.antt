@@ -1,4 +1,4 @@
--- Each step keeps the invariant, and the value that a load finds is one that can stand in its word.
+-- Each step keeps the invariant, and a load finds a value that its word can hold.
 use Rattle.std.proofs.Common.{◌≡◌, ◌≢◌, ℕ, ◌+◌, ◌-◌, ◌^◌, ◌<◌, ◌≤◌, ◌==◌, Bool, true, false, refl, arith, ap, sym, ◌∙◌}
 use Rattle.std.proofs.Common.{subst, ◌⊎◌, inl, inr, if◌then◌else◌, IsTrue}
 use Rattle.std.proofs.lemmas.Bool.Decides.{nat_tests}
@@ -53,7 +53,7 @@ alone_at levels place level s is least most holding q nodes sides competing = ca
         (λ p. s.words (P (level - 1) p)) (is.sound (level - 1) above (omega arith)) q place nodes_below
         (holds_below levels level (s.processes q) least most competing) (holding (omega arith))
 
--- what stands in a word of a sound level
+-- each word of a sound level holds a value that it can hold
 claim_stands : (levels level node side : ℕ) (s : State) → IsSoundAt levels s level
     → CanStand (C level node side) (s.words (C level node side))
 claim_stands levels level node side s here = cases (zero_or (s.words (C level node side)))
@@ -69,7 +69,7 @@ turn_stands : (levels level node : ℕ) (s : State) → IsSoundAt levels s level
     → CanStand (T level node) (s.words (T level node))
 turn_stands levels level node s here some = (omega arith, here.below node (s.words (T level node) - 1) (omega arith))
 
--- the phase of a process where it stands
+-- the phase of a process at the level that it has reached
 entry_phase_here : (levels level place : ℕ) (s : State) (point : EntryPoint) → s.processes place ≡ Entering level point
     → phase_of levels level (s.processes place) ≡ entry_phase point
 entry_phase_here levels level place s point e =
@@ -79,7 +79,7 @@ exit_phase_here : (levels level place : ℕ) (s : State) (point : ExitPoint) →
     → phase_of levels level (s.processes place) ≡ exit_phase point
 exit_phase_here levels level place s point e = ap (λ x. phase_of levels level x) e ∙ phase_here level (exit_phase point)
 
--- the value that a load finds can stand in its word
+-- a load finds a value that its word can hold
 finds_entry : (levels level place : ℕ) (s : State) (point : EntryPoint) → IsSoundAt levels s level
     → s.processes place ≡ Entering level point
     → MayFind (entry_access level place point) (value_of s.words (entry_access level place point))
@@ -148,7 +148,7 @@ module _ (levels place level : ℕ) (old new : State) (is : IsSoundState levels 
   leaves_it : new.processes place ≡ after_exit level → phase_of levels level (new.processes place) ≡ Away
   leaves_it now = stands (after_exit level) Away now (phase_after_exit levels level level least least ∙ phase_here level Away)
 
-  -- a place that stands on its way in, or out, is alone on its side
+  -- no other place competes on the side of a place on its way in, or out
   abbrev IsAlone : Type 0
   IsAlone = (q : ℕ) → node_of level q ≡ node_of level place → side_of level q ≡ side_of level place
       → IsTrue (competes (phase_of levels level (old.processes q))) → q ≡ place
@@ -384,7 +384,7 @@ is_inside_is Idle h = absurd cc
 is_inside_is (Entering level point) h = absurd cc
 is_inside_is (Leaving level point) h = absurd cc
 
--- two places that are inside are one
+-- two places that are inside are equal
 pub excludes : (levels p q : ℕ) (s : State) → 1 ≤ levels → IsSoundState levels s → IsInside s p → IsInside s q → p ≡ q
 excludes levels p q s some is hp hq =
     one_holds (node_of levels) (side_of levels) (λ p. phase_of levels levels (s.processes p))

@@ -1,4 +1,4 @@
--- One level: what each kind of step keeps of it. `node` and `side` say where each place competes.
+-- One level: the clauses that each kind of step keeps. `node` and `side` give each place's node and side.
 use Rattle.std.proofs.Common.{◌≡◌, ◌≢◌, ℕ, ◌+◌, ◌-◌, ◌<◌, refl, arith, ap, sym, ◌∙◌, subst, ◌≤◌, ◌⊎◌, inl, inr, IsTrue}
 use Rattle.std.proofs.Math.Path.{fun_ext}
 use Rattle.ya_core.specs.declared.process.EntryPoint.{EntryPoint}
@@ -8,7 +8,7 @@ use Rattle.ya_core.specs.Soundness.{holds, is_releasing, IsSoundLevel}
 use Rattle.ya_core.proofs.PhaseKinds.{claims_holds, announced_holds, claims_announced, announced_waits, competes}
 use Rattle.ya_core.proofs.PhaseKinds.{competes_claims}
 
--- the two phases are alike for the clauses on claim, turn, waiter and spin
+-- the two phases are equal for the clauses on claim, turn, waiter and spin
 pub record Alike (x y : Phase) : Type 0 where
   pub claiming : claims x ≡ claims y
   pub past : has_announced x ≡ has_announced y
@@ -16,19 +16,19 @@ pub record Alike (x y : Phase) : Type 0 where
   pub holding : holds x ≡ holds y
   pub releasing : is_releasing x ≡ is_releasing y
 
--- a place is the one that stepped, or is as it was
+-- a place is the one that stepped, or its phase is unchanged
 abbrev pub Same : ℕ → (ℕ → Phase) → (ℕ → Phase) → Type 0
 Same p old new = (q : ℕ) → (q ≡ p) ⊎ (new q ≡ old q)
 
--- a word C is the one of that side, or is as it was
+-- a word C belongs to that side, or is unchanged
 abbrev pub SameClaims : ℕ → ℕ → (ℕ → ℕ → ℕ) → (ℕ → ℕ → ℕ) → Type 0
 SameClaims node side old new = (n s : ℕ) → ((n ≡ node) × (s ≡ side)) ⊎ (new n s ≡ old n s)
 
--- a word is the one of that node or place, or is as it was
+-- a word belongs to that node or place, or is unchanged
 abbrev pub SameWords : ℕ → (ℕ → ℕ) → (ℕ → ℕ) → Type 0
 SameWords at old new = (n : ℕ) → (n ≡ at) ⊎ (new n ≡ old n)
 
--- a level stays sound where its words and phases stay
+-- a level stays sound if its words and phases stay
 pub level_stays : (node side : ℕ → ℕ) (phase phase' : ℕ → Phase) (claim claim' : ℕ → ℕ → ℕ)
     (turn turn' spin spin' : ℕ → ℕ)
     → ((q : ℕ) → phase' q ≡ phase q) → ((n s : ℕ) → claim' n s ≡ claim n s) → ((n : ℕ) → turn' n ≡ turn n)
@@ -43,7 +43,7 @@ level_stays node side phase phase' claim claim' turn turn' spin spin' phases cla
 
 module _ (node side : ℕ → ℕ) (phase : ℕ → Phase) (claim : ℕ → ℕ → ℕ) (turn spin : ℕ → ℕ)
     (is : IsSoundLevel node side phase claim turn spin) where
-  -- what is said of rivals, of two places by node and side
+  -- the clause on rivals, for two places by node and side
   one_of_two_at : (p q : ℕ) → node p ≡ node q → side p ≢ side q → IsTrue (has_announced (phase p))
       → IsTrue (has_announced (phase q)) → (turn (node p) ≡ p + 1) ⊎ (turn (node p) ≡ q + 1)
   one_of_two_at p q nodes sides = is.one_of_two p q (nodes, sides)
@@ -75,7 +75,7 @@ module _ (node side : ℕ → ℕ) (phase : ℕ → Phase) (claim : ℕ → ℕ 
         claims_holds (phase q) hq,
       )
 
-  -- the three parts of what a word C says
+  -- the three parts of the clause on a word C
   claimant_node : (n s p : ℕ) → claim n s ≡ p + 1 → node p ≡ n
   claimant_node n s p h = (is.claimant n s p h).0
 
@@ -91,7 +91,7 @@ module _ (node side : ℕ → ℕ) (phase : ℕ → Phase) (claim : ℕ → ℕ 
     KeepsClaims claim' = ((q : ℕ) → IsTrue (claims (phase' q)) → claim' (node q) (side q) ≡ q + 1)
         × ((n s q : ℕ) → claim' n s ≡ q + 1 → (node q ≡ n) × (side q ≡ s) × IsTrue (claims (phase' q)))
 
-    -- where no word C changes it stays, if the place claims as before
+    -- if no word C changes, the clause on claims stays, provided that the place claims as before
     keeps_claims : claims (phase' p) ≡ claims (phase p) → KeepsClaims claim
     keeps_claims claiming = (
       λ q h. grind (arith, same q, claiming, is.claimed q),
@@ -106,8 +106,8 @@ module _ (node side : ℕ → ℕ) (phase : ℕ → Phase) (claim : ℕ → ℕ 
     abbrev RivalsAreLast : Type 0
     RivalsAreLast = (q : ℕ) → node p ≡ node q → side p ≢ side q → IsTrue (has_announced (phase q)) → turn (node p) ≡ q + 1
 
-    -- what a step leaves alone that changes no word T, and no word P but the place's own: the other clauses stay, where
-    -- they hold of the place itself
+    -- a step that changes no word T, and no word P but the place's own: the other clauses stay if they hold of the
+    -- place itself
     frame : (claim' : ℕ → ℕ → ℕ) (spin' : ℕ → ℕ) → KeepsClaims claim'
         → (IsTrue (has_announced (phase' p)) → IsTrue (has_announced (phase p)))
         → (IsTrue (is_releasing (phase' p)) → turn (node p) ≢ 0)
@@ -131,14 +131,14 @@ module _ (node side : ℕ → ℕ) (phase : ℕ → Phase) (claim : ℕ → ℕ 
               grind (arith, same q, same r, others q, past, λ (h : IsTrue (waits (phase' p))) (at : spin' p ≡ 2). waiting h at r, let_in_at q r nodes sides);
         }
 
-    -- the place wins, holds on or waits on as before: then its rivals are last as they were
+    -- the place wins, or keeps holding or waiting: then its rivals are last as before
     still_holds : IsTrue (holds (phase p)) → RivalsAreLast
     still_holds h q nodes sides hq = waiter_at p q nodes sides h hq
 
     still_waits : IsTrue (waits (phase p)) → spin p ≡ 2 → RivalsAreLast
     still_waits h at q nodes sides hq = let_in_at p q nodes sides h at hq
 
-    -- a step that changes no word of the level keeps it, where the place is of no kind of which it wasn't before
+    -- a step that changes no word of the level keeps it, if the place gets no kind that it didn't have before
     stays : claims (phase' p) ≡ claims (phase p) → (IsTrue (has_announced (phase' p)) → IsTrue (has_announced (phase p)))
         → (IsTrue (is_releasing (phase' p)) → IsTrue (is_releasing (phase p)))
         → (IsTrue (holds (phase' p)) → IsTrue (holds (phase p)))
@@ -148,13 +148,13 @@ module _ (node side : ℕ → ℕ) (phase : ℕ → Phase) (claim : ℕ → ℕ 
         frame claim spin (keeps_claims claiming) past (λ h. is.releasing p (releasing h)) (λ h. still_holds (holding h))
         (λ h. still_waits (waiting h)) (is.in_range p) (λ q. inr refl)
 
-    -- a step that keeps what the clauses see of the place keeps them
+    -- a step that keeps the clauses' view of the place keeps the clauses
     pub alike : Alike (phase' p) (phase p) → IsSoundLevel node side phase' claim turn spin
     alike here =
         stays here.claiming (λ h. sym here.past ∙ h) (λ h. sym here.releasing ∙ h) (λ h. sym here.holding ∙ h)
         (λ h. sym here.waiting ∙ h)
 
-    -- e1: a place that is alone on its side claims it
+    -- e1: a place without a competitor on its side claims that side
     pub claims_side : (claim' : ℕ → ℕ → ℕ) → phase' p ≡ Named → claim' (node p) (side p) ≡ p + 1
         → SameClaims (node p) (side p) claim claim'
         → ((q : ℕ) → node q ≡ node p → side q ≡ side p → IsTrue (competes (phase q)) → q ≡ p)
@@ -170,13 +170,13 @@ module _ (node side : ℕ → ℕ) (phase : ℕ → Phase) (claim : ℕ → ℕ 
         )
         (λ h. grind arith) (λ h. grind arith) (λ h. grind arith) (λ h. grind arith) (is.in_range p) (λ q. inr refl)
 
-    -- of two rivals that claim the place is one, if it claims too and they are below its node
+    -- if two rivals claim below the place's node and the place claims too, the place is one of them
     one_of_rivals : (two : (q : ℕ) → side q < 2) → IsTrue (claims (phase p)) → (q r : ℕ) → node q ≡ node r
         → side q ≢ side r → node q ≡ node p → IsTrue (claims (phase q)) → IsTrue (claims (phase r)) → (q ≡ p) ⊎ (r ≡ p)
     one_of_rivals two hp q r nodes sides below hq hr =
         grind (arith, two p, two q, two r, one_a_side q p below, one_a_side r p (sym nodes ∙ below))
 
-    -- e2: the place whose claim stands announces itself, the last to do so at the node
+    -- e2: the place with a claim announces itself, and is the last to do so at the node
     pub announces : (two : (q : ℕ) → side q < 2) (turn' : ℕ → ℕ) → phase p ≡ Named → phase' p ≡ Announced
         → turn' (node p) ≡ p + 1 → SameWords (node p) turn turn' → IsSoundLevel node side phase' claim turn' spin
     announces two turn' was now stored others =
@@ -200,7 +200,8 @@ module _ (node side : ℕ → ℕ) (phase : ℕ → Phase) (claim : ℕ → ℕ 
               grind (arith, same q, same r, last, let_in_at q r nodes sides);
         }
       where
-        -- of two rivals that claim the place is one, and the word T of their node names it; or that word stays
+        -- if two rivals claim, either the place is one of them and the word T of their node names it, or that
+        -- word is unchanged
         last_or_apart : (q r : ℕ) → node q ≡ node r → side q ≢ side r → IsTrue (claims (phase' q))
             → IsTrue (claims (phase' r))
             → (((q ≡ p) ⊎ (r ≡ p)) × (turn' (node q) ≡ p + 1)) ⊎ (turn' (node q) ≡ turn (node q))
@@ -246,19 +247,19 @@ module _ (node side : ℕ → ℕ) (phase : ℕ → Phase) (claim : ℕ → ℕ 
         (λ h. grind arith) (λ h. is.announced p (ap has_announced was)) (λ h. grind arith) (λ h. grind arith) (is.in_range p)
         (λ q. inr refl)
 
-    -- x2: the place that has seen who announced itself last is as one that is away
+    -- x2: the place that has seen who announced itself last has the same clauses as a place that is away
     pub goes_away : phase p ≡ Releasing → Alike (phase' p) Away → IsSoundLevel node side phase' claim turn spin
     goes_away was quiet =
         stays (quiet.claiming ∙ sym (ap claims was)) (λ h. grind (arith, quiet.past)) (λ h. grind (arith, quiet.releasing))
         (λ h. grind (arith, quiet.holding)) (λ h. grind (arith, quiet.waiting))
 
-    -- at e4 the rival's side is nil, so nobody opposite claims
+    -- at e4 the rival's side is nil, so no place on it claims
     pub last_unclaimed : (two : (q : ℕ) → side q < 2) → claim (node p) (1 - side p) ≡ 0 → RivalsAreLast
     last_unclaimed two nil q nodes sides hq =
         let other : 1 - side p ≡ side q = omega (arith, two p, two q) in
         absurd (grind (arith, is.claimed q, claims_announced (phase q) hq))
 
-    -- at e5 and e9 the place is not the one that announced itself last
+    -- at e5 and e9 another place announced itself last
     pub last_other : turn (node p) ≢ p + 1 → IsTrue (has_announced (phase p)) → RivalsAreLast
     last_other other hp q nodes sides hq = grind (arith, one_of_two_at p q nodes sides)
 
@@ -266,7 +267,7 @@ module _ (node side : ℕ → ℕ) (phase : ℕ → Phase) (claim : ℕ → ℕ 
     pub last_let_in : spin p ≡ 2 → IsTrue (waits (phase p)) → RivalsAreLast
     last_let_in two hp = still_waits hp two
 
-  -- where one spin word alone changes, to one that lets its place in only where the rivals that are past came last
+  -- only one spin word changes, to a value that lets its place in only if the rivals that are past came last
   spin_changes : (r : ℕ) (spin' : ℕ → ℕ)
       → (IsTrue (waits (phase r)) → spin' r ≡ 2 → (q : ℕ) → node r ≡ node q → side r ≢ side q
       → IsTrue (has_announced (phase q)) → turn (node r) ≡ q + 1)
@@ -275,13 +276,14 @@ module _ (node side : ℕ → ℕ) (phase : ℕ → Phase) (claim : ℕ → ℕ 
       frame r phase (λ q. inr refl) claim spin' (is.claimed, is.claimant) (λ h. h) (is.releasing r)
       (still_holds r phase (λ q. inr refl)) waiting
 
-  -- e7: a spin word that becomes 1 lets nobody in
+  -- e7: a spin word that becomes 1 lets no place in
   pub wakes : (r : ℕ) (spin' : ℕ → ℕ) → spin' r ≡ 1 → SameWords r spin spin'
       → IsSoundLevel node side phase claim turn spin'
   wakes r spin' stored =
       spin_changes r spin' (λ waiting stored_two. absurd (omega (arith, stored, stored_two))) (omega (arith, stored))
 
-  -- x3: a place that is alone on its side, and away, lets in another place below the node; no rival of that one is past
+  -- x3: a place that is away and has no competitor on its side lets in another place below the node; no rival of that
+  -- place is past
   pub lets_in : (two : (q : ℕ) → side q < 2) (p r : ℕ) (spin' : ℕ → ℕ) → Alike (phase p) Away → node p ≡ node r → r ≢ p
       → spin' r ≡ 2 → SameWords r spin spin'
       → ((q : ℕ) → node q ≡ node p → side q ≡ side p → IsTrue (competes (phase q)) → q ≡ p)

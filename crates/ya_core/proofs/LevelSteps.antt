@@ -1,4 +1,4 @@
--- What each step keeps of the level where it acts, and of what is owed there.
+-- Each step keeps its level sound, and keeps the words owed there.
 use Rattle.std.proofs.Common.{◌≡◌, ◌≢◌, ℕ, ◌+◌, ◌-◌, ◌==◌, Bool, true, false, refl, arith, ap, sym, subst, ◌⊎◌, inl}
 use Rattle.std.proofs.Common.{inr, IsTrue}
 use Rattle.std.proofs.lemmas.Bool.Decides.{nat_tests}
@@ -23,11 +23,11 @@ use Rattle.ya_core.proofs.WakeLoads.{owed_waits, owed_wins, owed_given_up, owed_
 use Rattle.ya_core.proofs.WakeLoads.{none_last}
 use Rattle.ya_core.proofs.WakeStores.{owed_announced, owed_cleared, owed_wakes, owed_let_in}
 
--- what two names of words C have in common
+-- equal words C have the same node and side
 same_claim : (level node side n s : ℕ) → C level n s ≡ C level node side → (n ≡ node) × (s ≡ side)
 same_claim level node side n s e = (cc, cc)
 
--- two names of words C are one, or differ in node or side
+-- two words C are equal, or differ in node or side
 claims_apart : (level node side : ℕ) (old new : Word → ℕ)
     → ((word : Word) → word ≢ C level node side → new word ≡ old word)
     → SameClaims node side (λ n s. old (C level n s)) (λ n s. new (C level n s))
@@ -89,20 +89,20 @@ module _ (levels place level : ℕ) (old new : State) (here : IsSoundAt levels o
         spin' = spin_words new;
       }
 
-  -- the place is alone on its side
+  -- no other place competes on the side of the place
   abbrev IsAlone : Type 0
   IsAlone = (q : ℕ) → node_of level q ≡ node_of level place → side_of level q ≡ side_of level place
       → IsTrue (competes (before q)) → q ≡ place
 
-  -- the level's phases at the place before and after are these, which are alike
+  -- the level's phases at the place before and after are these two, which are equal for the clauses
   like : (x y : Phase) → before place ≡ x → after place ≡ y → Alike y x → Alike (after place) (before place)
   like x y was now alike = subst (λ z. Alike z (before place)) (sym now) (subst (Alike y) (sym was) alike)
 
-  -- two points at which a process waits are alike
+  -- two points at which a process waits are equal for the clauses
   waiting_alike : (x y : EntryPoint) → Alike (Waiting y) (Waiting x)
   waiting_alike x y = record { claiming = refl; past = refl; waiting = refl; holding = refl; releasing = refl }
 
-  -- one who is to let another in is as one who is away
+  -- the phase of letting another place in has the same clauses as being away
   letting_alike : (rival : ℕ) → Alike (LettingIn rival) Away
   letting_alike rival = record { claiming = refl; past = refl; waiting = refl; holding = refl; releasing = refl }
 
@@ -231,7 +231,7 @@ module _ (levels place level : ℕ) (old new : State) (here : IsSoundAt levels o
         by_load (alike (node_of level) (side_of level) before (claim_words old) (turn_words old)
         (spin_words old) here place after same (like (Waiting x) (Waiting y) was now (waiting_alike x y)))
 
-    -- e8 and e10, where the process stays
+    -- e8 and e10: the process stays
     pub act_stay : after place ≡ before place → IsKept
     act_stay still = (
       level_stays (node_of level) (side_of level) before after (claim_words old) (claim_words new) (turn_words old)
@@ -243,7 +243,7 @@ module _ (levels place level : ℕ) (old new : State) (here : IsSoundAt levels o
         phases : (q : ℕ) → after q ≡ before q
         phases q = grind (arith, same q)
 
-    -- e4, where the other side names a place
+    -- e4: the other side names a place
     pub act_found : (rival : ℕ) → before place ≡ Waiting E4 → after place ≡ Waiting (E5 rival)
         → old.words (C level (node_of level place) (1 - side_of level place)) ≡ rival + 1 → IsKept
     act_found rival was now found = (
@@ -251,7 +251,7 @@ module _ (levels place level : ℕ) (old new : State) (here : IsSoundAt levels o
       owed_found act turns spins rival was now found,
     )
 
-    -- e5, where the place announced itself last
+    -- e5: the place announced itself last
     pub act_last : (rival : ℕ) → before place ≡ Waiting (E5 rival) → after place ≡ Waiting (E6 rival)
         → old.words (T level (node_of level place)) ≡ place + 1 → IsKept
     act_last rival was now own = (
@@ -259,7 +259,7 @@ module _ (levels place level : ℕ) (old new : State) (here : IsSoundAt levels o
       owed_last act turns spins rival was now own,
     )
 
-    -- e6, where the rival's spin word is 0, and where it isn't
+    -- e6: the rival's spin word is 0, or it isn't
     pub act_asleep : (rival : ℕ) → before place ≡ Waiting (E6 rival) → after place ≡ Waiting (E7 rival)
         → old.words (P level rival) ≡ 0 → IsKept
     act_asleep rival was now zero = (
@@ -274,14 +274,14 @@ module _ (levels place level : ℕ) (old new : State) (here : IsSoundAt levels o
       owed_awake act turns spins rival was now some,
     )
 
-    -- e8, where the place was woken
+    -- e8: the place was woken
     pub act_woken : before place ≡ Waiting E8 → after place ≡ Waiting E9 → old.words (P level place) ≢ 0 → IsKept
     act_woken was now some = (
       still_waits E8 E9 was now,
       owed_woken act turns spins was now some,
     )
 
-    -- e9, where it announced itself last
+    -- e9: the place announced itself last
     pub act_waits : before place ≡ Waiting E9 → after place ≡ Waiting E10
         → old.words (T level (node_of level place)) ≡ place + 1 → IsKept
     act_waits was now own = (
@@ -289,7 +289,7 @@ module _ (levels place level : ℕ) (old new : State) (here : IsSoundAt levels o
       owed_waits act turns spins was now own,
     )
 
-    -- x2, where the place announced itself last, and where another did
+    -- x2: the place announced itself last, or another did
     pub act_release : before place ≡ Releasing → after place ≡ Away → old.words (T level (node_of level place)) ≡ place + 1
         → IsKept
     act_release was now own = (
@@ -309,7 +309,7 @@ module _ (levels place level : ℕ) (old new : State) (here : IsSoundAt levels o
       owed_letting_in act turns spins was now,
     )
 
-    -- e4, where the other side is nil
+    -- e4: the other side is nil
     pub act_win_unclaimed : before place ≡ Waiting E4 → after place ≡ Holding
         → old.words (C level (node_of level place) (1 - side_of level place)) ≡ 0 → IsKept
     act_win_unclaimed was now nil = (
@@ -321,7 +321,7 @@ module _ (levels place level : ℕ) (old new : State) (here : IsSoundAt levels o
           (λ p rivals other h zero k. none_unclaimed act turns spins nil p rivals h),
     )
 
-    -- e5 and e9, where another announced itself last
+    -- e5 and e9: another place announced itself last
     pub act_win_other : (point : EntryPoint) → before place ≡ Waiting point → after place ≡ Holding
         → old.words (T level (node_of level place)) ≢ place + 1 → IsKept
     act_win_other point was now other = (
@@ -333,7 +333,7 @@ module _ (levels place level : ℕ) (old new : State) (here : IsSoundAt levels o
           (λ p rivals apart h zero k. none_last act turns spins (ap has_announced was) other p rivals apart h),
     )
 
-    -- e10, where the place was let in
+    -- e10: the place was let in
     pub act_win_let_in : before place ≡ Waiting E10 → after place ≡ Holding → old.words (P level place) ≡ 2 → IsKept
     act_win_let_in was now two = (
       by_load (wins (node_of level) (side_of level) before (claim_words old) (turn_words old)

@@ -1,4 +1,4 @@
--- A win of a level: what a step that wins it says of its process before and after.
+-- A win of a level: the process before and after the step.
 use Rattle.std.proofs.Common.{◌≡◌, ◌≢◌, ℕ, ◌+◌, ◌-◌, ◌==◌, ◌&&◌, not, Bool, true, false, nat_lt, refl, arith, ap, sym}
 use Rattle.std.proofs.Common.{◌∙◌, ◌⊎◌, inl, inr, if◌then◌else◌, IsTrue}
 use Rattle.std.proofs.lemmas.Bool.Decides.{nat_tests}
@@ -9,7 +9,7 @@ use Rattle.ya_core.specs.declared.process.Process.TheVariants.{Idle, Entering, I
 use Rattle.ya_core.specs.ArbitrationTree.{node_of, side_of, AreRivals}
 use Rattle.ya_core.specs.Steps.{next_of, after_entry, entry_next}
 use Rattle.ya_core.specs.Soundness.{has_announced, holds, entry_phase}
-use Rattle.ya_core.specs.Progress.{Announces, Wins, Neither, is_rival, is_win, is_entering, is_to_announce, deed_of}
+use Rattle.ya_core.specs.Progress.{Announces, Wins, Neither, is_rival, is_win, is_entering, is_to_announce, event_kind}
 use Rattle.ya_core.proofs.Cases.{each_point}
 use Rattle.ya_core.proofs.Properness.{either}
 
@@ -38,7 +38,7 @@ goes_in levels level place E9 value h =
 goes_in levels level place E10 value h =
     either (GoesIn levels level) (value == 2) _ _ (λ _. WinsIt refl) (λ _. StaysIn E10 refl refl)
 
--- who won a level is not on its way in there
+-- a process that won a level is not on its way in there
 pub won_is_out : (levels level : ℕ) → is_entering level (after_entry levels level) ≡ false
 won_is_out levels level =
     either (λ x. is_entering level x ≡ false) (nat_lt level levels) _ _ (λ _. grind (arith, nat_tests)) (λ _. refl)
@@ -54,7 +54,7 @@ pub record HasWon (levels level : ℕ) (x next : Process) : Type 0 where
   pub waited : holds (entry_phase point) ≡ false
   pub now : next ≡ after_entry levels level
 
--- only what waits can have waited
+-- on the way in a process doesn't hold the node
 not_held : (point : EntryPoint) → holds (entry_phase point) ≡ false
 not_held =
     each_point (λ point. holds (entry_phase point) ≡ false) refl refl refl refl (λ rival. refl) (λ rival. refl)
@@ -67,7 +67,7 @@ no_win false true (inl e) h = cc
 no_win false true (inr e) h = cc
 no_win false false e h = cc
 
-pub wins_by : (levels level q : ℕ) (x : Process) (value : ℕ) → IsTrue (is_win (deed_of level x (next_of levels q x value)))
+pub wins_by : (levels level q : ℕ) (x : Process) (value : ℕ) → IsTrue (is_win (event_kind level x (next_of levels q x value)))
     → HasWon levels level x (next_of levels q x value)
 wins_by levels level q Idle value h = absurd cc
 wins_by levels level q Inside value h = absurd cc
@@ -97,7 +97,7 @@ wins_by levels level q (Entering stands point) value h = by_level (level == stan
         not_both false c same = refl
 
     by_point : (point : EntryPoint) → (level == stands) ≡ true
-        → IsTrue (is_win (deed_of level (Entering stands point) (next_of levels q (Entering stands point) value)))
+        → IsTrue (is_win (event_kind level (Entering stands point) (next_of levels q (Entering stands point) value)))
         → IsTrue (has_announced (entry_phase point))
     by_point E1 e k =
         absurd (no_win false (is_entering level (Entering stands E1) && not (is_entering level (Entering stands E2)))
@@ -136,7 +136,7 @@ wins_by levels level q (Entering stands point) value h = by_level (level == stan
               ∙ ap (after_entry levels) same;
         }
 
--- whether two places are rivals, by the test
+-- two places are rivals if the test is true
 pub rivals_by : (level place q : ℕ) → IsTrue (is_rival level place q) → AreRivals level place q
 rivals_by level place q h =
     by_tests (node_of level q == node_of level place) (side_of level q == side_of level place) refl refl h

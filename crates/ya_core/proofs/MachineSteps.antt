@@ -15,7 +15,7 @@ use Rattle.ya_core.specs.WalkerModel.{AccessIsWithin}
 use Rattle.ya_core.specs.Machines.{Rows, processes_of, state_of}
 use Rattle.ya_core.specs.inside.Machines.{IsMachine}
 use Rattle.ya_core.specs.FlatRow.{words_of, row_state}
-use Rattle.ya_core.specs.Worlds.{IsInside, TellsInside, is_inside}
+use Rattle.ya_core.specs.Worlds.{IsInside, ReportsInside, is_inside}
 use Rattle.ya_core.proofs.Properness.{within_access}
 use Rattle.ya_core.proofs.Invariant.{keeps, opens, excludes}
 use Rattle.ya_core.proofs.NamedWords.{words_of-zero, same_state}
@@ -59,7 +59,7 @@ module _ (levels place : ℕ) (words : List ℕ) (processes : List Process) (roo
           others = λ other apart. processes_of-set_other processes place other next apart;
         }
 
-    -- after which the machine is one again
+    -- the invariant of the machine holds after the step
     pub machine_stays : length words' ≡ length words
         → IsMachine record { levels = levels; words = words'; processes = slice_set processes place next }
     machine_stays same =
@@ -105,7 +105,7 @@ opening_machine levels words processes some zeros idle =
       sound = subst (IsSoundState levels) (sym (opening_row levels words processes zeros idle)) (opens levels);
     }
 
--- where no process is found inside, none is
+-- if no process is found inside, none is inside
 none_inside : (i : ℕ) (list : List Process) → position_from is_inside i list ≡ None → (k : ℕ)
     → is_inside (get_or list k Idle) ≡ false
 none_inside i [] e k = refl
@@ -118,8 +118,8 @@ none_inside i (x ∷ xs) e k = cases (is_inside x) refl e k (none_inside (i + 1)
     cases false outside e zero rest = outside
     cases false outside e (suc k) rest = rest e k
 
--- the first place that is inside is the one that is
-pub inside_at : (m : Rows) → IsMachine m → TellsInside (state_of m) (position is_inside m.processes)
+-- the first place found inside is the place inside
+pub inside_at : (m : Rows) → IsMachine m → ReportsInside (state_of m) (position is_inside m.processes)
 unfolding processes_of
 inside_at m is place =
     (λ e. (position-Some is_inside m.processes place Idle e).1, λ h. found h (position is_inside m.processes) refl)

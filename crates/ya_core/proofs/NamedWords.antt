@@ -1,4 +1,4 @@
--- A word by its name and by its number in the flat row: a load or a store at the number is one of the word.
+-- A word by its name and by its number in the flat row: an access at the number is an access of the word.
 use Rattle.std.proofs.Common.{◌≡◌, ◌≢◌, ℕ, ◌-◌, ◌^◌, ◌<◌, ◌≤◌, ◌&&◌, Bool, true, false, nat_lt, nat_le, refl, arith, ap}
 use Rattle.std.proofs.Common.{◌∙◌, if◌then◌else◌, List, length, slice_index, slice_set, get_or-set_same}
 use Rattle.std.proofs.Common.{get_or-set_other}
@@ -12,7 +12,7 @@ use Rattle.ya_core.specs.Steps.{State, Accesses}
 use Rattle.ya_core.specs.FlatRow.{is_word, words_of}
 use Rattle.ya_core.proofs.Numbers.{number_within, same_number}
 
--- the test of a word says whether the tree has it
+-- the test of a word decides whether the tree has it
 pub is_word_true : (levels : ℕ) (word : Word) → IsWord levels word → is_word levels word ≡ true
 is_word_true levels (C level node side) is = grind (arith, nat_tests, is.0, is.1, is.2, is.3)
 is_word_true levels (T level node) is = grind (arith, nat_tests, is.0, is.1, is.2)
@@ -69,7 +69,7 @@ words_of-set levels row word value is room = (
         (λ same. apart (same_number levels other word (word_is levels other e) is same))
     cases other apart false e = refl
 
--- where a row is 0 at every number of a word, all words are 0
+-- if a row is 0 at every number of a word, all words are 0
 pub words_of-zero : (levels : ℕ) (row : List ℕ) → ((i : ℕ) → i < count_of_words levels → slice_index row i ≡ 0)
     → (word : Word) → words_of levels row word ≡ 0
 unfolding words_of
@@ -79,7 +79,7 @@ words_of-zero levels row zero word = cases (is_word levels word) refl
     cases true e = zero (number_of levels word) (number_within levels word (word_is levels word e))
     cases false e = refl
 
--- states whose words and processes are equal are one
+-- states with equal words and processes are equal
 pub same_state : (s t : State) → ((word : Word) → s.words word ≡ t.words word)
     → ((p : ℕ) → s.processes p ≡ t.processes p) → s ≡ t
 same_state s t words processes = λ i. record { words = fun_ext words i; processes = fun_ext processes i }

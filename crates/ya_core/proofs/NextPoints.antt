@@ -1,4 +1,4 @@
--- Where a step of the way in or out leads, and how many points are ahead there.
+-- The process after a step of the way in or out, and its number of points ahead.
 use Rattle.std.proofs.Common.{◌≡◌, ℕ, ◌+◌, ◌-◌, ◌≤◌, ◌==◌, Bool, true, false, refl, arith, ◌⊎◌, inl, inr, IsTrue}
 use Rattle.std.proofs.Common.{nat_lt}
 use Rattle.ya_core.specs.declared.process.EntryPoint.{EntryPoint}
@@ -24,14 +24,14 @@ few_points E8 = (omega arith, omega arith)
 few_points E9 = (omega arith, omega arith)
 few_points E10 = (omega arith, omega arith)
 
--- on the way out the same number of points is ahead whether it is told to go on or not
+-- on the way out the number of points ahead doesn't depend on `begun`
 pub same_points : (levels : ℕ) (x : Process) → IsTrue (is_on_way_out x) → points_of levels x false ≡ points_of levels x true
 same_points levels Idle way = absurd cc
 same_points levels Inside way = absurd cc
 same_points levels (Entering level point) way = absurd cc
 same_points levels (Leaving level point) way = refl
 
--- where the way in at a level leads: to a point of that level, or on, or inside
+-- the process after a step of the way in at a level: at a point of that level, at the next level, or inside
 abbrev pub Onward : ℕ → Process → Type 0
 Onward level x = ((point : EntryPoint) × (x ≡ Entering level point)) ⊎ ((x ≡ Entering (level + 1) E1) ⊎ (x ≡ Inside))
 

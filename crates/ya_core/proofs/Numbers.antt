@@ -1,4 +1,4 @@
--- The words of a tree have numbers of their own, which fill one row.
+-- The words of a tree have different numbers, which fill one row.
 use Rattle.std.proofs.Common.{◌≡◌, ℕ, ◌+◌, ◌-◌, ◌*◌, ◌^◌, ◌<◌, ◌≤◌, arith, ap, ◌⊎◌, inl, inr}
 use Rattle.std.proofs.Math.Pow.{pow_mono}
 use Rattle.std.proofs.Math.Nat.{mul-le-mul_right}
@@ -7,11 +7,11 @@ use Rattle.ya_core.specs.declared.word.Word.{Word}
 use Rattle.ya_core.specs.declared.word.Word.TheVariants.{C, T, P}
 use Rattle.ya_core.specs.ArbitrationTree.{IsWord, nodes_below, number_of, count_of_words}
 
--- the nodes of a level are half as many as those of the level and the ones above, together with one more
+-- doubling a power of two
 pub double : (k : ℕ) → 2 ^ (k + 1) ≡ 2 * 2 ^ k
 double k = omega (arith, pow-add 2 k 1)
 
--- a level above the leaves has at most half as many nodes as there are places
+-- the number of nodes of a level above the leaves is at most half the number of places
 pub room : (levels level : ℕ) → 1 ≤ level → level ≤ levels → 2 ^ (levels - level + 1) ≤ 2 ^ levels
 room levels level least most = pow_mono (omega arith)
 
@@ -41,7 +41,7 @@ nodes_apart levels h k n m least less most room =
     let inside : 2 ^ (levels - h + 1) ≤ 2 ^ levels = pow_mono (omega arith) in
     omega arith
 
--- two nodes with one number are one
+-- two nodes with the same number are equal
 node_number : (levels h k n m : ℕ) → 1 ≤ h → 1 ≤ k → h ≤ levels → k ≤ levels → n < 2 ^ (levels - h)
     → m < 2 ^ (levels - k) → nodes_below levels h + n ≡ nodes_below levels k + m → (h ≡ k) × (n ≡ m)
 node_number levels h k n m hl kl hm km hn km' e = cases (three h k)
@@ -56,7 +56,7 @@ node_number levels h k n m hl kl hm km hn km' e = cases (three h k)
         let rows : nodes_below levels h ≡ nodes_below levels k = ap (nodes_below levels) same in
         (same, omega arith)
 
--- two places at two levels whose words P have one number are one
+-- two places at two levels whose words P have the same number are equal
 spin_number : (size h k p q : ℕ) → p < size → q < size → h * size + p ≡ k * size + q → (h ≡ k) × (p ≡ q)
 spin_number size h k p q hp hq e = cases (three h k)
   where
@@ -83,7 +83,7 @@ turns_end : (levels level node : ℕ) → IsWord levels (T level node) → nodes
 turns_end levels level node is =
     omega (arith, double (levels - level), room levels level is.0 is.1, pow_pos levels, pow_pos (levels - level))
 
--- two words of the tree with one number are one
+-- two words of the tree with the same number are equal
 pub same_number : (levels : ℕ) (a b : Word) → IsWord levels a → IsWord levels b
     → number_of levels a ≡ number_of levels b → a ≡ b
 unfolding number_of

@@ -13,7 +13,7 @@ use Rattle.ya_core.specs.Steps.{State, StepsTo, Accesses, value_of, access_of, n
 use Rattle.ya_core.specs.Machines.{ReplaysTo, step_of}
 use Rattle.ya_core.specs.Worlds.{Marked, World, WorldSteps, WorldAppends, IsInside, is_inside, any_entry}
 
--- two words of one kind that two numbers name are one, or are not
+-- two words of the same kind, given by two numbers each, are equal or not
 by_numbers : (word : ℕ → ℕ → Word) → ((h n k m : ℕ) → word h n ≡ word k m → (h ≡ k) × (n ≡ m)) → (h n k m : ℕ)
     → (word h n ≡ word k m) ⊎ (word h n ≢ word k m)
 by_numbers word one_name h n k m = cases (h == k) (n == m) refl refl
@@ -28,7 +28,7 @@ by_numbers word one_name h n k m = cases (h == k) (n == m) refl refl
     cases true false p q =
         inr (λ e. (let apart : n ≢ m = grind (arith, nat_tests) in apart) (one_name h n k m e).1)
 
--- two words are one, or are not
+-- two words are equal or not
 same_or_apart : (a b : Word) → (a ≡ b) ⊎ (a ≢ b)
 same_or_apart (C h n s) (C k m d) = cases (h == k) (n == m) (s == d) refl refl refl
   where
@@ -50,7 +50,7 @@ same_or_apart (T h n) (P k m) = inr (λ e. cc)
 same_or_apart (P h n) (C k m d) = inr (λ e. cc)
 same_or_apart (P h n) (T k m) = inr (λ e. cc)
 
--- one of two values, by whether the words are one
+-- one of two values, for equal and for different words
 word_choice : {A : Type 0} (a b : Word) → (a ≡ b) ⊎ (a ≢ b) → A → A → A
 word_choice a b (inl one) x y = x
 word_choice a b (inr two) x y = y
@@ -148,7 +148,7 @@ one_replay levels (place ∷ picks) s last end (x ∷ steps) (y ∷ other) p q =
     let first : y ≡ x = q.2 ∙ sym p.2 in
     cc
 
--- a run that goes on by one more step
+-- a run with one more step
 pub replays_more : (levels place : ℕ) (s last after : State) (picks : List ℕ) (steps : List Step)
     → ReplaysTo levels s picks steps last → StepsTo levels place last after
     → ReplaysTo levels s (picks ++ place ∷ []) (steps ++ step_of levels place last ∷ []) after
@@ -159,14 +159,14 @@ replays_more levels place s last after (p ∷ picks) (x ∷ steps) run step =
 replays_more levels place s last after [] (x ∷ steps) run step = absurd run
 replays_more levels place s last after (p ∷ picks) [] run step = absurd run
 
--- one of two values, where the test is known
+-- the value of a conditional whose test is known
 if_true : {A : Type 0} (b : Bool) (x y : A) → b ≡ true → (if b then x else y) ≡ x
 if_true b x y e = ap (λ c. if c then x else y) e
 
 if_false : {A : Type 0} (b : Bool) (x y : A) → b ≡ false → (if b then x else y) ≡ y
 if_false b x y e = ap (λ c. if c then x else y) e
 
--- a place and another one, by the test
+-- a place compared with itself and with another one
 same_place : (place : ℕ) → (place == place) ≡ true
 same_place place = grind (arith, nat_tests)
 
@@ -208,7 +208,7 @@ world_may_step {X} levels place old room = (
     made : List X
     made = if is_inside (old.state.processes place) then old.made place ++ old.doing place else old.made place
 
--- and one that is inside may append an entry that may follow
+-- a place that is inside may append an entry
 pub world_may_append : {X : Type 0} (place : ℕ) (entry : X) (old : World X) → IsInside old.state place
     → (new : World X) × WorldAppends any_entry place entry old new
 world_may_append place entry old inside = (

@@ -1,5 +1,5 @@
--- At a node, from its store of T, nobody is overtaken twice: once the other side won, a place that waits is named by T
--- only where each rival that is past holds the node.
+-- At a node, from its store of T, no place is overtaken twice: once the other side has won, T names a waiting place
+-- only if each rival that is past holds the node.
 use Rattle.std.proofs.Common.{◌≡◌, ◌≢◌, ℕ, ◌+◌, ◌≤◌, ◌==◌, ◌&&◌, not, Bool, true, false, refl, arith, ap, sym}
 use Rattle.std.proofs.Common.{◌∙◌, subst, ◌⊎◌, inl, inr, if◌then◌else◌, IsTrue, List, [], ◌∷◌, ◌++◌}
 use Rattle.std.proofs.lemmas.Bool.Decides.{nat_tests}
@@ -11,8 +11,8 @@ use Rattle.ya_core.specs.declared.process.Process.TheVariants.{Idle, Entering, I
 use Rattle.ya_core.specs.ArbitrationTree.{node_of, side_of, AreRivals}
 use Rattle.ya_core.specs.Steps.{State, StepsTo, value_of, access_of, next_of, after_entry, entry_next}
 use Rattle.ya_core.specs.Soundness.{Holding, has_announced, holds, phase_of, entry_phase, IsSoundState}
-use Rattle.ya_core.specs.Progress.{Deed, announces, Announces, Wins, Neither, LevelStep, LevelSees, HasNotWon}
-use Rattle.ya_core.specs.Progress.{times_overtaken, is_rival, is_win, is_entering, is_to_announce, deed_of}
+use Rattle.ya_core.specs.Progress.{EventKind, announces, Announces, Wins, Neither, LevelStep, LevelSees, HasNotWon}
+use Rattle.ya_core.specs.Progress.{times_overtaken, is_rival, is_win, is_entering, is_to_announce, event_kind}
 use Rattle.ya_core.proofs.PhaseKinds.{claims_announced, claims_holds}
 use Rattle.ya_core.proofs.Cases.{the_first, everywhere}
 use Rattle.ya_core.proofs.LevelClauses.{one_a_side}
@@ -35,7 +35,7 @@ module _ (levels level place : ℕ) (some : 1 ≤ levels) (least : 1 ≤ level) 
   waits_past s w =
       ap (λ x. has_announced (phase_of levels level x)) w.at ∙ ap has_announced (phase_here level (entry_phase w.point)) ∙ w.past
 
-  -- the other side has won once: where T names the place, each rival that is past holds the node
+  -- the other side has won once: if T names the place, each rival that is past holds the node
   abbrev Spent : State → Type 0
   Spent s = s.words (T level (node_of level place)) ≡ place + 1 → (q : ℕ) → AreRivals level place q
       → IsTrue (has_announced (phase_of levels level (s.processes q)))
@@ -47,7 +47,7 @@ module _ (levels level place : ℕ) (some : 1 ≤ levels) (least : 1 ≤ level) 
     still_waits : Waits t
     still_waits = record { point = w.point; at = step.others place (λ e. apart (sym e)) ∙ w.at; past = w.past }
 
-    -- it doesn't make T name the place
+    -- the step doesn't make T name the place
     named_before : t.words (T level (node_of level place)) ≡ place + 1
         → s.words (T level (node_of level place)) ≡ place + 1
     named_before own =
@@ -73,12 +73,12 @@ module _ (levels level place : ℕ) (some : 1 ≤ levels) (least : 1 ≤ level) 
             absurd (apart (omega (arith, both)))
 
     module _ (rivals : AreRivals level place q)
-        (win : IsTrue (is_win (deed_of level (s.processes q) (t.processes q)))) where
+        (win : IsTrue (is_win (event_kind level (s.processes q) (t.processes q)))) where
       won_it : HasWon levels level (s.processes q) (t.processes q)
       won_it =
           subst (HasWon levels level (s.processes q)) (sym step.process)
           (wins_by levels level q (s.processes q) (value_of s.words (access_of levels q (s.processes q)))
-          (subst (λ x. IsTrue (is_win (deed_of level (s.processes q) x))) step.process win))
+          (subst (λ x. IsTrue (is_win (event_kind level (s.processes q) x))) step.process win))
 
       holds_now : IsTrue (holds (phase_of levels level (t.processes q)))
       holds_now = ap (λ x. holds (phase_of levels level x)) won_it.now
@@ -87,7 +87,7 @@ module _ (levels level place : ℕ) (some : 1 ≤ levels) (least : 1 ≤ level) 
       sound_now : IsSoundState levels t
       sound_now = keeps levels q s t some is step
 
-      -- a second win can't be
+      -- a second win is impossible
       no_second : Spent s → ⊥
       no_second spent =
           let named : t.words (T level (node_of level q)) ≡ place + 1 =
@@ -101,7 +101,7 @@ module _ (levels level place : ℕ) (some : 1 ≤ levels) (least : 1 ≤ level) 
           spent (named_before own) q rivals (ap has_announced phase_was ∙ won_it.past) in
           let both : true ≡ false = sym held ∙ ap holds phase_was ∙ won_it.waited in cc
 
-      -- after the first one it is spent
+      -- after the first win it is spent
       spent_now : Spent t
       spent_now own r there past =
           let level_is = sound_now.sound level least most in
@@ -116,7 +116,7 @@ module _ (levels level place : ℕ) (some : 1 ≤ levels) (least : 1 ≤ level) 
 
   -- a step of the place itself, which doesn't win
   module _ (s t : State) (is : IsSoundState levels s) (step : StepsTo levels place s t) (w : Waits s) where
-    own_waits : is_win (deed_of level (s.processes place) (t.processes place)) ≡ false → Waits t
+    own_waits : is_win (event_kind level (s.processes place) (t.processes place)) ≡ false → Waits t
     own_waits none =
         by_goal (t.processes place)
         (subst (GoesIn levels level) (sym goes) (goes_in levels level place w.point v w.past)) refl
@@ -130,8 +130,8 @@ module _ (levels level place : ℕ) (some : 1 ≤ levels) (least : 1 ≤ level) 
         by_goal : (next : Process) → GoesIn levels level next → t.processes place ≡ next → Waits t
         by_goal next (StaysIn point now past) e = record { point = point; at = e ∙ now; past = past }
         by_goal next (WinsIt now) e =
-            let deed : deed_of level (s.processes place) (t.processes place) ≡ Wins =
-            (λ i. deed_of level (w.at i) ((e ∙ now) i)) ∙ wins in
+            let deed : event_kind level (s.processes place) (t.processes place) ≡ Wins =
+            (λ i. event_kind level (w.at i) ((e ∙ now) i)) ∙ wins in
             absurd (let both : true ≡ false = sym (ap is_win deed) ∙ none in cc)
           where
             chosen : (a b c : Bool) → a ≡ false → b ≡ true → c ≡ false
@@ -141,7 +141,7 @@ module _ (levels level place : ℕ) (some : 1 ≤ levels) (least : 1 ≤ level) 
             chosen false false c x y z = absurd cc
             chosen false true true x y z = absurd cc
 
-            wins : deed_of level (Entering level w.point) (after_entry levels level) ≡ Wins
+            wins : event_kind level (Entering level w.point) (after_entry levels level) ≡ Wins
             wins =
                 chosen (is_to_announce level (Entering level w.point)) (is_entering level (Entering level w.point))
                 (is_entering level (after_entry levels level)) (past_announces level w.point w.past).1
@@ -160,29 +160,29 @@ module _ (levels level place : ℕ) (some : 1 ≤ levels) (least : 1 ≤ level) 
             (λ announced. (let both : true ≡ false = sym announced.1 ∙ ap is_announcing w.at
             ∙ (past_announces level w.point w.past).0 in cc))) ∙ own
 
-  -- one that counts as a win, where the step's deed is known
-  deed_win : (deed other : Deed) → deed ≡ other → IsTrue (is_win deed) → IsTrue (is_win other)
+  -- the win of a step with a known deed
+  deed_win : (deed other : EventKind) → deed ≡ other → IsTrue (is_win deed) → IsTrue (is_win other)
   deed_win deed other e h = subst (λ d. IsTrue (is_win d)) e h
 
-  deed_none : (deed other : Deed) → deed ≡ other → deed ≢ Wins → is_win other ≡ false
+  deed_none : (deed other : EventKind) → deed ≡ other → deed ≢ Wins → is_win other ≡ false
   deed_none deed other e none = not_win other (λ w. none (e ∙ w))
     where
-      not_win : (d : Deed) → d ≢ Wins → is_win d ≡ false
+      not_win : (d : EventKind) → d ≢ Wins → is_win d ≡ false
       not_win Announces h = refl
       not_win Wins h = absurd (h refl)
       not_win Neither h = refl
 
-  -- how often it may be overtaken still: once while it waits, and no more where the other side has won
+  -- the remaining number of times it may be overtaken: once while it waits, none after the other side has won
   abbrev May : Bool → State → Type 0
   May true s = Unit {0}
   May false s = Spent s
 
-  -- that it is so along these steps, from whatever state
+  -- that bound holds along these steps, from any state
   abbrev IsSoAlong : List LevelStep → Type 0
   IsSoAlong steps = (may : Bool) (t : State) → IsSoundState levels t → Waits t → May may t → LevelSees levels level t steps
       → times_overtaken level place steps ≤ (if may then 1 else 0)
 
-  -- so often it is
+  -- the bound holds
   overtaken : (may : Bool) (steps : List LevelStep) (s : State) → IsSoundState levels s → Waits s → May may s
       → LevelSees levels level s steps → HasNotWon place steps
       → times_overtaken level place steps ≤ (if may then 1 else 0)
@@ -208,7 +208,7 @@ module _ (levels level place : ℕ) (some : 1 ≤ levels) (least : 1 ≤ level) 
           → times_overtaken level place (x ∷ rest) ≤ 1
       counted e none_more = omega (arith, sum true e, none_more)
 
-      -- what it may still is kept by a step of its own, and by one of another place that doesn't win
+      -- a step of its own, and a step of another place that doesn't win, keep the remaining number
       own_may : (may : Bool) → StepsTo levels place s sees.0 → May may s → May may sees.0
       own_may true step allowed = tt
       own_may false step allowed = own_spent s sees.0 is step w allowed
@@ -222,14 +222,14 @@ module _ (levels level place : ℕ) (some : 1 ≤ levels) (least : 1 ≤ level) 
       by_place true own b e may allowed again =
           let same : x.place ≡ place = grind (arith, nat_tests) in
           let step : StepsTo levels place s sees.0 = subst (λ q. StepsTo levels q s sees.0) same sees.1 in
-          let deed : x.deed ≡ deed_of level (s.processes place) (sees.0.processes place) =
-          subst (λ q. x.deed ≡ deed_of level (s.processes q) (sees.0.processes q)) same sees.2 in
+          let deed : x.deed ≡ event_kind level (s.processes place) (sees.0.processes place) =
+          subst (λ q. x.deed ≡ event_kind level (s.processes q) (sees.0.processes q)) same sees.2 in
           let apart : (is_rival level place x.place && is_win x.deed) ≡ false =
           ap (λ c. c && is_win x.deed) (ap (is_rival level place) same ∙ no_own_rival level place) in
           not_counted may apart
           (again may sees.0 sound
           (own_waits s sees.0 is step w
-          (deed_none x.deed (deed_of level (s.processes place) (sees.0.processes place)) deed (none.0 same)))
+          (deed_none x.deed (event_kind level (s.processes place) (sees.0.processes place)) deed (none.0 same)))
           (own_may may step allowed) sees.3)
       by_place false other false e may allowed again =
           let apart : x.place ≢ place = grind (arith, nat_tests) in
@@ -241,14 +241,14 @@ module _ (levels level place : ℕ) (some : 1 ≤ levels) (least : 1 ≤ level) 
           counted e
           (again false sees.0 sound (still_waits x.place s sees.0 is sees.1 w apart)
           (spent_now x.place s sees.0 is sees.1 w apart (rivals_by level place x.place both.0)
-          (deed_win x.deed (deed_of level (s.processes x.place) (sees.0.processes x.place)) sees.2 both.1)) sees.3)
+          (deed_win x.deed (event_kind level (s.processes x.place) (sees.0.processes x.place)) sees.2 both.1)) sees.3)
       by_place false other true e false allowed again =
           let apart : x.place ≢ place = grind (arith, nat_tests) in
           let both = both_of (is_rival level place x.place) (is_win x.deed) e in
           absurd (no_second x.place s sees.0 is sees.1 w apart (rivals_by level place x.place both.0)
-          (deed_win x.deed (deed_of level (s.processes x.place) (sees.0.processes x.place)) sees.2 both.1) allowed)
+          (deed_win x.deed (event_kind level (s.processes x.place) (sees.0.processes x.place)) sees.2 both.1) allowed)
 
-  -- who is to announce itself at the level stands at e2 there
+  -- a process that is to announce itself at the level is at e2 there
   announcing_at : (x : Process) → IsTrue (is_to_announce level x) → x ≡ Entering level E2
   announcing_at Idle h = absurd cc
   announcing_at Inside h = absurd cc

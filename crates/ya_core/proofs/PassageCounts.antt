@@ -1,4 +1,4 @@
--- In a run a passage makes no more remote accesses than the points that it has come past can cost, and so does a walk.
+-- In a run a passage makes at most the remote accesses of the points that it has passed, and so does a walk.
 use Rattle.std.proofs.Common.{◌≡◌, ◌≢◌, ℕ, zero, suc, ◌+◌, ◌*◌, ◌<◌, ◌≤◌, ◌==◌, Bool, true, false, nat_lt, refl, arith}
 use Rattle.std.proofs.Common.{ap, sym, ◌∙◌, subst, if◌then◌else◌, IsTrue, List, [], ◌∷◌}
 use Rattle.std.proofs.lemmas.Bool.Decides.{nat_tests}
@@ -21,7 +21,7 @@ use Rattle.ya_core.proofs.Properness.{either}
 use Rattle.ya_core.proofs.Cases.{each_point}
 use Rattle.ya_core.proofs.Counting.{rises_entry, rises_exit, goes_on, told_counted}
 
--- a process on its way in stands at a level of the tree, or it is inside
+-- a process on its way in is at a level of the tree, or it is inside
 abbrev GoesIn : ℕ → Process → Type 0
 GoesIn levels (Entering level point) = (1 ≤ level) × (level ≤ levels)
 GoesIn levels Inside = Unit {0}
@@ -50,7 +50,7 @@ next_goes_in levels level place E9 value here =
 next_goes_in levels level place E10 value here =
     either (GoesIn levels) (value == 2) _ _ (λ _. won_goes_in levels level) (λ _. here)
 
--- at a level it has made seven at most
+-- at most seven at a level
 few_behind : (point : EntryPoint) → (entry_behind point).1 ≤ 7
 few_behind =
     each_point (λ point. (entry_behind point).1 ≤ 7) (omega arith) (omega arith) (omega arith) (omega arith)
@@ -62,7 +62,7 @@ most_in levels (Entering level point) goes = omega (arith, few_behind point, goe
 most_in levels Inside goes = omega arith
 most_in levels (Leaving level point) goes = absurd goes
 
--- on the way in a process has made no more than the bound where it stands
+-- on the way in a process has made no more remote accesses than its point's bound
 abbrev CountedIn : ℕ → ℕ → Process → Type 0
 CountedIn levels made Idle = made ≡ 0
 CountedIn levels made x = GoesIn levels x × (made ≤ most_of levels x false)
@@ -90,7 +90,7 @@ few_in levels made (Entering level point) counted =
 few_in levels made Inside counted = counted.1
 few_in levels made (Leaving level point) counted = absurd counted.0
 
--- a process on its way out stands at a level of the tree, or it is idle
+-- a process on its way out is at a level of the tree, or it is idle
 abbrev GoesOut : ℕ → Process → Type 0
 GoesOut levels (Leaving level point) = (1 ≤ level) × (level ≤ levels)
 GoesOut levels Idle = Unit {0}
@@ -115,7 +115,7 @@ most_out levels (Leaving level X1) goes = omega (arith, goes.0, goes.1)
 most_out levels (Leaving level X2) goes = omega (arith, goes.0, goes.1)
 most_out levels (Leaving level (X3 rival)) goes = omega (arith, goes.0, goes.1)
 
--- on the way out it has made no more than the bound has risen by since it was inside
+-- on the way out its count has risen by at most the rise of the bound since it was inside
 abbrev CountedOut : ℕ → ℕ → Process → Type 0
 CountedOut levels made Inside = made ≡ 0
 CountedOut levels made x = GoesOut levels x × (made + 7 * levels ≤ most_of levels x false)
@@ -144,7 +144,8 @@ few_out levels made Inside counted = omega (arith, counted)
 few_out levels made (Leaving level point) counted =
     omega (arith, counted.1, most_out levels (Leaving level point) counted.0)
 
--- what each step of a place keeps along with its count is kept by a run until the place stands where it is to stop
+-- a property that each step of a place keeps along with its count is kept by a run until the place is where it is
+-- to stop
 module _ (levels place : ℕ) (Kept : ℕ → Process → Type 0) (Stop : Process → Type 0)
     (go : (made : ℕ) (x : Process) (value : ℕ) → (Stop x → ⊥) → Kept made x
     → Kept (made + cost_of place (access_of levels place x)) (next_of levels place x value)) where
@@ -180,7 +181,7 @@ module _ (levels place : ℕ) (Kept : ℕ → Process → Type 0) (Stop : Proces
       (on n (omega arith))
       (along schedule states step first n (λ time less. on time (omega (arith, less)))))
 
--- so in a run: from idle until it is inside, and from there until it is idle
+-- the bounds for a run: from idle until it is inside, and from there until it is idle
 pub in_few : (levels place end : ℕ) (schedule : ℕ → Option ℕ) (first : State) (states : ℕ → State) → 1 ≤ levels
     → IsRunOfSchedule levels schedule first states → first.processes place ≡ Idle
     → ((time : ℕ) → time < end → IsInside (states time) place → ⊥)
@@ -216,7 +217,7 @@ along_way w v (value ∷ values) is goes =
     let rest = along_way next v values (goes_on w value is goes.0) goes.1 in
     (rest.0, rest.1, omega (arith, rest.2, told_counted w next value is goes.0 refl))
 
--- one that is told to enter is on its way in until it is inside
+-- a place whose entry was begun is on its way in until it is inside
 abbrev StaysIn : ℕ → Process → Bool → Type 0
 StaysIn levels Idle begun = IsTrue begun
 StaysIn levels Inside begun = begun ≡ false
@@ -261,7 +262,7 @@ few_ever levels place Inside begun proper = omega arith
 few_ever levels place (Leaving level point) begun proper =
     most_out levels (Leaving level point) (proper.least, proper.most)
 
--- so it makes at most seven a level on its way in, and three on its way out
+-- a walk makes at most seven for each level on its way in, and three on its way out
 pub walk_in_few : (start end : Walk) (values : List ℕ) → IsWalk start → BeginsEntry start → WalkLeadsTo start values end
     → end.remote ≤ 7 * start.levels
 walk_in_few start end values is enters goes =

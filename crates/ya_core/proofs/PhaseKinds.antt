@@ -1,4 +1,4 @@
--- Kinds of phases, and which of them are within which others.
+-- Kinds of phases, and the inclusions between them.
 use Rattle.std.proofs.Common.{◌≡◌, ℕ, ◌||◌, not, Bool, true, false, refl, ap, IsTrue}
 use Rattle.ya_core.specs.declared.process.EntryPoint.{EntryPoint}
 use Rattle.ya_core.specs.Soundness.{Phase, Away, Named, Announced, Waiting, Holding, Releasing, LettingIn, claims, has_announced}
@@ -6,11 +6,11 @@ use Rattle.ya_core.specs.Soundness.{waits, holds, awaits_wake, saw_itself_last, 
 use Rattle.ya_core.specs.Soundness.{is_to_let_in}
 use Rattle.ya_core.proofs.Cases.{each_point}
 
--- at this phase the second kind has what the first has
+-- if this phase has the first kind, it has the second
 abbrev pub Also : (kind other : Phase → Bool) → Phase → Type 0
 Also kind other x = IsTrue (other x || not (kind x))
 
--- so one kind is within another where it is so at each of the seven phases
+-- one kind includes another if it does so at each of the seven phases
 pub by_phases : (kind other : Phase → Bool) → Also kind other Away → Also kind other Named → Also kind other Announced
     → ((point : EntryPoint) → Also kind other (Waiting point)) → Also kind other Holding
     → Also kind other Releasing → ((rival : ℕ) → Also kind other (LettingIn rival)) → (x : Phase) → IsTrue (kind x)
@@ -31,18 +31,18 @@ by_phases kind other away named announced waiting holding releasing letting x = 
     has true false both h = absurd cc
     has false false both h = absurd cc
 
--- one who is past claims
+-- a phase that is past claims
 pub claims_announced : (x : Phase) → IsTrue (has_announced x) → IsTrue (claims x)
 claims_announced = by_phases has_announced claims refl refl refl (λ point. refl) refl refl (λ rival. refl)
 
--- one who holds is past, and so claims
+-- a phase that holds is past, and so claims
 pub announced_holds : (x : Phase) → IsTrue (holds x) → IsTrue (has_announced x)
 announced_holds = by_phases holds has_announced refl refl refl (λ point. refl) refl refl (λ rival. refl)
 
 pub claims_holds : (x : Phase) → IsTrue (holds x) → IsTrue (claims x)
 claims_holds x h = claims_announced x (announced_holds x h)
 
--- one who waits is past
+-- a phase that waits is past
 pub announced_waits : (x : Phase) → IsTrue (waits x) → IsTrue (has_announced x)
 announced_waits = by_phases waits has_announced refl refl refl (λ point. refl) refl refl (λ rival. refl)
 
@@ -51,7 +51,7 @@ abbrev pub competes : Phase → Bool
 competes Away = false
 competes _ = true
 
--- so does one of any kind of which nobody away is
+-- so does a phase of any kind that excludes `Away`
 competes_of : (kind : Phase → Bool) → kind Away ≡ false → (x : Phase) → IsTrue (kind x) → IsTrue (competes x)
 competes_of kind none =
     by_phases kind competes (ap not none) refl refl (λ point. refl) refl refl (λ rival. refl)
@@ -69,7 +69,7 @@ competes_unreleased turn p = competes_of (λ x. has_announced x || is_to_let_in 
 pub competes_wakes_next : (p : ℕ) (x : Phase) → IsTrue (wakes_next p x) → IsTrue (competes x)
 competes_wakes_next p = competes_of (wakes_next p) refl
 
--- who awaits the 1 waits, and so does who saw itself last or was woken
+-- a phase that awaits the 1 waits; so does one that saw itself last or was woken
 pub waits_awaits_wake : (x : Phase) → IsTrue (awaits_wake x) → IsTrue (waits x)
 waits_awaits_wake = by_phases awaits_wake waits refl refl refl (λ point. refl) refl refl (λ rival. refl)
 
@@ -79,7 +79,7 @@ waits_saw_itself_last = by_phases saw_itself_last waits refl refl refl (λ point
 pub waits_was_woken : (x : Phase) → IsTrue (was_woken x) → IsTrue (waits x)
 waits_was_woken = by_phases was_woken waits refl refl refl (λ point. refl) refl refl (λ rival. refl)
 
--- who awaits the 2 was woken, and so waits
+-- a phase that awaits the 2 was woken, and so waits
 pub was_woken_awaits_release : (x : Phase) → IsTrue (awaits_release x) → IsTrue (was_woken x)
 was_woken_awaits_release =
     by_phases awaits_release was_woken refl refl refl

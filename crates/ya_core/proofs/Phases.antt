@@ -1,4 +1,4 @@
--- The phases of a process at the levels of the tree: a step changes only that of the level where it acts.
+-- The phases of a process at the levels of the tree: a step changes only the phase of the level where it acts.
 use Rattle.std.proofs.Common.{◌≡◌, ◌≢◌, ℕ, ◌+◌, ◌-◌, ◌<◌, ◌≤◌, ◌==◌, nat_lt, refl, arith, ap, sym, ◌∙◌, IsTrue}
 use Rattle.std.proofs.lemmas.Bool.Decides.{nat_tests}
 use Rattle.ya_core.specs.declared.word.Word.{Word}
@@ -25,7 +25,7 @@ acts_at levels (Entering level point) = level
 acts_at levels Inside = levels
 acts_at levels (Leaving level point) = level
 
--- the phase at the level where a process stands, below it and above it
+-- the phase at the level that a process has reached, below it and above it
 pub phase_here : (level : ℕ) (a : Phase) → phase_at level level a ≡ a
 phase_here level a = grind (arith, nat_tests)
 
@@ -35,19 +35,19 @@ phase_below level stands a less = grind (arith, nat_tests)
 phase_above : (level stands : ℕ) (a : Phase) → stands < level → phase_at level stands a ≡ Away
 phase_above level stands a more = grind (arith, nat_tests)
 
--- one who is away where it stands is away there and above
+-- a process that is away at its level is away there and above
 phase_away : (level stands : ℕ) → stands ≤ level → phase_at level stands Away ≡ Away
 phase_away level stands most = grind (arith, nat_tests)
 
--- at another level it doesn't matter what is done where the process stands
+-- at another level the phase at the process's own level doesn't matter
 phase_apart : (level stands : ℕ) (a b : Phase) → level ≢ stands → phase_at level stands a ≡ phase_at level stands b
 phase_apart level stands a b apart = grind (arith, nat_tests)
 
--- to stand at the foot of the next level is to hold the one below
+-- to be away at the next level is to hold the one below
 phase_up : (level stands : ℕ) → phase_at level (stands + 1) Away ≡ phase_at level stands Holding
 phase_up level stands = grind (arith, nat_tests)
 
--- what a process that won a level, or left it, does at any level
+-- the phase at any level of a process that won a level, or left it
 pub phase_won : (levels stands level : ℕ) → stands ≤ levels
     → phase_of levels level (after_entry levels stands) ≡ phase_at level stands Holding
 phase_won levels stands level most =
@@ -63,7 +63,7 @@ phase_after_exit levels stands level some least =
     ∙ ap (λ n. phase_at level n Away) (let same : stands - 1 + 1 ≡ stands = omega arith in same))
     (λ last. sym (phase_away level stands (grind (arith, nat_tests))))
 
--- a step changes no phase but that of the level where it acts
+-- a step changes only the phase of the level where it acts
 frame_entry : (levels stands level place : ℕ) (point : EntryPoint) (value : ℕ) → stands ≤ levels → level ≢ stands
     → phase_of levels level (entry_next levels stands place point value) ≡ phase_at level stands (entry_phase point)
 frame_entry levels stands level place E1 value most apart = phase_apart level stands _ _ apart
@@ -119,7 +119,7 @@ level_of (C level node side) = level
 level_of (T level node) = level
 level_of (P level place) = level
 
--- the word that is due is one of the level where the process acts
+-- the due word belongs to the level where the process acts
 pub access_level : (levels place : ℕ) (x : Process) → level_of (word_of (access_of levels place x)) ≡ acts_at levels x
 access_level levels place Idle = refl
 access_level levels place (Entering level E1) = refl
@@ -143,7 +143,7 @@ pub words_stay : (a : Access) (old new : Word → ℕ) → Accesses a old new �
 words_stay (Load named) old new done word apart = done word
 words_stay (Store named value) old new done word apart = done.1 word (λ same. apart (ap level_of same))
 
--- one who takes part at a level holds the one below
+-- a process that takes part at a level holds the level below
 pub competes_at : (level stands : ℕ) (a : Phase) → IsTrue (competes (phase_at level stands a)) → level ≤ stands
 competes_at level stands a h = grind (arith, nat_tests, phase_above level stands a)
 

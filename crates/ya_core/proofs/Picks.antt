@@ -1,4 +1,4 @@
--- What a pick of a schedule leaves, whether it is of a place or of none.
+-- The effect of a pick of a schedule, of a place or of none.
 use Rattle.std.proofs.Common.{◌≡◌, ◌≢◌, ℕ, ◌≤◌, ◌==◌, Bool, true, false, refl, arith, ap, sym, subst, ◌⊎◌, inl, inr, IsTrue}
 use Rattle.std.proofs.lemmas.Bool.Decides.{nat_tests}
 use Rattle.std.specs.Prelude.{Option, Some, None}
@@ -20,7 +20,7 @@ is_picked (Some q) p = by_test (q == p) refl
     by_test true is = inl (ap Some (let same : q ≡ p = grind (arith, nat_tests) in same))
     by_test false is = inr (λ e. (let apart : q ≢ p = grind (arith, nat_tests) in apart) (let same : q ≡ p = cc in same))
 
--- a place that is picked steps, and any other stays where it stands
+-- a picked place steps, and any other place keeps its process
 pub picked_steps : (levels : ℕ) (pick : Option ℕ) (s t : State) (p : ℕ) → PickLeadsTo levels pick s t → pick ≡ Some p
     → StepsTo levels p s t
 picked_steps levels pick s t p leads picks = subst (λ o. PickLeadsTo levels o s t) picks leads
@@ -37,20 +37,20 @@ module _ (levels : ℕ) (some : 1 ≤ levels) where
   pick_keeps None s t leads is = subst (IsSoundState levels) (sym leads) is
   pick_keeps (Some q) s t leads is = keeps levels q s t some is leads
 
-  -- one who is stuck stands where it stood
+  -- a place that is stuck keeps its process
   pub stuck_stays : (pick : Option ℕ) (s t : State) → PickLeadsTo levels pick s t → IsSoundState levels s
       → IsSoundState levels t → (p level : ℕ) → IsStuck s p level → t.processes p ≡ s.processes p
   stuck_stays None s t leads is sound p level stuck = ap (λ u. u.processes p) leads
   stuck_stays (Some q) s t leads is sound p level stuck = stands_still levels some s is q t leads sound p level stuck
 
-  -- who is stuck where it wasn't picked was so before
+  -- a place that is stuck and wasn't picked was stuck before
   pub was_stuck : (pick : Option ℕ) (s t : State) → PickLeadsTo levels pick s t → IsSoundState levels s
       → IsSoundState levels t → (p level : ℕ) → pick ≢ Some p → IsStuck t p level → IsStuck s p level
   was_stuck None s t leads is sound p level other stuck = subst (λ u. IsStuck u p level) leads stuck
   was_stuck (Some q) s t leads is sound p level other stuck =
       stuck_before levels some s is q t leads sound p level (λ same. other (ap Some same)) stuck
 
-  -- the rival that competes stays the one while the place is stuck
+  -- the competing rival stays the same while the place is stuck
   pub rival_stays : (pick : Option ℕ) (s t : State) → PickLeadsTo levels pick s t → IsSoundState levels s
       → IsSoundState levels t → (p level q : ℕ) → IsStuck t p level → AreRivals level p q
       → IsTrue (competes (phase_of levels level (s.processes q)))

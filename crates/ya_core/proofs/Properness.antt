@@ -1,4 +1,4 @@
--- One process: where it goes on it stays proper, and the word that is due is one of the tree.
+-- One process: each step keeps it proper, and the word of its due access is one of the tree.
 use Rattle.std.proofs.Common.{◌≡◌, ℕ, ◌+◌, ◌-◌, ◌^◌, ◌<◌, ◌≤◌, ◌==◌, Bool, true, false, nat_lt, refl, arith, sym, ◌⊎◌}
 use Rattle.std.proofs.Common.{inl, inr, if◌then◌else◌}
 use Rattle.std.proofs.lemmas.Bool.Decides.{nat_tests}
@@ -14,13 +14,13 @@ use Rattle.ya_core.specs.Soundness.{IsOnItsWay, IsProper, EntryIsProper, ExitIsP
 use Rattle.ya_core.proofs.TreeSides.{side_below, node_within, node_holds}
 use Rattle.ya_core.specs.WalkerModel.{MayFind, AccessIsWithin}
 
--- what holds of both branches of a choice holds of the choice
+-- a property of both branches of a conditional holds of the conditional
 pub either : (Q : Process → Type 0) (b : Bool) (x y : Process) → (b ≡ true → Q x) → (b ≡ false → Q y)
     → Q (if b then x else y)
 either Q true x y p q = p refl
 either Q false x y p q = q refl
 
--- a process is on its way where these are so
+-- a process is on its way if these properties hold
 on_its_way : {levels place level : ℕ} {Knows : Type 0} → place < 2 ^ levels → 1 ≤ level → level ≤ levels → Knows
     → IsOnItsWay levels place level Knows
 on_its_way room least most knows = record { in_tree = room; least = least; most = most; knows = knows }

@@ -1,4 +1,4 @@
--- In every run the content stands in the order of real time: what is made comes behind what was made.
+-- In every run the content is in real-time order: later entries come after earlier ones.
 use Rattle.std.proofs.Common.{◌≡◌, ℕ, ◌≤◌, Bool, true, false, refl, ap, sym, ◌∙◌, if◌then◌else◌, List, [], ◌∷◌}
 use Rattle.std.proofs.Common.{◌++◌, append_assoc}
 use Rattle.std.proofs.lemmas.List.{append-nil}
@@ -21,7 +21,7 @@ onward early middle late first then' = record {
 }
 
 module _ {X : Type 0} (levels : ℕ) (ok : List (Marked X) → Marked X → Type 0) (some : 1 ≤ levels) where
-  -- where nothing was made
+  -- nothing was made
   nothing_made : (old new : World X) → IsKept levels ok old → new.content ≡ old.content
       → ((place : ℕ) → new.made place ≡ old.made place) → KeepsRealTimeOrder old new
   nothing_made old new is content made = record {
@@ -31,7 +31,7 @@ module _ {X : Type 0} (levels : ℕ) (ok : List (Marked X) → Marked X → Type
     made_since = λ place. made place ∙ sym (append-nil (old.made place));
   }
 
-  -- the step of a place that is inside puts what it did in this passage behind the content
+  -- the step of a place that is inside appends its entries of this passage to the content
   by_release : (place : ℕ) (old new : World X) → IsKept levels ok old → WorldSteps levels place old new
       → is_inside (old.state.processes place) ≡ true → KeepsRealTimeOrder old new
   by_release place old new is step inside = record {

@@ -1,5 +1,5 @@
--- Two at a node, of whom one is stuck: the other is the one rival that competes there, is not stuck itself, and stays
--- the one until the word is there.
+-- Two places at a node, one of them stuck: the other is the only rival that competes there, is not stuck itself, and
+-- stays the only one until the owed word arrives.
 use Rattle.std.proofs.Common.{◌≡◌, ◌≢◌, ℕ, ◌+◌, ◌-◌, ◌<◌, ◌≤◌, ◌==◌, Bool, true, false, refl, arith, ap, sym, ◌∙◌}
 use Rattle.std.proofs.Common.{subst, ◌⊎◌, inl, inr, IsTrue, if◌then◌else◌}
 use Rattle.std.proofs.lemmas.Bool.Decides.{nat_tests}
@@ -25,7 +25,7 @@ use Rattle.ya_core.proofs.Deadlock.{IsStuck, Asleep, Outside, stuck_at, owed_to,
 use Rattle.ya_core.proofs.Deadlock.{won_elsewhere}
 use Rattle.ya_core.proofs.Counting.{nearer}
 
--- a store of a word P changes that word alone
+-- a store in a word P changes no other word P
 spin_stored : (old new : State) (h q v level p : ℕ) → Accesses (Store (P h q) v) old.words new.words
     → (new.words (P level p) ≡ old.words (P level p)) ⊎ ((h ≡ level) × (q ≡ p) × (new.words (P level p) ≡ v))
 spin_stored old new h q v level p done = cases (h == level) (q == p) refl refl
@@ -84,7 +84,7 @@ spin_after levels old new r level p apart step =
         by_store (inl same) = inl same
         by_store (inr stored) = inr (inl stored.2)
 
--- a process that is told to go on is told what its access may find
+-- a value that an access may find may complete that access after the process was begun
 told : (levels place : ℕ) (x : Process) (value : ℕ) → MayFind (access_of levels place x) value
     → MayBeTold (due_of levels place x true) value
 told levels place Idle value found = found
@@ -92,7 +92,7 @@ told levels place (Entering level point) value found = found
 told levels place Inside value found = found
 told levels place (Leaving level point) value found = found
 
--- so the step that is due takes its place nearer to its goal, or leaves it waiting
+-- so the due step takes its place nearer to its goal, or leaves it waiting
 may_come_nearer : (levels place : ℕ) (s : State) → 1 ≤ levels → IsSoundState levels s
     → (points_of levels (next_of levels place (s.processes place)
     (value_of s.words (access_of levels place (s.processes place)))) false < points_of levels (s.processes place) true)
@@ -104,18 +104,18 @@ may_come_nearer levels place s some is =
     (told levels place (s.processes place) (value_of s.words (access_of levels place (s.processes place)))
     (finds levels place s (s.processes place) is refl))
 
--- who is to wake another claims
+-- a phase that is to wake another claims
 claims_is_to_wake : (p : ℕ) (x : Phase) → IsTrue (is_to_wake p x) → IsTrue (claims x)
 claims_is_to_wake p = by_phases (is_to_wake p) claims refl refl refl (λ point. refl) refl refl (λ rival. refl)
 
--- the level at which one is stuck is the one where it stands
+-- a place is stuck at the level that it has reached
 pub stuck_level : (s : State) (p l level : ℕ) (point : EntryPoint) → s.processes p ≡ Entering level point → IsStuck s p l
     → l ≡ level
 stuck_level s p l level point e (Asleep at none) = let both = sym at ∙ e in cc
 stuck_level s p l level point e (Outside at apart) = let both = sym at ∙ e in cc
 
 module _ (levels : ℕ) (some : 1 ≤ levels) (s : State) (is : IsSoundState levels s) where
-  -- the step of one who is stuck changes nothing
+  -- the step of a stuck place changes nothing
   stays : (p level : ℕ) → IsStuck s p level
       → next_of levels p (s.processes p) (value_of s.words (access_of levels p (s.processes p))) ≡ s.processes p
   stays p level (Asleep e none) =
@@ -186,12 +186,12 @@ module _ (levels : ℕ) (some : 1 ≤ levels) (s : State) (is : IsSoundState lev
       ap (λ x. points_of levels x false) (stays p level stuck) in
       omega (arith, less, same, stay)
 
-  -- who is stuck claims
+  -- a stuck place claims
   claims_stuck : (p level : ℕ) → IsStuck s p level → IsTrue (claims (phase_of levels level (s.processes p)))
   claims_stuck p level (Asleep e none) = ap claims (phase_is levels s some is p level E8 e)
   claims_stuck p level (Outside e apart) = ap claims (phase_is levels s some is p level E10 e)
 
-  -- of two who are both stuck at a node, T can name neither as the one that isn't last
+  -- if both rivals at a node are stuck, T can't name either as not last
   unnamed : (a b level : ℕ) → IsStuck s a level → IsStuck s b level → AreRivals level a b
       → s.words (T level (node_of level a)) ≢ a + 1 → ⊥
   unnamed a b level (Outside e apart) two rivals other =
@@ -215,7 +215,7 @@ module _ (levels : ℕ) (some : 1 ≤ levels) (s : State) (is : IsSoundState lev
           never_wakes levels s some is b level a level two
           (subst (λ q. IsTrue (is_to_wake a (phase_of levels level (s.processes q)))) same waker.2)
 
-  -- so of two at a node one goes on
+  -- so one of two rivals at a node goes on
   pub not_both_stuck : (a b level : ℕ) → IsStuck s a level → IsStuck s b level → AreRivals level a b → ⊥
   not_both_stuck a b level one two rivals = by_turn (s.words (T level (node_of level a)) == a + 1) refl
     where
@@ -229,7 +229,7 @@ module _ (levels : ℕ) (some : 1 ≤ levels) (s : State) (is : IsSoundState lev
           let same : a ≡ b = omega (arith, both) in same)))
 
   module _ (r : ℕ) (t : State) (step : StepsTo levels r s t) (sound : IsSoundState levels t) where
-    -- one who is stuck stands where it stood
+    -- a place that is stuck keeps its process
     pub stands_still : (p level : ℕ) → IsStuck s p level → t.processes p ≡ s.processes p
     stands_still p level stuck = by_place (p == r) refl
       where
@@ -240,7 +240,7 @@ module _ (levels : ℕ) (some : 1 ≤ levels) (s : State) (is : IsSoundState lev
             (step.process ∙ stays r level (subst (λ q. IsStuck s q level) same stuck))
         by_place false apart = step.others p (grind (arith, nat_tests))
 
-    -- who is stuck after the step of another was so before it: nobody takes back a word that is waited for
+    -- a place that is stuck after the step of another was stuck before it: no step takes back an owed word
     pub stuck_before : (p level : ℕ) → r ≢ p → IsStuck t p level → IsStuck s p level
     stuck_before p level apart (Asleep e none) = by_word (spin_after levels s t r level p apart step)
       where
@@ -281,7 +281,7 @@ module _ (levels : ℕ) (some : 1 ≤ levels) (s : State) (is : IsSoundState lev
                 let itself : (p == p) ≡ true = grind (arith, nat_tests) in
                 let both : true ≡ false = sym itself ∙ sym (ap (wakes_next p) phase_r) ∙ wakes in cc
 
-    -- the rival that competes stays the one while the place is stuck
+    -- the competing rival stays the same while the place is stuck
     pub still_competes : (p level q : ℕ) → IsStuck t p level → AreRivals level p q
         → IsTrue (competes (phase_of levels level (s.processes q)))
         → IsTrue (competes (phase_of levels level (t.processes q)))

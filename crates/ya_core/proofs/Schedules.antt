@@ -1,5 +1,5 @@
--- Schedules: the runs that they pick, who comes inside or to idle in a fair one, and the schedule that lets all places
--- step in turn, which is fair.
+-- Schedules: their runs, the progress of places under a fair one, and the fair schedule that lets all places step
+-- in turn.
 use Rattle.std.proofs.Common.{◌≡◌, ℕ, zero, suc, ◌+◌, ◌*◌, ◌%◌, ◌^◌, ◌<◌, ◌≤◌, refl, arith, ap, sym, ◌∙◌, subst}
 use Rattle.std.proofs.Common.{◌⊎◌, inl, inr, IsTrue, List, [], ◌∷◌}
 use Rattle.std.specs.Prelude.{Option, Some, None}
@@ -17,7 +17,7 @@ use Rattle.ya_core.proofs.Deadlock.{in_tree}
 use Rattle.ya_core.proofs.Picks.{pick_keeps}
 use Rattle.ya_core.proofs.Starvation.{comes_inside, goes_idle}
 
--- what a schedule picks, from a sound state on
+-- the picks of a schedule, from a sound state on
 module _ (levels : ℕ) (some : 1 ≤ levels) (schedule : ℕ → Option ℕ) (states : ℕ → State)
     (is : IsSoundState levels (states 0))
     (step : (time : ℕ) → PickLeadsTo levels (schedule time) (states time) (states (time + 1))) where
@@ -43,7 +43,7 @@ module _ (levels : ℕ) (some : 1 ≤ levels) (schedule : ℕ → Option ℕ) (s
   leads_at So found =
       let lead = leads found.0 0 found.0 (omega arith) in (lead.0, states found.0, lead.1, found.2)
 
--- who comes inside, or to idle, under a fair schedule
+-- places come inside, or to idle, under a fair schedule
 enters_at : (levels : ℕ) (schedule : ℕ → Option ℕ) (states : ℕ → State) → 1 ≤ levels → IsSoundState levels (states 0)
     → ((time : ℕ) → PickLeadsTo levels (schedule time) (states time) (states (time + 1)))
     → IsFair schedule states → (place time : ℕ) → IsTrue (is_on_way_in ((states time).processes place))
@@ -66,7 +66,7 @@ leaves_at levels schedule states some is step fair place time way =
     by_way (inl inside) = inl (is_inside_is ((states time).processes place) inside)
     by_way (inr out) = inr out
 
--- so in a run
+-- the same for a run
 pub enters : (levels : ℕ) (schedule : ℕ → Option ℕ) (first : State) (states : ℕ → State) → 1 ≤ levels
     → IsSoundState levels first → IsRunOfSchedule levels schedule first states → IsFair schedule states
     → (place time : ℕ) → IsTrue (is_on_way_in ((states time).processes place))
@@ -96,7 +96,7 @@ one_pick levels (Some place) s t u a b = one_outcome levels place s t u a b
 abbrev Within : ℕ → (ℕ → Option ℕ) → Type 0
 Within levels schedule = (time place : ℕ) → schedule time ≡ Some place → place < 2 ^ levels
 
--- the states to which the places that a schedule picks lead from a state
+-- the states after the picks of a schedule, from a state
 states_from : (levels : ℕ) (schedule : ℕ → Option ℕ) → Within levels schedule → State → ℕ → State
 states_from levels schedule within s zero = s
 states_from levels schedule within s (suc n) =
@@ -172,7 +172,7 @@ module _ (levels : ℕ) (some : 1 ≤ levels) (s : State) (is : IsSoundState lev
       let room = in_tree levels now some sound place (now.processes place) refl busy in
       let found = each_again levels place time room in (found.0, found.1, ap Some found.2)
 
-  -- so some finite schedule leads each place on its way
+  -- so some finite schedule leads each place inside, or to idle
   pub can_enter_from : (place : ℕ) → IsTrue (is_on_way_in (s.processes place))
       → CanLeadTo levels s (λ after. IsInside after place)
   unfolding states_from

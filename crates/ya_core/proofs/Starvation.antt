@@ -1,5 +1,5 @@
--- Under a fair schedule nobody starves: who is stuck has one rival that competes at its node, which comes nearer with
--- each of its steps, until the word is there; and who isn't stuck comes nearer itself.
+-- Under a fair schedule nobody starves. A stuck place has one rival that competes at its node; the rival comes nearer
+-- with each of its steps, until the owed word arrives. A place that isn't stuck comes nearer itself.
 use Rattle.std.proofs.Common.{◌≡◌, ◌≢◌, ℕ, zero, suc, ◌+◌, ◌-◌, ◌<◌, ◌≤◌, ◌==◌, Bool, true, false, refl, arith, ap}
 use Rattle.std.proofs.Common.{sym, ◌∙◌, subst, ◌⊎◌, inl, inr, IsTrue}
 use Rattle.std.specs.Prelude.{Option, Some}
@@ -43,7 +43,7 @@ module _ (levels : ℕ) (some : 1 ≤ levels) (schedule : ℕ → Option ℕ) (s
   abbrev IsFree : ℕ → ℕ → Type 0
   IsFree p n = (l : ℕ) → IsStuck (states n) p l → ⊥
 
-  -- it is so or stuck
+  -- it is free or stuck
   free_or_stuck : (p n : ℕ) → IsFree p n ⊎ ((l : ℕ) × IsStuck (states n) p l)
   free_or_stuck p n = by_step (nearer_or_stuck levels some (states n) (sound n) p)
     where
@@ -53,7 +53,7 @@ module _ (levels : ℕ) (some : 1 ≤ levels) (schedule : ℕ → Option ℕ) (s
       by_step (inl less) = inl (λ l stuck. not_both levels some (states n) (sound n) p l stuck less)
       by_step (inr stuck) = inr stuck
 
-  -- the step of one who isn't stuck takes it nearer
+  -- the step of a place that isn't stuck takes it nearer
   comes_nearer : (p n : ℕ) → IsFree p n → schedule n ≡ Some p
       → points_of levels (at p (n + 1)) false < points_of levels (at p n) true
   comes_nearer p n ready picks = subst (λ x. points_of levels x false < points_of levels (at p n) true)
@@ -67,7 +67,7 @@ module _ (levels : ℕ) (some : 1 ≤ levels) (schedule : ℕ → Option ℕ) (s
       by_step (inl less) = less
       by_step (inr stuck) = absurd (ready stuck.0 stuck.1)
 
-  -- a process stands so, and isn't stuck
+  -- the place has this process, and isn't stuck
   abbrev Ready : ℕ → Process → ℕ → Type 0
   Ready p x n = (at p n ≡ x) × IsFree p n
 
@@ -76,7 +76,7 @@ module _ (levels : ℕ) (some : 1 ≤ levels) (schedule : ℕ → Option ℕ) (s
   Nearer p level point n =
       (points_of levels (at p n) false < points_of levels (Entering level point) false) × Onward level (at p n)
 
-  -- one that isn't stuck on its way in comes nearer at some time
+  -- a place on its way in that isn't stuck comes nearer at some time
   goes_on : (p level : ℕ) (point : EntryPoint) (n : ℕ) → Ready p (Entering level point) n
       → Eventually n (Nearer p level point)
   goes_on p level point n ready =
@@ -115,7 +115,7 @@ module _ (levels : ℕ) (some : 1 ≤ levels) (schedule : ℕ → Option ℕ) (s
                     (sound (n + 1)) p l other stuck),
               )
 
-  -- who is past the root is idle at some time, or what is to end before ended
+  -- a place past the root is idle at some time, or the property has ended before
   module _ (p : ℕ) (While So : ℕ → Type 0) (keeps : (n : ℕ) → While n → So (n + 1) ⊎ While (n + 1))
       (busy : (n : ℕ) → While n → at p n ≡ Idle → So n) where
     abbrev Leaves : ℕ → Type 0
@@ -165,7 +165,7 @@ module _ (levels : ℕ) (some : 1 ≤ levels) (schedule : ℕ → Option ℕ) (s
     goes_out n goes past =
         ends levels schedule states step fair p Leaves So (λ x. points_of levels x true) leaves_idle leaves_keeps leaves_falls n (goes, past)
 
-  -- one who is stuck at a level, and the rival that competes there
+  -- a place that is stuck at a level, and the rival that competes there
   module _ (p q level : ℕ) (point : EntryPoint) (rivals : AreRivals level p q) where
     record HeldUp (n : ℕ) : Type 0 where
       stands : at p n ≡ Entering level point
@@ -270,11 +270,11 @@ module _ (levels : ℕ) (some : 1 ≤ levels) (schedule : ℕ → Option ℕ) (s
                 not_both_stuck levels some (states n) (sound n) p q level here.0.stuck
                 (subst (IsStuck (states n) q) one stuck) rivals
 
-    -- so wherever the rival stands, the word is there at some time
+    -- the word arrives at some time, wherever the rival is
     module _ (fuel : ℕ) (enough : points_of levels (Entering level point) false < fuel + 1)
         (again : (n k l : ℕ) (there : EntryPoint) → at k n ≡ Entering l there
         → points_of levels (Entering l there) false < fuel → Eventually n (λ m. at k m ≡ Inside)) where
-      -- the rival stands higher up
+      -- the rival is higher up
       above : (n l : ℕ) (there : EntryPoint) → HeldUp n → level < l → at q n ≡ Entering l there
           → Eventually n (Ready p (Entering level point))
       above n l there held more e =
@@ -283,7 +283,7 @@ module _ (levels : ℕ) (some : 1 ≤ levels) (schedule : ℕ → Option ℕ) (s
           (again n q l there e
           (omega (arith, enough, more, proper.most, (few_points there).1, (few_points point).0)))
 
-      -- the rival stands at the level
+      -- the rival is at the level
       from_here : (n : ℕ) → Here n → Eventually n (Ready p (Entering level point))
       from_here n here = by_end (by_competing n here)
         where
@@ -362,7 +362,7 @@ module _ (levels : ℕ) (some : 1 ≤ levels) (schedule : ℕ → Option ℕ) (s
           (record { stands = e; stuck = here; competing = rival.2 }) in
           on again freed.0 freed.1 freed.2
 
-  -- so wherever it stands
+  -- hence from any point of the way in
   pub comes_inside : (p n : ℕ) → IsTrue (is_on_way_in (at p n)) → Eventually n (λ m. at p m ≡ Inside)
   comes_inside p n way = by_process (at p n) refl way
     where
@@ -373,7 +373,7 @@ module _ (levels : ℕ) (some : 1 ≤ levels) (schedule : ℕ → Option ℕ) (s
       by_process (Entering level point) e way =
           comes_in (points_of levels (Entering level point) false + 1) n p level point e (omega arith)
 
-  -- and one that is inside, or on its way out, is idle at some time
+  -- a place that is inside, or on its way out, is idle at some time
   pub goes_idle : (p n : ℕ) → (at p n ≡ Inside) ⊎ IsTrue (is_on_way_out (at p n)) → Eventually n (λ m. at p m ≡ Idle)
   goes_idle p n way =
       goes_out p (λ n. Unit {0}) (λ m. at p m ≡ Idle) (λ n _. inr tt) (λ n _ idle. idle) n tt (by_way way)

@@ -1,4 +1,4 @@
--- Where places stand in the tree.
+-- The positions of places in the tree.
 use Rattle.std.proofs.Common.{◌≡◌, ℕ, ◌+◌, ◌-◌, ◌*◌, ◌/◌, ◌^◌, ◌<◌, ◌≤◌, arith, ap, ◌∙◌}
 use Rattle.std.proofs.Math.Nat.{div-lt_iff_lt-mul, div-eq_of_lt}
 use Rattle.std.proofs.lemmas.Nat.{pow_pos, pow-add, shr-shr}
@@ -35,7 +35,7 @@ pub node_of_root : (levels place : ℕ) → place < 2 ^ levels → node_of level
 unfolding node_of
 node_of_root levels place room = div-eq_of_lt room
 
--- the node at the level below, 0 standing for the place itself, follows from node and side
+-- the node at the level below, or the place itself for level 0, follows from node and side
 node_split : (level place : ℕ) → 1 ≤ level → node_of (level - 1) place ≡ 2 * node_of level place + side_of level place
 unfolding node_of side_of
 node_split level place least =

@@ -1,4 +1,4 @@
--- What one step does to a level's words T, and to whether its process is past or holds there.
+-- The effect of one step on a level's words T, and on whether its process is past or holds there.
 use Rattle.std.proofs.Common.{◌≡◌, ◌≢◌, ℕ, ◌+◌, ◌-◌, ◌≤◌, ◌==◌, Bool, true, false, refl, arith, ap, sym, ◌∙◌, subst}
 use Rattle.std.proofs.Common.{◌⊎◌, inl, inr, IsTrue}
 use Rattle.std.proofs.lemmas.Bool.Decides.{nat_tests}
@@ -19,12 +19,12 @@ use Rattle.ya_core.specs.Progress.{is_to_announce}
 use Rattle.ya_core.proofs.Properness.{either}
 use Rattle.ya_core.proofs.Phases.{acts_at, phase_here, phase_after_exit, frame_phase}
 
--- the process is to announce itself at the level where it stands
+-- the process is to announce itself at the level that it has reached
 abbrev pub is_announcing : Process → Bool
 is_announcing (Entering level E2) = true
 is_announcing _ = false
 
--- one that waits there isn't
+-- a waiting process isn't
 pub past_announces : (level : ℕ) (point : EntryPoint) → IsTrue (has_announced (entry_phase point))
     → (is_announcing (Entering level point) ≡ false) × (is_to_announce level (Entering level point) ≡ false)
 past_announces level E1 h = absurd cc
@@ -38,7 +38,7 @@ past_announces level E8 h = (refl, refl)
 past_announces level E9 h = (refl, refl)
 past_announces level E10 h = (refl, refl)
 
--- what one step does to a level's words T and to the phase of its process there
+-- the effect of one step on a level's words T and on the phase of its process there
 module _ (levels level q : ℕ) (s t : State) (some : 1 ≤ levels) (least : 1 ≤ level) (most : level ≤ levels)
     (is : IsSoundState levels s) (step : StepsTo levels q s t) where
   abbrev pub value : ℕ
@@ -101,7 +101,7 @@ module _ (levels level q : ℕ) (s t : State) (some : 1 ≤ levels) (least : 1 �
   abbrev pub after : Phase
   after = phase_of levels level (t.processes q)
 
-  -- it is past only where it was, or announced itself, and where it held the level it holds it still or is past no more
+  -- it is past only if it was past or announced itself; if it held the level, it holds it still or is past no more
   pub record Turns (x y : Phase) : Type 0 where
     pub past : IsTrue (has_announced y) → IsTrue (has_announced x) ⊎ (t.words (T level (node_of level q)) ≡ q + 1)
     pub held : IsTrue (holds x) → IsTrue (has_announced y) → IsTrue (holds y)
@@ -113,11 +113,11 @@ module _ (levels level q : ℕ) (s t : State) (some : 1 ≤ levels) (least : 1 �
         held = λ h k. subst (λ z. IsTrue (holds z)) (sym e) h;
       }
 
-  -- one that is past and doesn't hold goes where it likes
+  -- for a process that is past and doesn't hold, any next phase is allowed
   past_turns : (x y : Phase) → IsTrue (has_announced x) → holds x ≡ false → Turns x y
   past_turns x y h k = record { past = λ _. inl h; held = λ g _. absurd (let both : true ≡ false = sym g ∙ k in cc) }
 
-  -- one that comes to where it isn't past
+  -- a next phase that isn't past is allowed
   not_past : (x y : Phase) → has_announced y ≡ false → Turns x y
   not_past x y h =
       record {
@@ -158,7 +158,7 @@ module _ (levels level q : ℕ) (s t : State) (some : 1 ≤ levels) (least : 1 �
       not_past (LettingIn rival) (phase_of levels level (after_exit level))
       (ap has_announced (phase_after_exit levels level level least least ∙ phase_here level Away))
 
-  -- so at whatever level the process acts
+  -- so for any level where the process acts
   pub turns_of : Turns before after
   turns_of = subst (λ x. Turns before (phase_of levels level x)) (sym step.process)
       (by_process (s.processes q) refl (level == acts_at levels (s.processes q)) refl)

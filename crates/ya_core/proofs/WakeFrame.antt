@@ -1,4 +1,4 @@
--- One level: what a step leaves alone of what is owed there, where it changes one phase.
+-- One level: the owed words that a step keeps if it changes one phase.
 use Rattle.std.proofs.Common.{◌≡◌, ◌≢◌, ℕ, ◌+◌, ◌<◌, ◌||◌, Bool, true, false, refl, ap, sym, ◌∙◌, subst}
 use Rattle.std.proofs.Common.{◌⊎◌, inl, inr, IsTrue}
 use Rattle.std.proofs.Math.Path.{fun_ext}
@@ -10,7 +10,7 @@ use Rattle.ya_core.proofs.LevelClauses.{Same}
 use Rattle.ya_core.proofs.PhaseKinds.{claims_announced, announced_waits, waits_awaits_wake, waits_saw_itself_last}
 use Rattle.ya_core.proofs.PhaseKinds.{waits_was_woken, waits_awaits_release}
 
--- what a step keeps for a rival that waits, as the phase of the place that steps changes from the one to the other
+-- the properties that a step keeps for a waiting rival when it changes the phase of its place from the one to the other
 pub record Keeps (turn spin : ℕ → ℕ) (node : ℕ → ℕ) (phase : ℕ → Phase) (p : ℕ) (x y : Phase) : Type 0 where
   pub unwoken : IsTrue (awaits_wake (phase p)) → spin p ≡ 0 → IsTrue (claims x || is_to_let_in (turn (node p)) p x)
       → IsTrue (claims y || is_to_let_in (turn (node p)) p y)
@@ -20,7 +20,7 @@ pub record Keeps (turn spin : ℕ → ℕ) (node : ℕ → ℕ) (phase : ℕ →
       → IsTrue (is_to_wake p y)
   pub keeps_two : turn (node p) ≢ p + 1 → IsTrue (awaits_release (phase p)) → wakes_next p y ≡ false
 
--- what is owed stays so where words and phases stay
+-- owed words stay if words and phases stay
 pub owed_stays : (node side : ℕ → ℕ) (phase phase' : ℕ → Phase) (turn turn' spin spin' : ℕ → ℕ)
     → ((q : ℕ) → phase' q ≡ phase q) → ((n : ℕ) → turn' n ≡ turn n) → ((q : ℕ) → spin' q ≡ spin q)
     → ((p : ℕ) → IsOwed node side phase turn spin p) → (p : ℕ) → IsOwed node side phase' turn' spin' p
@@ -49,11 +49,11 @@ pub record ActsAtLevel : Type 0 where
 module _ (c : ActsAtLevel) where
   open c use {node, side, phase, claim, turn, spin, is, owed, a, phase', same, turn', spin'}
 
-  -- what is owed to a place after the step
+  -- the words owed to a place after the step
   abbrev pub Now : ℕ → Type 0
   Now = IsOwed node side phase' turn' spin'
 
-  -- nothing is owed to a place that doesn't wait
+  -- no word is owed to a place that doesn't wait
   pub nothing : (p : ℕ) → waits (phase' p) ≡ false → Now p
   nothing p none =
       record {
@@ -68,7 +68,7 @@ module _ (c : ActsAtLevel) where
       no : IsTrue (waits (phase' p)) → ⊥
       no h = let both : true ≡ false = sym h ∙ none in cc
 
-  -- a rival stays one of its kind where the step of the place keeps the kind
+  -- a rival of a kind stays one if the step of the place keeps the kind
   some : (p : ℕ) (kind : Phase → Bool) → (Rivals node side p a → IsTrue (kind (phase a)) → IsTrue (kind (phase' a)))
       → SomeRival node side phase p kind → SomeRival node side phase' p kind
   some p kind keeps rival = cases (same rival.0)
@@ -79,21 +79,21 @@ module _ (c : ActsAtLevel) where
           (a, rivals, keeps rivals (subst (λ q. IsTrue (kind (phase q))) one rival.2))
       cases (inr still) = (rival.0, rival.1, subst (λ x. IsTrue (kind x)) (sym still) rival.2)
 
-  -- where the word T stays, a rival that is of the kind or is to let the place in by it is still so
+  -- if the word T stays, a rival of the kind, or that is to let the place in, remains one
   let_in_by : (p : ℕ) (kind : Phase → Bool) → turn' (node p) ≡ turn (node p)
       → SomeRival node side phase' p (λ z. kind z || is_to_let_in (turn (node p)) p z)
       → SomeRival node side phase' p (λ z. kind z || is_to_let_in (turn' (node p)) p z)
   let_in_by p kind turns =
       subst (λ t. SomeRival node side phase' p (λ z. kind z || is_to_let_in t p z)) (sym turns)
 
-  -- the phase of another place stays, and so what is so of it
+  -- the phase of another place stays
   still : (p : ℕ) → p ≢ a → phase' p ≡ phase p
   still p apart = the_second (same p) apart
 
   pub had : (p : ℕ) → p ≢ a → (kind : Phase → Bool) → IsTrue (kind (phase' p)) → IsTrue (kind (phase p))
   had p apart kind h = subst (λ z. IsTrue (kind z)) (still p apart) h
 
-  -- what is owed to another place, where its words and its phase stay
+  -- the words owed to another place, if its words and its phase stay
   pub others : (x y : Phase) → phase a ≡ x → phase' a ≡ y → (p : ℕ) → p ≢ a → turn' (node p) ≡ turn (node p)
       → spin' p ≡ spin p → (Rivals node side p a → Keeps turn spin node phase p x y) → Now p
   others x y was now p apart turns spins keeps =
@@ -140,7 +140,7 @@ module _ (c : ActsAtLevel) where
       quiet other h q rivals (inr stays) =
           ap (wakes_next p) stays ∙ (owed p).keeps_two (not_own other) (had p apart awaits_release h) q rivals
 
-  -- what is owed to the place itself, which still waits
+  -- the words owed to the place itself, which still waits
   pub itself : (x y : Phase) → phase a ≡ x → phase' a ≡ y → turn' (node a) ≡ turn (node a) → spin' a ≡ spin a
       → IsTrue (waits x)
       → (IsTrue (awaits_wake y)
@@ -181,16 +181,16 @@ module _ (c : ActsAtLevel) where
           (owed a).owed_one other (subst (λ z. IsTrue (saw_itself_last z)) (sym was) before) zero
       owed_one (inr own) other zero = absurd (other own)
 
-  -- what is owed to everyone
+  -- the words owed to each place
   pub everyone : Now a → ((p : ℕ) → p ≢ a → Now p) → (p : ℕ) → Now p
   everyone = everywhere Now a
 
-  -- who waits claims, and so a word C names it
+  -- a waiting place claims, and so a word C names it
   pub named : (p : ℕ) → IsTrue (waits (phase p)) → claim (node p) (side p) ≡ p + 1
   named p h = is.claimed p (claims_announced (phase p) (announced_waits (phase p) h))
 
-  -- what the step keeps for a rival where the place is past after it: whether it is to wake the rival, and that it
-  -- doesn't overwrite the rival's 2, remains to be said
+  -- the properties kept for a rival if the place is past after the step. Still to be shown: whether the place is to
+  -- wake the rival, and that it doesn't overwrite the rival's 2
   pub past : (p : ℕ) (x y : Phase) → IsTrue (claims y) → IsTrue (has_announced y)
       → (turn (node p) ≢ p + 1 → IsTrue (saw_itself_last (phase p)) → spin p ≡ 0 → IsTrue (is_to_wake p x)
       → IsTrue (is_to_wake p y))

@@ -1,4 +1,4 @@
--- One level: what each step that changes no word T or P keeps of what is owed there.
+-- One level: each step that changes no word T or P keeps the owed words there.
 use Rattle.std.proofs.Common.{◌≡◌, ◌≢◌, ℕ, ◌+◌, ◌-◌, ◌<◌, ◌==◌, ◌||◌, Bool, true, false, refl, arith, ap, sym, ◌∙◌}
 use Rattle.std.proofs.Common.{subst, ◌⊎◌, inl, inr, IsTrue}
 use Rattle.std.proofs.lemmas.Bool.Decides.{nat_tests}
@@ -44,7 +44,7 @@ module _ (c : ActsAtLevel) where
           keeps_two = λ other h. refl;
         }))
 
-    -- e4, where the other side names a place
+    -- e4: the other side names a place
     pub owed_found : (rival : ℕ) → phase a ≡ Waiting E4 → phase' a ≡ Waiting (E5 rival)
         → claim (node a) (1 - side a) ≡ rival + 1 → (p : ℕ) → Now c p
     owed_found rival was now found =
@@ -68,14 +68,14 @@ module _ (c : ActsAtLevel) where
         same_rival : (p : ℕ) → Rivals node side p a → IsTrue (waits (phase p)) → IsTrue (rival == p)
         same_rival p rivals h = grind (arith, nat_tests, named c p h, rivals.0, rivals.1, two p, two a, found)
 
-    -- e5, where the place announced itself last
+    -- e5: the place announced itself last
     pub owed_last : (rival : ℕ) → phase a ≡ Waiting (E5 rival) → phase' a ≡ Waiting (E6 rival) → turn (node a) ≡ a + 1
         → (p : ℕ) → Now c p
     owed_last rival was now own =
         waits_on (E5 rival) (E6 rival) was now (λ h. inl refl) (λ h. absurd cc) (λ h. inr own) (λ h. absurd cc)
         (λ p rivals h zero k. k) (λ p other h. refl)
 
-    -- e6, where the rival sleeps
+    -- e6: the rival sleeps
     pub owed_asleep : (rival : ℕ) → phase a ≡ Waiting (E6 rival) → phase' a ≡ Waiting (E7 rival) → spin rival ≡ 0
         → (p : ℕ) → Now c p
     owed_asleep rival was now zero =
@@ -90,7 +90,7 @@ module _ (c : ActsAtLevel) where
             let has : spin p ≡ 2 = (owed p).has_two other h in
             let none : spin p ≡ 0 = subst (λ q. spin q ≡ 0) one zero in absurd (omega (arith, has, none))
 
-    -- e6, where it was woken
+    -- e6: the rival was woken
     pub owed_awake : (rival : ℕ) → phase a ≡ Waiting (E6 rival) → phase' a ≡ Waiting E8 → spin rival ≢ 0 → (p : ℕ)
         → Now c p
     owed_awake rival was now some_word =
@@ -99,19 +99,19 @@ module _ (c : ActsAtLevel) where
         (some_word (let one : rival ≡ p = grind (arith, nat_tests) in subst (λ q. spin q ≡ 0) (sym one) z)))
         (λ p other h. refl)
 
-    -- e8, where the place was woken
+    -- e8: the place was woken
     pub owed_woken : phase a ≡ Waiting E8 → phase' a ≡ Waiting E9 → spin a ≢ 0 → (p : ℕ) → Now c p
     owed_woken was now some_word =
         waits_on E8 E9 was now (λ h. absurd cc) (λ h. some_word) (λ h. absurd cc) (λ h. absurd cc)
         (λ p rivals h z k. absurd cc) (λ p other h. refl)
 
-    -- e9, where it announced itself last
+    -- e9: the place announced itself last
     pub owed_waits : phase a ≡ Waiting E9 → phase' a ≡ Waiting E10 → turn (node a) ≡ a + 1 → (p : ℕ) → Now c p
     owed_waits was now own =
         waits_on E9 E10 was now (λ h. absurd cc) (λ h. (owed a).woken (ap was_woken was)) (λ h. absurd cc) (λ h. own)
         (λ p rivals h z k. absurd cc) (λ p other h. refl)
 
-    -- e4, e5, e9, e10: a place wins where nobody rests on a 1 of it
+    -- e4, e5, e9, e10: a place wins if no rival depends on its 1
     pub owed_wins : (point : EntryPoint) → phase a ≡ Waiting point → phase' a ≡ Holding
         → ((p : ℕ) → Rivals node side p a → turn (node p) ≢ p + 1 → IsTrue (saw_itself_last (phase p)) → spin p ≡ 0
         → IsTrue (is_to_wake p (Waiting point)) → ⊥) → (p : ℕ) → Now c p
@@ -131,7 +131,7 @@ module _ (c : ActsAtLevel) where
         subst (λ s. claim (node p) s ≡ 0) across (subst (λ n. claim n (1 - side a) ≡ 0) (sym rivals.0) nil) in
         omega (arith, claim_is, claim_nil)
 
-    -- at e5 another announced itself last, so it is the rival
+    -- at e5 another place announced itself last, so it is the rival
     pub none_last : IsTrue (has_announced (phase a)) → turn (node a) ≢ a + 1 → (p : ℕ) → Rivals node side p a
         → turn (node p) ≢ p + 1 → IsTrue (saw_itself_last (phase p)) → ⊥
     none_last past other p rivals not_own h =
@@ -141,7 +141,7 @@ module _ (c : ActsAtLevel) where
         cases (inl own) = not_own own
         cases (inr last) = other (ap turn (sym rivals.0) ∙ last)
 
-    -- x1: a place that holds gives up its claim; by the clause on waiters it is to free whoever waits
+    -- x1: a place that holds gives up its claim; the clause on waiters says that it is to free each waiting place
     pub owed_given_up : phase a ≡ Holding → phase' a ≡ Releasing → (p : ℕ) → Now c p
     owed_given_up was now =
         everyone c (nothing c a (ap waits now))
@@ -160,7 +160,7 @@ module _ (c : ActsAtLevel) where
             (let holding : IsTrue (holds (phase a)) = ap holds was in holding) (announced_waits (phase p) h) in
             let same_word : turn (node p) ≡ p + 1 = ap turn rivals.0 ∙ named_last in grind (arith, nat_tests)
 
-    -- x2, where the place announced itself last
+    -- x2: the place announced itself last
     pub owed_released : phase a ≡ Releasing → phase' a ≡ Away → turn (node a) ≡ a + 1 → (p : ℕ) → Now c p
     owed_released was now own =
         everyone c (nothing c a (ap waits now))
@@ -179,7 +179,7 @@ module _ (c : ActsAtLevel) where
             let here : turn (node p) ≡ a + 1 = ap turn rivals.0 ∙ own in
             apart (omega (arith, there, here))
 
-    -- x2, where another did
+    -- x2: another place announced itself last
     pub owed_letting_in : phase a ≡ Releasing → phase' a ≡ LettingIn (turn (node a) - 1) → (p : ℕ) → Now c p
     owed_letting_in was now =
         everyone c (nothing c a (ap waits now))

@@ -1,4 +1,4 @@
--- One level: what each store in a word T or P keeps of what is owed there.
+-- One level: each store in a word T or P keeps the owed words there.
 use Rattle.std.proofs.Common.{◌≡◌, ◌≢◌, ℕ, ◌+◌, ◌==◌, ◌||◌, Bool, true, false, refl, arith, ap, sym, ◌∙◌, subst, ◌⊎◌}
 use Rattle.std.proofs.Common.{inl, inr, IsTrue}
 use Rattle.std.proofs.lemmas.Bool.Decides.{nat_tests}
@@ -41,7 +41,7 @@ module _ (c : ActsAtLevel) where
     spin_stays : (p : ℕ) → p ≢ rival → spin' p ≡ spin p
     spin_stays p apart = the_second (rest p) apart
 
-    -- what is owed to everyone: to the one whose spin word changed, to the place itself, and to the others
+    -- the words owed to each place: to the place whose spin word changed, to the place itself, and to the others
     by_rival : Now c rival → Now c a → ((p : ℕ) → p ≢ rival → p ≢ a → Now c p) → (p : ℕ) → Now c p
     by_rival of_rival own of_others =
         everywhere (Now c) rival of_rival
@@ -170,7 +170,7 @@ module _ (c : ActsAtLevel) where
                     keeps_two = λ other h q rivals. quiet q rivals (same q) (wakes_next p (phase' q)) refl;
                   }
                 where
-                  -- a rival of the place that takes part is the one that announces itself
+                  -- the only rival of the place that takes part is the place that announces itself
                   only : (q : ℕ) → Rivals node side p q → IsTrue (competes (phase q)) → q ≡ a
                   only q rivals h = alone q (sym rivals.0 ∙ at) (omega (arith, two p, two q, two a, rivals.1, across)) h
 

@@ -1,9 +1,10 @@
--- The arbitration tree (Yang and Anderson 1995): where each place competes, and the words' numbers in one flat row.
+-- The arbitration tree (Yang and Anderson 1995): the node and side of each place at each level, and the numbers of the
+-- words in one flat row.
 use Rattle.std.specs.Prelude.{◌≡◌, ◌≢◌, ℕ, ◌+◌, ◌-◌, ◌*◌, ◌/◌, ◌%◌, ◌^◌, ◌<◌, ◌≤◌}
 use Rattle.ya_core.specs.declared.word.Word.{Word}
 use Rattle.ya_core.specs.declared.word.Word.TheVariants.{C, T, P}
 
--- there is a tree of so many levels
+-- a tree has 1 to 6 levels
 abbrev pub HasShape : ℕ → Type 0
 HasShape levels = (1 ≤ levels) × (levels ≤ 6)
 
@@ -15,7 +16,8 @@ node_of level place = place / 2 ^ level
 unfoldable pub side_of : ℕ → ℕ → ℕ
 side_of level place = place / 2 ^ (level - 1) % 2
 
--- two places compete where `node` and `side` say where each place stands: at one node, on different sides
+-- two places compete if they have the same node and different sides; `node` and `side` map each place to its node
+-- and side
 abbrev pub Rivals : (node side : ℕ → ℕ) → ℕ → ℕ → Type 0
 Rivals node side p q = (node p ≡ node q) × (side p ≢ side q)
 
@@ -29,7 +31,7 @@ IsWord levels (C level node side) = (1 ≤ level) × (level ≤ levels) × (node
 IsWord levels (T level node) = (1 ≤ level) × (level ≤ levels) × (node < 2 ^ (levels - level))
 IsWord levels (P level place) = (1 ≤ level) × (level ≤ levels) × (place < 2 ^ levels)
 
--- how many nodes the levels below have
+-- the number of nodes in the levels below
 abbrev pub nodes_below : ℕ → ℕ → ℕ
 nodes_below levels level = 2 ^ levels - 2 ^ (levels - level + 1)
 
@@ -39,6 +41,6 @@ number_of levels (C level node side) = 2 * (nodes_below levels level + node) + s
 number_of levels (T level node) = 2 * (2 ^ levels - 1) + nodes_below levels level + node
 number_of levels (P level place) = 3 * (2 ^ levels - 1) + (level - 1) * 2 ^ levels + place
 
--- how many words the tree has
+-- the number of words of the tree
 unfoldable pub count_of_words : ℕ → ℕ
 count_of_words levels = 3 * (2 ^ levels - 1) + levels * 2 ^ levels

@@ -1,21 +1,21 @@
--- Schedules without end, the runs that they pick, and what makes a schedule fair.
+-- Infinite schedules, their runs, and fairness.
 use Rattle.std.specs.Prelude.{◌≡◌, ◌≢◌, ℕ, ◌+◌, ◌^◌, ◌<◌, ◌≤◌, Bool, true, false, Option, Some, None}
 use Rattle.ya_core.specs.declared.process.Process.{Process}
 use Rattle.ya_core.specs.declared.process.Process.TheVariants.{Idle, Entering, Leaving}
 use Rattle.ya_core.specs.Steps.{State, StepsTo}
 
--- where a place is picked it steps; where none is, everything stays
+-- a picked place steps; if no place is picked, the state stays
 abbrev pub PickLeadsTo : ℕ → Option ℕ → State → State → Type 0
 PickLeadsTo levels (Some place) old new = StepsTo levels place old new
 PickLeadsTo levels None old new = new ≡ old
 
--- a schedule picks a place, or none, for each of the times 0, 1, 2, ..; its run has the state at each time: at first this
--- one, and after each time the one to which the pick leads
+-- a schedule picks a place, or none, for each of the times 0, 1, 2, ..; its run has a state at each time: `first` at
+-- time 0. Each later state follows from the one before by the pick of that time
 pub record IsRunOfSchedule (levels : ℕ) (schedule : ℕ → Option ℕ) (first : State) (states : ℕ → State) : Type 0 where
   pub start : states 0 ≡ first
   pub picks : (time : ℕ) → PickLeadsTo levels (schedule time) (states time) (states (time + 1))
 
--- it is so at this time or a later one
+-- `So` holds at this time or a later one
 abbrev pub Eventually : ℕ → (ℕ → Type 0) → Type 0
 Eventually time So = (later : ℕ) × (time ≤ later) × So later
 

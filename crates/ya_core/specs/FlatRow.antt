@@ -6,7 +6,7 @@ use Rattle.ya_core.specs.declared.process.Process.{Process}
 use Rattle.ya_core.specs.ArbitrationTree.{number_of}
 use Rattle.ya_core.specs.Steps.{State}
 
--- whether the tree of this many levels has the word
+-- true if the tree of this many levels has the word
 abbrev pub is_word : ℕ → Word → Bool
 is_word levels (C level node side) =
     nat_le 1 level && nat_le level levels && nat_lt node (2 ^ (levels - level)) && nat_lt side 2
@@ -17,6 +17,6 @@ is_word levels (P level place) = nat_le 1 level && nat_le level levels && nat_lt
 unfoldable pub words_of : ℕ → List ℕ → Word → ℕ
 words_of levels row word = if is_word levels word then slice_index row (number_of levels word) else 0
 
--- the state that a flat row and processes show
+-- the state of a flat row and processes
 abbrev pub row_state : ℕ → List ℕ → (ℕ → Process) → State
 row_state levels row processes = record { words = words_of levels row; processes = processes }

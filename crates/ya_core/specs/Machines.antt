@@ -1,4 +1,4 @@
--- The machine of all processes, and what it tells of each step.
+-- The machine of all processes, and its record of each step.
 use Rattle.std.specs.Prelude.{◌≡◌, ℕ, Bool, true, false, List, [], ◌∷◌, slice_index_or}
 use Rattle.ya_core.specs.declared.word.Word.{Word}
 use Rattle.ya_core.specs.declared.word.Access.{Access}
@@ -21,7 +21,7 @@ pub record Rows : Type 0 where
 unfoldable pub processes_of : List Process → ℕ → Process
 processes_of list place = slice_index_or list place Idle
 
--- the state that the machine shows
+-- the state of the machine: words by name, processes by place
 abbrev pub state_of : Rows → State
 state_of m = row_state m.levels m.words (processes_of m.processes)
 
@@ -35,25 +35,25 @@ abbrev pub is_store : Access → Bool
 is_store (Load word) = false
 is_store (Store word value) = true
 
--- what a step that leads to the process is marked as: it won the root, or it ended the passage
+-- the mark of a step that leads to the process: it won the root, it ended the passage, or neither
 abbrev pub mark_of : Process → Mark
 mark_of Idle = mark.Out
 mark_of Inside = mark.Inside
 mark_of _ = mark.Plain
 
--- what is told of an access by which a process goes on to the next one
+-- the record of a step: the place made the access with this value and became the next process
 abbrev pub step_by : ℕ → Access → ℕ → Process → Step
 step_by place access value next =
     record { place = place; word = word_of access; store = is_store access; value = value; mark = mark_of next }
 
--- what is told of the step of a place
+-- the record of a place's step from the state
 abbrev pub step_of : ℕ → ℕ → State → Step
 step_of levels place s =
     let access = access_of levels place (s.processes place) in
     let value = value_of s.words access in
     step_by place access value (next_of levels place (s.processes place) value)
 
--- from this state the places that are picked take these steps, one after another, which leads to the last state
+-- from this state the picked places take these steps, one after another, and end in the last state
 abbrev pub ReplaysTo : ℕ → State → List ℕ → List Step → State → Type 0
 ReplaysTo levels s [] [] last = last ≡ s
 ReplaysTo levels s (place ∷ picks) (step ∷ steps) last =
@@ -62,6 +62,6 @@ ReplaysTo levels s (place ∷ picks) (step ∷ steps) last =
 ReplaysTo levels s [] (step ∷ steps) last = ⊥
 ReplaysTo levels s (place ∷ picks) [] last = ⊥
 
--- from this state the places that are picked take these steps, one after another
+-- from this state the picked places take these steps, one after another
 abbrev pub Replays : ℕ → State → List ℕ → List Step → Type 0
 Replays levels s picks steps = (last : State) × ReplaysTo levels s picks steps last

@@ -1,5 +1,5 @@
--- What is said of progress: some place that takes part can go on, some finite schedule leads to what is wanted, and at
--- a node, from its store of T, nobody is overtaken twice.
+-- Progress: some place that takes part can go on; some finite schedule leads to a state with a property; the wins of
+-- rivals at a node.
 use Rattle.std.specs.Prelude.{◌≡◌, ◌≢◌, ℕ, ◌+◌, ◌==◌, Bool, true, false, not, ◌&&◌, if◌then◌else◌, List, [], ◌∷◌}
 use Rattle.ya_core.specs.declared.process.EntryPoint.TheVariants.{E2}
 use Rattle.ya_core.specs.declared.process.Process.{Process}
@@ -16,7 +16,7 @@ pub record SomeoneGoesOn (levels : ℕ) (s : State) : Type 0 where
   pub step : StepsTo levels place s after
   pub goes_on : after.processes place ≢ s.processes place
 
--- some finite schedule leads from the state to one that is so
+-- some finite schedule leads from the state to a state with the property `So`
 abbrev pub CanLeadTo : ℕ → State → (State → Type 0) → Type 0
 CanLeadTo levels s So = (places : List ℕ) × (after : State) × LeadTo levels s places after × So after
 
@@ -28,11 +28,11 @@ pub record SomeoneGoesOnIn {X : Type 0} (levels : ℕ) (world : World X) : Type 
   pub step : WorldSteps levels place world after
   pub goes_on : after.state.processes place ≢ world.state.processes place
 
--- what a step does at one level: its place announces itself at its node (e2), wins the node, or does neither
-pub data Deed : Type 0 where
-  Announces : Deed
-  Wins : Deed
-  Neither : Deed
+-- the effect of a step at one level: its place announces itself at its node (e2), wins the node, or does neither
+pub data EventKind : Type 0 where
+  Announces : EventKind
+  Wins : EventKind
+  Neither : EventKind
 
 -- the process is on its way in at the level
 abbrev pub is_entering : ℕ → Process → Bool
@@ -44,27 +44,27 @@ abbrev pub is_to_announce : ℕ → Process → Bool
 is_to_announce level (Entering stands E2) = level == stands
 is_to_announce level _ = false
 
--- the deed of a step from one process to the next; who leaves the way in of a level has won it
-abbrev pub deed_of : ℕ → Process → Process → Deed
-deed_of level before after =
+-- the deed of a step from one process to the next; a process that leaves the way in of a level has won the level
+abbrev pub event_kind : ℕ → Process → Process → EventKind
+event_kind level before after =
     if is_to_announce level before then Announces
     else (if is_entering level before && not (is_entering level after) then Wins else Neither)
 
--- a step as one level sees it: its place, and what it did there
+-- a step in one level's view: its place and its deed there
 pub record LevelStep : Type 0 where
   pub place : ℕ
-  pub deed : Deed
+  pub deed : EventKind
 
 -- the place announces itself
 abbrev pub announces : ℕ → LevelStep
 announces place = record { place = place; deed = Announces }
 
--- from this state on places step one after another, and the level sees these steps
+-- places step one after another from this state, and this list is the level's view of these steps
 abbrev pub LevelSees : ℕ → ℕ → State → List LevelStep → Type 0
 LevelSees levels level s [] = Unit {0}
 LevelSees levels level s (step ∷ steps) =
     (after : State) × StepsTo levels step.place s after
-    × (step.deed ≡ deed_of level (s.processes step.place) (after.processes step.place))
+    × (step.deed ≡ event_kind level (s.processes step.place) (after.processes step.place))
     × LevelSees levels level after steps
 
 -- none of the steps wins the level for the place
@@ -78,11 +78,11 @@ is_rival level place other =
     (node_of level other == node_of level place) && not (side_of level other == side_of level place)
 
 -- the deed wins the node
-abbrev pub is_win : Deed → Bool
+abbrev pub is_win : EventKind → Bool
 is_win Wins = true
 is_win _ = false
 
--- how often rivals of the place win the level
+-- the number of times that rivals of the place win the level
 abbrev pub times_overtaken : ℕ → ℕ → List LevelStep → ℕ
 times_overtaken level place [] = 0
 times_overtaken level place (step ∷ steps) =

@@ -1,9 +1,9 @@
--- The order of real time, in which the content of a run stands.
+-- The real-time order of a run's content.
 use Rattle.std.specs.Prelude.{◌≡◌, ℕ, List, ◌++◌}
 use Rattle.ya_core.specs.Worlds.{Marked, World, entries_of}
 
--- from the early world to the late one: all that was made by the early time stands first, as it stood then, and behind
--- it stands what each place has made since
+-- from the early world to the late one: the early content is a prefix of the late one and contains all entries made by
+-- then; after it come the entries that each place has made since
 pub record KeepsRealTimeOrder {X : Type 0} (early late : World X) : Type 0 where
   pub since : List (Marked X)
   pub content : late.content ≡ early.content ++ since

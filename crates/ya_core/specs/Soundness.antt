@@ -1,4 +1,4 @@
--- What holds of all words and all processes at every moment: the invariant of the lock.
+-- The invariant of the lock: a property of all words and all processes at every moment.
 use Rattle.std.specs.Prelude.{◌≡◌, ◌≢◌, ℕ, ◌+◌, ◌^◌, ◌<◌, ◌≤◌, ◌==◌, Bool, true, false, nat_lt, if◌then◌else◌, IsTrue}
 use Rattle.std.specs.Prelude.{◌⊎◌, ◌||◌}
 use Rattle.ya_core.specs.declared.word.Word.TheVariants.{C, T, P}
@@ -11,36 +11,36 @@ use Rattle.ya_core.specs.declared.process.Process.TheVariants.{Idle, Entering, I
 use Rattle.ya_core.specs.ArbitrationTree.{node_of, side_of, Rivals, AreRivals}
 use Rattle.ya_core.specs.Steps.{State}
 
--- how far a process has come at one level
+-- the progress of a process at one level
 pub data Phase : Type 0 where
   Away : Phase
   -- its side of the node names it
   Named : Phase
   -- it has also announced itself at the node
   Announced : Phase
-  -- it has also cleared its spin word, and looks for the rival or waits; the point where it stands, e4 to e10
+  -- it has also cleared its spin word, and looks for the rival or waits; with its point, e4 to e10
   Waiting : EntryPoint → Phase
   -- it has won the node, and keeps it until it gives up its claim
   Holding : Phase
   -- it gave up its claim, and has yet to see who announced itself last
   Releasing : Phase
-  -- another place did, which it is to let in; that place
+  -- another place announced itself last, and it is to let that place in; with that place
   LettingIn : ℕ → Phase
 
--- the phase at the level where the process stands, on its way in
+-- the phase at the level that a process on its way in has reached
 abbrev pub entry_phase : EntryPoint → Phase
 entry_phase E1 = Away
 entry_phase E2 = Named
 entry_phase E3 = Announced
 entry_phase point = Waiting point
 
--- the same on its way out
+-- the phase at the level that a process on its way out has reached
 abbrev pub exit_phase : ExitPoint → Phase
 exit_phase X1 = Holding
 exit_phase X2 = Releasing
 exit_phase (X3 rival) = LettingIn rival
 
--- it holds the levels below the one where it stands, and is away from those above
+-- it holds the levels below the one it has reached, and is away from those above
 abbrev pub phase_at : ℕ → ℕ → Phase → Phase
 phase_at level stands phase = if nat_lt level stands then Holding else (if level == stands then phase else Away)
 
@@ -88,7 +88,7 @@ awaits_wake (Waiting (E7 rival)) = true
 awaits_wake (Waiting E8) = true
 awaits_wake _ = false
 
--- and it has seen that it announced itself last: e6 to e8
+-- it knows its rival, was not woken yet, and has seen that it announced itself last: e6 to e8
 abbrev pub saw_itself_last : Phase → Bool
 saw_itself_last (Waiting (E6 rival)) = true
 saw_itself_last (Waiting (E7 rival)) = true
@@ -106,7 +106,7 @@ abbrev pub awaits_release : Phase → Bool
 awaits_release (Waiting E10) = true
 awaits_release _ = false
 
--- it has yet to look for the place, or knows it and is to look whether it sleeps, or to wake it: e3 to e7
+-- it has yet to look for the place, or knows the place and is to look at its spin word or to wake it: e3 to e7
 abbrev pub is_to_wake : ℕ → Phase → Bool
 is_to_wake place Announced = true
 is_to_wake place (Waiting E4) = true
@@ -120,29 +120,29 @@ abbrev pub wakes_next : ℕ → Phase → Bool
 wakes_next place (Waiting (E7 rival)) = rival == place
 wakes_next place _ = false
 
--- on its way out it is to find the place in the word T, or to let it in: x2 and x3
+-- on its way out it is to find the place in the word T, or is to let the place in: x2 and x3
 abbrev pub is_to_let_in : ℕ → ℕ → Phase → Bool
 is_to_let_in turn place Releasing = turn == place + 1
 is_to_let_in turn place (LettingIn rival) = rival == place
 is_to_let_in turn place _ = false
 
--- one level is sound: `node` and `side` say where each place competes there, `phase` how far it has come,
--- and `claim`, `turn` and `spin` what the words C, T and P of the level hold
+-- one level is sound; `node` and `side` give each place's node and side there, `phase` its progress, and `claim`,
+-- `turn` and `spin` the values of the words C, T and P of the level
 pub record IsSoundLevel (node side : ℕ → ℕ) (phase : ℕ → Phase) (claim : ℕ → ℕ → ℕ) (turn spin : ℕ → ℕ) : Type 0 where
-  -- claim: a word C names the process that claims its side, and is nil where none does
+  -- claim: a word C names the process that claims its side, and is nil if no process does
   pub claimed : (p : ℕ) → IsTrue (claims (phase p)) → claim (node p) (side p) ≡ p + 1
   pub claimant : (n s p : ℕ) → claim n s ≡ p + 1 → (node p ≡ n) × (side p ≡ s) × IsTrue (claims (phase p))
-  -- turn: a word T names a place below the node, and one of two rivals that both announced themselves; it is not nil
-  -- where a process has announced itself or is releasing
+  -- turn: a word T names a place below the node, and one of two rivals that both announced themselves; it is not nil if
+  -- a process has announced itself or is releasing
   pub below : (n p : ℕ) → turn n ≡ p + 1 → node p ≡ n
   pub announced : (p : ℕ) → IsTrue (has_announced (phase p)) → turn (node p) ≢ 0
   pub releasing : (p : ℕ) → IsTrue (is_releasing (phase p)) → turn (node p) ≢ 0
   pub one_of_two : (p q : ℕ) → Rivals node side p q → IsTrue (has_announced (phase p)) → IsTrue (has_announced (phase q))
       → (turn (node p) ≡ p + 1) ⊎ (turn (node p) ≡ q + 1)
-  -- waiter: where one holds and its rival has announced itself, the rival announced itself last
+  -- waiter: if one process holds and its rival has announced itself, the rival announced itself last
   pub waiter : (p q : ℕ) → Rivals node side p q → IsTrue (holds (phase p)) → IsTrue (has_announced (phase q))
       → turn (node p) ≡ q + 1
-  -- spin: a word P is 0, 1 or 2, and 2 lets its process in only where the rival announced itself last
+  -- spin: a word P is 0, 1 or 2; if a waiting process has a 2, each rival that has announced itself did so last
   pub in_range : (p : ℕ) → spin p ≤ 2
   pub let_in : (p q : ℕ) → Rivals node side p q → IsTrue (waits (phase p)) → spin p ≡ 2 → IsTrue (has_announced (phase q))
       → turn (node p) ≡ q + 1
@@ -151,16 +151,16 @@ pub record IsSoundLevel (node side : ℕ → ℕ) (phase : ℕ → Phase) (claim
 abbrev pub SomeRival : (node side : ℕ → ℕ) (phase : ℕ → Phase) → ℕ → (Phase → Bool) → Type 0
 SomeRival node side phase p kind = (q : ℕ) × Rivals node side p q × IsTrue (kind (phase q))
 
--- wake: whoever waits is owed a word
+-- wake: each waiting process is owed a word
 pub record IsOwed (node side : ℕ → ℕ) (phase : ℕ → Phase) (turn spin : ℕ → ℕ) (p : ℕ) : Type 0 where
-  -- one that was not woken (0) has a rival that claims its side or is to let it in, and one that was woken (1) and not
-  -- let in a rival that has announced itself or is to let it in
+  -- a process that was not woken (0) has a rival that claims its side or is to let it in. A process that was woken (1)
+  -- and not let in has a rival that has announced itself or is to let it in
   pub unwoken : IsTrue (awaits_wake (phase p)) → spin p ≡ 0
       → SomeRival node side phase p (λ x. claims x || is_to_let_in (turn (node p)) p x)
   pub unreleased : IsTrue (waits (phase p)) → spin p ≡ 1
       → SomeRival node side phase p (λ x. has_announced x || is_to_let_in (turn (node p)) p x)
   pub woken : IsTrue (was_woken (phase p)) → spin p ≢ 0
-  -- where another announced itself last it is owed a 1, until it has a 2 that nobody overwrites
+  -- if another place announced itself last, it is owed a 1; later it has a 2 that no rival overwrites
   pub owed_one : turn (node p) ≢ p + 1 → IsTrue (saw_itself_last (phase p)) → spin p ≡ 0
       → SomeRival node side phase p (is_to_wake p)
   pub has_two : turn (node p) ≢ p + 1 → IsTrue (awaits_release (phase p)) → spin p ≡ 2
@@ -174,7 +174,7 @@ IsSoundAt levels s level =
     (λ n d. s.words (C level n d))
     (λ n. s.words (T level n)) (λ p. s.words (P level p))
 
--- what is owed at a level of a state
+-- each waiting process is owed a word at the level of a state
 abbrev pub IsOwedAt : ℕ → State → ℕ → Type 0
 IsOwedAt levels s level =
     (p : ℕ) → IsOwed (node_of level) (side_of level) (λ q. phase_of levels level (s.processes q))
@@ -188,12 +188,12 @@ EntryIsProper level place (E6 rival) = AreRivals level place rival
 EntryIsProper level place (E7 rival) = AreRivals level place rival
 EntryIsProper level place _ = Unit {0}
 
--- on the way out it is another place below the node
+-- on the way out the rival is another place below the node
 abbrev pub ExitIsProper : ℕ → ℕ → ExitPoint → Type 0
 ExitIsProper level place (X3 rival) = (node_of level place ≡ node_of level rival) × (rival ≢ place)
 ExitIsProper level place _ = Unit {0}
 
--- a process on its way in or out has a place and a level of the tree, and what its point knows is so
+-- a process on its way in or out has a place and a level of the tree, and its point's knowledge is true
 pub record IsOnItsWay (levels place level : ℕ) (Knows : Type 0) : Type 0 where
   pub in_tree : place < 2 ^ levels
   pub least : 1 ≤ level
@@ -207,7 +207,7 @@ IsProper levels place (Entering level point) = IsOnItsWay levels place level (En
 IsProper levels place Inside = place < 2 ^ levels
 IsProper levels place (Leaving level point) = IsOnItsWay levels place level (ExitIsProper level place point)
 
--- the invariant: each process is proper, each level is sound, and at each level whoever waits is owed a word
+-- the invariant: each process is proper, each level is sound, and at each level each waiting process is owed a word
 pub record IsSoundState (levels : ℕ) (s : State) : Type 0 where
   pub proper : (p : ℕ) → IsProper levels p (s.processes p)
   pub sound : (level : ℕ) → 1 ≤ level → level ≤ levels → IsSoundAt levels s level

@@ -1,4 +1,4 @@
--- The steps of one process, and what each makes of all words and all processes.
+-- The steps of one process, and their effects on all words and all processes.
 use Rattle.std.specs.Prelude.{◌≡◌, ◌≢◌, ℕ, ◌+◌, ◌-◌, ◌^◌, ◌<◌, ◌==◌, nat_lt, if◌then◌else◌, List, [], ◌∷◌}
 use Rattle.ya_core.specs.declared.word.Word.{Word}
 use Rattle.ya_core.specs.declared.word.Word.TheVariants.{C, T, P}
@@ -31,7 +31,7 @@ exit_access level place X1 = Store (C level (node_of level place) (side_of level
 exit_access level place X2 = Load (T level (node_of level place))
 exit_access level place (X3 rival) = Store (P level rival) 2
 
--- the access that is due: an idle process begins at the leaves, one that is inside leaves from the root
+-- the due access: an idle process begins at the leaves, and a process that is inside begins its exit at the root
 abbrev pub access_of : ℕ → ℕ → Process → Access
 access_of levels place Idle = entry_access 1 place E1
 access_of levels place (Entering level point) = entry_access level place point
@@ -46,7 +46,7 @@ after_entry levels level = if nat_lt level levels then Entering (level + 1) E1 e
 abbrev pub after_exit : ℕ → Process
 after_exit level = if nat_lt 1 level then Leaving (level - 1) X1 else Idle
 
--- where each point of the way in leads, by the value that its access loaded
+-- the process after each point of the way in, whose access loaded the value
 abbrev pub entry_next : ℕ → ℕ → ℕ → EntryPoint → ℕ → Process
 entry_next levels level place E1 value = Entering level E2
 entry_next levels level place E2 value = Entering level E3
@@ -60,8 +60,8 @@ entry_next levels level place E8 value = if value == 0 then Entering level E8 el
 entry_next levels level place E9 value = if value == place + 1 then Entering level E10 else after_entry levels level
 entry_next levels level place E10 value = if value == 2 then after_entry levels level else Entering level E10
 
--- where each point of the way out leads; at x2 the word T names a place, since by the invariant it isn't nil there
--- (`releasing` of `IsSoundLevel`), so no state that has it comes to the row of 0 - 1
+-- the process after each point of the way out. At x2 the word T names a place: the invariant excludes nil there
+-- (`releasing` of `IsSoundLevel`), so the case of `0 - 1` never occurs
 abbrev pub exit_next : ℕ → ℕ → ExitPoint → ℕ → Process
 exit_next level place X1 value = Leaving level X2
 exit_next level place X2 value = if value == place + 1 then after_exit level else Leaving level (X3 (value - 1))
@@ -88,12 +88,13 @@ abbrev pub value_of : (Word → ℕ) → Access → ℕ
 value_of words (Load word) = words word
 value_of words (Store word value) = value
 
--- a load changes no word, a store the named one alone
+-- a load changes no word; a store changes only its own word
 abbrev pub Accesses : Access → (Word → ℕ) → (Word → ℕ) → Type 0
 Accesses (Load word) old new = (other : Word) → new other ≡ old other
 Accesses (Store word value) old new = (new word ≡ value) × ((other : Word) → other ≢ word → new other ≡ old other)
 
--- one atomic step of a place of the tree: its access happens, it goes on by the value, and all other processes stay
+-- one atomic step of a place of the tree: its access happens, its process goes on with the value, and all other
+-- processes stay
 pub record StepsTo (levels place : ℕ) (old new : State) : Type 0 where
   pub in_tree : place < 2 ^ levels
   pub words : Accesses (access_of levels place (old.processes place)) old.words new.words
@@ -102,7 +103,7 @@ pub record StepsTo (levels place : ℕ) (old new : State) : Type 0 where
       (value_of old.words (access_of levels place (old.processes place)))
   pub others : (other : ℕ) → other ≢ place → new.processes other ≡ old.processes other
 
--- these places step one after another, and so lead from the one state to the other
+-- these places step one after another, from the one state to the other
 abbrev pub LeadTo : ℕ → State → List ℕ → State → Type 0
 LeadTo levels old [] new = new ≡ old
 LeadTo levels old (place ∷ places) new =

@@ -1,4 +1,5 @@
--- Processes that change a shared list while they are inside: worlds, events and runs. Nothing here keeps two out.
+-- Processes that change a shared list while they are inside: worlds, events and runs. Nothing here excludes that two
+-- are inside.
 use Rattle.std.specs.Prelude.{◌≡◌, ◌≢◌, ◌↔◌, ℕ, ◌==◌, Bool, true, false, if◌then◌else◌, IsTrue, List, [], ◌∷◌, ◌++◌}
 use Rattle.std.specs.Prelude.{Option, Some}
 use Rattle.ya_core.specs.declared.process.Process.{Process}
@@ -14,15 +15,16 @@ is_inside _ = false
 abbrev pub IsInside : State → ℕ → Type 0
 IsInside s place = IsTrue (is_inside (s.processes place))
 
--- who is inside: this place, or none where no place is
-abbrev pub TellsInside : State → Option ℕ → Type 0
-TellsInside s inside = (place : ℕ) → (inside ≡ Some place) ↔ IsInside s place
+-- the place that is inside, or `None` if no place is
+abbrev pub ReportsInside : State → Option ℕ → Type 0
+ReportsInside s inside = (place : ℕ) → (inside ≡ Some place) ↔ IsInside s place
 
 -- an entry of the content, marked with the place that made it
 abbrev pub Marked : Type 0 → Type 0
 Marked X = ℕ × X
 
--- words and processes; the content; for each place its copy of it, what it did in this passage, and what it made in all
+-- words and processes; the content; for each place its copy of the content, its entries in this passage, and all
+-- entries that it has made
 pub record World (X : Type 0) : Type 0 where
   pub state : State
   pub content : List (Marked X)
@@ -39,8 +41,8 @@ pub data Event (X : Type 0) : Type 0 where
 abbrev pub opening_world : {X : Type 0} → World X
 opening_world {X} = record { state = opening; content = []; copies = λ _. []; doing = λ _. []; made = λ _. [] }
 
--- a step of the place: the one that wins the root copies the content, and nothing is done yet in this passage; the one that
--- gives up the root writes the copy over the content, whole, and what was done is made
+-- a step of the place. The step that wins the root copies the content, and begins an empty list of entries of this
+-- passage. The step that gives up the root replaces the content by the copy, and the entries of the passage are made
 pub record WorldSteps {X : Type 0} (levels place : ℕ) (old new : World X) : Type 0 where
   pub state : StepsTo levels place old.state new.state
   pub copy : new.copies place ≡ (if is_inside (new.state.processes place) then old.content else old.copies place)
@@ -52,7 +54,7 @@ pub record WorldSteps {X : Type 0} (levels place : ℕ) (old new : World X) : Ty
   pub others_doing : (other : ℕ) → other ≢ place → new.doing other ≡ old.doing other
   pub others_made : (other : ℕ) → other ≢ place → new.made other ≡ old.made other
 
--- a place that is inside appends an entry to its copy, one that may follow what the copy has
+-- a place that is inside appends an entry to its copy, which the entry may follow
 pub record WorldAppends {X : Type 0} (may : List (Marked X) → Marked X → Type 0) (place : ℕ) (entry : X)
     (old new : World X) : Type 0 where
   pub inside : IsInside old.state place
@@ -77,7 +79,7 @@ Runs {X} levels may old [] new = new ≡ old
 Runs {X} levels may old (event ∷ events) new =
     (next : World X) × Happens levels may event old next × Runs levels may next events new
 
--- the world is reached from the opening one by some list of events; each entry `may` follow the copy it was put behind
+-- some list of events leads from the opening world to the world; each appended entry `may` follow the copy before it
 abbrev pub IsReached : {X : Type 0} → ℕ → (List (Marked X) → Marked X → Type 0) → List (Event X) → World X → Type 0
 IsReached levels may events world = Runs levels may opening_world events world
 
@@ -97,7 +99,7 @@ entries_of place [] = []
 entries_of place (entry ∷ entries) =
     if entry.0 == place then entry.1 ∷ entries_of place entries else entries_of place entries
 
--- each entry may follow those before it, of which `before` were there already
+-- each entry may follow `before` and the entries before it in the list
 abbrev pub FollowsFrom : {X : Type 0} → (List (Marked X) → Marked X → Type 0) → List (Marked X) → List (Marked X)
     → Type 0
 FollowsFrom ok before [] = Unit {0}

@@ -1,5 +1,5 @@
-//! What holds of every run of the lock's core, whatever the order in which the places step: laws of the definitions by
-//! which the walker and the machine are specified. Each is a function with an empty body, whose contract is the law.
+//! Properties of every run of the lock's core, for any order of steps. They are laws of the definitions that specify
+//! the walker and the machine. Each is a function with an empty body, whose contract is the law.
 
 ghost use Rattle.std.specs.Prelude.{◌≡◌, ◌≢◌, ℕ, ◌+◌, ◌*◌, ◌^◌, ◌<◌, ◌≤◌, ◌⊎◌, IsTrue, Option, Some, List, ◌∷◌, ◌++◌};
 ghost use Rattle.ya_core.specs.declared.word.Word.{Word};
@@ -32,8 +32,8 @@ pub fn numbers()
         → number_of levels word < count_of_words levels }
 {}
 
-/// Where the invariant holds, the access that is due to a place is of a word of the tree, and the value that a load
-/// finds can stand in its word.
+/// If the invariant holds, the access due to a place is of a word of the tree, and a load finds a value that its word
+/// can hold.
 pub fn accesses()
     ensures word { (levels place : ℕ) (s : State)
         → 1 ≤ levels → place < 2 ^ levels → IsSoundState levels s
@@ -43,8 +43,8 @@ pub fn accesses()
         MayFind access (value_of s.words access) }
 {}
 
-/// Any place of the tree may step at any time, and its step has one outcome. The same holds of worlds, where a place
-/// that is inside may append any entry.
+/// Any place of the tree may step at any time, and its step has one outcome. The same holds of worlds; there a place
+/// that is inside may also append any entry.
 pub fn freedom<X>()
     ensures may { (levels place : ℕ) (old : State)
         → place < 2 ^ levels → (new : State) × StepsTo levels place old new }
@@ -56,17 +56,18 @@ pub fn freedom<X>()
         → IsInside old.state place → (new : World X) × WorldAppends any_entry place entry old new }
 {}
 
-/// At most one place is inside, in every state to which any list of places leads that step one after another. The same
-/// of every world stands in [`content`].
+/// At most one place is inside, in every state after any list of places has stepped one after another. [`content`]
+/// states the same of every world.
 pub fn exclusion()
     ensures { (levels : ℕ) (places : List ℕ) (s : State)
         → 1 ≤ levels → LeadTo levels opening places s
         → (p q : ℕ) → IsInside s p → IsInside s q → p ≡ q }
 {}
 
-/// The lock never deadlocks: where the invariant holds and some place takes part, some place that takes part has a step
-/// that changes its process. So it is in every world that any list of events leads to. Where the invariant holds, some
-/// finite schedule leads each place that is on its way in inside, and each that is inside or on its way out to idle.
+/// The lock never deadlocks: if the invariant holds and some place takes part, then some place that takes part has a
+/// step that changes its process. The same holds in every world that any list of events leads to. If the invariant
+/// holds, then for each place on its way in some finite schedule leads it inside, and for each place that is inside or
+/// on its way out some finite schedule leads it to idle.
 pub fn no_deadlock<X>()
     ensures states { (levels place : ℕ) (s : State)
         → 1 ≤ levels → IsSoundState levels s → s.processes place ≢ process.Idle
@@ -82,11 +83,13 @@ pub fn no_deadlock<X>()
         → world.state.processes place ≢ process.Idle → SomeoneGoesOnIn levels world }
 {}
 
-/// Nobody starves: in the run of a fair schedule, from any state where the invariant holds, a place that is on its way in
-/// is inside then or later, and one that is inside or on its way out is idle then or later. A schedule picks at each time
-/// a place, which steps, or none; so a run that ends has one too. It is fair where each place that isn't idle is picked
-/// then or later. Each schedule of places of the tree has a run from each state, and one alone. Some schedule is fair from
-/// each state where the invariant holds, and gives each place its turn again and again.
+/// Nobody starves in the run of a fair schedule, from any state with the invariant. A place on its way in is inside
+/// then or later. A place that is inside or on its way out is idle then or later.
+///
+/// At each time a schedule picks either one place, which steps, or no place; so a run that ends has a schedule too. A
+/// schedule is fair if each place that isn't idle is picked then or later. Each schedule of places of the tree has
+/// exactly one run from each state. Some schedule is fair from each state with the invariant, and picks each place
+/// again and again.
 pub fn starvation_freedom()
     ensures inside { (levels : ℕ) (schedule : ℕ → Option ℕ) (first : State) (states : ℕ → State)
         → 1 ≤ levels → IsSoundState levels first → IsRunOfSchedule levels schedule first states
@@ -119,9 +122,9 @@ pub fn one_overtaking()
         → HasNotWon place during → times_overtaken level place during ≤ 1 }
 {}
 
-/// In every run a place makes at most seven remote accesses a level from a time when it is idle until it is inside, and at
-/// most three a level from a time when it is inside until it is idle, however long it waits. The run begins at that time,
-/// with any state, so it may be the rest of a longer one.
+/// In every run, a place makes at most seven remote accesses for each level from a time when it is idle until it is
+/// inside. From a time when it is inside until it is idle, it makes at most three for each level. Both bounds hold
+/// however long it waits. The run begins at that time, in any state, so it may be the rest of a longer run.
 pub fn passage_count()
     ensures way_in { (levels place end : ℕ) (schedule : ℕ → Option ℕ) (first : State) (states : ℕ → State)
         → 1 ≤ levels → IsRunOfSchedule levels schedule first states → first.processes place ≡ process.Idle
@@ -133,9 +136,10 @@ pub fn passage_count()
         → remote_accesses place levels schedule states end ≤ 3 * levels }
 {}
 
-/// The same of a walker, whatever it loads: at most seven remote accesses a level from `begin_entry` until it is inside,
-/// and at most three a level from `begin_exit` until it is idle again. Between any two points of a way they are no more
-/// than the bound of the one point is above that of the other.
+/// The same bounds for a walker, whatever it loads: at most seven remote accesses for each level from `begin_entry`
+/// until it is inside, and at most three for each level from `begin_exit` until it is idle again. Each point of a
+/// passage has a bound (`most_remote`); between two points, the number of remote accesses is at most the difference of
+/// their bounds.
 pub fn access_count()
     ensures way_in { (start end : Walk) (values : List ℕ)
         → IsWalk start → BeginsEntry start → WalkLeadsTo start values end → end.remote ≤ 7 * start.levels }
@@ -147,18 +151,18 @@ pub fn access_count()
         → end.remote + most_remote start ≤ start.remote + most_remote end }
 {}
 
-/// Which entry may follow which, for the law of the content.
+/// The entries that may follow a list of entries, for the law [`content`].
 pub trait Accept {
-    /// What a place appends.
+    /// The type of the entries that places append.
     type Entry;
 
     ghost ok: { List (Marked Self.Entry) → Marked Self.Entry → Type 0 };
 }
 
 /// In every world that any list of events leads to, at most one place is inside, and the entries of each place in the
-/// content are those that it made, in order. Where each entry was acceptable to the copy that it was appended to, each is
-/// so to the entries before it; such a run is a run like any other. Whatever is appended, the world's state is the one to
-/// which its steps lead.
+/// content are those that it made, in order. If each entry was acceptable after the copy to which it was appended, each
+/// is acceptable after the entries before it in the content; such a run is also a run with any entries. Whatever is
+/// appended, the steps of the run lead from the opening state to the world's state.
 pub fn content<K: Accept>()
     ensures state { (levels : ℕ) (events : List (Event K.Entry)) (world : World K.Entry)
         → IsReached levels any_entry events world
@@ -175,9 +179,10 @@ pub fn content<K: Accept>()
         → 1 ≤ levels → IsReached levels K.ok events world → EachMayFollow K.ok world.content }
 {}
 
-/// Each run is *linearizable* (Herlihy and Wing 1990): beside what [`content`] says, the content stands in the order of
-/// real time. At each time of a run it begins the content at every later time, and has all that was made by then. So what
-/// was made by a passage that has ended stands before everything that a passage makes that begins later.
+/// Each run is *linearizable* (Herlihy and Wing 1990): besides the properties in [`content`], the content is in
+/// real-time order. The content at each time is a prefix of the content at every later time, and contains all
+/// entries made by then. Hence every entry made by a passage that has ended comes before all entries of passages
+/// that begin later.
 pub fn real_time<X>()
     ensures { (levels : ℕ) (earlier later : List (Event X)) (early late : World X)
         → 1 ≤ levels → IsReached levels any_entry earlier early → Runs levels any_entry early later late

@@ -1,12 +1,12 @@
 //! The core of the Yang-Anderson lock: the words of the arbitration tree, the steps of one process, and all processes
-//! together as a machine without threads. The algorithm and the argument are told in docs/LOCK.md.
+//! together as a machine without threads. docs/LOCK.md describes the algorithm and the argument.
 //!
-//! - [`Shape`] gives the words of a tree of 1 to 6 levels their numbers in one flat row. Contracts see its levels.
-//! - [`Walker`] is one process that is told what it loaded. It asks for one load or store at a time. Contracts see its
-//!   place, its process and its remote accesses.
-//! - [`Machine`] is all processes with their words; [`replay`] lets them step by a given schedule. Contracts see words
+//! - [`Shape`] numbers the words of a tree of 1 to 6 levels in one flat row. Contracts see its number of levels.
+//! - [`Walker`] is one process, whose caller makes the accesses. It requests one load or store at a time. Contracts see
+//!   its place, its process and its remote accesses.
+//! - [`Machine`] is all processes with their words; [`replay`] lets them step in a given schedule. Contracts see words
 //!   by name and processes by place, and each step as one row of the table of steps (`StepsTo`).
-//! - [`laws`] says what holds of every run, for any number of levels.
+//! - [`laws`] states the properties of every run, for any number of levels.
 //!
 //! ```text
 //! let shape = Shape::new(4)?;                    // 16 places, 109 words
@@ -17,11 +17,11 @@
 //! walker.op()                                    // Store(32, 6): the word T of its node at level 1
 //! ```
 //!
-//! A lock that runs drives a walker over atomic words. What its proofs may cite beside the contracts of this crate
-//! stands in one place, `proofs/Promised.antt`, and is part of what the crate promises.
+//! A running lock drives a walker over atomic words. Besides the contracts of this crate, its proofs may cite the
+//! lemmas of `proofs/Promised.antt`, which are part of the crate's promises.
 //!
-//! Only tested: that [`Machine::new`] and [`replay`] find memory where there is some, and that the table of steps is
-//! the one that docs/LOCK.md tells, by a second machine that was written from that table (`tests.rt`).
+//! Tested, not proved: [`Machine::new`] and [`replay`] can allocate if memory is available. The table of steps is the
+//! one in docs/LOCK.md: lock_tests compares with a second machine, written from that table.
 #![tactic(auto)]
 
 pub mod laws;

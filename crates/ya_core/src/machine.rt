@@ -7,7 +7,7 @@ ghost use Rattle.ya_core.specs.WalkerModel.{AccessIsWithin};
 ghost use Rattle.ya_core.specs.inside.Machines.{IsMachine, TakesStep, rows};
 ghost use Rattle.ya_core.specs.Machines.{state_of, step_of, step_by, mark_of};
 ghost use Rattle.ya_core.specs.FlatRow.{words_of};
-ghost use Rattle.ya_core.specs.Worlds.{TellsInside, is_inside};
+ghost use Rattle.ya_core.specs.Worlds.{ReportsInside, is_inside};
 
 use crate::process::Process;
 use crate::shape::Shape;
@@ -17,7 +17,7 @@ use std::alloc::{AllocError, AllocFailed, Global};
 use std::marker::Model;
 use thiserror::Error;
 
-/// Memory was refused.
+/// Memory couldn't be allocated.
 #[derive(Debug, Error, Drop)]
 #[error("out of memory")]
 pub struct NoMemory;
@@ -34,10 +34,10 @@ impl<T: Drop> From<AllocFailed<T>> for NoMemory {
     }
 }
 
-/// All places of a tree with its words, where one place at a time takes one atomic step.
+/// All places of a tree with its words. One place at a time takes one atomic step.
 ///
 /// Contracts see it as its rows: its levels, its words in one flat row and its processes by place. `state_of` shows
-/// them as words by name and processes by place, in which the lock's invariant always holds.
+/// words by name and processes by place; this state always satisfies the lock's invariant.
 #[derive(Debug, Drop)]
 pub struct Machine {
     shape: Shape,
@@ -57,7 +57,7 @@ impl Model for Machine {
 }
 
 impl Machine {
-    /// The machine at the start: every word 0, every process idle. Fails only for memory.
+    /// Returns the machine at the start: every word 0, every process idle. Fails only if memory runs out.
     pub fn new(alloc: Global, shape: Shape) -> Result<Machine, NoMemory>
         ensures levels { IfOk result (λ machine. machine.levels ≡ shape) }
         ensures start { IfOk result (λ machine. state_of machine ≡ opening) }
@@ -71,8 +71,8 @@ impl Machine {
         })
     }
 
-    /// Lets the place take one atomic step. An idle place begins its entry by it, one that is inside its exit, and one
-    /// that waits reads its spin word once.
+    /// Takes one atomic step of the place. An idle place begins its entry, a place that is inside begins its exit, and
+    /// a waiting place reads its spin word once.
     pub fn step(&mut self, place: usize) -> Step
         requires { place < 2 ^ self.old.levels }
         ensures levels { self.new.levels ≡ self.old.levels }
@@ -82,14 +82,14 @@ impl Machine {
         take_step(&self.shape, place, &mut self.words, &mut self.processes)
     }
 
-    /// The place that is inside, if one is.
+    /// Returns the place that is inside, if any.
     pub fn inside(&self) -> Option<usize>
-        ensures { TellsInside (state_of self.now) result }
+        ensures { ReportsInside (state_of self.now) result }
     {
         first_inside(&self.processes)
     }
 
-    /// What the word with this number holds.
+    /// Returns the value of the word with this number.
     pub fn word(&self, number: usize) -> u64
         requires { number < count_of_words self.now.levels }
         ensures { result ≡ slice_index self.now.words number }
@@ -98,7 +98,7 @@ impl Machine {
     }
 }
 
-/// Lets the place take its step in the row of words and the list of processes.
+/// Takes the place's step in the row of words and the list of processes.
 fn take_step(shape: &Shape, place: usize, words: &mut [u64], processes: &mut [Process]) -> Step
     requires room { place < 2 ^ shape.now }
     requires machine { IsMachine (rows shape.now words.old processes.old) }
@@ -114,7 +114,7 @@ fn take_step(shape: &Shape, place: usize, words: &mut [u64], processes: &mut [Pr
     step_by(place, access, value, next)
 }
 
-/// Makes the access in the row of words, and gives the value that it loaded or stored.
+/// Makes the access in the row of words, and returns the value that it loaded or stored.
 fn perform(shape: &Shape, words: &mut [u64], access: Access) -> u64
     requires within { AccessIsWithin shape.now access }
     requires room { length words.old ≡ count_of_words shape.now }
@@ -130,7 +130,7 @@ fn perform(shape: &Shape, words: &mut [u64], access: Access) -> u64
     }
 }
 
-/// The step by which a place made the access and went on to the process.
+/// Returns the record of a step: the place made the access and became the process `next`.
 fn step_by(place: usize, access: Access, value: u64, next: Process) -> Step
     ensures { result ≡ step_by place access value next }
 {
@@ -147,7 +147,7 @@ fn step_by(place: usize, access: Access, value: u64, next: Process) -> Step
     }
 }
 
-/// What a step brought about that led to the process.
+/// Returns the effect of a step that leads to the process.
 fn mark(process: Process) -> Mark
     ensures { result ≡ mark_of process }
 {
@@ -158,7 +158,7 @@ fn mark(process: Process) -> Mark
     }
 }
 
-/// The first place whose process is inside.
+/// Returns the first place whose process is inside.
 fn first_inside(processes: &[Process]) -> Option<usize>
     ensures { result ≡ position is_inside processes.now }
 {

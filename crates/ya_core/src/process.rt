@@ -1,4 +1,4 @@
-//! Where one process stands, which access is due to it, and where that leads.
+//! The state of one process, its due access, and its next state.
 ghost use Rattle.std.specs.Prelude.{◌≡◌, ◌+◌, ◌-◌, ◌^◌, ◌<◌, ◌≤◌};
 ghost use Rattle.ya_core.specs.ArbitrationTree.{node_of, side_of};
 ghost use Rattle.ya_core.specs.Steps.{entry_access, exit_access, entry_next, exit_next, after_entry, after_exit};
@@ -7,57 +7,58 @@ ghost use Rattle.ya_core.specs.Soundness.{IsProper};
 
 use crate::word::{Access, Word};
 
-/// Where a process stands on its way in at a level. The rival's place is known from the load of its claim on.
+/// The point that a process has reached on its way in at a level. The rival's place is known once the rival's claim has
+/// been loaded.
 #[derive(Clone, Copy, PartialEq, Eq, Debug)]
 pub enum EntryPoint {
-    /// It is to claim its side of the node.
+    /// Next: claim its side of the node.
     E1,
-    /// It is to announce itself at the node.
+    /// Next: announce itself at the node.
     E2,
-    /// It is to clear its spin word.
+    /// Next: clear its spin word.
     E3,
-    /// It is to look for a rival on the other side.
+    /// Next: look for a rival on the other side.
     E4,
-    /// It is to look who announced itself last; the rival's place.
+    /// Next: load who announced itself last. Holds the rival's place.
     E5(usize),
-    /// It is to look at the rival's spin word; the rival's place.
+    /// Next: load the rival's spin word. Holds the rival's place.
     E6(usize),
-    /// It is to wake the rival; the rival's place.
+    /// Next: wake the rival. Holds the rival's place.
     E7(usize),
-    /// It waits to be woken.
+    /// Waits to be woken.
     E8,
-    /// It is to look again who announced itself last.
+    /// Next: load again who announced itself last.
     E9,
-    /// It waits to be let in.
+    /// Waits to be let in.
     E10,
 }
 
-/// Where a process stands on its way out at a level.
+/// The point that a process has reached on its way out at a level.
 #[derive(Clone, Copy, PartialEq, Eq, Debug)]
 pub enum ExitPoint {
-    /// It is to give up its claim.
+    /// Next: give up its claim.
     X1,
-    /// It is to look who announced itself last.
+    /// Next: load who announced itself last.
     X2,
-    /// It is to let the rival in; the rival's place.
+    /// Next: let the rival in. Holds the rival's place.
     X3(usize),
 }
 
-/// A process of the lock, one for each place. Levels are counted from 1, the leaves, to the root.
+/// A process of the lock, one for each place. Levels are counted from 1 (the leaves) up to the root.
 #[derive(Clone, Copy, PartialEq, Eq, Debug)]
 pub enum Process {
-    /// It takes no part. Its next step is the first of an entry, at level 1.
+    /// Takes no part. Its next step is the first of an entry, at level 1.
     Idle,
-    /// It is on its way in, at that point of that level, and holds every level below.
+    /// On its way in, at that point of that level; it holds every level below.
     Entering(u32, EntryPoint),
-    /// It is inside. Its next step is the first of an exit, at the root.
+    /// Inside. Its next step is the first of an exit, at the root.
     Inside,
-    /// It is on its way out, at that point of that level, and holds every level below.
+    /// On its way out, at that point of that level; it holds every level below.
     Leaving(u32, ExitPoint),
 }
 
 impl Process {
-    /// The access that is due for the process of this place.
+    /// Returns the due access of the process of this place.
     #[inline(always)]
     pub(crate) fn access(self, levels: u32, place: usize) -> Access
         requires least { 1 ≤ levels }
@@ -74,7 +75,7 @@ impl Process {
         }
     }
 
-    /// The process after its access, which loaded or stored the value.
+    /// Returns the process after its access, which loaded or stored the value.
     #[inline(always)]
     pub(crate) fn next(self, levels: u32, place: usize, value: u64) -> Process
         requires least { 1 ≤ levels }
@@ -92,7 +93,7 @@ impl Process {
     }
 }
 
-/// The identifier by which the words name the place. The identifier 0 is nil.
+/// Returns the identifier that the words use for the place. The identifier 0 is nil.
 #[inline(always)]
 fn identifier_of(place: usize) -> u64
     requires { place < 64 }
@@ -101,7 +102,7 @@ fn identifier_of(place: usize) -> u64
     place as u64 + 1
 }
 
-/// The place that the identifier names.
+/// Returns the place that the identifier names.
 #[inline(always)]
 fn identified_place(identifier: u64) -> usize
     ensures { result ≡ identifier - 1 }
@@ -109,7 +110,7 @@ fn identified_place(identifier: u64) -> usize
     (identifier as usize).saturating_sub(1)
 }
 
-/// The word C of the side on which the place competes.
+/// Returns the word C of the side on which the place competes.
 #[tactic(auto, unfolding(crate::specs::ArbitrationTree::node_of, crate::specs::ArbitrationTree::side_of))]
 #[inline(always)]
 fn own_claim(level: u32, place: usize) -> Word
@@ -120,7 +121,7 @@ fn own_claim(level: u32, place: usize) -> Word
     Word::C(level, place >> level, (place >> (level - 1)) % 2)
 }
 
-/// The word C of the other side of its node.
+/// Returns the word C of the other side of its node.
 #[tactic(auto, unfolding(crate::specs::ArbitrationTree::node_of, crate::specs::ArbitrationTree::side_of))]
 #[inline(always)]
 fn rival_claim(level: u32, place: usize) -> Word
@@ -131,7 +132,7 @@ fn rival_claim(level: u32, place: usize) -> Word
     Word::C(level, place >> level, 1 - (place >> (level - 1)) % 2)
 }
 
-/// The word T of the node below which the place competes.
+/// Returns the word T of the node below which the place competes.
 #[tactic(auto, unfolding(crate::specs::ArbitrationTree::node_of, crate::specs::ArbitrationTree::side_of))]
 #[inline(always)]
 fn turn(level: u32, place: usize) -> Word
@@ -141,7 +142,7 @@ fn turn(level: u32, place: usize) -> Word
     Word::T(level, place >> level)
 }
 
-/// The access that is due on the way in at a level.
+/// Returns the due access at a point of the way in.
 #[inline(always)]
 fn entry_access(level: u32, place: usize, point: EntryPoint) -> Access
     requires least { 1 ≤ level }
@@ -162,7 +163,7 @@ fn entry_access(level: u32, place: usize, point: EntryPoint) -> Access
     }
 }
 
-/// The access that is due on the way out at a level.
+/// Returns the due access at a point of the way out.
 #[inline(always)]
 fn exit_access(level: u32, place: usize, point: ExitPoint) -> Access
     requires least { 1 ≤ level }
@@ -176,7 +177,7 @@ fn exit_access(level: u32, place: usize, point: ExitPoint) -> Access
     }
 }
 
-/// Where a point of the way in leads, by the value that its access loaded.
+/// Returns the process after a point of the way in whose access loaded the value.
 #[inline(always)]
 fn entry_next(levels: u32, level: u32, place: usize, point: EntryPoint, value: u64) -> Process
     requires most { level ≤ 6 }
@@ -202,7 +203,7 @@ fn entry_next(levels: u32, level: u32, place: usize, point: EntryPoint, value: u
     Process::Entering(level, next)
 }
 
-/// Where a point of the way out leads, by the value that its access loaded.
+/// Returns the process after a point of the way out whose access loaded the value.
 #[inline(always)]
 fn exit_next(level: u32, place: usize, point: ExitPoint, value: u64) -> Process
     requires room { place < 64 }
@@ -216,7 +217,7 @@ fn exit_next(level: u32, place: usize, point: ExitPoint, value: u64) -> Process
     }
 }
 
-/// The process that won the level: it goes on to the next one, and from the root it goes inside.
+/// Returns the process after it won the level: at the next level, or inside after the root.
 #[inline(always)]
 fn after_entry(levels: u32, level: u32) -> Process
     requires { level ≤ 6 }
@@ -229,7 +230,7 @@ fn after_entry(levels: u32, level: u32) -> Process
     }
 }
 
-/// The process that left the level: it goes on to the one below, and from the leaves it goes idle.
+/// Returns the process after it left the level: at the level below, or idle after the leaves.
 #[inline(always)]
 fn after_exit(level: u32) -> Process
     ensures { result ≡ after_exit level }

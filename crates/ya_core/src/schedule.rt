@@ -11,25 +11,24 @@ use crate::step::Step;
 use std::alloc::Global;
 use thiserror::Error;
 
-/// Why a schedule was not replayed.
+/// The reason why a schedule was not replayed.
 #[derive(Clone, Copy, PartialEq, Eq, Debug, Error)]
 pub enum ReplayFault {
-    /// P1: some pick is no place of the tree.
+    /// P1: some pick is not a place of the tree.
     #[error("fault P1")]
     Place,
-    /// P2: there is no tree of so many levels.
+    /// P2: the number of levels is not 1 to 6.
     #[error("fault P2")]
     Levels,
-    /// P3: memory was refused.
+    /// P3: out of memory.
     #[error("fault P3")]
     Memory,
 }
 
-/// The steps of the run in which the picked places step one after another, from the start, in a tree of that many
-/// levels.
+/// Returns the steps of a run from the start: the picked places step one after another in a tree of that many levels.
 ///
-/// Refuses with P2 where the levels are not 1 to 6, else with P1 where some pick is no place, else with P3 where memory
-/// is refused. After a refusal nothing is kept.
+/// Errors: P2 if the levels are not 1 to 6, else P1 if some pick is not a place, else P3 if memory runs out. Nothing is
+/// kept after an error.
 pub fn replay(alloc: Global, levels: u32, picks: &[u32]) -> Result<Vec<Step>, ReplayFault>
     ensures steps { IfOk result (λ steps. Replays levels opening picks.now steps.items) }
     // The picks name one run.
@@ -50,7 +49,7 @@ pub fn replay(alloc: Global, levels: u32, picks: &[u32]) -> Result<Vec<Step>, Re
     }
 }
 
-/// Lets the picked places step one after another, from the start.
+/// Returns the steps of the picked places, taken one after another from the start.
 fn run(alloc: Global, shape: Shape, picks: &[u32]) -> Result<Vec<Step>, NoMemory>
     requires { All (λ pick. pick < 2 ^ shape) picks.now }
     ensures { IfOk result (λ steps. Replays shape opening picks.now steps.items) }

@@ -5,7 +5,7 @@ ghost use Rattle.ya_core.specs.ArbitrationTree.{HasShape, IsWord, number_of, cou
 use crate::word::Word;
 use std::marker::Model;
 
-/// An arbitration tree of 1 to 6 levels: how many places and words it has, and the number of each word in one flat row.
+/// An arbitration tree of 1 to 6 levels: its numbers of places and words, and the number of each word in one flat row.
 /// Contracts see it as its number of levels.
 #[derive(Clone, Copy, Debug)]
 pub struct Shape {
@@ -23,7 +23,7 @@ impl Model for Shape {
 }
 
 impl Shape {
-    /// The tree of this many levels, or `None` outside 1 to 6.
+    /// Returns the tree of this many levels, or `None` outside 1 to 6.
     #[inline(always)]
     pub fn new(levels: u32) -> Option<Shape>
         ensures some { IsSome result ↔ HasShape levels }
@@ -36,7 +36,7 @@ impl Shape {
         }
     }
 
-    /// How many levels it has, 1 to 6.
+    /// Returns the number of levels, 1 to 6.
     #[inline(always)]
     pub(crate) fn levels(&self) -> u32
         ensures value { result ≡ self.now }
@@ -46,7 +46,7 @@ impl Shape {
         self.levels
     }
 
-    /// How many places it has: two to the power of its levels.
+    /// Returns the number of places: two to the power of the levels.
     #[inline(always)]
     pub fn places(&self) -> usize
         ensures value { result ≡ 2 ^ self.now }
@@ -56,14 +56,14 @@ impl Shape {
         1 << self.levels
     }
 
-    /// How many words it has.
+    /// Returns the number of words.
     pub fn words(&self) -> usize
         ensures { result ≡ count_of_words self.now }
     {
         3 * (self.places() - 1) + self.levels as usize * self.places()
     }
 
-    /// The number of the word C of that side of the node. Levels are counted from 1, nodes and sides from 0.
+    /// Returns the number of the word C of that side of the node. Levels are counted from 1, nodes and sides from 0.
     #[inline(always)]
     pub fn c(&self, level: u32, node: usize, side: usize) -> usize
         requires { IsWord self.now (Word.C level node side) }
@@ -73,7 +73,7 @@ impl Shape {
         2 * (self.nodes_below(level) + node) + side
     }
 
-    /// The number of the word T of the node. Levels are counted from 1, nodes from 0.
+    /// Returns the number of the word T of the node. Levels are counted from 1, nodes from 0.
     #[inline(always)]
     pub fn t(&self, level: u32, node: usize) -> usize
         requires { IsWord self.now (Word.T level node) }
@@ -83,7 +83,7 @@ impl Shape {
         2 * (self.places() - 1) + self.nodes_below(level) + node
     }
 
-    /// The number of the word P of the place at the level. Levels are counted from 1, places from 0.
+    /// Returns the number of the word P of the place at the level. Levels are counted from 1, places from 0.
     #[inline(always)]
     pub fn p(&self, level: u32, place: usize) -> usize
         requires { IsWord self.now (Word.P level place) }
@@ -93,7 +93,7 @@ impl Shape {
         3 * (self.places() - 1) + (level as usize - 1) * self.places() + place
     }
 
-    /// The number of a word.
+    /// Returns the number of a word.
     #[inline(always)]
     pub(crate) fn number(&self, word: Word) -> usize
         requires { IsWord self.now word }
@@ -107,7 +107,7 @@ impl Shape {
         }
     }
 
-    /// How many nodes the levels below have.
+    /// Returns the number of nodes in the levels below.
     #[inline(always)]
     fn nodes_below(&self, level: u32) -> usize
         requires least { 1 ≤ level }

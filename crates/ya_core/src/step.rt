@@ -1,7 +1,7 @@
-//! What is told of one atomic step.
+//! The record of one atomic step.
 use crate::word::Word;
 
-/// What a step brought about.
+/// The effect of a step on its place's passage.
 #[derive(Clone, Copy, PartialEq, Eq, Debug)]
 pub enum Mark {
     /// Neither of the two.
@@ -12,17 +12,17 @@ pub enum Mark {
     Out,
 }
 
-/// One atomic step of one place, as the machine tells it.
+/// The report of one atomic step of a place by the machine.
 #[derive(Clone, Copy, PartialEq, Eq, Debug)]
 pub struct Step {
     /// The place that took the step.
     pub place: usize,
     /// The word that it loaded or stored.
     pub word: Word,
-    /// Whether it was a store.
+    /// True if it was a store.
     pub store: bool,
     /// The value that it loaded or stored.
     pub value: u64,
-    /// What the step brought about.
+    /// The effect of the step on the passage.
     pub mark: Mark,
 }

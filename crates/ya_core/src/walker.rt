@@ -1,10 +1,10 @@
-//! One process that is told what it loaded.
+//! One process, driven by the values that its caller loads.
 ghost use Rattle.std.specs.Prelude.{◌≡◌, ◌↔◌, ℕ, ◌+◌, ◌-◌, ◌*◌, ◌^◌, ◌<◌, ◌≤◌, true, false, IsTrue, IsFalse};
 ghost use Rattle.ya_core.specs.declared.process.Process.TheVariants.{Idle, Inside, Entering};
 ghost use Rattle.ya_core.specs.ArbitrationTree.{node_of, side_of};
 ghost use Rattle.ya_core.specs.Steps.{access_of};
 ghost use Rattle.ya_core.specs.WalkerModel.{IsWalk, walk, walk_after, op_of, due, due_of, cost_of};
-ghost use Rattle.ya_core.specs.WalkerModel.{FitsDue, CanStand, MovesOn, OpIsWithin, MayBeTold};
+ghost use Rattle.ya_core.specs.WalkerModel.{FitsDue, CanStand, AdvancesOrSpins, OpIsWithin, MayBeTold};
 ghost use Rattle.ya_core.specs.inside.WalkerModel.{DueIsWithin, LevelIsSmall};
 
 use crate::process::{EntryPoint, Process};
@@ -12,20 +12,20 @@ use crate::shape::Shape;
 use crate::word::{Access, Word};
 use std::marker::Model;
 
-/// What a walker asks for.
+/// The next request of a walker.
 #[derive(Clone, Copy, PartialEq, Eq, Debug)]
 pub enum Op {
-    /// A load of the word with this number, whose value `saw` is told.
+    /// Load the word with this number, then pass its value to `saw`.
     Load(usize),
-    /// A store of this value in the word with this number, after which `done` is called.
+    /// Store this value in the word with this number, then call `done`.
     Store(usize, u64),
-    /// Nothing: the process is inside until `begin_exit`.
+    /// No access: the process is inside until `begin_exit`.
     Inside,
-    /// Nothing: the process is idle until `begin_entry`.
+    /// No access: the process is idle until `begin_entry`.
     Idle,
 }
 
-/// One process of the lock, which is told what it loaded.
+/// One process of the lock. Its caller makes the accesses and passes each loaded value to it.
 ///
 /// ```text
 /// walker.begin_entry();
@@ -38,7 +38,8 @@ pub enum Op {
 /// }
 /// ```
 ///
-/// Contracts see it as a `Walk`: its levels, place and process, whether it was told to go on, and its remote accesses.
+/// Contracts see it as a `Walk`: its levels, place and process, whether its entry or exit was begun without an access
+/// yet, and its remote accesses.
 #[derive(Clone, Copy, Debug)]
 pub struct Walker {
     shape: Shape,
@@ -67,7 +68,7 @@ impl Model for Walker {
 }
 
 impl Walker {
-    /// An idle process of that place.
+    /// Returns an idle process of that place.
     #[inline(always)]
     pub fn new(shape: Shape, place: usize) -> Walker
         requires { place < 2 ^ shape }
@@ -82,7 +83,7 @@ impl Walker {
         }
     }
 
-    /// The process of that place once it is inside, after so many remote accesses.
+    /// Returns the process of that place inside, after `remote` remote accesses.
     #[inline(always)]
     pub fn inside(shape: Shape, place: usize, remote: u64) -> Walker
         requires place { place < 2 ^ shape }
@@ -98,7 +99,7 @@ impl Walker {
         }
     }
 
-    /// The process of that place at that point of a level on its way in, after so many remote accesses.
+    /// Returns the process of that place on its way in, at that point of that level, after `remote` remote accesses.
     #[inline(always)]
     pub fn entering(
         shape: Shape,
@@ -119,7 +120,7 @@ impl Walker {
         }
     }
 
-    /// Where the process stands.
+    /// Returns the current state of the process.
     #[inline(always)]
     pub fn process(&self) -> Process
         ensures value { result ≡ self.now.process }
@@ -128,7 +129,7 @@ impl Walker {
         self.process
     }
 
-    /// What the process asks for. The number of a word is below the number of words.
+    /// Returns the next request of the process. The number of a word is below the number of words.
     #[inline(always)]
     pub fn op(&self) -> Op
         ensures value { result ≡ op_of self.now }
@@ -142,8 +143,8 @@ impl Walker {
         }
     }
 
-    /// Whether the value can stand in the word that is to be loaded: in a word C nil or the identifier of a place on
-    /// that side, in a word T that of a place below the node, in a word P 0, 1 or 2. False where no load is due.
+    /// Returns true if the due access is a load and its word can hold the value. A word C holds nil or the identifier
+    /// of a place on that side, a word T the identifier of a place below the node, and a word P 0, 1 or 2.
     pub fn fits(&self, value: u64) -> bool
         ensures { IsTrue result ↔ FitsDue self.now value }
     {
@@ -153,31 +154,32 @@ impl Walker {
         }
     }
 
-    /// Goes on by the value that the load found. `op` is a load, and `fits` says that the value can stand in its word.
+    /// Takes the step of the due load, which found the value. Call it only if `op` is a load and `fits` accepts
+    /// the value.
     #[inline(always)]
     pub fn saw(&mut self, value: u64)
         requires { FitsDue self.old value }
         ensures after { self.new ≡ walk_after self.old value }
 
         // It comes to a later point or level, unless it waits and found its own spin word unchanged.
-        ensures onward { MovesOn self.old self.new }
+        ensures onward { AdvancesOrSpins self.old self.new }
     {
         self.go_on(value)
     }
 
-    /// Goes on after the store. `op` is a store. Where it leads is the same for every value.
+    /// Takes the step of the due store. Call it only if `op` is a store. The next state is the same for every value.
     #[inline(always)]
     pub fn done(&mut self)
         requires { (number value : ℕ) × (op_of self.old ≡ Op.Store number value) }
         ensures after { (value : ℕ) → self.new ≡ walk_after self.old value }
 
         // As for `saw`.
-        ensures onward { MovesOn self.old self.new }
+        ensures onward { AdvancesOrSpins self.old self.new }
     {
         self.go_on(0)
     }
 
-    /// Makes the first access of an entry due, and counts remote accesses from 0.
+    /// Begins an entry: its first access becomes due, and remote accesses are counted from 0.
     #[inline(always)]
     pub fn begin_entry(&mut self)
         requires { op_of self.old ≡ Op.Idle }
@@ -186,7 +188,7 @@ impl Walker {
         (self.begun, self.remote) = (true, 0);
     }
 
-    /// Makes the first access of an exit due.
+    /// Begins an exit: its first access becomes due.
     #[inline(always)]
     pub fn begin_exit(&mut self)
         requires { op_of self.old ≡ Op.Inside }
@@ -195,8 +197,8 @@ impl Walker {
         self.begun = true;
     }
 
-    /// How many remote accesses it has made since `begin_entry`: those of any word but its own words P. At most seven a
-    /// level when it is inside, and at most three a level more when it is idle again.
+    /// Returns the number of remote accesses since `begin_entry`: all accesses except those of its own words P. At most
+    /// seven for each level when it is inside, and at most three more for each level when it is idle again.
     pub fn remote(&self) -> u64
         ensures value { result ≡ self.now.remote }
         ensures inside { op_of self.now ≡ Op.Inside → result ≤ 7 * self.now.levels }
@@ -205,7 +207,7 @@ impl Walker {
         self.remote
     }
 
-    /// The access that is due, if the process was told to go on or is on its way.
+    /// Returns the due access, or `None` if the process is idle or inside and its entry or exit was not begun.
     #[inline(always)]
     fn due(&self) -> Option<Access>
         ensures value { result ≡ due self.now }
@@ -218,7 +220,7 @@ impl Walker {
         Some(self.process.access(self.shape.levels(), self.place))
     }
 
-    /// What a process asks for that is idle or inside.
+    /// Returns the request of a process that is idle or inside.
     #[inline(always)]
     fn pause(&self) -> Op
         requires { due self.now ≡ None }
@@ -231,12 +233,12 @@ impl Walker {
         }
     }
 
-    /// Goes on after the access that is due, which loaded or stored the value.
+    /// Takes the step of the due access, which loaded or stored the value.
     #[inline(always)]
     fn go_on(&mut self, value: u64)
         requires { MayBeTold (due self.old) value }
         ensures after { self.new ≡ walk_after self.old value }
-        ensures onward { MovesOn self.old self.new }
+        ensures onward { AdvancesOrSpins self.old self.new }
     {
         let levels = self.shape.levels();
         self.remote += cost(self.process.access(levels, self.place), self.place);
@@ -245,7 +247,7 @@ impl Walker {
     }
 }
 
-/// Whether the process is idle or inside, and was not told to go on.
+/// Returns true if the process is idle or inside and its entry or exit was not begun.
 #[inline(always)]
 fn is_at_rest(process: Process, begun: bool) -> bool
     ensures rests { IsTrue result → (levels place : ℕ)
@@ -256,7 +258,7 @@ fn is_at_rest(process: Process, begun: bool) -> bool
     !begun && matches!(process, Process::Idle | Process::Inside)
 }
 
-/// How many remote accesses it is for the place: one, but for an access of its own words P.
+/// Returns the number of remote accesses in this access of the place: 0 for its own words P, else 1.
 #[inline(always)]
 fn cost(access: Access, place: usize) -> u64
     ensures value { result ≡ cost_of place access }
@@ -271,7 +273,7 @@ fn cost(access: Access, place: usize) -> u64
     }
 }
 
-/// Whether the value can stand in the word.
+/// Returns true if the word can hold the value.
 fn can_stand(word: Word, value: u64) -> bool
     requires { LevelIsSmall word }
     ensures { IsTrue result ↔ CanStand word value }
@@ -284,7 +286,7 @@ fn can_stand(word: Word, value: u64) -> bool
     }
 }
 
-/// Whether the identifier is that of a place below the node.
+/// Returns true if the identifier is that of a place below the node.
 #[tactic(auto, unfolding(crate::specs::ArbitrationTree::node_of, crate::specs::ArbitrationTree::side_of))]
 fn is_below(level: u32, node: usize, identifier: u64) -> bool
     requires { level ≤ 6 }
@@ -293,7 +295,7 @@ fn is_below(level: u32, node: usize, identifier: u64) -> bool
     identifier > 0 && (identifier - 1) >> level == node as u64
 }
 
-/// Whether the identifier is that of a place on that side at its node.
+/// Returns true if the identifier is that of a place on that side at its node.
 #[tactic(auto, unfolding(crate::specs::ArbitrationTree::node_of, crate::specs::ArbitrationTree::side_of))]
 fn is_on_side(level: u32, side: usize, identifier: u64) -> bool
     requires least { 1 ≤ level }

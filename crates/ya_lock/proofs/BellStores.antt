@@ -1,4 +1,4 @@
--- A store in a bell keeps the rule, which reads no word behind the making word.
+-- A store in a bell keeps the rule, which reads no word after the making word.
 use Rattle.std.proofs.Common.{◌≡◌, ℕ, ◌<◌, ◌≤◌, List, set, sym, refl, ◌∙◌, subst, arith, slice_index}
 use Rattle.std.specs.Prelude as std
 use Rattle.std.proofs.lemmas.List.{length-set, get_or-set_other}
@@ -16,7 +16,7 @@ module _ {V : Type 0} (since : ℕ → V → V → Type 0) (levels : ℕ) where
   abbrev St : Type 0
   St = State (std.Option V) (View V)
 
-  -- the words with another number behind the making word
+  -- the state with another number in a word after the making word
   abbrev rung : St → ℕ → ℕ → St
   rung s i n = record { words = set s.words i n; homes = s.homes; views = s.views }
 
@@ -41,7 +41,7 @@ module _ {V : Type 0} (since : ℕ → V → V → Type 0) (levels : ℕ) where
         },
       )
 
-  -- so any seat may store there, and its view stays
+  -- so any seat may store in a bell, and its view stays
   pub rings : (slots id i n : ℕ) (me : Me (std.Option V) (View V)) → making_index levels < i
       → Allows (Rule since levels) slots id me i (λ _. n) (λ _ then'. then' ≡ me)
   rings slots id i n me behind s rule wide at small = (

@@ -37,7 +37,7 @@ module _ {V : Type 0} (since : ℕ → V → V → Type 0) (levels : ℕ) where
   freed_here : (x : GlobalView V) (place other : ℕ) → other ≡ place → (freed x place).seat_of other ≡ none
   freed_here x place other e = rw (eq-eqb other place e) refl
 
-  -- who has a seat had it before
+  -- a place with a seat had it before
   freed_was : (x : GlobalView V) (place other seat : ℕ) → (freed x place).seat_of other ≡ some seat
       → x.seat_of other ≡ some seat
   freed_was x place other seat e = elim (ℕ_discrete other place) [
@@ -45,7 +45,7 @@ module _ {V : Type 0} (since : ℕ → V → V → Type 0) (levels : ℕ) where
     | no ne ↦ sym (freed_else x place other ne) ∙ e
   ]
 
-  -- who had no seat has none
+  -- a place without a seat before has none
   freed_none : (x : GlobalView V) (place other : ℕ) → x.seat_of other ≡ none → (freed x place).seat_of other ≡ none
   freed_none x place other e =
       elim (ℕ_discrete other place) [
@@ -63,7 +63,7 @@ module _ {V : Type 0} (since : ℕ → V → V → Type 0) (levels : ℕ) where
         | no ne ↦ absent k (sym (freed_else x place k ne) ∙ e)
       ]
 
-  -- seats of their own have places of their own
+  -- places with different seats are different
   other_place : (x : GlobalView V) (place id other seat : ℕ) → x.seat_of place ≡ some id → x.seat_of other ≡ some seat
       → seat ≢ id → other ≢ place
   other_place x place id other seat a b ne e = ne (some-injective _ _ (sym b ∙ (ap x.seat_of e ∙ a)))
@@ -104,7 +104,7 @@ module _ {V : Type 0} (since : ℕ → V → V → Type 0) (levels : ℕ) where
   freed_fits s t x id place here words homes seat Spent ne f =
       subst (λ (r : List ℕ). slice_index r (making_index levels) ≢ 0) (sym words) f
 
-  -- the seat of an idle process is joined to that of the one inside
+  -- the seat of an idle process is joined to the seat of the process inside
   pub joins : (id place : ℕ) (value : V) (count rival other : ℕ) (seen : V) (last : ℕ)
       → Joins (Rule since levels) id (Seated place Inside value count) rival (Seated other Idle seen last)
       (Joining place value other seen count) Spent
@@ -148,7 +148,7 @@ module _ {V : Type 0} (since : ℕ → V → V → Type 0) (levels : ℕ) where
         },
       )
 
-  -- it learns what may have come of the value that the other has seen
+  -- it learns what others may have made of the value that the other has seen
   pub learns : (slots id i place : ℕ) (value : V) (other : ℕ) (seen : V) (count : ℕ) (me : Me (std.Option V) (View V))
       → me.0 ≡ Joining place value other seen count
       → Allows (Rule since levels) slots id me i (λ n. n) (λ n then'. LearnsSince since me.0 me.1 then')

@@ -1,4 +1,4 @@
--- The step that is due to a process may be taken at every moment.
+-- The due step of a process may be taken at every moment.
 use Rattle.std.proofs.Common.{◌≡◌, ◌≢◌, ℕ, ◌+◌, ◌*◌, ◌^◌, ◌<◌, ◌≤◌, sym, refl, ap, ◌∙◌, subst, arith, slice_index, length}
 use Rattle.std.specs.Prelude as std
 use mathlib.Core.Option.{some}
@@ -71,7 +71,7 @@ module _ {V : Type 0} (since done : ℕ → V → V → Type 0) (since_same : (p
         },
       )
 
-  -- so at each moment
+  -- the due steps at each moment
   pub each_may_step : (s : St) → Rule since levels s → EachMayStep since done levels s
   each_may_step s r seat place process value count slots at ready =
       let f : r.0.processes place ≡ process = (r.1.fits seat (Seated place process value count) at).2 in

@@ -1,4 +1,4 @@
--- Where a process stands that has won a level, and which places a process wakes.
+-- The process after it won a level, and the places that a process wakes.
 use Rattle.std.proofs.Common.{◌≡◌, ◌≢◌, refl, ℕ, ◌^◌, ◌<◌, subst}
 use Rattle.ya_core.specs.declared.process.Process.{Process}
 use Rattle.ya_core.specs.declared.process.Process.TheVariants.{Entering, Inside, Leaving}
@@ -16,7 +16,7 @@ woken_in_tree w levels level rival h e is = subst (λ (l : ℕ). rival < 2 ^ l) 
     (subst (λ (p : Process). AccessIsWithin w.levels (access_of w.levels w.place p)) is
     (within_access w.levels w.place w.process h.least h.in_tree h.proper)).2
 
--- and so is the one that it is to let in
+-- and so is the rival that it is to let in
 pub let_in_tree : (w : Walk) (levels level rival : ℕ) → IsWalk w → w.levels ≡ levels
     → w.process ≡ Leaving level (X3 rival) → rival < 2 ^ levels
 let_in_tree w levels level rival h e is = subst (λ (l : ℕ). rival < 2 ^ l) e

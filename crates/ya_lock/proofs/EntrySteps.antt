@@ -1,4 +1,4 @@
--- Where an access is due, and where it leads.
+-- The due accesses, and the processes after them.
 use Rattle.std.proofs.Common.{arith, ◌≡◌, ◌≢◌, refl, ℕ, ◌+◌, ◌<◌, ◌==◌, Bool, true, false, inl, inr, sym, ap, ◌∙◌, subst}
 use Rattle.std.specs.Prelude as std
 use Rattle.std.specs.Prelude.{if◌then◌else◌, nat_lt, IsTrue}
@@ -19,7 +19,7 @@ use Rattle.ya_core.specs.inside.Ahead.{points_of, points_ahead, ComesNearer}
 use Rattle.ya_lock.specs.declared.rule.View.{View}
 use Rattle.ya_lock.specs.inside.Lock.{HasWon, HasPassed, HasLooked, IsAtFoot, OnWay, SeatOf}
 
--- something is asked for
+-- the request is an access
 abbrev IsAccess : Op → Type 0
 IsAccess op.Idle = ⊥
 IsAccess op.Inside = ⊥
@@ -29,11 +29,11 @@ is_access : (levels : ℕ) (access : Access) → IsAccess (op_of_access levels a
 is_access levels (Load word) = tt
 is_access levels (Store word value) = tt
 
--- where something is asked for, an access is due
+-- if an access is requested, one is due
 is_due : (w : Walk) → IsAccess (op_of w) → (op_of w ≢ op.Idle) × (op_of w ≢ op.Inside)
 is_due w h = (λ e. subst IsAccess e h, λ e. subst IsAccess e h)
 
--- so it is where the process is one to which something is asked for
+-- the same for a process that requests an access
 due_where : (w : Walk) (process : Process) → w.process ≡ process
     → IsAccess (op_of (walk w.levels w.place process w.begun w.remote)) → (op_of w ≢ op.Idle) × (op_of w ≢ op.Inside)
 due_where w process at asked =
@@ -51,24 +51,24 @@ pub due_leaving : (w : Walk) (level : ℕ) (point : ExitPoint) → w.process ≡
 due_leaving w level point at =
     due_where w (Leaving level point) at (is_access w.levels (exit_access level w.place point))
 
--- a place stands where a match found the process of its walk
+-- the walk has the process that a match found
 pub found_at : {V : Type 0} {seen at : OnWay V} {A : Type 0} {point is : A} (process_at : A → Process) → seen ≡ at
     → process_at point ≡ seen.walk.process → point ≡ is → at.walk.process ≡ process_at is
 found_at process_at view found same =
     sym (ap (λ (p : OnWay _). p.walk.process) view) ∙ (sym found ∙ ap process_at same)
 
--- and so at which level, on its way in
+-- and at which level, on its way in
 pub found_entering : {V : Type 0} {seen at : OnWay V} {point is : EntryPoint} (level : ℕ) → seen ≡ at
     → Entering level point ≡ seen.walk.process → point ≡ is → (l : ℕ) × (at.walk.process ≡ Entering l is)
 found_entering level view found same = (level, found_at (λ p. Entering level p) view found same)
 
--- where the access of a process on its way in leads
+-- the process after the access of a process on its way in
 pub leads : (w new : Walk) (level found : ℕ) (point : EntryPoint) → w.process ≡ Entering level point → new ≡ walk_after w found
     → new.process ≡ entry_next w.levels level w.place point found
 leads w new level found point at goes =
     ap (λ (v : Walk). v.process) goes ∙ ap (λ (p : Process). next_of w.levels w.place p found) at
 
--- a process that won a level has won it, whether it was the last one or not
+-- a process after a won level has won it, whether the level was the last or not
 has_won_at : (more : Bool) (level : ℕ) → HasWon (if more then Entering (level + 1) E1 else Inside)
 has_won_at true level = tt
 has_won_at false level = tt
@@ -76,7 +76,7 @@ has_won_at false level = tt
 pub has_won : (levels level : ℕ) → HasWon (after_entry levels level)
 has_won levels level = has_won_at (nat_lt level levels) level
 
--- one that did not win goes on where it may lose
+-- a process that did not win goes on at the point where it may lose
 lost_at : (lost : Bool) (levels level : ℕ) (point : EntryPoint)
     → (HasWon (if lost then Entering level point else after_entry levels level) → ⊥)
     → (if lost then Entering level point else after_entry levels level) ≡ Entering level point
@@ -102,16 +102,16 @@ pub comes_nearer : (old new : Walk) → is_waiting old.process ≡ false → Com
 comes_nearer old new still (inl nearer) = nearer
 comes_nearer old new still (inr waits) = absurd (false≢true (sym still ∙ waits.0))
 
--- a process that is inside and was not told to go on asks for nothing
+-- a process that is inside and whose exit was not begun requests no access
 pub rests_inside : (w : Walk) → w.process ≡ Inside → w.begun ≡ false → op_of w ≡ op.Inside
 rests_inside w at begun = λ i. op_of (walk w.levels w.place (at i) (begun i) w.remote)
 
--- at which level a process is on its way in
+-- the level of a process on its way in
 abbrev level_of : Process → ℕ
 level_of (Entering level point) = level
 level_of _ = 0
 
--- the walk of a process on its way in is the one of these parts, since it was not told to go on
+-- the walk of a process on its way in has these parts, since nothing is to be begun
 pub is_walk_of : {V : Type 0} (since done : ℕ → V → V → Type 0) (w : Walk) (seen : V) (me : Me (std.Option V) (View V))
     (levels place level other remote : ℕ) (point old : EntryPoint) → w.levels ≡ levels → w.place ≡ place
     → w.process ≡ Entering level old → w.process ≡ Entering other point → w.remote ≡ remote → SeatOf since done seen w me
@@ -160,7 +160,7 @@ passed_waits levels (Entering level E8) after passed = ap is_waiting passed.0
 passed_waits levels (Entering level E10) after passed = ap is_waiting passed.0 ∙ not_waiting (nat_lt level levels) level
 passed_waits levels before after passed = absurd passed
 
--- a wait behind e6 ends at e9: it was at e8, since nobody waits at e7
+-- a wait after e6 ends at e9: it was at e8, since no process waits at e7
 pub passed_e8 : (wakes : Bool) (levels level rival : ℕ) (before : Process) (after : Walk)
     → before ≡ (if wakes then Entering level (E7 rival) else Entering level E8) → HasPassed levels before after
     → after.process ≡ Entering level E9
@@ -186,13 +186,13 @@ pub passed_begun : (levels level : ℕ) (before : Process) (after : Walk) → be
     → HasPassed levels before after → after.begun ≡ false
 passed_begun levels level before after at passed = (subst (λ (p : Process). HasPassed levels p after) at passed).1
 
--- a process that waits after a look stands where it stood
+-- a process that waits after a look is unchanged
 pub waits_on : (levels : ℕ) (before : Process) (after : Walk) → is_waiting after.process ≡ true
     → HasLooked levels before after → after.process ≡ before
 waits_on levels before after waits (inl same) = same
 waits_on levels before after waits (inr passed) = absurd (false≢true (sym (passed_waits levels before after passed) ∙ waits))
 
--- and where one that waited doesn't, the wait is over
+-- if a process waited and no longer does, the wait is over
 pub has_passed : (levels : ℕ) (before : Process) (after : Walk) → is_waiting before ≡ true → is_waiting after.process ≡ false
     → HasLooked levels before after → HasPassed levels before after
 has_passed levels before after waited goes_on (inl same) =

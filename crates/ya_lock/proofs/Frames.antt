@@ -15,18 +15,18 @@ use Rattle.ya_lock.specs.Rule.{Slots, making_index, words_in, place_of_view, Glo
 use Rattle.ya_lock.proofs.WordsInRow.{word_kept}
 use Rattle.ya_core.specs.Worlds.{is_inside}
 
--- what a seat has once its view was set
+-- the view of a seat after it was set
 pub set_at : {A : Type 0} (l : List A) (i : ℕ) (old new : A) → get_elem? l i ≡ some old
     → get_elem? (set l i new) i ≡ some new
 set_at [] i old new e = absurd (some-ne-none old (sym e))
 set_at (x ∷ xs) zero old new e = refl
 set_at (x ∷ xs) (suc i) old new e = set_at xs i old new e
 
--- the processes after the one of a place went on
+-- the processes after one place's process is replaced
 abbrev pub moved : (ℕ → Process) → ℕ → Process → ℕ → Process
 moved processes place process other = cond (eqb other place) process (processes other)
 
--- the one that went on is the new process
+-- the replaced process is the new one
 pub moved_here : (processes : ℕ → Process) (place : ℕ) (process : Process)
     → moved processes place process place ≡ process
 moved_here processes place process = rw (eq-eqb place place refl) refl
@@ -41,14 +41,14 @@ module _ {V : Type 0} (since : ℕ → V → V → Type 0) (levels : ℕ) where
   abbrev St : Type 0
   St = State (std.Option V) (View V)
 
-  -- the content stays, or it changes while no other process is inside, to what the others may find
+  -- the content stays, or it changes while no other process is inside, to a value that the others may find
   pub data Later (x : GlobalView V) (place : ℕ) (content : Option V) : Type 0 where
     Same : content ≡ x.content → Later x place content
     Changed : ((other : ℕ) → other ≢ place → is_inside (x.processes other) ≡ true → ⊥)
         → ((other : ℕ) (value : V) → other ≢ place → KnowsValue since x.content other false value
         → KnowsValue since content other false value) → Later x place content
 
-  -- what another place knows stays true
+  -- the knowledge of another place stays true
   away_later : (x : GlobalView V) (place : ℕ) (content : Option V) (other : ℕ) (value : V) → Later x place content
       → other ≢ place → KnowsValue since x.content other false value
       → KnowsValue since content other false value
@@ -56,7 +56,7 @@ module _ {V : Type 0} (since : ℕ → V → V → Type 0) (levels : ℕ) where
       subst (λ (c : Option V). KnowsValue since c other false value) (sym e) k
   away_later x place content other value (Changed alone away) ne k = away other value ne k
 
-  -- so does what two places know of which one is inside
+  -- so does the knowledge of two places, one of them inside
   inside_later : (x : GlobalView V) (place : ℕ) (content : Option V) (other third : ℕ) (value seen : V)
       → Later x place content → other ≢ place → is_inside (x.processes other) ≡ true
       → KnowsValue since x.content other true value → KnowsValue since x.content third false seen
@@ -67,7 +67,7 @@ module _ {V : Type 0} (since : ℕ → V → V → Type 0) (levels : ℕ) where
   )
   inside_later x place content other third value seen (Changed alone away) ne is k l = absurd (alone other ne is)
 
-  -- what a seat knows of its own process stays true
+  -- the knowledge of a seat about its own process stays true
   knows_later : (x : GlobalView V) (place : ℕ) (content : Option V) (other : ℕ) (value : V) (b : Bool)
       → Later x place content → other ≢ place → is_inside (x.processes other) ≡ b
       → KnowsValue since x.content other b value → KnowsValue since content other b value
@@ -81,7 +81,7 @@ module _ {V : Type 0} (since : ℕ → V → V → Type 0) (levels : ℕ) where
   gone_on x place process content =
       record { seat_of = x.seat_of; processes = moved x.processes place process; maker = x.maker; content = content }
 
-  -- seats of their own have places of their own
+  -- places with different seats are different
   other_place : (x : GlobalView V) (place id other seat : ℕ) → x.seat_of place ≡ some id → x.seat_of other ≡ some seat
       → seat ≢ id → other ≢ place
   other_place x place id other seat a b ne e = ne (some-injective _ _ (sym b ∙ (ap x.seat_of e ∙ a)))
@@ -135,7 +135,7 @@ module _ {V : Type 0} (since : ℕ → V → V → Type 0) (levels : ℕ) where
   abbrev pub Sits : List (View V) → ℕ → ℕ → Type 0
   Sits views place seat = (view : View V) × (get_elem? views seat ≡ some view) × (place_of_view view ≡ some place)
 
-  -- by cases: it is that seat, or another
+  -- by cases: that seat, or another
   sits_by : (views : List (View V)) (id : ℕ) (old new : View V) → get_elem? views id ≡ some old
       → place_of_view new ≡ place_of_view old → (place seat : ℕ) → Sits views place seat → Dec (seat ≡ id)
       → Sits (set views id new) place seat
@@ -148,13 +148,13 @@ module _ {V : Type 0} (since : ℕ → V → V → Type 0) (levels : ℕ) where
       )
   sits_by views id old new at same place seat sits (no ne) = (sits.0, set_else views id seat new ne ∙ sits.1, sits.2)
 
-  -- still so where the seat's view changes, but not its place
+  -- still so if the seat's view changes, but not its place
   pub sits_still : (views : List (View V)) (id : ℕ) (old new : View V) → get_elem? views id ≡ some old
       → place_of_view new ≡ place_of_view old → (place seat : ℕ) → Sits views place seat → Sits (set views id new) place seat
   sits_still views id old new at same place seat sits =
       sits_by views id old new at same place seat sits (ℕ_discrete seat id)
 
-  -- still so where a seat that isn't the place's changes its view
+  -- still so if the seat of another place changes its view
   pub sits_else : (views : List (View V)) (id : ℕ) (old new : View V) → get_elem? views id ≡ some old → (place seat : ℕ)
       → place_of_view old ≢ some place → Sits views place seat → Sits (set views id new) place seat
   sits_else views id old new at place seat other sits =
@@ -163,7 +163,7 @@ module _ {V : Type 0} (since : ℕ → V → V → Type 0) (levels : ℕ) where
       (some-injective old sits.0 (sym at ∙ (ap (λ (k : ℕ). get_elem? views k) (sym e) ∙ sits.1))) ∙ sits.2) in
       (sits.0, set_else views id seat new ne ∙ sits.1, sits.2)
 
-  -- and where a seat comes
+  -- still so if a seat is added
   pub sits_longer : (views : List (View V)) (new : View V) (place seat : ℕ) → Sits views place seat
       → Sits (views ++ new ∷ []) place seat
   sits_longer views new place seat sits = (sits.0, at_longer views (new ∷ []) seat sits.0 sits.1, sits.2)
@@ -208,7 +208,7 @@ module _ {V : Type 0} (since : ℕ → V → V → Type 0) (levels : ℕ) where
             (at_set s.views id seat (Seated place process next total) view at);
       }
 
-  -- the same picture fits where the making word stays set, and the slot stays while the maker waits for it
+  -- the same global view fits if the making word stays set, and the slot stays while the maker waits for it
   pub refits : (s t : St) (x : GlobalView V)
       → (slice_index s.words (making_index levels) ≢ 0 → slice_index t.words (making_index levels) ≢ 0)
       → (seat : ℕ) (view : View V) → (x.maker ≡ some seat → t.homes ≡ s.homes) → ViewFits since levels s x seat view
@@ -221,17 +221,17 @@ module _ {V : Type 0} (since : ℕ → V → V → Type 0) (levels : ℕ) where
   refits s t x begun seat (Joining place value other seen count) slot f = (begun f.0, f.1, f.2, f.3, f.4, f.5, f.6)
   refits s t x begun seat Spent slot f = begun f
 
-  -- what a load that changes no word has to show
+  -- the obligation of a load that changes no word
   abbrev pub Looks : St → ℕ → Slots V → View V → Act (std.Option V) → List ℕ → Type 0
   Looks s id slots w a row =
       Rule since levels record { words = row; homes = homes_after s.homes slots a; views = set s.views id w }
 
-  -- a load leaves its word as it is, so it is enough to show the rule for the words as they are
+  -- a load leaves its word unchanged, so the rule needs to be shown only for the words as they are
   pub looks : (s : St) (id i : ℕ) (slots : Slots V) (w : View V) (a : Act (std.Option V)) → Looks s id slots w a s.words
       → Rule since levels (stepped s i (slice_index s.words i) id slots w a)
   looks s id i slots w a r = subst (Looks s id slots w a) (sym (word_kept s.words i)) r
 
-  -- so a load that leaves the slots where they are may give its seat a new view that keeps the rule
+  -- so a load that leaves the slots as they are may give its seat a new view that keeps the rule
   pub sees : (s : St) (id i : ℕ) (slots : Slots V) (w : View V) (Then : Me (std.Option V) (View V) → Type 0)
       → Looks s id slots w keeps s.words → Then (w, slots)
       → (v : View V) × (a : Act (std.Option V)) × Valid s.homes slots a

@@ -1,4 +1,4 @@
--- What a guard's seat has, once the value was taken out of its slot.
+-- The seat of a guard after the value has left its slot.
 use Rattle.std.proofs.Common.{◌≡◌, ℕ, ◌*◌, ◌≤◌, Bool, true, false, [], ◌∷◌, Some, None, sym, ap, ◌∙◌, subst}
 use Rattle.std.specs.Prelude as std
 use Rattle.atomic_table.specs.Table.{Me, rest}
@@ -17,18 +17,18 @@ use Rattle.ya_lock.specs.inside.Lock.{HasTree, HasPlace, SeatInside, SeatOf}
 use Rattle.ya_lock.proofs.TreeSize.{one_tree}
 use Rattle.ya_lock.proofs.NewSteps.{one_value}
 
--- nothing is asked for, since the process is inside
+-- no access is requested, since the process is inside
 abbrev IsInsideOp : Op → Type 0
 IsInsideOp op.Inside = Unit {0}
 IsInsideOp _ = ⊥
 
--- an access is asked for
+-- an access is requested
 no_access : (levels : ℕ) (access : Access) → IsInsideOp (op_of_access levels access) → ⊥
 no_access levels (Load word) h = h
 no_access levels (Store word value) h = h
 
 module _ {V : Type 0} where
-  -- a walk that asks for nothing since it is inside was not told to go on
+  -- a walk without a request because it is inside has no exit begun
   entered_at : (since done : ℕ → V → V → Type 0) (levels place : ℕ) (process : Process) (begun : Bool) (remote : ℕ) (seen : V)
       (me : Me (std.Option V) (View V)) → IsInsideOp (op_of (walk levels place process begun remote))
       → SeatOf since done seen (walk levels place process begun remote) me
@@ -55,7 +55,7 @@ module _ {V : Type 0} where
   has_slot since done levels place seen remote me h =
       let is = h.2 in (Some h.0, ap (λ (m : Me (std.Option V) (View V)). m.1) is ∙ (λ i. (0, Some h.0) ∷ rest (sym is i).1))
 
-  -- what was taken is what was found, and the slot is left empty
+  -- the value in the slot is the value found, and the slot is left empty
   pub taken : (since done : ℕ → V → V → Type 0) (levels place : ℕ) (seen value : V) (remote : ℕ) (x : std.Option V)
       (me after : Me (std.Option V) (View V)) → SeatOf since done seen (walk levels place Inside false remote) me → me.1 ≡ (0, x) ∷ rest me.1
       → x ≡ Some value
@@ -69,7 +69,7 @@ module _ {V : Type 0} where
         let P : V → Type 0 = λ v. since place seen v in subst P same h.1,
       )
 
-  -- so a guard has what its type asks for
+  -- a guard satisfies the invariant of its type
   pub guarded : (since done : ℕ → V → V → Type 0) (levels place here remote : ℕ) (seen value recalled : V) (x : std.Option V)
       (lock old own : LockId) (me after : Me (std.Option V) (View V))
       → lock ≡ old → old ≡ own → HasTree own levels → HasPlace old place → here ≡ place → remote ≤ 7 * levels
@@ -85,7 +85,7 @@ module _ {V : Type 0} where
             (sym (one_tree lock own levels' levels (e ∙ f) tree' tree)) most;
       }
 
-  -- where it is told to leave, with the value that it leaves back in its slot, its seat is ready for the way out
+  -- after `begin_exit`, with the value to be left back in its slot, the seat is ready for the way out
   pub told_to_leave : (since done : ℕ → V → V → Type 0) (w : Walk) (levels place remote : ℕ) (found value seen : V)
       (me after : Me (std.Option V) (View V)) → w ≡ walk levels place Inside true remote → done place found value
       → seen ≡ value → me ≡ (Seated place Inside found remote, (0, None) ∷ [])

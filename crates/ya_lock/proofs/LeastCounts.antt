@@ -1,4 +1,4 @@
--- The least number of remote accesses that a process has made grows with each step by no more than the step counts.
+-- The minimum number of remote accesses of a process grows with each step by no more than the step counts.
 use Rattle.std.proofs.Common.{◌≡◌, ℕ, ◌+◌, ◌-◌, ◌*◌, ◌≤◌, ◌==◌, nat_lt, Bool, true, false, if◌then◌else◌, refl, arith}
 use Rattle.std.proofs.lemmas.Bool.Decides.{nat_tests}
 use Rattle.ya_core.specs.declared.process.EntryPoint.TheVariants.{E1, E2, E3, E4, E5, E6, E7, E8, E9, E10}
@@ -8,20 +8,20 @@ use Rattle.ya_core.specs.declared.process.Process.TheVariants.{Idle, Entering, I
 use Rattle.ya_core.specs.Steps.{next_of, after_entry, after_exit}
 use Rattle.ya_lock.specs.Rule.{least_count, count_after}
 
--- a bound holds of what a test decides where it holds either way
+-- a bound for both branches is a bound for the conditional
 by_test : (levels m : ℕ) (b : Bool) (x y : Process) → (b ≡ true → least_count levels x ≤ m)
     → (b ≡ false → least_count levels y ≤ m) → least_count levels (if b then x else y) ≤ m
 by_test levels m true x y first second = first refl
 by_test levels m false x y first second = second refl
 
--- what an access counts is no less than nothing, and one more where it is remote
+-- an upper bound remains one after an access is counted
 more : (a b c : ℕ) → a ≤ b → a ≤ b + c
 more a b c less = omega (arith, less)
 
 one_more : (a b c : ℕ) → c ≡ a + 1 → a ≤ b → c ≤ b + 1
 one_more a b c is less = omega (arith, is, less)
 
--- who won a level made three accesses there at least
+-- a process that won a level made at least three accesses there
 by_win : (levels level m : ℕ) → 3 * (level - 1) + 3 ≤ m → least_count levels (after_entry levels level) ≤ m
 by_win levels level m least =
     by_test levels m (nat_lt level levels) (Entering (level + 1) E1) Inside
@@ -29,7 +29,7 @@ by_win levels level m least =
     (λ last. (let top : levels ≤ level = grind (arith, nat_tests) in
     let all : 3 * levels ≤ m = omega (arith, top, least) in all))
 
--- who leaves a level made three for each on its way in
+-- a process that leaves a level made three for each level on its way in
 by_exit : (levels level m : ℕ) → 3 * levels ≤ m → least_count levels (after_exit level) ≤ m
 by_exit levels level m least =
     by_test levels m (nat_lt 1 level) (Leaving (level - 1) X1) Idle (λ lower. least)

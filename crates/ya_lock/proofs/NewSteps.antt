@@ -1,4 +1,4 @@
--- The steps by which `new` makes the passes keep the rule.
+-- The steps of `new` that make the passes keep the rule.
 use Rattle.std.proofs.Common.{◌≡◌, ◌≢◌, ℕ, zero, suc, ◌+◌, ◌*◌, ◌^◌, ◌<◌, ◌≤◌, eqb, true, false, cond, List, [], ◌∷◌, ◌++◌}
 use Rattle.std.proofs.Common.{length, set, sym, refl, ap, ◌∙◌, subst, arith, slice_index, None, Some, replicate, inl}
 use Rattle.std.proofs.Common.{inr, ⊎_elim, ◌⊎◌, eq-eqb, ne_eqb}
@@ -23,7 +23,7 @@ use Rattle.ya_core.proofs.Promised.{opens as opens_sound}
 use Rattle.ya_lock.proofs.WordsInRow.{words_zero, words_behind}
 use Rattle.ya_lock.proofs.Frames.{refits, looks, sees, Sits, sits_still, sits_else, sits_longer, set_at}
 
--- the view that came last, or one that was there
+-- an element of the longer list is the last one, or was there before
 pub at_end : {A : Type 0} (l : List A) (a b : A) (j : ℕ) → get_elem? (l ++ a ∷ []) j ≡ some b
     → (get_elem? l j ≡ some b) ⊎ ((j ≡ length l) × (a ≡ b))
 at_end [] a b zero e = inr (refl, some-injective a b e)
@@ -37,12 +37,12 @@ only [] a e = absurd (omega arith)
 only (x ∷ []) a e = refl
 only (x ∷ y ∷ zs) a e = absurd (omega arith)
 
--- what the slot taken last holds
+-- the contents of the slot taken last
 first_value : {V : Type 0} → Slots V → std.Option V
 first_value [] = None
 first_value (x ∷ xs) = x.1
 
--- a slot has one value
+-- a slot has only one value
 pub one_value : {V : Type 0} (a b : V) → ◌≡◌ {A = Slots V} ((0, Some a) ∷ []) ((0, Some b) ∷ []) → a ≡ b
 unfolding first_value
 one_value {V} a b e = let values : Some a ≡ Some b = ap (λ (l : Slots V). first_value l) e in cc
@@ -81,7 +81,7 @@ module _ {V : Type 0} (since : ℕ → V → V → Type 0) (since_same : (place 
     },
   )
 
-  -- while the making word is 0 there are unused seats alone
+  -- while the making word is 0, all seats are unused
   unused_fits : (s t : St) (x y : GlobalView V) (seat : ℕ) (view : View V) → slice_index s.words (making_index levels) ≡ 0
       → ViewFits since levels s x seat view → ViewFits since levels t y seat view
   unused_fits s t x y seat Unused e f = tt
@@ -96,7 +96,7 @@ module _ {V : Type 0} (since : ℕ → V → V → Type 0) (since_same : (place 
   abbrev swapped : St → View V → St
   swapped s w = record { words = set s.words (making_index levels) 1; homes = s.homes; views = s.views ++ w ∷ [] }
 
-  -- the same picture, in which this seat makes the passes, or none
+  -- the same global view, with this maker, or none
   abbrev made_by : GlobalView V → Option ℕ → GlobalView V
   made_by x maker =
       record { seat_of = x.seat_of; processes = x.processes; maker = maker; content = x.content }
@@ -109,7 +109,7 @@ module _ {V : Type 0} (since : ℕ → V → V → Type 0) (since_same : (place 
       let long : n ≡ m + 8 * (1 + places) = wide in
       let one : ◌≡◌ {A = ℕ} 1 0 = sym (get_or-set_same s.words m 1 0 (omega arith)) ∙ e in absurd (omega arith)
 
-  -- and what else the global view says still holds
+  -- and the rest of the rule still holds
   swap_obeys : (s : St) (x : GlobalView V) (maker : Option ℕ) (w : View V) → Obeys since levels s x
       → ((seat : ℕ) (view : View V) → get_elem? (s.views ++ w ∷ []) seat ≡ some view
       → ViewFits since levels (swapped s w) (made_by x maker) seat view) → Obeys since levels (swapped s w) (made_by x maker)
@@ -210,7 +210,7 @@ module _ {V : Type 0} (since : ℕ → V → V → Type 0) (since_same : (place 
             (ap (λ (l : Slots V). (Filling, (0, None) ∷ l)) none'),
       )
 
-  -- before the value was given there are the maker and unused seats alone
+  -- before the value was given, all seats but the maker are unused
   given_fits : (s t : St) (x y : GlobalView V) (id : ℕ) → Obeys since levels s x → x.maker ≡ some id → x.content ≡ none
       → slice_index t.words (making_index levels) ≢ 0
       → (seat : ℕ) (view : View V) → seat ≢ id → ViewFits since levels s x seat view → ViewFits since levels t y seat view

@@ -1,4 +1,4 @@
--- Whatever the step of a process leads to is the step that is due.
+-- Any step of a process by its due access is its due step.
 use Rattle.std.proofs.Common.{◌≡◌, ◌≢◌, ℕ, ◌+◌, ◌*◌, ◌^◌, ◌<◌, ◌≤◌, Bool, true, false, List, [], ◌∷◌, set, length, sym, refl}
 use Rattle.std.proofs.Common.{ap, ◌∙◌, subst, arith, inl, inr, ⊎_elim, Some}
 use Rattle.std.specs.Prelude as std
@@ -48,7 +48,7 @@ module _ {V : Type 0} (since : ℕ → V → V → Type 0) (levels : ℕ) (least
   module _ (s t : State (std.Option V) (View V)) (old : Rule since levels s) (new : Rule since levels t)
       (seat place : ℕ) (process : Process) (seen : V) (count : ℕ) (slots : Slots V)
       (k : MakesDueAccess s t since levels seat place process seen count slots) where
-    -- what the access loads or stores, and where it leads
+    -- the value that the access loads or stores, and the next process
     abbrev found : ℕ
     found = value_of (words_in levels s.words) (access_of levels place process)
 
@@ -58,7 +58,7 @@ module _ {V : Type 0} (since : ℕ → V → V → Type 0) (levels : ℕ) (least
     abbrev row : List ℕ
     row = set s.words (index_of levels (word_of (access_of levels place process))) found
 
-    -- the words are those that the core says
+    -- the words change as in the core
     words : Accesses (access_of levels place process) (words_in levels s.words) (words_in levels row)
     words =
         let a : Access = access_of levels place process in
@@ -73,14 +73,14 @@ module _ {V : Type 0} (since : ℕ → V → V → Type 0) (levels : ℕ) (least
         (sym (value_is levels i s.words a word refl))
         (accesses levels i s.words a word refl (let l : i < long = omega arith in l))
 
-    -- the view that the seat has then
+    -- the view of the seat afterwards
     own : get_elem? t.views seat
         ≡ some (Seated place (process_after levels s place process) k.told.1.0 (count_after levels place process count))
     own =
         ap (λ (u : State (std.Option V) (View V)). get_elem? u.views seat) k.steps.leads
         ∙ (set_at s.views seat (Seated place process seen count) k.after.0 k.view ∙ ap some k.told.1.1)
 
-    -- where it is inside, the slot is out
+    -- if it is inside afterwards, the slot is out
     out : is_inside after ≡ true → t.homes ≡ none ∷ []
     out e =
         let f = new.1.fits seat (Seated place after k.told.1.0 (count_after levels place process count)) own in
@@ -88,7 +88,7 @@ module _ {V : Type 0} (since : ℕ → V → V → Type 0) (levels : ℕ) (least
         subst (λ (b : Bool). KnowsValue since new.0.content place b k.told.1.0) e f.3 in
         (subst (λ (c : Option V). ValueInSlot since new.0.processes t.homes c) knows new.1.lies).1 place (ap is_inside f.2 ∙ e)
 
-    -- the homes are what the seat's acts leave
+    -- the homes after the seat's act
     homes : t.homes ≡ homes_after s.homes slots k.steps.act
     homes = ap (λ (u : State (std.Option V) (View V)). u.homes) k.steps.leads
 
@@ -101,7 +101,7 @@ module _ {V : Type 0} (since : ℕ → V → V → Type 0) (levels : ℕ) (least
         ap (λ (u : State (std.Option V) (View V)). get_elem? u.views other) k.steps.leads
         ∙ set_else s.views seat other k.after.0 apart
 
-    -- who comes inside finds the slot at home: nobody else was inside
+    -- a process that comes inside finds the slot at home: no other process was inside
     not_gone : is_inside process ≡ false → is_inside after ≡ true → s.homes ≡ none ∷ [] → ⊥
     not_gone outside inside gone =
         let now = (in_slot since levels s old).1
@@ -118,7 +118,7 @@ module _ {V : Type 0} (since : ℕ → V → V → Type 0) (levels : ℕ) (least
             (h.0, others seat' apart ∙ h.1, h.2)
             (Seated place after k.told.1.0 (count_after levels place process count), own, (refl, is_inside_is after inside, refl)))
 
-    -- so the step is the one that is due
+    -- so it is the due step
     pub only_due : TakesStep since levels seat place process seen count slots s t
     only_due =
         record {
@@ -139,7 +139,7 @@ module _ {V : Type 0} (since : ℕ → V → V → Type 0) (levels : ℕ) (least
           rule = new;
         }
 
-  -- by whether it comes inside: a process that isn't inside leaves the content as it is
+  -- by cases: a process that isn't inside leaves the content as it is, whether it comes inside or not
   keeps_content : (s t : State (std.Option V) (View V)) (seat place : ℕ) (process : Process) (seen : V) (count : ℕ)
       (slots : Slots V) → get_elem? s.views seat ≡ some (Seated place process seen count)
       → (step : TakesStep since levels seat place process seen count slots s t) → is_inside process ≡ false
@@ -186,14 +186,14 @@ module _ {V : Type 0} (since : ℕ → V → V → Type 0) (levels : ℕ) (least
       was_inside b m e h (yes is) =
           let of : IsOf own_view h.1.0 Inside value = subst (λ (u : View V). IsOf u h.1.0 Inside value)
           (some-injective _ _ (sym h.1.1.1 ∙ (ap (λ (j : ℕ). get_elem? t.views j) is ∙ step.own))) h.1.1.2 in
-          by_own b m e of
+          own_numbers b m e of
         where
-          by_own : (b : Bool) → MovesValue since false b place seen step.value slots s.homes t.homes
+          own_numbers : (b : Bool) → MovesValue since false b place seen step.value slots s.homes t.homes
               → is_inside after ≡ b → IsOf own_view h.1.0 Inside value → IsContent s value
-          by_own true m e of = inl (m.1 ∙ ap (λ (v : V). some (Some v) ∷ []) of.2)
-          by_own false m e of = let both : true ≡ false = sym (ap is_inside of.1) ∙ e in cc
+          own_numbers true m e of = inl (m.1 ∙ ap (λ (v : V). some (Some v) ∷ []) of.2)
+          own_numbers false m e of = let both : true ≡ false = sym (ap is_inside of.1) ∙ e in cc
 
-  -- so it is by each step that is due to one
+  -- so each due step of such a process keeps the content
   pub due_keeps_content : (s t : State (std.Option V) (View V)) (seat place : ℕ) (process : Process) (seen : V) (count : ℕ)
       (slots : Slots V) → get_elem? s.views seat ≡ some (Seated place process seen count)
       → TakesStep since levels seat place process seen count slots s t → is_inside process ≡ false → SameContent s t

@@ -1,4 +1,5 @@
--- Every kind of step but that of a process leaves words and processes as they are, and all but the gift the content.
+-- Every kind of step except the step of a process leaves words and processes as they are, and every kind except the
+-- gift also leaves the content.
 use Rattle.std.proofs.Common.{◌≡◌, ◌≢◌, ◌↔◌, ℕ, ◌+◌, ◌<◌, ◌≤◌, List, [], ◌∷◌, ◌++◌, set, sym, refl, ap, ◌∙◌, subst, arith}
 use Rattle.std.proofs.Common.{inl, inr, ⊎_elim, slice_index, Some, None}
 use Rattle.std.specs.Prelude as std
@@ -40,13 +41,13 @@ ShowsSame {V} v w =
     (place : ℕ) (process : Process) (value : V) → process ≢ Idle → IsOf v place process value ↔ IsOf w place process value
 
 module _ {V : Type 0} where
-  -- one change after another
+  -- two changes in a row
   both_changes : (l m n : List (View V)) → SameBusy l m → SameBusy m n → SameBusy l n
   both_changes l m n a b seat place process value busy =
       let f = a seat place process value busy in let g = b seat place process value busy in
       ((λ h. g.0 (f.0 h)), (λ h. f.1 (g.1 h)))
 
-  -- a seat's view becomes one that shows the same
+  -- a seat's view is replaced by a view with the same process
   pub view_set : (views : List (View V)) (id : ℕ) (v w : View V) → get_elem? views id ≡ some v → ShowsSame v w
       → SameBusy views (set views id w)
   view_set views id v w at same seat place process value busy = (
@@ -70,7 +71,7 @@ module _ {V : Type 0} where
           )
       there h (no ne) = (h.0, set_else views id seat w ne ∙ h.1, h.2)
 
-  -- a seat comes that shows no process but an idle one
+  -- a new seat with no process but an idle one
   view_added : (views : List (View V)) (u : View V)
       → ((place : ℕ) (process : Process) (value : V) → process ≢ Idle → ¬ IsOf u place process value)
       → SameBusy views (views ++ u ∷ [])
@@ -81,7 +82,7 @@ module _ {V : Type 0} where
         (at_end views u h.0 seat h.1)),
   )
 
-  -- where the slot and the processes show the same, the content is the same
+  -- if the slot and the busy processes are the same, the content is the same
   same_content : (s t : State (std.Option V) (View V)) → SameBusy s.views t.views
       → ((value : V) → ◌↔◌ (s.homes ≡ some (Some value) ∷ []) (t.homes ≡ some (Some value) ∷ [])) → SameContent s t
   same_content s t busy slot value = (
@@ -91,13 +92,13 @@ module _ {V : Type 0} where
         (λ h. inr (h.0, (h.1.0, (busy h.0 h.1.0 Inside value (λ e. cc)).1 h.1.1))) c),
   )
 
-  -- so it is where the homes stay
+  -- the same slot if the homes stay
   same_slot : (homes homes' : List (Option (std.Option V))) → homes' ≡ homes → (value : V)
       → ◌↔◌ (homes ≡ some (Some value) ∷ []) (homes' ≡ some (Some value) ∷ [])
   same_slot homes homes' e value = ((λ h. e ∙ h), (λ h. sym e ∙ h))
 
   module _ (since : ℕ → V → V → Type 0) (levels : ℕ) where
-    -- what has to be shown of each kind
+    -- the obligation for each kind of step
     abbrev pub Leaves : (s t : State (std.Option V) (View V)) → Type 0
     Leaves s t = LeavesProcesses s t levels × SameContent s t
 
@@ -114,7 +115,7 @@ module _ {V : Type 0} where
         → words_in levels (set row i (slice_index row i)) word ≡ words_in levels row word
     loaded row i word = ap (λ (r : List ℕ). words_in levels r word) (word_kept row i)
 
-    -- a load by which a seat keeps its slots, and its view shows what it showed
+    -- a load that keeps the seat's slots and the process that its view shows
     keeps_slots : (s t : State (std.Option V) (View V)) (seat word number : ℕ) (slots : Slots V)
         (before : View V) (after : Me (std.Option V) (View V)) → get_elem? s.views seat ≡ some before
         → ((w : Word) → words_in levels (set s.words word number) w ≡ words_in levels s.words w)
@@ -253,7 +254,7 @@ module _ {V : Type 0} where
     other_leaves s t rule (Learn k) = learn s t k
     other_leaves s t rule (Bell k) = bell s t k
 
-    -- the gift makes the value the content, which was none
+    -- the gift makes the value the content, for the first time
     pub gift_leaves : (s t : State (std.Option V) (View V)) (value : V) → Rule since levels s → GivesHome s t value
         → LeavesProcesses s t levels × ((v : V) → ¬ IsContent s v) × IsContent t value
     gift_leaves s t value rule k =

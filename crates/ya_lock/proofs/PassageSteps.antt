@@ -1,4 +1,4 @@
--- The seat of a walk still stands where the walk does after the access that was due.
+-- After the due access, the seat of a walk still agrees with the walk.
 use Rattle.std.proofs.Common.{◌≡◌, ◌≢◌, ℕ, Bool, true, false, [], refl, sym, ap, ◌∙◌, subst}
 use Rattle.std.specs.Prelude as std
 use Rattle.atomic_table.specs.Table.{Me}
@@ -17,7 +17,7 @@ use Rattle.ya_lock.specs.inside.Lock.{HasMade, SeatOf}
 use Rattle.ya_lock.proofs.NewSteps.{one_value}
 
 module _ {V : Type 0} (since done : ℕ → V → V → Type 0) where
-  -- what a seat shows and has
+  -- the view and the slots of a seat
   abbrev M : Type 0
   M = Me (std.Option V) (View V)
 
@@ -25,7 +25,7 @@ module _ {V : Type 0} (since done : ℕ → V → V → Type 0) where
   abbrev IsDue : Walk → Type 0
   IsDue w = (op_of w ≢ op.Idle) × (op_of w ≢ op.Inside)
 
-  -- the seat of a walk to which an access is due is ready for it
+  -- the seat of a walk with a due access is ready for it
   pub ready_by : (levels place : ℕ) (process : Process) (begun : Bool) (remote : ℕ) (seen : V) (me : M)
       → IsDue (walk levels place process begun remote) → SeatOf since done seen (walk levels place process begun remote) me
       → (value : V) × HasMade place value process remote me.0 × IsReady done (is_inside process) place value me.1
@@ -40,7 +40,7 @@ module _ {V : Type 0} (since done : ℕ → V → V → Type 0) where
   ready_by levels place (Leaving level point) begun remote seen me d s =
       (seen, ap (λ (m : M). m.0) s.1, ap (λ (m : M). m.1) s.1)
 
-  -- an access of a process that has no slot leads to such a seat, by what it carries
+  -- an access of a process without a slot leads to such a seat, with the slots that it carries
   arrives : (levels place remote : ℕ) (process : Process) (seen next : V) (me : M)
       → me.0 ≡ Seated place process next remote → CarriesValue since false (is_inside process) place seen [] next me.1
       → SeatOf since done seen (walk levels place process false remote) me
@@ -52,7 +52,7 @@ module _ {V : Type 0} (since done : ℕ → V → V → Type 0) where
   arrives levels place remote (Leaving level point) seen next me is carries =
       (refl, (λ i. (is i, carries.1 i)) ∙ (λ i. (Seated place (Leaving level point) (carries.0 i) remote, [])))
 
-  -- so does one of a process that stands there and has no slot
+  -- so does an access of a process there without a slot
   goes_on : (levels place found remote : ℕ) (process : Process) (seen : V) (me after : M) → is_inside process ≡ false
       → me ≡ (Seated place process seen remote, []) → ProcessSteps since levels found me.0 me.1 after
       → SeatOf since done seen (walk levels place (next_of levels place process found) false (count_after levels place process remote)) after
@@ -84,7 +84,7 @@ module _ {V : Type 0} (since done : ℕ → V → V → Type 0) where
   stays_at levels place found (Leaving level point) begun remote seen me after d s steps =
       goes_on levels place found remote (Leaving level point) seen me after refl s.1 steps
 
-  -- in a tree of as many levels
+  -- in a tree with this number of levels
   pub stays : (w new : Walk) (levels found : ℕ) (seen : V) (me after : M) → IsDue w → SeatOf since done seen w me
       → w.levels ≡ levels → ProcessSteps since levels found me.0 me.1 after → new ≡ walk_after w found
       → SeatOf since done seen new after
@@ -93,7 +93,7 @@ module _ {V : Type 0} (since done : ℕ → V → V → Type 0) where
       (stays_at w.levels w.place found w.process w.begun w.remote seen me after d s
       (subst (λ (l : ℕ). ProcessSteps since l found me.0 me.1 after) (sym tree) steps))
 
-  -- and the walk may be told what the access found
+  -- the walk may go on with the value that the access found
   told_at : (levels place found : ℕ) (process : Process) (begun : Bool) (remote : ℕ) (seen : V) (me after : M)
       → IsDue (walk levels place process begun remote) → SeatOf since done seen (walk levels place process begun remote) me
       → ProcessSteps since levels found me.0 me.1 after → MayBeTold (due (walk levels place process begun remote)) found

@@ -13,14 +13,14 @@ module _ {X : Type 0} where
   get_old (y ∷ ys) x zero h = refl
   get_old (y ∷ ys) x (suc k) h = get_old ys x k (omega arith)
 
-  -- the last element comes behind all others
+  -- the last element comes after all others
   get_last : (l : List X) (x : X) (k : ℕ) → k ≡ length l → slice_get (l ++ x ∷ []) k ≡ Some x
   get_last [] x zero e = refl
   get_last [] x (suc k) e = absurd (omega arith)
   get_last (y ∷ ys) x zero e = absurd (omega arith)
   get_last (y ∷ ys) x (suc k) e = get_last ys x k (omega arith)
 
-  -- where each of the first n places has its own, and the next one is made, so has each of the first n + 1
+  -- if each of the first n places has its own, and the next one is made, each of the first n + 1 has its own
   pub one_more : (f : ℕ → X) (l : List X) (n : ℕ) (x : X) → length l ≡ n → x ≡ f n
       → ((k : ℕ) → k < n → slice_get l k ≡ Some (f k)) → (k : ℕ) → k < n + 1 → slice_get (l ++ x ∷ []) k ≡ Some (f k)
   one_more f l n x long is all k h = elim (ℕ_discrete k n) [
@@ -28,7 +28,7 @@ module _ {X : Type 0} where
     | no ne ↦ get_old l x k (let m : ℕ = length l in let long' : m ≡ n = long in omega arith) ∙ all k (omega arith)
   ]
 
--- the same of the passes that `new` makes, whose parts are told one by one
+-- the same for the passes that `new` makes, given part by part
 pub one_more_pass : {V : Type 0} (lock : LockId) (seen : V) (l items : List (IdlePass V)) (n : ℕ) (x : IdlePass V)
     → items ≡ l ++ x ∷ [] → length l ≡ n → x.lock ≡ lock → x.place ≡ n → x.seen ≡ seen → x.remote ≡ 0
     → x.view ≡ Seated n Idle seen 0 → ((k : ℕ) → k < n → slice_get l k ≡ Some (new_pass lock k seen)) → (k : ℕ)

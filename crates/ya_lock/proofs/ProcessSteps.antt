@@ -1,4 +1,4 @@
--- The step that is due to a process keeps the rule, and tells what it tells.
+-- The due step of a process keeps the rule, and has its stated effect.
 use Rattle.std.proofs.Common.{◌≡◌, ◌≢◌, ℕ, ◌+◌, ◌*◌, ◌^◌, ◌<◌, ◌≤◌, Bool, true, false, List, [], ◌∷◌, length, set, sym, refl}
 use Rattle.std.proofs.Common.{ap, ◌∙◌, subst, arith, slice_index, Some}
 use Rattle.std.specs.Prelude as std
@@ -35,13 +35,13 @@ use Rattle.ya_lock.proofs.LeastCounts.{least_kept}
 leaves : (levels place n : ℕ) (p : Process) → p ≡ Inside → is_inside (next_of levels place p n) ≡ false
 leaves levels place n p e = subst (λ (p : Process). is_inside (next_of levels place p n) ≡ false) (sym e) refl
 
--- what an access leaves is what the core says that it loads or stores
+-- the core's value of an access is the word's value after it
 pub value_is : (levels i : ℕ) (row : List ℕ) (a : Access) → IsWord levels (word_of a) → i ≡ index_of levels (word_of a)
     → value_of (words_in levels row) a ≡ value_after a (slice_index row i)
 value_is levels i row (Load w) h e = word_in levels row w h ∙ ap (λ (j : ℕ). slice_index row j) (sym e)
 value_is levels i row (Store w m) h e = refl
 
--- and the words after it are those that the core says
+-- and the words after it are the core's
 pub accesses : (levels i : ℕ) (row : List ℕ) (a : Access) → IsWord levels (word_of a) → i ≡ index_of levels (word_of a)
     → i < length row
     → Accesses a (words_in levels row) (words_in levels (set row i (value_after a (slice_index row i))))
@@ -77,7 +77,7 @@ module _ {V : Type 0} (since done : ℕ → V → V → Type 0) (since_same : (p
   abbrev core_of : St → GlobalView V → core.State
   core_of s x = record { words = words_in levels s.words; processes = x.processes }
 
-  -- and the one after the step of a place that found or stored n
+  -- and the state after the step of a place that found or stored n
   abbrev core_after : St → GlobalView V → ℕ → ℕ → ℕ → core.State
   core_after s x place i n =
       record {
@@ -93,7 +93,7 @@ module _ {V : Type 0} (since done : ℕ → V → V → Type 0) (since_same : (p
   abbrev total : GlobalView V → ℕ → ℕ → ℕ
   total x place count = count_after levels place (x.processes place) count
 
-  -- that is a step of the core
+  -- this is a step of the core
   steps_to : (s : St) (x : GlobalView V) (place i : ℕ) → place < 2 ^ levels → IsWord levels (word_of (due x place))
       → i ≡ index_of levels (word_of (due x place)) → i < length s.words
       → StepsTo levels place (core_of s x) (core_after s x place i (value_after (due x place) (slice_index s.words i)))
@@ -106,7 +106,7 @@ module _ {V : Type 0} (since done : ℕ → V → V → Type 0) (since_same : (p
         others = λ other ne. moved_else x.processes place _ other ne;
       }
 
-  -- a load that is due finds what may stand in its word
+  -- a due load finds a value that its word can hold
   may_find : (s : St) (x : GlobalView V) (place i : ℕ) → IsSoundState levels (core_of s x) → (a : Access) → due x place ≡ a
       → IsWord levels (word_of a) → i ≡ index_of levels (word_of a)
       → MayBeTold (Some a) (value_after a (slice_index s.words i))
@@ -116,7 +116,7 @@ module _ {V : Type 0} (since done : ℕ → V → V → Type 0) (since_same : (p
       (finds levels place (core_of s x) (x.processes place) sound refl))
   may_find s x place i sound (Store w m) is h e = tt
 
-  -- who is inside after the step of a place that isn't inside then
+  -- a place inside after the step of another place that isn't inside then is a different place
   stays_inside : (x : GlobalView V) (place : ℕ) (p' : Process) (k : ℕ) → is_inside p' ≡ false
       → is_inside (moved x.processes place p' k) ≡ true → k ≢ place
   stays_inside x place p' k is e h =
@@ -124,12 +124,12 @@ module _ {V : Type 0} (since done : ℕ → V → V → Type 0) (since_same : (p
       sym e ∙ (ap (λ (z : ℕ). is_inside (moved x.processes place p' z)) h
       ∙ (ap is_inside (moved_here x.processes place p') ∙ is)) in cc
 
-  -- who is inside afterwards was inside before
+  -- a place inside afterwards was inside before
   inside : (x : GlobalView V) (place : ℕ) (p' : Process) (k : ℕ) → is_inside p' ≡ false
       → is_inside (moved x.processes place p' k) ≡ true → is_inside (x.processes k) ≡ true
   inside x place p' k is e = ap is_inside (sym (moved_else x.processes place p' k (stays_inside x place p' k is e))) ∙ e
 
-  -- and who isn't inside before it
+  -- and a place not inside afterwards was not inside before it
   outside : (x : GlobalView V) (place : ℕ) (p' : Process) (k : ℕ) → is_inside (x.processes place) ≡ false
       → is_inside p' ≡ false → is_inside (moved x.processes place p' k) ≡ false
       → is_inside (x.processes k) ≡ false
@@ -138,13 +138,13 @@ module _ {V : Type 0} (since done : ℕ → V → V → Type 0) (since_same : (p
       sym h ∙ (ap (λ (z : ℕ). is_inside (x.processes z)) same ∙ was) in cc in
       let both : true ≡ false = sym h ∙ (ap is_inside (sym (moved_else x.processes place p' k ne)) ∙ e) in cc)
 
-  -- what a step has to show
+  -- the obligation of a step
   abbrev Answer : St → GlobalView V → ℕ → ℕ → V → ℕ → ℕ → ℕ → Slots V → Type 0
   Answer s x id place value count i n slots =
       (w : View V) × (a : Act (std.Option V)) × Valid s.homes slots a × Rule since levels (stepped s i n id slots w a)
       × ProcessSteps since levels n (Seated place (x.processes place) value count) slots (w, carried_after slots a)
 
-  -- and what it leaves in its view and in the slot
+  -- and its result in the view and the slot
   abbrev Moved : St → GlobalView V → ℕ → V → ℕ → ℕ → Slots V → View V → Act (std.Option V) → Type 0
   Moved s x place value count n slots w a =
       let p' : Process = next_of levels place (x.processes place) n in
@@ -156,8 +156,8 @@ module _ {V : Type 0} (since done : ℕ → V → V → Type 0) (since_same : (p
   Whole s x id place value count i n slots =
       (answer : Answer s x id place value count i n slots) × Moved s x place value count n slots answer.0 answer.1
 
-  -- the access that is due to a seat's process, which found or stored n: what is known of the table before it, and that
-  -- the core goes on by it
+  -- the due access of a seat's process, which found or stored n: the known facts about the table before it, and that
+  -- the core goes on with n
   record IsDueAt (s : St) (x : GlobalView V) (id place i n : ℕ) (value : V) (count : ℕ) : Type 0 where
     obeys : Obeys since levels s x
     view : get_elem? s.views id ≡ some (Seated place (x.processes place) value count)
@@ -222,7 +222,7 @@ module _ {V : Type 0} (since done : ℕ → V → V → Type 0) (since_same : (p
         ),
       )
 
-  -- so the value lies where it lay
+  -- so the value stays in its place
   same_lies : (x : GlobalView V) (place : ℕ) (p' : Process) (homes : List (Option (std.Option V))) (content : Option V)
       → is_inside (x.processes place) ≡ false → is_inside p' ≡ false
       → ValueInSlot since x.processes homes content → ValueInSlot since (moved x.processes place p') homes content
@@ -329,7 +329,7 @@ module _ {V : Type 0} (since done : ℕ → V → V → Type 0) (since_same : (p
         ),
       )
 
-  -- by whether the process is inside before and after
+  -- by cases: the process is inside or not, before and after
   by_case : (s : St) (x : GlobalView V) (id place i n : ℕ) (value : V) (count : ℕ) (slots : Slots V)
       → IsDueAt s x id place i n value count
       → (before after : Bool) → is_inside (x.processes place) ≡ before
@@ -343,7 +343,7 @@ module _ {V : Type 0} (since done : ℕ → V → V → Type 0) (since_same : (p
   by_case s x id place i n value count slots step false false e h knows ready =
       passes s x id place i n value count slots step e h knows
 
-  -- the step that is due keeps the rule, and moves the value
+  -- the due step keeps the rule, and moves the value
   pub moves_value : (s : St) (x : GlobalView V) → Obeys since levels s x → (id place i : ℕ) (value : V) (count : ℕ) (slots : Slots V)
       → get_elem? s.views id ≡ some (Seated place (x.processes place) value count)
       → place < 2 ^ levels → IsWord levels (word_of (due x place)) → i ≡ index_of levels (word_of (due x place))
@@ -369,7 +369,7 @@ module _ {V : Type 0} (since done : ℕ → V → V → Type 0) (since_same : (p
         found = may_find s x place i o.sound (due x place) refl word index;
       } _ _ refl refl f.3 ready
 
-  -- whatever the table is, the seat of a process may make the access that is due
+  -- in any table, the seat of a process may make the due access
   pub allows : (slots id i place : ℕ) (process : Process) (value : V) (count : ℕ) (me : Me (std.Option V) (View V)) (a : Access)
       → access_of levels place process ≡ a → place < 2 ^ levels
       → IsWord levels (word_of a) → i ≡ index_of levels (word_of a) → me.0 ≡ Seated place process value count

@@ -1,4 +1,4 @@
--- What follows from the rule.
+-- Consequences of the rule.
 use Rattle.std.proofs.Common.{◌≡◌, ◌≢◌, ℕ, ◌^◌, ◌<◌, ◌≤◌, ◌⊎◌, inl, inr, Bool, true, false, [], ◌∷◌, sym, refl, ap, ◌∙◌, subst}
 use Rattle.std.proofs.Common.{slice_index, Some}
 use Rattle.std.specs.Prelude as std
@@ -21,7 +21,7 @@ module _ {V : Type 0} (since : ℕ → V → V → Type 0) (levels : ℕ) where
   abbrev St : Type 0
   St = State (std.Option V) (View V)
 
-  -- what a seat with a process says of the global view
+  -- the global view of a place with a seat and a process
   record Shown (x : GlobalView V) (seat place : ℕ) (process : Process) (value : V) : Type 0 where
     sits : x.seat_of place ≡ some seat
     is : x.processes place ≡ process
@@ -53,7 +53,7 @@ module _ {V : Type 0} (since : ℕ → V → V → Type 0) (levels : ℕ) where
   }
   shown_by s x seat place process value Spent e f = absurd e
 
-  -- so it is wherever the rule holds
+  -- so wherever the rule holds
   shown : (s : St) (r : Rule since levels s) (seat place : ℕ) (process : Process) (value : V)
       → HasProcess s seat place process value → Shown r.0 seat place process value
   shown s r seat place process value h = shown_by s r.0 seat place process value h.0 h.2 (r.1.fits seat h.0 h.1)
@@ -87,7 +87,7 @@ module _ {V : Type 0} (since : ℕ → V → V → Type 0) (levels : ℕ) where
     (λ place away. no_seat s r place away (r.0.seat_of place) refl),
   )
 
-  -- where some process takes part, one goes on
+  -- if some process takes part, some process that takes part goes on
   pub some_seat_goes_on : 1 ≤ levels → (s : St) → Rule since levels s → SomeSeatGoesOn s levels
   some_seat_goes_on least s r seat place process value h busy =
       let one = someone_goes_on levels
@@ -106,16 +106,16 @@ module _ {V : Type 0} (since : ℕ → V → V → Type 0) (levels : ℕ) where
           let is : r.0.processes q ≡ x = (shown s r other q x v has).is in
           (other, q, (x, (v, has, (λ idle. takes_part (is ∙ idle)), subst (GoesOn s levels q) is moves)))
 
-  -- two views of one place are those of one seat
+  -- two views of the same place belong to the same seat
   pub one_seat : (s : St) → Rule since levels s → OneSeatAPlace s
   one_seat s r one other place x y v w h k =
       some-injective one other (sym (shown s r one place x v h).sits ∙ (shown s r other place y w k).sits)
 
-  -- a place that has a process is one of the tree's
+  -- a place with a process is one of the tree's
   pub in_tree : (s : St) → Rule since levels s → EachInTree s levels
   in_tree s r seat place process value h = (shown s r seat place process value h).below
 
-  -- two views inside are those of one seat
+  -- two views inside belong to the same seat
   pub one_inside : 1 ≤ levels → (s : St) → Rule since levels s → OneInside s
   one_inside least s r one other p q v w h k =
       let a = shown s r one p Inside v h in let b = shown s r other q Inside w k in
@@ -124,7 +124,7 @@ module _ {V : Type 0} (since : ℕ → V → V → Type 0) (levels : ℕ) where
       (ap is_inside a.is) (ap is_inside b.is) in
       some-injective one other (sym a.sits ∙ (ap r.0.seat_of same ∙ b.sits))
 
-  -- who knows of the content shows that it is there
+  -- knowledge of the content implies that there is a content
   content_of : (content : Option V) (place : ℕ) (value : V) (b : Bool) → KnowsValue since content place b value
       → (now : V) × (content ≡ some now)
   content_of content place value true k = (value, k)
@@ -147,7 +147,7 @@ module _ {V : Type 0} (since : ℕ → V → V → Type 0) (levels : ℕ) where
   given_is s r (seat, place, (value, inr (first, at, far))) =
       let k = ((r.1.fits seat (HandingOut first value) at).3 place far).1 in (k.0, k.1)
 
-  -- the value is in its slot exactly where no view is inside
+  -- the value is in its slot exactly if no view is inside
   pub in_slot : (s : St) → Rule since levels s → IsInSlot s
   in_slot s r = (
     (λ seat place value h. let a = shown s r seat place Inside value h in
@@ -161,7 +161,7 @@ module _ {V : Type 0} (since : ℕ → V → V → Type 0) (levels : ℕ) where
         )),
   )
 
-  -- what a place away, or one whose pass is still to be made, knows of the content
+  -- the knowledge of the content of a place that is away, or whose pass is still to be made
   known : (s : St) (r : Rule since levels s) (seat place : ℕ) (seen : V) → IsAway s seat place seen ⊎ IsToMake s seat place seen
       → KnowsValue since r.0.content place false seen
   known s r seat place seen (inl (process, apart, has)) =
@@ -170,7 +170,7 @@ module _ {V : Type 0} (since : ℕ → V → V → Type 0) (levels : ℕ) where
       subst (λ (b : Bool). KnowsValue since r.0.content place b seen) out a.knows
   known s r seat place seen (inr (first, at, far)) = ((r.1.fits seat (HandingOut first seen) at).3 place far).1
 
-  -- what it has seen may have become the value as it is
+  -- others may have made the current value of the value that it has seen
   pub is_fresh : (s : St) → Rule since levels s → IsFresh s since
   is_fresh s r seat place seen now h =
       let k = known s r seat place seen h in
@@ -183,7 +183,7 @@ module _ {V : Type 0} (since : ℕ → V → V → Type 0) (levels : ℕ) where
             subst (λ (v : V). since place seen v) (some-injective k.0 now (sym k.1 ∙ b.knows)) k.2),
       )
 
-  -- before the passes are made there are unused seats alone
+  -- before the passes are made, all seats are unused
   only_unused : (s : St) (x : GlobalView V) (seat : ℕ) (view : View V) → slice_index s.words (making_index levels) ≡ 0
       → ViewFits since levels s x seat view → view ≡ Unused
   only_unused s x seat Unused zero f = refl

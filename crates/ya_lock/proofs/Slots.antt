@@ -1,4 +1,4 @@
--- What a step does with the one slot of a lock.
+-- The effect of a step on the only slot of a lock.
 use Rattle.std.proofs.Common.{◌≡◌, ℕ, zero, suc, List, [], ◌∷◌, length, set, sym, refl, ap, ◌∙◌, subst, arith, ◌⊎◌, inl, inr}
 use Rattle.std.proofs.Common.{Some, None}
 use Rattle.std.specs.Prelude as std
@@ -9,7 +9,7 @@ use Rattle.atomic_table.proofs.Lists.{set_again}
 use Rattle.ya_lock.specs.Rule.{Slots}
 use Rattle.ya_lock.specs.StepKinds.{HasSlot}
 
--- what was set twice is what was set last
+-- the second of two sets counts
 set_twice : {A : Type 0} (l : List A) (i : ℕ) (a b : A) → set (set l i a) i b ≡ set l i b
 set_twice [] i a b = refl
 set_twice (x ∷ xs) zero a b = refl
@@ -20,7 +20,7 @@ abbrev pub Homes : Type 0 → Type 0
 Homes V = List (Option (std.Option V))
 
 module _ {V : Type 0} where
-  -- what lies in the first slot
+  -- the contents of the first slot
   first_home : Homes V → Option (std.Option V)
   first_home [] = none
   first_home (h ∷ hs) = h
@@ -35,12 +35,12 @@ module _ {V : Type 0} where
   unfolding first_home
   home_not a e = some-ne-none (Some a) (sym (ap first_home e))
 
-  -- nor has an empty one
+  -- nor is an empty slot one with a value
   pub home_empty : (a : V) → ◌≡◌ {A = Homes V} (some None ∷ []) (some (Some a) ∷ []) → ⊥
   unfolding first_home
   home_empty a e = let inner : None ≡ Some a = some-injective None (Some a) (ap first_home e) in cc
 
-  -- nor is one that is empty out
+  -- nor is an empty slot out
   pub empty_is_home : ◌≡◌ {A = Homes V} (none ∷ []) (some None ∷ []) → ⊥
   unfolding first_home
   empty_is_home e = some-ne-none None (sym (ap first_home e))
@@ -50,7 +50,7 @@ module _ {V : Type 0} where
   put_all homes [] = homes
   put_all homes (x ∷ xs) = put_all (set homes x.0 (some x.1)) xs
 
-  -- whatever a seat takes and gives, they would lie as before
+  -- any access of a seat keeps the result of putting all its slots back
   pub conserved : (act : Act (std.Option V)) (homes : Homes V) (slots : Slots V) → Valid homes slots act
       → put_all (homes_after homes slots act) (carried_after slots act) ≡ put_all homes slots
   conserved keeps homes slots valid = refl
@@ -61,7 +61,7 @@ module _ {V : Type 0} where
   conserved (chain a b) homes slots valid =
       conserved b (homes_after homes slots a) (carried_after slots a) valid.1 ∙ conserved a homes slots valid.0
 
-  -- the one slot, with what it holds, is out with the seat, or at home
+  -- the only slot, with its contents, is out with the seat, or at home
   abbrev pub OneSlot : std.Option V → Homes V → Slots V → Type 0
   OneSlot held homes slots =
       ((homes ≡ none ∷ []) × (slots ≡ (0, held) ∷ [])) ⊎ ((homes ≡ some held ∷ []) × (slots ≡ []))
@@ -71,7 +71,7 @@ module _ {V : Type 0} where
   not_out zero y e = some-ne-none y (sym (some-injective none (some y) e))
   not_out (suc k) y e = some-ne-none (some y) (sym e)
 
-  -- the one at home is taken with what it holds
+  -- the slot leaves home with its contents
   taken : (k : ℕ) (held y : std.Option V) → get_elem? {A = Option (std.Option V)} (some held ∷ []) k ≡ some (some y)
       → OneSlot held (set (some held ∷ []) k none) ((k, y) ∷ [])
   taken zero held y e =
@@ -82,7 +82,7 @@ module _ {V : Type 0} where
       )
   taken (suc k) held y e = absurd (some-ne-none (some y) (sym e))
 
-  -- whatever the seat takes and gives, it stays one slot
+  -- after any access of the seat it is still the only slot
   pub one_slot : (act : Act (std.Option V)) (held : std.Option V) (homes : Homes V) (slots : Slots V)
       → OneSlot held homes slots → Valid homes slots act
       → OneSlot held (homes_after homes slots act) (carried_after slots act)

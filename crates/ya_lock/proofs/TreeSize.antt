@@ -7,7 +7,7 @@ use Rattle.ya_lock.specs.inside.Rule.{bell_index}
 use Rattle.ya_lock.specs.Rule.{making_index, row_length}
 use Rattle.ya_lock.proofs.WordsInRow.{same_height, bell_within, making_is, making_small}
 
--- two trees that have the words of one lock are of one height
+-- two trees with the words of the same lock have the same height
 pub one_tree : (x y : LockId) (a b : ℕ) → x ≡ y → HasTree x a → HasTree y b → a ≡ b
 one_tree x y a b e h k =
     same_height a b (sym h ∙ (ap (λ (z : LockId). z.words) e ∙ k))
@@ -18,13 +18,13 @@ pub bell_in : (lock : LockId) (levels place i : ℕ) → HasTree lock levels →
 bell_in lock levels place i h below is =
     subst (λ (n : ℕ). i < n) (sym h) (subst (λ (j : ℕ). j < row_length levels) (sym is) (bell_within levels place below))
 
--- so a place of the lock is one of that tree
+-- so a place of the lock is a place of that tree
 pub place_below : (x y : LockId) (place levels shape : ℕ) → x ≡ y → HasTree y levels → shape ≡ levels → HasPlace x place
     → place < 2 ^ shape
 place_below x y place levels shape e h s p =
     subst (λ (l : ℕ). place < 2 ^ l) (one_tree x y p.levels levels e p.words h ∙ sym s) p.below
 
--- where a word of the tree lies is a small number
+-- the index of a word of the tree is a small number
 pub word_fits : (levels number : ℕ) → levels ≤ 6 → number < count_of_words levels → 8 * number ≤ 4584
 word_fits levels number most below =
     let count : ℕ = count_of_words levels in let making : ℕ = making_index levels in

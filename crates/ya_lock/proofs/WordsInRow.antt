@@ -15,12 +15,12 @@ use Rattle.ya_lock.specs.Rule.{index_of, making_index, row_length, words_in}
 use Rattle.ya_lock.specs.inside.Rule.{bell_index}
 use Rattle.ya_core.proofs.Promised.{is_word_true, word_is}
 
--- the words of the tree lie before the making word, a cache line each
+-- the words of the tree are before the making word, each in its own cache line
 pub index_below : (levels : ℕ) (w : Word) → IsWord levels w → index_of levels w + 8 ≤ making_index levels
 unfolding index_of making_index
 index_below levels w h = let l = number_within levels w h in omega arith
 
--- what a word of the tree holds
+-- the value of a word of the tree
 pub word_in : (levels : ℕ) (row : List ℕ) (w : Word) → IsWord levels w
     → words_in levels row w ≡ get_or row (index_of levels w) 0
 unfolding words_in
@@ -32,13 +32,13 @@ pub word_set : (levels : ℕ) (row : List ℕ) (w : Word) (n : ℕ) → IsWord l
 word_set levels row w n h l =
     word_in levels (set row (index_of levels w) n) w h ∙ get_or-set_same row (index_of levels w) n 0 l
 
--- different words lie in different places
+-- different words have different indices
 indices_apart : (levels : ℕ) (v w : Word) → IsWord levels v → IsWord levels w → v ≢ w
     → index_of levels v ≢ index_of levels w
 unfolding index_of
 indices_apart levels v w h k ne e = ne (same_number levels v w h k (omega arith))
 
--- by whether the other is a word of the tree
+-- by cases: the other is a word of the tree or not
 other_by : (levels : ℕ) (row : List ℕ) (w other : Word) (n : ℕ) (b : Bool) → is_word levels other ≡ b → IsWord levels w
     → other ≢ w
     → words_in levels (set row (index_of levels w) n) other ≡ words_in levels row other
@@ -53,7 +53,7 @@ pub word_set_other : (levels : ℕ) (row : List ℕ) (w other : Word) (n : ℕ) 
     → words_in levels (set row (index_of levels w) n) other ≡ words_in levels row other
 word_set_other levels row w other n h ne = other_by levels row w other n (is_word levels other) refl h ne
 
--- by whether the row goes so far
+-- by cases: the index is in the row or not
 all_zero_by : (n i : ℕ) → Dec (i < n) → slice_index (replicate n 0) i ≡ 0
 all_zero_by n i (yes l) = get_or-replicate n i 0 0 l
 all_zero_by n i (no l) = get_or-eq_default (replicate n 0) 0 (omega (arith, length-replicate {A = ℕ} n 0))
@@ -66,7 +66,7 @@ all_zero n i = all_zero_by n i (dec_lt i n)
 pub word_kept : (row : List ℕ) (i : ℕ) → set row i (get_or row i 0) ≡ row
 word_kept row i = set-get_or row i 0
 
--- by whether it is a word of the tree
+-- by cases: it is a word of the tree or not
 zeros_by : (levels n : ℕ) (w : Word) (b : Bool) → is_word levels w ≡ b → words_in levels (replicate n 0) w ≡ 0
 unfolding words_in
 zeros_by levels n w true is = rw is (all_zero n (index_of levels w))
@@ -76,7 +76,7 @@ zeros_by levels n w false is = rw is refl
 pub words_zero : (levels n : ℕ) → words_in levels (replicate n 0) ≡ (λ w. 0)
 words_zero levels n = λ i w. zeros_by levels n w (is_word levels w) refl i
 
--- by whether it is a word of the tree
+-- by cases: it is a word of the tree or not
 behind_by : (levels i : ℕ) (row : List ℕ) (n : ℕ) (w : Word) (b : Bool) → making_index levels ≤ i → is_word levels w ≡ b
     → words_in levels (set row i n) w ≡ words_in levels row w
 unfolding words_in
@@ -86,7 +86,7 @@ behind_by levels i row n w true behind is =
     rw is (get_or-set_other row i j n 0 (λ e. omega arith))
 behind_by levels i row n w false behind is = rw is refl
 
--- the making word and the bells are no words of the tree
+-- the making word and the bells are not words of the tree
 pub words_behind : (levels i : ℕ) (row : List ℕ) (n : ℕ) → making_index levels ≤ i
     → words_in levels (set row i n) ≡ words_in levels row
 words_behind levels i row n behind = λ k w. behind_by levels i row n w (is_word levels w) behind refl k
@@ -98,22 +98,22 @@ making_small levels most =
     let places : ℕ = 2 ^ levels in let few : places ≤ 64 = at_most_64 levels most in
     let times : levels * places ≤ 6 * places = mul-le-mul_right places most in omega arith
 
--- where the making word lies
+-- the index of the making word
 pub making_is : (levels : ℕ) → 8 * count_of_words levels ≡ making_index levels
 unfolding making_index
 making_is levels = refl
 
--- where a word lies
+-- the index of a word
 pub index_is : (levels : ℕ) (w : Word) → 8 * number_of levels w ≡ index_of levels w
 unfolding index_of
 index_is levels w = refl
 
--- where a bell lies
+-- the index of a bell
 pub bell_is : (levels place : ℕ) → 8 * (count_of_words levels + 1 + place) ≡ bell_index levels place
 unfolding making_index bell_index
 bell_is levels place = omega arith
 
--- the bells lie behind the making word, in the row
+-- the bells come after the making word, in the row
 pub bell_behind : (levels place : ℕ) → making_index levels < bell_index levels place
 unfolding bell_index
 bell_behind levels place = omega arith
@@ -130,7 +130,7 @@ longer_row a b h =
     let wide : a * x ≤ b * x = mul-le-mul_right x (let le : a ≤ b = omega arith in le) in let high : b * x ≤ b * y =
     mul-le-mul_left b (let le : x ≤ y = omega arith in le) in omega arith
 
--- by which of the two is higher
+-- by comparison of the two heights
 same_by : (a b : ℕ) → row_length a ≡ row_length b → Dec (a < b) → Dec (b < a) → a ≡ b
 same_by a b e (yes h) d =
     let m : ℕ = row_length a in let n : ℕ = row_length b in let less : m < n = longer_row a b h in let is : m ≡ n = e in
@@ -140,6 +140,6 @@ same_by a b e (no h) (yes k) =
     absurd (omega arith)
 same_by a b e (no h) (no k) = omega arith
 
--- trees whose rows are of one length are of one height
+-- trees whose rows have the same length have the same height
 pub same_height : (a b : ℕ) → row_length a ≡ row_length b → a ≡ b
 same_height a b e = same_by a b e (dec_lt a b) (dec_lt b a)

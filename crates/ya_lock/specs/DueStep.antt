@@ -1,4 +1,4 @@
--- The step that is due to a process, as its seat takes it.
+-- The due step of a process, taken by its seat.
 use Rattle.std.specs.Prelude.{◌≡◌, ◌≢◌, ℕ, ◌+◌, ◌^◌, ◌<◌, Bool, true, false, List, [], ◌∷◌, Some}
 use Rattle.std.specs.Prelude as std
 use mathlib.Core.Option.{Option, none, some}
@@ -12,20 +12,21 @@ use Rattle.ya_lock.specs.declared.rule.View.TheVariants.{Seated}
 use Rattle.ya_lock.specs.Rule.{Slots, count_after, words_in, Rule}
 
 module _ {V : Type 0} where
-  -- a process that is to leave the inside has put a value in the slot which its place may leave of what it found; every
-  -- other one has no slot
+  -- a process that is to leave the inside has put a value in the slot that its place may leave after the value it
+  -- found; every other process has no slot
   abbrev pub IsReady : (done : ℕ → V → V → Type 0) → Bool → ℕ → V → Slots V → Type 0
   IsReady done true place value slots = (next : V) × (slots ≡ (0, Some next) ∷ []) × done place value next
   IsReady done false place value slots = slots ≡ []
 
-  -- the process after its step, by the words as they are
+  -- the process after its step with the words as they are
   abbrev pub process_after : ℕ → State (std.Option V) (View V) → ℕ → Process → Process
   process_after levels s place process =
       next_of levels place process (value_of (words_in levels s.words) (access_of levels place process))
 
-  -- what becomes of the value by a step, by whether its process was inside before it and is inside after it, where it lies
-  -- before and after: the step out gives it back as it was put in the slot, and the place has then seen that; the step in takes
-  -- what lies there, which may have come of what the place had seen; every other one leaves all of this as it is
+  -- the value's movement in a step, by whether its process was inside before it and is inside after it, and the slot's
+  -- contents before and after. The step out gives back the value that was put in the slot, and the place has then seen
+  -- it. The step in takes the value from the slot, which others may have made of the value that the place had seen.
+  -- Every other step leaves all of this as it is
   abbrev pub MovesValue : (since : ℕ → V → V → Type 0) → (before after : Bool) → ℕ → (seen next : V) → Slots V
       → (homes homes' : List (Option (std.Option V))) → Type 0
   MovesValue since true after place seen next slots homes homes' =
@@ -34,8 +35,8 @@ module _ {V : Type 0} where
       since place seen next × (homes ≡ some (Some next) ∷ []) × (homes' ≡ none ∷ [])
   MovesValue since false false place seen next slots homes homes' = (next ≡ seen) × (homes' ≡ homes)
 
-  -- from the one moment to the next a seat takes the step that is due to its process, which has seen this value, made so many
-  -- remote accesses and has these slots: the access happens, its view goes on as the core's row says and counts the access,
+  -- between the two moments a seat takes the due step of its process, which has seen this value, made `count` remote
+  -- accesses and has these slots. The access happens, its view goes on as the core's row says and counts the access,
   -- the value moves, no other seat's view changes, and the rule holds
   pub record TakesStep (since : ℕ → V → V → Type 0) (levels seat place : ℕ) (process : Process) (seen : V) (count : ℕ)
       (slots : Slots V) (s t : State (std.Option V) (View V)) : Type 0 where
@@ -48,7 +49,7 @@ module _ {V : Type 0} where
     pub others : (other : ℕ) → other ≢ seat → get_elem? t.views other ≡ get_elem? s.views other
     pub rule : Rule since levels t
 
-  -- each seat of a process that is ready may take the step that is due
+  -- each seat of a process that is ready may take its due step
   abbrev pub EachMayStep : (since done : ℕ → V → V → Type 0) → ℕ → State (std.Option V) (View V) → Type 0
   EachMayStep since done levels s =
       (seat place : ℕ) (process : Process) (value : V) (count : ℕ) (slots : Slots V)

@@ -1,4 +1,4 @@
--- What a guard is once the value that it lent was written.
+-- A guard after a write to its lent value.
 use Rattle.ya_lock.specs.Lock.{OpenGuard}
 
 -- the guard with this value

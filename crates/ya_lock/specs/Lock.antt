@@ -1,4 +1,4 @@
--- What contracts see of a lock, a pass and a guard.
+-- A lock, a pass and a guard in the view of contracts.
 use Rattle.std.specs.Prelude.{◌≡◌, ℕ, ◌^◌, ◌<◌, List, length, slice_get}
 use Rattle.std.specs.Prelude.{Some}
 use Rattle.atomic_table.specs.Seated.{TableId}
@@ -6,12 +6,12 @@ use Rattle.ya_core.specs.declared.process.Process.TheVariants.{Idle, Inside}
 use Rattle.ya_lock.specs.declared.rule.View.{View}
 use Rattle.ya_lock.specs.declared.rule.View.TheVariants.{Seated}
 
--- which lock it is: that of no other lock is the same
+-- the identity of a lock: no two locks have the same
 abbrev pub LockId : Type 0
 LockId = TableId
 
--- a pass: its lock and place, what it has seen of the lent value, the remote accesses of its last passage, and the view
--- of its seat
+-- a pass: its lock and place, the lent value as it has last seen it, the remote accesses of its last passage, and the
+-- view of its seat
 pub record IdlePass (V : Type 0) : Type 0 where
   pub lock : LockId
   pub place : ℕ
@@ -29,7 +29,8 @@ pub record OpenGuard (V : Type 0) : Type 0 where
   pub remote : ℕ
   pub view : View V
 
--- the guard that a pass becomes, whose entry found this value and made so many remote accesses: its process is inside
+-- the guard that a pass becomes, after an entry that found this value with `remote` remote accesses: its process
+-- is inside
 abbrev pub guard_of : {V : Type 0} → IdlePass V → V → ℕ → OpenGuard V
 guard_of pass found remote = record {
   lock = pass.lock;
@@ -55,7 +56,7 @@ abbrev pub new_pass : {V : Type 0} → LockId → ℕ → V → IdlePass V
 new_pass lock place value =
     record { lock = lock; place = place; seen = value; remote = 0; view = Seated place Idle value 0 }
 
--- the passes of all places of a lock of so many levels in order, each of which has seen the value
+-- the passes of all places of a lock of `levels` levels in order; each has seen the value
 pub record ArePassesInOrder {V : Type 0} (lock : LockId) (levels : ℕ) (value : V) (passes : List (IdlePass V)) : Type 0 where
   pub count : length passes ≡ 2 ^ levels
   pub each : (place : ℕ) → place < 2 ^ levels → slice_get passes place ≡ Some (new_pass lock place value)

@@ -1,4 +1,5 @@
--- What the rule says of the words, the lent value and the views of all seats, at every moment between two atomic steps.
+-- The rule's meaning for the words, the lent value and the views of all seats, at every moment between two
+-- atomic steps.
 use Rattle.std.specs.Prelude.{◌≡◌, ◌≢◌, ◌^◌, ◌<◌, ◌≤◌, ℕ, ◌⊎◌, List, [], ◌∷◌, slice_index, Some, None}
 use Rattle.std.specs.Prelude as std
 use mathlib.Core.Option.{none, some}
@@ -13,7 +14,7 @@ use Rattle.ya_lock.specs.declared.rule.View.TheVariants.{Unused, Making, Filling
 use Rattle.ya_lock.specs.Rule.{words_in, making_index}
 
 module _ {V : Type 0} where
-  -- the view is that of the place's process, which has seen the value or, inside, found it
+  -- the view has the place's process, which has seen the value or, inside, found it
   abbrev pub IsOf : View V → ℕ → Process → V → Type 0
   IsOf (Seated place process value count) p x v = (place ≡ p) × (process ≡ x) × (value ≡ v)
   IsOf (Joining place value other seen count) p x v = (place ≡ p) × (Inside ≡ x) × (value ≡ v)
@@ -25,13 +26,13 @@ module _ {V : Type 0} where
   IsFilling Filling = Unit {0}
   IsFilling _ = ⊥
 
-  -- a seat of this view is to make the passes, or those of the places from some one on
+  -- a seat of this view is to make the passes, or the passes of the places from some place on
   abbrev pub IsMaking : View V → Type 0
   IsMaking (HandingOut first value) = Unit {0}
   IsMaking view = IsFilling view
 
   module _ (s : State (std.Option V) (View V)) where
-    -- the seat's view is that of the place's process, which has seen the value or, inside, found it
+    -- the seat's view has the place's process, which has seen the value or, inside, found it
     abbrev pub HasProcess : ℕ → ℕ → Process → V → Type 0
     HasProcess seat place process value =
         (view : View V) × (get_elem? s.views seat ≡ some view) × IsOf view place process value
@@ -53,29 +54,29 @@ module _ {V : Type 0} where
         × ((place : ℕ) → ((seat : ℕ) (process : Process) (value : V) → ¬ HasProcess seat place process value)
         → processes place ≡ Idle)
 
-    -- by the words as they are, a step of the place's process leads to another process
+    -- with the words as they are, a step of the place's process leads to another process
     abbrev pub GoesOn : ℕ → ℕ → Process → Type 0
     GoesOn levels place process =
         next_of levels place process (value_of (words_in levels s.words) (access_of levels place process)) ≢ process
 
-    -- where some seat's process takes part, some seat has one that takes part and goes on
+    -- if some seat's process takes part, some seat has a process that takes part and goes on
     abbrev pub SomeSeatGoesOn : ℕ → Type 0
     SomeSeatGoesOn levels =
         (seat place : ℕ) (process : Process) (value : V) → HasProcess seat place process value → process ≢ Idle
         → (other q : ℕ) × ((x : Process) × ((v : V) × HasProcess other q x v × (x ≢ Idle) × GoesOn levels q x))
 
-    -- a place that has a process is one of the tree's
+    -- each place with a process is one of the tree's
     abbrev pub EachInTree : ℕ → Type 0
     EachInTree levels =
         (seat place : ℕ) (process : Process) (value : V) → HasProcess seat place process value → place < 2 ^ levels
 
-    -- two views of one place are those of one seat
+    -- two views of the same place belong to the same seat
     abbrev pub OneSeatAPlace : Type 0
     OneSeatAPlace =
         (one other place : ℕ) (x y : Process) (v w : V) → HasProcess one place x v → HasProcess other place y w
         → one ≡ other
 
-    -- two views inside are those of one seat
+    -- two views inside belong to the same seat
     abbrev pub OneInside : Type 0
     OneInside = (one other p q : ℕ) (v w : V) → HasProcess one p Inside v → HasProcess other q Inside w → one ≡ other
 
@@ -90,22 +91,23 @@ module _ {V : Type 0} where
         (seat place : ℕ)
         × ((value : V) × (((process : Process) × HasProcess seat place process value) ⊎ IsToMake seat place value))
 
-    -- once it was given, the value is in its slot exactly where none is inside
+    -- once it was given, the value is in its slot exactly if no process is inside
     abbrev pub IsInSlot : Type 0
     IsInSlot =
         ((seat place : ℕ) (value : V) → HasProcess seat place Inside value → s.homes ≡ none ∷ [])
         × (IsGiven → NoneInside → (now : V) × (s.homes ≡ some (Some now) ∷ []))
 
-    -- what a place away has seen, or one whose pass is still to be made was given, may have become, by others, the value in
-    -- the slot or that the one inside found
+    -- the current value, in the slot or found by the process inside, is what others may have made of the value that a
+    -- place away has seen, or that a place was given whose pass is still to be made
     abbrev pub IsFresh : (ℕ → V → V → Type 0) → Type 0
     IsFresh since =
         (seat place : ℕ) (seen now : V) → IsAway seat place seen ⊎ IsToMake seat place seen
         → ((s.homes ≡ some (Some now) ∷ [] → since place seen now)
         × ((one other : ℕ) → HasProcess one other Inside now → since place seen now))
 
-    -- how the passes are made: while the making word is 0 nobody knows anything and the slot is empty; one seat makes
-    -- them; until it gave the value no seat has a process, and then none has that of a place whose pass is still to be made
+    -- the making of the passes: while the making word is 0, no seat knows anything and the slot is empty; one seat
+    -- makes them. Until it has given the value no seat has a process, and then no seat has the process of a place whose
+    -- pass is still to be made
     pub record IsMadeByOne (levels : ℕ) : Type 0 where
       pub unused : slice_index s.words (making_index levels) ≡ 0 → (seat : ℕ) (view : View V)
           → get_elem? s.views seat ≡ some view → view ≡ Unused
@@ -117,7 +119,7 @@ module _ {V : Type 0} where
       pub not_made : (seat first : ℕ) (given : V) → get_elem? s.views seat ≡ some (HandingOut first given)
           → (other place : ℕ) (process : Process) (value : V) → first ≤ place → ¬ HasProcess other place process value
 
--- what words, value and views show at every moment between two atomic steps of the seats
+-- the properties of words, value and views at every moment between two atomic steps of the seats
 pub record IsLockState {V : Type 0} (since : ℕ → V → V → Type 0) (levels : ℕ)
     (s : State (std.Option V) (View V)) : Type 0 where
   pub core : ShowsCore s levels

@@ -1,4 +1,4 @@
--- The rule of the running lock: what its words, the lent value and all seats' views show between any two atomic steps.
+-- The rule of the running lock: the words, the lent value and all seats' views between any two atomic steps.
 use Rattle.std.specs.Prelude.{◌≡◌, ◌≢◌, ℕ, ◌+◌, ◌-◌, ◌*◌, ◌^◌, ◌<◌, ◌≤◌, Bool, true, false, if◌then◌else◌, List, [], ◌∷◌}
 use Rattle.std.specs.Prelude.{length, slice_index, None, Some}
 use Rattle.std.specs.Prelude as std
@@ -20,29 +20,29 @@ use Rattle.ya_lock.specs.declared.rule.TheConstants.{SPACING}
 use Rattle.ya_lock.specs.declared.rule.View.{View}
 use Rattle.ya_lock.specs.declared.rule.View.TheVariants.{Unused, Making, Filling, HandingOut, Seated, Joining, Spent}
 
--- where a word of the tree lies: in the order of their numbers, a cache line apart
+-- the index of a word of the tree: in the order of the words' numbers, a cache line apart
 unfoldable pub index_of : ℕ → Word → ℕ
 index_of levels word = SPACING * number_of levels word
 
--- where the making word lies, behind all words of the tree
+-- the index of the making word, after all words of the tree
 unfoldable pub making_index : ℕ → ℕ
 making_index levels = SPACING * count_of_words levels
 
--- how many words the row has: those of the tree, the making word, and a bell for each place
+-- the length of the row: a cache line for each word of the tree, for the making word, and for the bell of each place
 abbrev pub row_length : ℕ → ℕ
 row_length levels = making_index levels + SPACING * (1 + 2 ^ levels)
 
--- what the words of the tree hold
+-- the values of the words of the tree
 unfoldable pub words_in : ℕ → List ℕ → Word → ℕ
 words_in levels row word = if is_word levels word then slice_index row (index_of levels word) else 0
 
--- the place of a view that is a process's
+-- the place of a process's view
 abbrev pub place_of_view : {V : Type 0} → View V → Option ℕ
 place_of_view (Seated place process value count) = some place
 place_of_view (Joining place value other seen count) = some place
 place_of_view _ = none
 
--- how many remote accesses a process has made at least at a level, by the point where it stands on its way in
+-- the minimum number of remote accesses of a process at a level, by its point on its way in
 abbrev pub least_at : EntryPoint → ℕ
 least_at E1 = 0
 least_at E2 = 1
@@ -50,19 +50,19 @@ least_at E3 = 2
 least_at E4 = 2
 least_at _ = 3
 
--- and how many since its last entry began: three at each level that it has won
+-- the same since its last entry began: three for each level that it has won
 abbrev pub least_count : ℕ → Process → ℕ
 least_count levels Idle = 0
 least_count levels (Entering level point) = 3 * (level - 1) + least_at point
 least_count levels Inside = 3 * levels
 least_count levels (Leaving level point) = 3 * levels
 
--- the remote accesses of a process since its last entry began: the next access of an idle one begins an entry
+-- the remote accesses of a process since its last entry began: the next access of an idle process begins an entry
 abbrev pub count_from : Process → ℕ → ℕ
 count_from Idle last = 0
 count_from _ count = count
 
--- with the access that is due, which counts where it is remote
+-- the same after the due access, which counts if it is remote
 abbrev pub count_after : ℕ → ℕ → Process → ℕ → ℕ
 count_after levels place process count =
     count_from process count + cost_of place (access_of levels place process)
@@ -71,7 +71,7 @@ count_after levels place process count =
 abbrev pub Slots : Type 0 → Type 0
 Slots V = List (ℕ × std.Option V)
 
--- what all seats together show: the seat of each place, where one has its process; each place's process; the seat that
+-- the common view of all seats: the seat of each place, if one has its process; each place's process; the seat that
 -- makes the passes; and the lent value, once it was given
 pub record GlobalView (V : Type 0) : Type 0 where
   pub seat_of : ℕ → Option ℕ
@@ -80,12 +80,12 @@ pub record GlobalView (V : Type 0) : Type 0 where
   pub content : Option V
 
 module _ {V : Type 0} (since : ℕ → V → V → Type 0) where
-  -- inside, the value that was found is the content; else the content is what the value seen may have become since
+  -- inside, the value found is the content; else the content is what others may have made of the value seen
   abbrev pub KnowsValue : Option V → ℕ → Bool → V → Type 0
   KnowsValue content place true value = content ≡ some value
   KnowsValue content place false value = (now : V) × (content ≡ some now) × since place value now
 
-  -- the value, once it was given, is in its slot exactly where no process is inside
+  -- the value, once it was given, is in its slot exactly if no process is inside
   abbrev pub ValueInSlot : (ℕ → Process) → List (Option (std.Option V)) → Option V → Type 0
   ValueInSlot processes homes none = Unit {0}
   ValueInSlot processes homes (some value) =
@@ -114,7 +114,7 @@ module _ {V : Type 0} (since : ℕ → V → V → Type 0) where
         × KnowsValue x.content other false seen × (least_count levels Inside ≤ count) × (place < 2 ^ levels)
     ViewFits seat Spent = IsBegun
 
-    -- the global view is what the words, the value and the views show
+    -- the global view agrees with the words, the value and the views
     pub record Obeys : Type 0 where
       -- making: while the making word is 0 the slot is empty, and before the value was given no seat has a process
       pub wide : length s.words ≡ row_length levels
@@ -126,10 +126,10 @@ module _ {V : Type 0} (since : ℕ → V → V → Type 0) where
           → (view : View V) × (get_elem? s.views seat ≡ some view) × (place_of_view view ≡ some place)
       pub absent : (place : ℕ) → x.seat_of place ≡ none → x.processes place ≡ Idle
       pub sound : IsSoundState levels (record { words = words_in levels s.words; processes = x.processes })
-      -- value: once given, it is in its slot exactly where no process is inside, and each seat knows what its view says
+      -- value: once given, it is in its slot exactly if no process is inside, and each seat's view fits
       pub lies : ValueInSlot x.processes s.homes x.content
       pub fits : (seat : ℕ) (view : View V) → get_elem? s.views seat ≡ some view → ViewFits seat view
 
-  -- some global view is what the words, the value and the views show
+  -- some global view agrees with the words, the value and the views
   abbrev pub Rule : ℕ → State (std.Option V) (View V) → Type 0
   Rule levels s = (x : GlobalView V) × Obeys levels s x

@@ -1,4 +1,4 @@
--- What each atomic step of a seat tells its thread.
+-- The effect of each atomic step of a seat on its thread's knowledge.
 use Rattle.std.specs.Prelude.{◌≡◌, ◌≢◌, ℕ, ◌+◌, Bool, true, false, List, [], ◌∷◌, Some, None}
 use Rattle.std.specs.Prelude as std
 use Rattle.atomic_table.specs.Table.{Me}
@@ -11,7 +11,7 @@ use Rattle.ya_core.specs.Worlds.{is_inside}
 use Rattle.ya_lock.specs.Rule.{Slots, count_after}
 
 module _ {V : Type 0} where
-  -- the swap that begins to make the passes: the seat is the maker where it found 0, and else unused
+  -- the swap that begins to make the passes: the seat is the maker if it found 0, and else unused
   abbrev pub BeginsMaking : ℕ → Me (std.Option V) (View V) → Type 0
   BeginsMaking found me = (found ≡ 0 → me ≡ (Making, [])) × (found ≢ 0 → me ≡ (Unused, [])) × (me.1 ≡ [])
 
@@ -30,7 +30,7 @@ module _ {V : Type 0} where
   handed_out (HandingOut first value) = Seated first Idle value 0
   handed_out view = view
 
-  -- what it keeps: the places behind that one
+  -- its remaining places: those after that one
   abbrev pub rest_to_hand_out : View V → View V
   rest_to_hand_out (HandingOut first value) = HandingOut (first + 1) value
   rest_to_hand_out view = view
@@ -46,15 +46,15 @@ module _ {V : Type 0} where
   joined_view view other = view
 
   module _ (since : ℕ → V → V → Type 0) where
-    -- how a step changes the seat's slots, by whether the process was inside before it and is inside after it: the step
-    -- out gives the slot home with the value in it, the step in takes the slot with the value found, and every other one
-    -- leaves the slots alone
+    -- the change of the seat's slots in a step, by whether the process was inside before it and is inside after it. The
+    -- step out gives the slot home with the value in it, the step in takes the slot with the value found, and every
+    -- other step leaves the slots as they are
     abbrev pub CarriesValue : (inside_before inside_after : Bool) → ℕ → V → Slots V → V → Slots V → Type 0
     CarriesValue true inside_after place value slots next slots' = (slots ≡ (0, Some next) ∷ []) × (slots' ≡ [])
     CarriesValue false true place value slots next slots' = since place value next × (slots' ≡ (0, Some next) ∷ [])
     CarriesValue false false place value slots next slots' = (next ≡ value) × (slots' ≡ slots)
 
-    -- a process takes the step that is due: it finds what can stand there, goes on as the core says, and its remote
+    -- a process takes its due step: it finds a value that its word can hold, goes on as the core says, and its remote
     -- accesses are counted
     abbrev pub ProcessSteps : ℕ → ℕ → View V → Slots V → Me (std.Option V) (View V) → Type 0
     ProcessSteps levels found (Seated place process value count) slots me =
@@ -63,7 +63,7 @@ module _ {V : Type 0} where
         × CarriesValue (is_inside process) (is_inside (next_of levels place process found)) place value slots next me.1)
     ProcessSteps levels found _ slots me = Unit {0}
 
-    -- the process inside learns what may have come of the value that the other has seen
+    -- the process inside learns that others may have made its value of the value that the other process has seen
     abbrev pub LearnsSince : View V → Slots V → Me (std.Option V) (View V) → Type 0
     LearnsSince (Joining place value other seen count) slots me =
         since other seen value × (me ≡ (Seated place Inside value count, slots))

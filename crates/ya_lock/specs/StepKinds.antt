@@ -1,5 +1,5 @@
--- The kinds of step that the seats of a lock's table take, each with what its play tells the seat, and what a step
--- leaves as it is.
+-- The kinds of step that the seats of a lock's table take, each with its effect on the seat, and the parts of the state
+-- that a step leaves as they are.
 use Rattle.std.specs.Prelude.{◌≡◌, ◌≢◌, ◌↔◌, ℕ, ◌<◌, false, List, [], ◌∷◌, ◌++◌, slice_index, slice_set, Some, ◌⊎◌}
 use Rattle.std.specs.Prelude as std
 use mathlib.Core.Option.{Option, none, some}
@@ -24,14 +24,14 @@ module _ {V : Type 0} where
   abbrev pub HasSlot : Slots V → List (Option (std.Option V)) → Type 0
   HasSlot slots homes = (slots ≡ []) ⊎ ((held : std.Option V) × (slots ≡ (0, held) ∷ []) × (homes ≡ none ∷ []))
 
-  -- the maker's loads but for the gift: it takes the empty slot, or becomes the pass of its last place
+  -- the maker's loads except the gift: it takes the empty slot, or becomes the pass of its last place
   abbrev pub MakerIsTold : View V → Slots V → Me (std.Option V) (View V) → Type 0
   MakerIsTold Making slots after = TakesSlot Making after
   MakerIsTold (HandingOut first value) slots after = HandsOutLast (HandingOut first value) slots after
   MakerIsTold _ slots after = ⊥
 
   module _ (s t : State (std.Option V) (View V)) where
-    -- by one access the word becomes the number, and the seat has this view and these slots afterwards
+    -- one access changes the word to the number, and gives the seat this view and these slots
     pub record SeatSteps (seat word number : ℕ) (slots : Slots V) (after : Me (std.Option V) (View V)) : Type 0 where
       pub slot : HasSlot slots s.homes
       pub act : Act (std.Option V)
@@ -39,11 +39,11 @@ module _ {V : Type 0} where
       pub carries : carried_after slots act ≡ after.1
       pub leads : t ≡ stepped s word number seat slots after.0 act
 
-    -- so it is by a load, which leaves its word as it is
+    -- the same for a load, which leaves its word as it is
     abbrev pub SeatLoads : ℕ → ℕ → Slots V → Me (std.Option V) (View V) → Type 0
     SeatLoads seat word slots after = SeatSteps seat word (slice_index s.words word) slots after
 
-    -- the seat of a process makes the access that is due, and is told what the play of such a step tells
+    -- the seat of a process makes its due access, with the effect of such a step
     pub record MakesDueAccess (since : ℕ → V → V → Type 0) (levels seat place : ℕ) (process : Process) (seen : V)
         (count : ℕ) (slots : Slots V) : Type 0 where
       pub view : get_elem? s.views seat ≡ some (Seated place process seen count)
@@ -116,7 +116,7 @@ module _ {V : Type 0} where
         views = slice_set (slice_set s.views seat (joined_view (Seated place Inside found count) (Seated other Idle seen last))) idle Spent;
       }
 
-    -- and learns of what the pass had seen
+    -- a seat with a joined pass learns what others may have made of the value that the pass had seen
     pub record LearnsOfPass (since : ℕ → V → V → Type 0) : Type 0 where
       pub seat : ℕ
       pub word : ℕ
@@ -131,7 +131,7 @@ module _ {V : Type 0} where
       pub steps : SeatLoads seat word slots after
       pub told : LearnsSince since (Joining place found other seen count) slots after
 
-    -- a seat stores in a bell, behind the making word, and learns nothing
+    -- a seat stores in a bell, after the making word, and learns nothing
     pub record StoresInBell (levels : ℕ) : Type 0 where
       pub seat : ℕ
       pub word : ℕ
@@ -142,7 +142,7 @@ module _ {V : Type 0} where
       pub view : get_elem? s.views seat ≡ some before
       pub steps : SeatSteps seat word number slots (before, slots)
 
-    -- every kind of step but that of a process and the gift
+    -- every kind of step except the step of a process and the gift
     pub data IsOtherStep (since : ℕ → V → V → Type 0) (levels : ℕ) : Type 0 where
       Swap : SwapsToMake levels → IsOtherStep since levels
       MakerLoad : MakerLoads → IsOtherStep since levels
@@ -162,18 +162,18 @@ module _ {V : Type 0} where
   IsContent s value =
       (s.homes ≡ some (Some value) ∷ []) ⊎ ((seat : ℕ) × ((place : ℕ) × HasProcess s seat place Inside value))
 
-  -- the content stays what it is
+  -- the content is unchanged
   abbrev pub SameContent : (s t : State (std.Option V) (View V)) → Type 0
   SameContent s t = (value : V) → IsContent s value ↔ IsContent t value
 
-  -- where a seat makes the access that is due to its process, that is its due step, which leaves the content as it is but
-  -- where the process was inside
+  -- if a seat makes the due access of its process, that is its due step, which changes the content only if the process
+  -- was inside
   abbrev pub IsDueStepAlone : (since : ℕ → V → V → Type 0) → ℕ → (s t : State (std.Option V) (View V)) → Type 0
   IsDueStepAlone since levels s t =
       (seat place : ℕ) (process : Process) (seen : V) (count : ℕ) (slots : Slots V)
       → MakesDueAccess s t since levels seat place process seen count slots
       → TakesStep since levels seat place process seen count slots s t × (is_inside process ≡ false → SameContent s t)
 
-  -- the value becomes the content, which there was none of, and all else stays
+  -- the value becomes the content; there was no content before, and no word of the tree and no busy process changes
   abbrev pub IsGift : ℕ → (s t : State (std.Option V) (View V)) → V → Type 0
   IsGift levels s t value = LeavesProcesses s t levels × ((v : V) → ¬ IsContent s v) × IsContent t value

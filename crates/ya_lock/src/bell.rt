@@ -1,5 +1,5 @@
-//! Bells, by which places sleep that wait for long. A bell is tuning, as `Backoff` is: the table's rule reads none, and no
-//! contract rests on one.
+//! Bells: the words on which places sleep that wait for long. A bell is 1 while its place sleeps or is about to. Bells
+//! are tuning, as `Backoff` is: the table's rule reads none, and no contract depends on one.
 ghost use Rattle.std.specs.Prelude.{◌≡◌, ◌^◌, ◌<◌, ◌≤◌, true};
 ghost use Rattle.ya_core.specs.WalkerModel.{is_waiting};
 ghost use Rattle.ya_lock.specs.inside.Rule.{bell_index};
@@ -12,13 +12,13 @@ use crate::step_effects::SetBell;
 use crate::tree_lock::TreeLock;
 use std::sync::Wait;
 
-/// How often a place that waits spins, each time after a look at its spin word, before it sleeps after a look: twice as
-/// long each time up to 64 pauses. It never yields: beside other work a yield gives a whole time slice away, for which
-/// all others wait.
-pub const PATIENCE: u32 = 14;
+/// The number of spins of a waiting place before it sleeps. Each spin follows a look at its spin word, and is twice as
+/// long as the one before, up to 64 pauses. It never yields: on a busy machine a yield gives away a whole time slice,
+/// and all others wait for it.
+pub const SPIN_LIMIT: u32 = 14;
 
 impl<V: Kept + Drop, const L: u32> TreeLock<V, L> {
-    /// Where the bell of a place lies.
+    /// Returns the index of the bell of a place.
     #[inline(always)]
     pub(crate) fn bell(place: usize) -> usize
         requires levels { (1 ≤ L) × (L ≤ 6) }
@@ -51,8 +51,8 @@ impl<V: Kept + Drop, const L: u32> TreeLock<V, L> {
 }
 
 impl<'a, V: Kept + Drop, const L: u32> Passage<'a, V, L> {
-    /// Sleeps until a rival rings. Whoever stores in the spin word looks at the bell afterwards, and the place looks at
-    /// its spin word after it stored 1 in its bell: so one of the two sees what the other stored, and no wake is lost.
+    /// Sleeps until a rival rings. No wake is lost: a rival stores in the spin word before it looks at the bell, and
+    /// the place stores 1 in its bell before it looks at its spin word. So one of the two sees the other's store.
     #[inline(never)]
     pub(crate) fn sleep<R: Wait>(self, rt: &R) -> Self
         requires { is_waiting self.walk.process ≡ true }
@@ -72,8 +72,8 @@ impl<'a, V: Kept + Drop, const L: u32> Passage<'a, V, L> {
         passage
     }
 
-    /// Wakes a rival that sleeps. The process stands just behind its store in the rival's spin word: a bell that is
-    /// looked at earlier may be set after the look, and then nobody rings it.
+    /// Wakes a rival that sleeps. It must directly follow the store in the rival's spin word: the rival might set its
+    /// bell after an earlier look at the bell, and then no place would ring it.
     #[inline(always)]
     pub(crate) fn ring(&mut self, rival: usize)
         requires rival { rival < 2 ^ L }
@@ -82,7 +82,7 @@ impl<'a, V: Kept + Drop, const L: u32> Passage<'a, V, L> {
     {
         let lock = self.lock;
         if lock.table.shared.peek(TreeLock::<V, L>::bell(rival)) == 1 {
-            // The 0 in its bell keeps the rival awake where it is about to sleep.
+            // The 0 in its bell keeps the rival awake if it is about to sleep.
             lock.set_bell(&mut self.seat, rival, 0);
             lock.wake(rival);
         }

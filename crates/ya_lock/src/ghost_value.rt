@@ -1,10 +1,10 @@
-//! A value that clauses alone read.
+//! A value that only clauses read.
 ghost use Rattle.std.specs.Prelude.{◌≡◌};
 ghost use base.Fml.{ftrue};
 
 use std::marker::{Model, PhantomData};
 
-/// A `T` that was there once, as clauses see it. It has no bytes and owns nothing.
+/// A `T` that existed once, as clauses see it. It has no bytes and owns nothing.
 pub struct GhostValue<T> {
     marker: PhantomData<T>,
     pub ghost value: { T },
@@ -15,21 +15,21 @@ impl<T> Model for GhostValue<T> {
 }
 
 impl<T> GhostValue<T> {
-    /// The value as it is now.
+    /// Returns the value as it is now, for clauses.
     pub fn of(x: &T) -> GhostValue<T>
         ensures { result.value ≡ x.now }
     {
         GhostValue::made(x)
     }
 
-    /// The same value.
+    /// Returns the same value.
     pub fn again(&self) -> GhostValue<T>
         ensures { result.value ≡ self.now.value }
     {
         GhostValue::made(self)
     }
 
-    /// A value of what the reference shows: the proof of the call says which.
+    /// Returns a value that the proof of the call derives from the view of the reference.
     fn made<X>(x: &X) -> GhostValue<T>
         ghost value: { T }
         ensures { result.value ≡ value }

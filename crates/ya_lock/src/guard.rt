@@ -4,22 +4,22 @@ ghost use Rattle.std.specs.Borrow.{Lends, sem};
 ghost use Rattle.ya_lock.specs.contracts.guard.Guard.{the_row};
 ghost use Rattle.ya_lock.specs.GuardLends.{guard_with_value};
 
-use crate::door::Crowd;
 use crate::ghost_value::GhostValue;
 use crate::rule::LockSeat;
+use crate::throttle::Contention;
 use std::fmt;
 use std::marker::Model;
 
 /// The lent value, while the place of a pass is inside. Spend it by `leave` or `close`. Contracts see its lock, its
-/// place, the value as it was found at the entry and as it is now, how many remote accesses the entry made, and the view
-/// of its seat.
+/// place, the value as it was found at the entry and as it is now, the number of remote accesses of the entry, and the
+/// view of its seat.
 pub struct Guard<V> {
     pub(crate) seat: LockSeat<V>,
     pub(crate) place: usize,
     pub(crate) remote: u64,
     pub(crate) value: V,
     pub(crate) found: GhostValue<V>,
-    pub(crate) crowd: Crowd,
+    pub(crate) crowd: Contention,
 }
 
 impl<V> Model for Guard<V> {
@@ -41,14 +41,14 @@ impl<V> Model for Guard<V> {
 }
 
 impl<V> Guard<V> {
-    /// The lent value.
+    /// Returns the lent value.
     pub fn get(&self) -> &V
         ensures { result.now ≡ self.now.value }
     {
         &self.value
     }
 
-    /// The lent value, to be changed. `leave` says what its place may do to it.
+    /// Returns the lent value for changes. `leave` requires that its place may make them.
     pub fn get_mut(&mut self) -> &mut V
         ensures* writes_back { sem 𝓛 (Lends (the_row V.row) V.row self.entry result (guard_with_value self.old)) }
         ensures value { result.now ≡ self.old.value }
@@ -56,7 +56,7 @@ impl<V> Guard<V> {
         &mut self.value
     }
 
-    /// The place that is inside.
+    /// Returns the place that is inside.
     pub fn place(&self) -> usize
         ensures { result ≡ self.now.place }
     {

@@ -1,22 +1,22 @@
-//! What a lent value tells of the places that change it.
+//! The changes that places may make to a lent value.
 ghost use Rattle.std.specs.Prelude.{◌≡◌, ◌≢◌, ℕ};
 
-/// A value that a lock lends, with two relations for contracts: how it may change while a place is away, and how a
-/// place may change it. Neither runs.
+/// A value that a lock lends, with two relations for contracts: the changes while a place is away, and the changes by a
+/// place. For a counter that no place lowers, both are `a ≤ b`. Neither runs.
 pub trait Kept {
-    /// What may have come of the first value by changes of other places than this one.
+    /// Changes by places other than this one may lead from the first value to the second.
     ghost since: { ℕ → Self → Self → Type 0 };
 
-    /// What this place may leave of the value that it found.
+    /// This place may leave the second value after it found the first.
     ghost done: { ℕ → Self → Self → Type 0 };
 
-    /// Nothing may have happened.
+    /// Others may have changed nothing.
     ghost since_same: { (place : ℕ) (a : Self) → since place a a };
 
     /// A place may leave the value as it found it.
     ghost done_same: { (place : ℕ) (a : Self) → done place a a };
 
-    /// What one place does may have happened while another was away.
+    /// A change that one place may make may happen while another is away.
     ghost since_done: { (place other : ℕ) (a b c : Self)
         → other ≢ place → since place a b → done other b c → since place a c };
 }

@@ -1,23 +1,23 @@
-//! How a lock is made: its tree and its table first, and then the passes of its places from the seat that made it.
+//! The construction of a lock: first its tree and its table, then the passes of its places from the seat that made it.
 ghost use Rattle.std.specs.Prelude.{◌≡◌, ℕ, ◌+◌, ◌^◌, ◌≤◌, [], vec_capacity, IfOk};
 ghost use Rattle.ya_lock.specs.declared.rule.View.TheVariants.{Making, HandingOut};
 ghost use Rattle.ya_lock.specs.Rule.{making_index};
 ghost use Rattle.ya_lock.specs.inside.Lock.{IsLockTable};
 ghost use Rattle.ya_lock.specs.Lock.{ArePassesInOrder};
 
-use crate::door::Crowd;
 use crate::ghost_value::GhostValue;
 use crate::kept::Kept;
 use crate::pass::Pass;
 use crate::rule::{LockSeat, LockTable, SPACING};
 use crate::step_effects::{BeginMaking, HandOut, HandOutLast};
+use crate::throttle::Contention;
 use crate::tree_lock::TreeLock;
 use atomic_table::Table;
 use std::alloc::Global;
 use ya_core::{NoMemory, Shape};
 
 impl<V: Kept + Drop, const L: u32> TreeLock<V, L> {
-    /// The tree of the lock.
+    /// Returns the tree of the lock.
     #[inline(always)]
     pub(crate) fn shape() -> Shape
         requires { (1 ≤ L) × (L ≤ 6) }
@@ -29,8 +29,8 @@ impl<V: Kept + Drop, const L: u32> TreeLock<V, L> {
         shape
     }
 
-    /// A table whose words are 0 and whose slot is empty, with the seat that is to make the passes. The making word
-    /// lies at `making`, and behind it the bells.
+    /// Returns a table whose words are 0 and whose slot is empty, with the seat that is to make the passes. The making
+    /// word has the index `making`, and the bells come after it.
     pub(crate) fn new_table(
         alloc: Global,
         making: usize,
@@ -56,7 +56,7 @@ impl<V: Kept + Drop, const L: u32> TreeLock<V, L> {
         Ok((table, maker))
     }
 
-    /// The passes of all places in order, from the seat of the maker, which has given the value home.
+    /// Returns the passes of all places in order, from the seat of the maker, which has given the value home.
     pub(crate) fn make_passes(
         &self,
         mut maker: LockSeat<V>,
@@ -78,7 +78,7 @@ impl<V: Kept + Drop, const L: u32> TreeLock<V, L> {
                 place,
                 remote: 0,
                 seen: seen.again(),
-                crowd: Crowd::NONE,
+                crowd: Contention::NONE,
             });
         }
         shared.load::<HandOutLast>(&mut maker, 0);
@@ -87,7 +87,7 @@ impl<V: Kept + Drop, const L: u32> TreeLock<V, L> {
             place: last,
             remote: 0,
             seen,
-            crowd: Crowd::NONE,
+            crowd: Contention::NONE,
         });
         passes
     }

@@ -1,21 +1,21 @@
 //! The right to enter a lock.
 ghost use Rattle.std.specs.Prelude.{◌≡◌, ℕ};
 
-use crate::door::Crowd;
 use crate::ghost_value::GhostValue;
 use crate::rule::LockSeat;
+use crate::throttle::Contention;
 use std::fmt;
 use std::marker::Model;
 
 /// The right to enter one lock from one place, while the place is away. Contracts see its lock, its place, the lent
-/// value as the pass has last seen it, how many remote accesses its last passage made, and the view of its seat.
+/// value as the pass has last seen it, the number of remote accesses of its last passage, and the view of its seat.
 #[derive(Drop)]
 pub struct Pass<V> {
     pub(crate) seat: LockSeat<V>,
     pub(crate) place: usize,
     pub(crate) remote: u64,
     pub(crate) seen: GhostValue<V>,
-    pub(crate) crowd: Crowd,
+    pub(crate) crowd: Contention,
 }
 
 impl<V> Model for Pass<V> {
@@ -36,7 +36,7 @@ impl<V> Model for Pass<V> {
 }
 
 impl<V> Pass<V> {
-    /// The place from which it enters: below the number of the lock's places, and that of no other pass.
+    /// Returns its place, below the number of the lock's places. No other pass has it.
     pub fn place(&self) -> usize
         ensures { result ≡ self.now.place }
     {

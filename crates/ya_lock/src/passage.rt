@@ -1,4 +1,4 @@
-//! The way in and the way out: each access is one step of a walker of the core, by the seat of its place.
+//! The way in and the way out: each access is one step of a walker of the core, taken by the seat of its place.
 ghost use Rattle.std.specs.Prelude.{◌≡◌, ◌≢◌, ℕ, true, false, ◌+◌, ◌*◌, ◌<◌, ◌≤◌, ◌↔◌, IsTrue};
 ghost use Rattle.ya_core.specs.declared.process.Process.TheVariants.{Entering, Leaving};
 ghost use Rattle.ya_core.specs.declared.process.EntryPoint.TheVariants.{E5};
@@ -7,7 +7,7 @@ ghost use Rattle.ya_core.specs.WalkerModel.{BeginsEntry, BeginsExit, op_of, walk
 ghost use Rattle.ya_core.specs.inside.Ahead.{points_ahead, ComesNearer};
 ghost use Rattle.ya_lock.specs.inside.Lock.{way_of, HasWon, HasPassed, HasLooked, HasReleased};
 
-use crate::bell::PATIENCE;
+use crate::bell::SPIN_LIMIT;
 use crate::ghost_value::GhostValue;
 use crate::kept::Kept;
 use crate::pass::Pass;
@@ -19,8 +19,8 @@ use std::marker::Model;
 use std::sync::Wait;
 use ya_core::{EntryPoint, ExitPoint, Op, Process, Walker};
 
-/// A place on its way in or out. Contracts see what stays as it is (the lock, the place, and the value that it has seen,
-/// or leaves on its way out), and the walk, where the process of its seat stands.
+/// A place on its way in or out. Contracts see its constant parts (the lock, the place, and the value that it has seen,
+/// or leaves on its way out), and the walk, which has the process of its seat.
 #[derive(Drop)]
 pub(crate) struct Passage<'a, V: Kept + Drop, const L: u32> {
     pub(crate) lock: &'a TreeLock<V, L>,
@@ -43,7 +43,7 @@ impl<'a, V: Kept + Drop, const L: u32> Model for Passage<'a, V, L> {
     ghost invariant = { λ p. IsOnWay V.since V.done L p.lock.now p.seat.table_id p.place p.seen.value p.walker p.seat.me };
 }
 
-/// Whether the process waits: it loads its own spin word until a rival has stored in it.
+/// Returns true if the process waits: it loads its own spin word until a rival has stored in it.
 #[inline(always)]
 pub(crate) fn waits(walker: &Walker) -> bool
     ensures { result ≡ is_waiting walker.now.process }
@@ -55,14 +55,14 @@ pub(crate) fn waits(walker: &Walker) -> bool
 }
 
 impl<'a, V: Kept + Drop, const L: u32> Passage<'a, V, L> {
-    /// The place of that pass, whose first access is due.
+    /// Returns the place of that pass, with its first access due.
     #[inline(always)]
     pub(crate) fn begin(lock: &'a TreeLock<V, L>, pass: Pass<V>) -> Self
         requires { pass.lock ≡ lock.now }
         ensures of { result.of ≡ way_of pass }
         ensures begins { BeginsEntry result.walk }
     {
-        // What holds of the lock is known once a field of it is looked at: that it has 1 to 6 levels.
+        // The invariant of the lock is known once one of its fields is read: it has 1 to 6 levels.
         let _ = &lock.table;
         let Pass {
             seat,
@@ -81,8 +81,8 @@ impl<'a, V: Kept + Drop, const L: u32> Passage<'a, V, L> {
         }
     }
 
-    /// Makes the accesses of an entry until it is inside. Those of a level whose other side is empty are written out, so
-    /// that the point of each is known where it is compiled.
+    /// Makes the accesses of an entry until it is inside. The accesses of a level without a rival are written out, so
+    /// that each is compiled with a known point.
     #[inline(always)]
     pub(crate) fn acquire<R: Wait>(self, rt: &R) -> Self
         requires { BeginsEntry self.walk }
@@ -107,7 +107,7 @@ impl<'a, V: Kept + Drop, const L: u32> Passage<'a, V, L> {
     }
 
     /// Makes the accesses of a level where a rival competes, until it is won. They are written out too. The rival was
-    /// read at e4; `spin` alone waits, at e8 and e10.
+    /// read at e4; only `spin` waits, at e8 and e10.
     #[inline(never)]
     pub(crate) fn compete<R: Wait>(self, rt: &R) -> Self
         requires competes { (level rival : ℕ) × (self.walk.process ≡ Entering level (E5 rival)) }
@@ -139,8 +139,8 @@ impl<'a, V: Kept + Drop, const L: u32> Passage<'a, V, L> {
         passage.spin(rt)
     }
 
-    /// Waits: loads the spin word of its process until the process may go on. It spins between the first loads, and
-    /// then it sleeps between two.
+    /// Waits: loads the spin word of its process until the process may go on. Spins between the first loads, and sleeps
+    /// between later ones.
     #[inline(never)]
     pub(crate) fn spin<R: Wait>(self, rt: &R) -> Self
         requires { is_waiting self.walk.process ≡ true }
@@ -149,7 +149,7 @@ impl<'a, V: Kept + Drop, const L: u32> Passage<'a, V, L> {
         ensures tree { result.walk.levels ≡ L }
     {
         let mut passage = self;
-        let mut patience = PATIENCE;
+        let mut patience = SPIN_LIMIT;
         let backoff = Backoff::new();
         for _ in rt.forever() {
             passage = passage.look();
@@ -168,7 +168,7 @@ impl<'a, V: Kept + Drop, const L: u32> Passage<'a, V, L> {
         unreachable!()
     }
 
-    /// Loads the spin word once: its process has gone on, or stands where it stood.
+    /// Loads the spin word once: its process goes on, or is unchanged.
     #[inline(always)]
     pub(crate) fn look(self) -> Self
         requires { is_waiting self.walk.process ≡ true }
@@ -185,7 +185,7 @@ impl<'a, V: Kept + Drop, const L: u32> Passage<'a, V, L> {
         passage
     }
 
-    /// Whether the process has won its level.
+    /// Returns true if the process has won its level.
     #[inline(always)]
     pub(crate) fn has_won(&self) -> bool
         ensures { IsTrue result ↔ HasWon self.now.walk.process }
@@ -196,7 +196,8 @@ impl<'a, V: Kept + Drop, const L: u32> Passage<'a, V, L> {
         )
     }
 
-    /// Makes the accesses of an exit until its place is idle. As on the way in, those of a level are written out.
+    /// Makes the accesses of an exit until its place is idle. As on the way in, the accesses of a level are
+    /// written out.
     #[inline(always)]
     pub(crate) fn release(self) -> Self
         requires { BeginsExit self.walk }
@@ -216,7 +217,7 @@ impl<'a, V: Kept + Drop, const L: u32> Passage<'a, V, L> {
         }
     }
 
-    /// Reads who came last at a level that was given free, and lets a rival in.
+    /// Loads who announced itself last at a level whose claim was given up, and lets a rival in.
     #[inline(always)]
     fn let_in(&mut self)
         requires { (level : ℕ) × (self.old.walk.process ≡ Leaving level X2) }
@@ -234,13 +235,14 @@ impl<'a, V: Kept + Drop, const L: u32> Passage<'a, V, L> {
         }
     }
 
-    /// Writes the walker as it stands before the first access of an entry, so that this is known where that is compiled.
+    /// Writes the walker as it is before the first access of an entry, so that this access is compiled with a
+    /// known walker.
     #[inline(always)]
     fn write_begun(&mut self)
         requires { BeginsEntry self.old.walk }
         ensures same { self.new ≡ self.old }
     {
-        // What holds of the lock is known once a field of it is looked at: that it has 1 to 6 levels.
+        // The invariant of the lock is known once one of its fields is read: it has 1 to 6 levels.
         let lock = self.lock;
         let _ = &lock.table;
         let mut walker = Walker::new(TreeLock::<V, L>::shape(), self.place);
@@ -248,7 +250,7 @@ impl<'a, V: Kept + Drop, const L: u32> Passage<'a, V, L> {
         self.walker = walker;
     }
 
-    /// Writes the walker at the point where it stands, so that this is known where the next access is compiled.
+    /// Writes the walker at its own point, so that the next access is compiled with a known point.
     #[inline(always)]
     fn write_out(&mut self, point: EntryPoint)
         requires { (level : ℕ) × (self.old.walk.process ≡ Entering level point) }
@@ -263,7 +265,7 @@ impl<'a, V: Kept + Drop, const L: u32> Passage<'a, V, L> {
         self.walker = Walker::entering(shape, self.place, level, point, remote);
     }
 
-    /// The access that is due.
+    /// Makes the due access.
     #[inline(always)]
     pub(crate) fn step(&mut self)
         requires { (op_of self.old.walk ≢ Op.Idle) × (op_of self.old.walk ≢ Op.Inside) }

@@ -1,4 +1,4 @@
-//! The rule of the lock's table, what its seats know, and where its words and its slot lie.
+//! The rule of the lock's table, the views of its seats, and the indices of its words and its slot.
 ghost use Rattle.atomic_table.specs.Table.{State};
 ghost use Rattle.ya_lock.specs.Rule.{Rule};
 ghost use Rattle.ya_lock.specs.declared.rule.View.TheVariants.{Unused};
@@ -8,14 +8,14 @@ use atomic_table::{Seat, Table, TableRule};
 use std::alloc::{Allocator, Global};
 use ya_core::Process;
 
-/// The words of the tree lie a cache line apart, so that stores in others don't disturb a place that spins on its own
-/// word.
+/// The distance between two words of the tree: a cache line, so that stores in others don't disturb a place that spins
+/// on its own word.
 pub const SPACING: usize = 8;
 
-/// The lent value has the table's one slot.
+/// The index of the lent value, in the table's one slot.
 pub const SLOT: usize = 0;
 
-/// What a seat of the lock's table knows. No value of it is made.
+/// The knowledge of a seat of the lock's table. No value of it is made at run time.
 pub enum View<V> {
     /// Nothing. A table begins with one such seat.
     Unused,
@@ -23,20 +23,20 @@ pub enum View<V> {
     Making,
     /// The same, and it has taken the empty slot.
     Filling,
-    /// It gave the value home, and is to make the passes of the places from this one on. The value that it gave.
+    /// It gave the value home, and is to make the passes of the places from this one on; with the value that it gave.
     HandingOut(usize, V),
-    /// A process: its place, where it stands, the value that it has seen or, inside, that it found, and how many remote
-    /// accesses it has made since its last entry began.
+    /// A process: its place, its state, the value that it has seen (inside: that it found), and the number of remote
+    /// accesses since its last entry began.
     Seated(usize, Process, V, u64),
-    /// A process inside which has joined an idle one: its place and the value that it found, then the place of the
-    /// other and the value that the other has seen, and how many remote accesses the one inside has made.
+    /// A process inside that has joined an idle one: its place, the value that it found, the other's place, the value
+    /// that the other has seen, and the number of remote accesses of the process inside.
     Joining(usize, V, usize, V, u64),
     /// It was joined to another seat.
     Spent,
 }
 
-/// The rule, at a number of levels: the core's invariant holds of the words and of the processes that the seats show,
-/// and the value, once it was given, is in its slot exactly where no process is inside.
+/// The rule, at a number of levels. The core's invariant holds of the words and of the processes that the seats show.
+/// The value, once it was given, is in its slot exactly if no process is inside.
 pub struct LockRule;
 
 impl<V: Kept> TableRule<Option<V>, View<V>, u32> for LockRule {
@@ -50,7 +50,7 @@ pub type LockTable<V> = Table<Option<V>, View<V>, u32, LockRule, Global>;
 
 /// A table, with the rule that its type names.
 pub trait Ruled<S, V, K> {
-    /// What holds of the table, at its key, between any two atomic steps.
+    /// The property of the table, at its key, between any two atomic steps.
     ghost rule: { K → State S V → Type 0 };
 }
 
@@ -58,5 +58,5 @@ impl<S, V, K, P: TableRule<S, V, K>, A: Allocator> Ruled<S, V, K> for Table<S, V
     ghost rule = { λ key s. P.holds key s };
 }
 
-/// What a thread takes its steps by.
+/// A thread's right to take steps on the table, with its knowledge.
 pub type LockSeat<V> = Seat<Option<V>, View<V>>;

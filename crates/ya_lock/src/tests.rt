@@ -1,5 +1,5 @@
-//! What only the lock's private parts show: places that are led an access at a time, and wakes just when the one to be
-//! woken falls asleep. All other tests of the lock are in the crate `lock_tests`.
+//! Tests that need the lock's private parts: places led one access at a time, and wakes just when the place to be woken
+//! falls asleep. All other tests of the lock are in the crate `lock_tests`.
 ghost use Rattle.std.specs.Prelude.{◌≡◌, ◌≤◌, All};
 
 use crate::{Kept, Pass, TreeLock};
@@ -26,7 +26,7 @@ impl Kept for Number {
     ghost since_done = { λ _ _ _ _ _ _ _ _. tt };
 }
 
-/// A lock and its passes.
+/// Returns a lock and its passes.
 fn made<R: Abort, const L: u32>(rt: &R, alloc: Global) -> (TreeLock<Number, L>, Vec<Pass<Number>>)
     requires { (1 ≤ L) × (L ≤ 6) }
     ensures { All (λ p. p.lock ≡ result.0) result.1.items }
@@ -37,7 +37,7 @@ fn made<R: Abort, const L: u32>(rt: &R, alloc: Global) -> (TreeLock<Number, L>, 
     }
 }
 
-/// A lock with the passes of its first place and of its last, which meet at the root alone.
+/// Returns a lock with the passes of its first place and of its last, which meet only at the root.
 fn ends<R: Abort, const L: u32>(
     rt: &R,
     alloc: Global,

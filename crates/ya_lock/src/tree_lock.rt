@@ -1,10 +1,9 @@
-//! The lock, and all that a caller may do with it.
+//! The lock and its calls.
 ghost use Rattle.std.specs.Prelude.{◌≡◌, ◌+◌, ◌*◌, ◌≤◌, IfOk, IfErr};
 ghost use Rattle.ya_core.specs.WalkerModel.{op_of};
 ghost use Rattle.ya_lock.specs.Lock.{ArePassesInOrder, guard_of, pass_of};
 ghost use Rattle.ya_lock.specs.inside.Lock.{guard_at};
 
-use crate::door::Crowd;
 use crate::ghost_value::GhostValue;
 use crate::guard::Guard;
 use crate::kept::Kept;
@@ -12,14 +11,15 @@ use crate::pass::Pass;
 use crate::passage::Passage;
 use crate::rule::{LockTable, SLOT, SPACING};
 use crate::step_effects::{GiveValue, JoinPass, LearnSince, TakeSlot};
+use crate::throttle::Contention;
 use std::alloc::Global;
 use std::fmt;
 use std::marker::Model;
 use std::sync::Wait;
 use ya_core::{NoMemory, Op, Walker};
 
-/// A lock of 2 to the power of L places, which lends one value to one place at a time. L is 1 to 6. Contracts see which
-/// lock it is.
+/// A lock of 2 to the power of L places, which lends one value to one place at a time. L is 1 to 6. Contracts see
+/// its identity.
 #[derive(Drop)]
 pub struct TreeLock<V: Kept + Drop, const L: u32> {
     pub(crate) table: LockTable<V>,
@@ -37,8 +37,8 @@ impl<V: Kept + Drop, const L: u32> Model for TreeLock<V, L> {
 }
 
 impl<V: Kept + Drop, const L: u32> TreeLock<V, L> {
-    /// A lock that lends the value, and the pass of each place in order. Each has seen the value as it is now. Where
-    /// memory runs out the value comes back.
+    /// Returns a lock that lends the value, and the pass of each place in order. Each pass has seen the value as it is
+    /// now. If memory runs out, the value comes back.
     pub fn new(alloc: Global, value: V) -> Result<(TreeLock<V, L>, Vec<Pass<V>>), (V, NoMemory)>
         requires { (1 ≤ L) × (L ≤ 6) }
         ensures passes { IfOk result (λ made. ArePassesInOrder made.0 L value made.1.items) }
@@ -60,10 +60,10 @@ impl<V: Kept + Drop, const L: u32> TreeLock<V, L> {
         Ok((lock, passes))
     }
 
-    /// Waits until its place is alone inside, and gives the lent value. What the guard finds is what may have come, by
-    /// other places, of the value that the pass has seen. Its process makes at most seven remote accesses a level. The
-    /// code also loads the root's words C, at most ten times, and accesses a rival's bell at most twice a level, and its
-    /// own bell while it sleeps.
+    /// Waits until its place is inside and no other is, and returns the lent value. The guard finds a value that other
+    /// places may have made of the one that the pass has seen (`since`). Its process makes at most seven remote
+    /// accesses for each level. The code also loads the root's words C, at most ten times, accesses a rival's bell at
+    /// most twice for each level, and accesses its own bell while it sleeps.
     #[inline(always)]
     pub fn enter<R: Wait>(&self, rt: &R, pass: Pass<V>) -> Guard<V>
         requires { pass.lock ≡ self.now }
@@ -71,15 +71,15 @@ impl<V: Kept + Drop, const L: u32> TreeLock<V, L> {
         ensures fresh { V.since pass.place pass.seen result.found }
         ensures count { result.remote ≤ 7 * L }
     {
-        // What holds of the lock is known once a field of it is looked at: that it has 1 to 6 levels.
+        // The invariant of the lock is known once one of its fields is read: it has 1 to 6 levels.
         let _ = &self.table;
-        let crowd = self.come_to_door(rt, pass.place, pass.crowd);
+        let crowd = self.throttle_if_contended(rt, pass.place, pass.crowd);
         Self::take_value(Passage::begin(self, pass).acquire(rt), crowd)
     }
 
-    /// Gives the value back as it is now, and lets the next one in. The place may have changed it as `done` says. It
-    /// waits for nobody. Its process makes at most three remote accesses a level. The code also accesses a rival's bell at
-    /// most twice a level.
+    /// Gives back the value as it is now, and lets the next place in. The place may have changed the value as `done`
+    /// allows. Never waits for another place. Its process makes at most three remote accesses for each level. The code
+    /// also accesses a rival's bell at most twice for each level.
     #[inline(always)]
     pub fn leave(&self, guard: Guard<V>) -> Pass<V>
         requires lock { guard.lock ≡ self.now }
@@ -125,8 +125,8 @@ impl<V: Kept + Drop, const L: u32> TreeLock<V, L> {
         }
     }
 
-    /// Spends an idle pass under an open guard, which stays as it is. What the guard found is what may have come, by
-    /// other places, of the value that the pass has seen. It waits for nobody.
+    /// Spends an idle pass under an open guard, which is unchanged. The guard found a value that other places may have
+    /// made of the one that the pass has seen (`since`). Never waits for another place.
     pub fn confirm(&self, guard: Guard<V>, pass: Pass<V>) -> Guard<V>
         requires guard { guard.lock ≡ self.now }
         requires pass { pass.lock ≡ self.now }
@@ -141,7 +141,7 @@ impl<V: Kept + Drop, const L: u32> TreeLock<V, L> {
         guard
     }
 
-    /// Ends the lock, and gives the value as it is now. Its other passes are of no further use.
+    /// Ends the lock, and returns the value as it is now. Its other passes are of no further use.
     pub fn close(self, guard: Guard<V>) -> V
         requires { guard.lock ≡ self }
         ensures { result ≡ guard.value }
@@ -161,9 +161,9 @@ impl<V: Kept + Drop, const L: u32> TreeLock<V, L> {
         value
     }
 
-    /// The guard of a place that has come inside, with the value that it finds in the slot.
+    /// Returns the guard of a place that has come inside, with the value in the slot.
     #[inline(always)]
-    pub(crate) fn take_value(passage: Passage<V, L>, crowd: Crowd) -> Guard<V>
+    pub(crate) fn take_value(passage: Passage<V, L>, crowd: Contention) -> Guard<V>
         requires { op_of passage.walk ≡ Op.Inside }
         ensures guard { result ≡ guard_at passage.entry.of result.found result.remote }
         ensures fresh { V.since passage.entry.of.place passage.entry.of.seen result.found }

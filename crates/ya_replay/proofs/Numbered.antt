@@ -38,11 +38,11 @@ module _ {X : Type 0} (one : ℕ → X → List ℕ) (all : ℕ → List X → L
     )
 
     module _ (a b c : Option (List ℕ)) (first : Appends a b (all 1 (take k xs))) where
-      -- the next item's text is put behind those before it
+      -- the next item's text is appended to those before it
       pub appends_next : Appends b c (one (k + 1) x) → Appends a c (all 1 (take (k + 1) xs))
       appends_next second = rw all-take (appends_after a b c _ _ first second)
 
-      -- a fault within it leaves a beginning of all texts
+      -- an error within it leaves a prefix of all texts
       pub begins_all : AppendsBeginning b c (one (k + 1) x) → AppendsBeginning a c (all 1 xs)
       begins_all second =
           let (rest, whole) = all-rest in

@@ -1,4 +1,4 @@
--- The lines of a replay, one step further, and how long they are at most.
+-- The lines of a replay, with one more step, and their maximum lengths.
 use Rattle.std.proofs.Common.{ℕ, ◌+◌, ◌<◌, ◌≤◌, List, length, take, get_or, refl, arith, length-append, codes, Bool, true, false, Option, None, Some}
 use Rattle.std.proofs.lemmas.List.{get_or_default}
 use Rattle.ya_core.specs.declared.step.Step.{Step}
@@ -13,19 +13,19 @@ use Rattle.ya_replay.specs.ReplayText.{level_text, word_text, mark_text, sign_te
 use Rattle.ya_replay.proofs.Numbered as numbered
 
 module _ (steps : List Step) (k : ℕ) (d : Step) (here : k < length steps) (a b c : Option (List ℕ)) (first : Appends a b (steps_text 1 (take k steps))) where
-  -- the next step's line is put behind those before it
+  -- the next step's line is appended to those before it
   pub appends_next : Appends b c (step_text (k + 1) (get_or steps k d)) → Appends a c (steps_text 1 (take (k + 1) steps))
   appends_next second =
       numbered.appends_next step_text steps_text (λ n. refl) (λ n x xs. refl) steps k (get_or steps k d) here
       (get_or_default steps k d (get_or steps k d) here) a b c first second
 
-  -- a fault within it leaves a beginning of all lines
+  -- an error within it leaves a prefix of all lines
   pub begins_all : AppendsBeginning b c (step_text (k + 1) (get_or steps k d)) → AppendsBeginning a c (steps_text 1 steps)
   begins_all second =
       numbered.begins_all step_text steps_text (λ n. refl) (λ n x xs. refl) steps k (get_or steps k d) here
       (get_or_default steps k d (get_or steps k d) here) a b c first second
 
--- how long the lines are at most
+-- the maximum lengths of the lines
 level_fits : (letter : List ℕ) (level index : ℕ) → length (level_text letter level index) ≤ length letter + 129
 unfolding level_text
 level_fits letter level index =
@@ -69,7 +69,7 @@ unfolding inside_text
 inside_fits None = omega arith
 inside_fits (Some place) = let digits = length-decimal place in simp length-append (omega arith)
 
--- no replay's text is empty
+-- the text of a replay is not empty
 pub replay_text-some : (steps : List Step) (inside : Option ℕ) → 0 < length (replay_text_of steps inside)
 unfolding inside_text
 replay_text-some steps None = simp length-append (omega arith)

@@ -1,4 +1,4 @@
--- The text of a replay: one line for each atomic step, and then who is inside.
+-- The text of a replay: one line for each atomic step, and then the place that is inside.
 use Rattle.std.specs.Prelude.{ℕ, ◌+◌, Bool, true, false, List, [], ◌∷◌, ◌++◌, codes, decimal, Option, None, Some}
 use Rattle.ya_core.specs.declared.word.Word.{Word}
 use Rattle.ya_core.specs.declared.word.Word.TheVariants.{C, T, P}
@@ -16,7 +16,7 @@ word_text (C level node side) = level_text (codes "C") level node ++ (codes "." 
 word_text (T level node) = level_text (codes "T") level node
 word_text (P level place) = level_text (codes "P") level place
 
--- what the step brought about, and LF
+-- the effect of the step on its passage, and LF
 unfoldable pub mark_text : Mark → List ℕ
 mark_text Plain = codes "\n"
 mark_text Inside = codes " inside\n"
@@ -33,7 +33,7 @@ step_text number step =
     decimal number ++ (codes " p" ++ (decimal step.place ++ (codes " " ++ (word_text step.word
     ++ (sign_text step.store ++ (decimal step.value ++ mark_text step.mark))))))
 
--- the lines of these steps, the first of them with this number
+-- the lines of these steps; the first step has this number
 abbrev pub steps_text : ℕ → List Step → List ℕ
 steps_text number [] = []
 steps_text number (step ∷ steps) = step_text number step ++ steps_text (number + 1) steps
@@ -43,6 +43,6 @@ unfoldable pub inside_text : Option ℕ → List ℕ
 inside_text None = codes "inside none\n"
 inside_text (Some place) = codes "inside p" ++ (decimal place ++ codes "\n")
 
--- the text of a replay that made these steps, after which this place is inside
+-- the text of a replay with these steps, after which this place is inside
 abbrev pub replay_text_of : List Step → Option ℕ → List ℕ
 replay_text_of steps inside = steps_text 1 steps ++ inside_text inside

@@ -1,14 +1,15 @@
-//! The text of a replay: the atomic steps of one schedule of the lock, one a line, and then who is inside.
+//! The text of a replay: the atomic steps of one schedule of the lock, one a line, and then the place that is inside.
 //!
-//! [`write_replay`] writes the steps that `ya_core::replay` gives, and [`inside_place`] tells who is inside after them.
+//! [`write_replay`] writes the steps that `ya_core::replay` returns, and [`inside_place`] returns the place that is
+//! inside after them.
 //!
 //! ```
 //! let steps = replay(alloc, 1, &[0, 0, 0, 0])?;
 //! write_replay(&mut out, steps.as_slice(), inside_place(steps.as_slice()))?;
 //! ```
 //!
-//! Contracts see the text as the list of its bytes, as those of `rt_cidr` do, and of a writer what is in it. After a fault
-//! of the writer a beginning of the text was written. No call takes memory.
+//! Contracts see the text as a list of bytes, like the contracts of `rt_cidr`, and a writer as its contents. After an
+//! error of the writer, a prefix of the text was written. No call allocates.
 #![tactic(auto)]
 
 ghost use Rattle.std.specs.Prelude.{◌≡◌, ℕ, List, ◌≤◌, ◌<◌, ◌++◌, ◌^◌, length};
@@ -16,7 +17,7 @@ ghost use Rattle.rt_cidr.specs.Output.{WritesText};
 ghost use Rattle.rt_cidr.specs.ShortText.{FitsInShortText};
 ghost use Rattle.ya_core.specs.Steps.{State, opening};
 ghost use Rattle.ya_core.specs.Machines.{ReplaysTo};
-ghost use Rattle.ya_core.specs.Worlds.{TellsInside};
+ghost use Rattle.ya_core.specs.Worlds.{ReportsInside};
 ghost use Rattle.ya_replay.specs.ReplayText.{level_text, word_text, mark_text, sign_text, step_text, steps_text, inside_text, replay_text_of};
 ghost use Rattle.ya_replay.specs.inside.ReplayText.{inside_next};
 
@@ -24,7 +25,7 @@ use rt_cidr::{ShortText, put};
 use std::io::{self, Write};
 use ya_core::{Mark, Step, Word};
 
-/// Writes the text of a replay that made these steps, after which that place is inside.
+/// Writes the text of a replay with these steps, after which `inside` is the place inside.
 pub fn write_replay<W: Write>(
     w: &mut W,
     steps: &[Step],
@@ -62,9 +63,9 @@ fn write_steps<W: Write>(w: &mut W, steps: &[Step]) -> Result<(), io::Error>
     Ok(())
 }
 
-/// Who is inside in the state to which these steps of a replay lead.
+/// Returns the place that is inside after these steps of a replay, if any.
 pub fn inside_place(steps: &[Step]) -> Option<usize>
-    ensures { (levels : ℕ) (picks : List ℕ) (last : State) → 1 ≤ levels → ReplaysTo levels opening picks steps.now last → TellsInside last result }
+    ensures { (levels : ℕ) (picks : List ℕ) (last : State) → 1 ≤ levels → ReplaysTo levels opening picks steps.now last → ReportsInside last result }
 {
     let mut inside = None;
     for step in steps {
@@ -73,7 +74,7 @@ pub fn inside_place(steps: &[Step]) -> Option<usize>
     inside
 }
 
-/// Who is inside after one step more.
+/// Returns the place that is inside after one more step.
 fn inside_next(inside: Option<usize>, step: &Step) -> Option<usize>
     ensures { result ≡ inside_next inside step.now }
 {
@@ -83,9 +84,9 @@ fn inside_next(inside: Option<usize>, step: &Step) -> Option<usize>
     }
 }
 
-// Each function below puts its text in front.
+// Each function below prepends its text.
 
-/// The last line: who is inside.
+/// Prepends the last line: the place that is inside.
 #[tactic(auto, using(rt_cidr::proofs::Promised::prepending), unfolding(crate::specs::ReplayText::inside_text))]
 fn prepend_inside(text: &mut ShortText, inside: Option<usize>)
     requires room { FitsInShortText (inside_text inside) text.old }
@@ -101,7 +102,7 @@ fn prepend_inside(text: &mut ShortText, inside: Option<usize>)
     }
 }
 
-/// The step's line.
+/// Prepends the step's line.
 #[tactic(auto, using(rt_cidr::proofs::Promised::prepending), unfolding(crate::specs::ReplayText::step_text))]
 fn prepend_step(text: &mut ShortText, number: u64, step: &Step)
     requires room { FitsInShortText (step_text number step.now) text.old }
@@ -117,7 +118,7 @@ fn prepend_step(text: &mut ShortText, number: u64, step: &Step)
     text.prepend_decimal(number);
 }
 
-/// The word's name.
+/// Prepends the word's name.
 #[tactic(auto, using(rt_cidr::proofs::Promised::prepending), unfolding(crate::specs::ReplayText::word_text))]
 fn prepend_word(text: &mut ShortText, word: &Word)
     requires room { FitsInShortText (word_text word.now) text.old }
@@ -134,7 +135,7 @@ fn prepend_word(text: &mut ShortText, word: &Word)
     }
 }
 
-/// A word's letter, its level, and its node or place.
+/// Prepends a word's letter, its level, and its node or place.
 #[tactic(auto, using(rt_cidr::proofs::Promised::prepending), unfolding(crate::specs::ReplayText::level_text))]
 fn prepend_level(text: &mut ShortText, letter: &[u8; 1], level: u32, index: usize)
     requires room { FitsInShortText (level_text letter.now level index) text.old }

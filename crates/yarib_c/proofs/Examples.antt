@@ -1,11 +1,12 @@
 -- Examples by which the definitions of this crate are tested, each under a line with the definition's name.
 use Rattle.std.proofs.Common.{◌≡◌, ◌+◌, ◌^◌, true, false, [], ◌∷◌, refl, arith}
+use Rattle.std.specs.Prelude.{None, Some}
 use Rattle.rt_cidr.specs.declared.prefixes.Prefix.{Prefix}
 use Rattle.rt_rib.specs.declared.routes.Hop.{Hop}
-use Rattle.rt_rib.specs.declared.routes.Hop.TheVariants.{Via}
+use Rattle.rt_rib.specs.declared.routes.Hop.TheVariants.{Via, Discard}
 use Rattle.rt_rib.specs.declared.routes.Route.{Route}
-use Rattle.rt_diff.specs.declared.table_answers.By.TheVariants as by
-use Rattle.yarib_c.specs.Forms.{no_route, route_as, put_of}
+use Rattle.rt_diff.specs.declared.table_answers.CompareBy.TheVariants as by
+use Rattle.yarib_c.specs.Forms.{no_route, route_as, router_of, router_as, put_of}
 use Rattle.yarib_c.specs.Lists.{PutsRoutes}
 use Rattle.yarib_c.specs.Sizes.{bytes_of}
 use Rattle.yarib_c.specs.Selections.{best_number}
@@ -36,6 +37,14 @@ no_route_is_all_zeros = refl
 -- route_as
 a_route_in_numbers : route_as one_route ≡ record { base = 167772160; pref = 10; via = 3221225985; feed = 1; len = 8; hop = 1 }
 a_route_in_numbers = refl
+
+-- router_of
+routers_of_next_hops : (router_of 1 router ≡ 3221225985) × (router_of 1 Discard ≡ 1)
+routers_of_next_hops = (refl, refl)
+
+-- router_as
+routers_of_answers : (router_as 0 1 None ≡ 0) × (router_as 0 1 (Some one_route) ≡ 3221225985)
+routers_of_answers = (refl, refl)
 
 -- put_of
 an_add_in_numbers : put_of 1 7 ten_8 10 router ≡ record { operation = 1; feed = 7; base = 167772160; pref = 10; via = 3221225985; len = 8; hop = 1 }

@@ -1,4 +1,4 @@
--- What a call does to what a handle holds, and why it did nothing.
+-- The effect of a call on what a handle holds, and the reasons why a call did nothing.
 use Rattle.std.specs.Prelude.{◌≡◌, ℕ, ◌≤◌, ◌⊎◌, List, Option, Some, None, [], ◌∷◌, length, map, take}
 use Rattle.rt_cidr.specs.declared.address.Addr.{Addr}
 use Rattle.rt_rib.specs.declared.routes.Route.{Route}
@@ -13,22 +13,22 @@ use Rattle.yarib_c.specs.declared.commands.YaribCommand.{YaribCommand}
 use Rattle.yarib_c.specs.declared.commands.YaribReply.{YaribReply}
 use Rattle.yarib_c.specs.Handle.{held_at}
 use Rattle.yarib_c.specs.Kinds.{routes_in, IsForwarding, IsSame, Applied, NotApplied}
-use Rattle.yarib_c.specs.Forms.{IsCommand, reply_as, answer_as, unanswered}
+use Rattle.yarib_c.specs.Forms.{IsCommand, reply_as, answer_as, router_as, unanswered}
 
 -- what the handle holds
 abbrev pub held_in : Yarib → Option Held
 held_in y = held_at y.at y.held
 
--- something is held, and this is so of it
+-- something is held, and it has this property
 abbrev pub IsOf : Option Held → (Held → Type 0) → Type 0
 IsOf None Is = ⊥
 IsOf (Some held) Is = Is held
 
--- the handle holds something, and this is so of it
+-- the handle holds something, and it has this property
 abbrev pub Holds : Yarib → (Held → Type 0) → Type 0
 Holds y Is = IsOf (held_in y) Is
 
--- something was held and is held, and this is so of the two
+-- something was held and something is held, and the two are in this relation
 pub record GoesOn (old new : Option Held) (Is : Held → Held → Type 0) : Type 0 where
   pub before : Held
   pub after : Held
@@ -36,25 +36,25 @@ pub record GoesOn (old new : Option Held) (Is : Held → Held → Type 0) : Type
   pub new_is : new ≡ Some after
   pub is : Is before after
 
--- the handle held something and holds something, and this is so of the two
+-- the handle held something and holds something, and the two are in this relation
 abbrev pub Goes : Yarib → Yarib → (Held → Held → Type 0) → Type 0
 Goes old new Is = GoesOn (held_in old) (held_in new) Is
 
--- where something was held, that is there with its limit, routes and journal; where nothing was held, nothing is
+-- what was held is still held, with its limit, routes and journal; if nothing was held, nothing is
 abbrev pub StaysSame : Option Held → Option Held → Type 0
 StaysSame None new = new ≡ None
 StaysSame (Some old) new = IsOf new (λ held. IsSame old held)
 
--- the handle holds what it held, with its limit, routes and journal
+-- the handle still holds what it held, with its limit, routes and journal
 abbrev pub IsKept : Yarib → Yarib → Type 0
 IsKept old new = StaysSame (held_in old) (held_in new)
 
--- a forwarding table that answers by these routes
+-- a forwarding table that answers from these routes
 pub record Forwards (routes : List Route) (held : Held) : Type 0 where
   pub kind : IsForwarding held
   pub answers : routes_in held ≡ routes
 
--- the numbers stand for a command of a feed, which was answered so
+-- the numbers denote a command of a feed, and this is its answer
 pub record Answers (old new : Held) (c : YaribCommand) (r : YaribReply) : Type 0 where
   pub cmd : Cmd
   pub reply : Reply
@@ -63,39 +63,39 @@ pub record Answers (old new : Held) (c : YaribCommand) (r : YaribReply) : Type 0
   pub applied : Applied old new c.feed cmd reply
   pub answered : r ≡ reply_as reply
 
--- the numbers stand for a command of a feed, which was refused for memory
+-- the numbers denote a command of a feed, which failed because memory ran out
 pub record Refused (old new : Held) (c : YaribCommand) : Type 0 where
   pub cmd : Cmd
   pub is_command : IsCommand c cmd
   pub is_feed : IsFeed c.feed
   pub refused : NotApplied old new c.feed cmd
 
--- why a command has no answer, by the status that says so: its feed has a number that there is not, its numbers stand for no
--- command, memory was refused, or the table changes no more
+-- the reason why a command has no answer, by its status: the feed number is invalid, the numbers don't denote a
+-- command, memory ran out, or the table can't change
 abbrev pub IsReason : ℕ → Held → Held → YaribCommand → Type 0
 IsReason status old new c =
     ((status ≡ 2) × ¬ IsFeed c.feed) ⊎ (((status ≡ 3) × ((cmd : Cmd) → ¬ IsCommand c cmd))
     ⊎ (((status ≡ 4) × Refused old new c) ⊎ ((status ≡ 10) × IsForwarding old)))
 
--- a command has no answer, for the reason that the status says, and all is as it was
+-- a command has no answer, for the reason that the status gives, and nothing has changed
 pub record IsUnanswered (old new : Held) (c : YaribCommand) (r : YaribReply) : Type 0 where
   pub status : ℕ
   pub reason : IsReason status old new c
   pub same : IsSame old new
   pub told : r ≡ unanswered status
 
--- what became of one command: its reply, or the reason why there is none
+-- the outcome of a command: its reply, or the reason why it has none
 abbrev pub HasOutcome : Held → Held → YaribCommand → YaribReply → Type 0
 HasOutcome old new c r = Answers old new c r ⊎ IsUnanswered old new c r
 
--- what became of each command, one after another
+-- the outcome of each command, one after another
 abbrev pub HaveOutcomes : Held → Held → List YaribCommand → List YaribReply → Type 0
 HaveOutcomes old new [] [] = new ≡ old
 HaveOutcomes old new (c ∷ cs) (r ∷ rs) = (next : Held) × HasOutcome old next c r × HaveOutcomes next new cs rs
 HaveOutcomes old new [] (r ∷ rs) = ⊥
 HaveOutcomes old new (c ∷ cs) [] = ⊥
 
--- the number of an address as the address
+-- the address with this number
 abbrev pub addr : ℕ → Addr
 addr a = record { 0 = a }
 
@@ -103,7 +103,11 @@ addr a = record { 0 = a }
 abbrev pub answers_in : List Route → List ℕ → List YaribRoute
 answers_in routes addresses = map (λ a. answer_as (look_up (addr a) routes)) addresses
 
--- these bytes stand at the front of the text, and it is told how many they are
+-- the routers to which the answers of all addresses lead, with the numbers for no route and for discarding
+abbrev pub routers_in : ℕ → ℕ → List Route → List ℕ → List ℕ
+routers_in none discard routes addresses = map (λ a. router_as none discard (look_up (addr a) routes)) addresses
+
+-- these bytes are at the front of the text, and `used` is their number
 pub record PutsText (bytes text : List ℕ) (used : ℕ) : Type 0 where
   pub within : used ≤ length text
   pub put : take used text ≡ bytes

@@ -1,4 +1,4 @@
--- Routes, commands, replies and entries as the numbers that cross to C.
+-- Routes, commands, replies and entries as the numbers that are passed to and from C.
 use Rattle.std.specs.Prelude.{◌≡◌, ℕ, Option, Some, None}
 use Rattle.rt_cidr.specs.declared.prefixes.Prefix.{Prefix}
 use Rattle.rt_rib.specs.declared.routes.Hop.{Hop}
@@ -19,7 +19,7 @@ abbrev pub hop_number : Hop → ℕ
 hop_number (Via a) = 1
 hop_number Discard = 2
 
--- the router's address, where there is one
+-- the router's address, or 0 if there is none
 abbrev pub via_number : Hop → ℕ
 via_number (Via a) = a.0
 via_number Discard = 0
@@ -32,7 +32,7 @@ no_route = record { base = 0; pref = 0; via = 0; feed = 0; len = 0; hop = 0 }
 abbrev pub route_as : Route → YaribRoute
 route_as r = record { base = r.prefix.base; pref = r.pref; via = via_number r.hop; feed = r.feed; len = r.prefix.len; hop = hop_number r.hop }
 
--- a next hop and no more
+-- only a next hop
 abbrev pub hop_as : Hop → YaribRoute
 hop_as hop = record { base = 0; pref = 0; via = via_number hop; feed = 0; len = 0; hop = hop_number hop }
 
@@ -41,16 +41,26 @@ abbrev pub answer_as : Option Route → YaribRoute
 answer_as None = no_route
 answer_as (Some r) = route_as r
 
--- the command's numbers stand for the next hop
+-- the router of a next hop, or the number for discarding
+abbrev pub router_of : ℕ → Hop → ℕ
+router_of discard (Via a) = a.0
+router_of discard Discard = discard
+
+-- the router to which an answer leads, or the number for no route or for discarding
+abbrev pub router_as : ℕ → ℕ → Option Route → ℕ
+router_as none discard None = none
+router_as none discard (Some r) = router_of discard r.hop
+
+-- the command's numbers denote the next hop
 abbrev pub IsHop : YaribCommand → Hop → Type 0
 IsHop c (Via a) = (c.hop ≡ 1) × (a.0 ≡ c.via)
 IsHop c Discard = c.hop ≡ 2
 
--- and these for the prefix
+-- the command's numbers denote the prefix
 abbrev pub IsAt : YaribCommand → Prefix → Type 0
 IsAt c p = (p.base ≡ c.base) × (p.len ≡ c.len)
 
--- the numbers stand for the command
+-- the numbers denote the command
 abbrev pub IsCommand : YaribCommand → Cmd → Type 0
 IsCommand c (Add prefix pref hop) = (c.operation ≡ 1) × IsAt c prefix × (pref ≡ c.pref) × IsHop c hop
 IsCommand c (Replace prefix pref hop) = (c.operation ≡ 2) × IsAt c prefix × (pref ≡ c.pref) × IsHop c hop
@@ -86,7 +96,7 @@ reply_as NoRoute = record { code = 8; count = 0; route = no_route }
 reply_as (Dumped n) = record { code = 9; count = n; route = no_route }
 reply_as (Purged n) = record { code = 10; count = n; route = no_route }
 
--- what stands in the place of a reply where there is none, for this reason
+-- the reply to a command that has none, with the reason
 abbrev pub unanswered : ℕ → YaribReply
 unanswered status = record { code = 0; count = status; route = no_route }
 

@@ -1,4 +1,4 @@
--- What a handle may hold, as a table: its limit, its routes, and its journal where it keeps one.
+-- What a handle can hold, as a table: its limit, its routes, and its journal if it keeps one.
 use Rattle.std.specs.Prelude.{◌≡◌, ℕ, zero, suc, true, ◌≤◌, ◌⊎◌, List, Option, Some, None, [], ◌∷◌, ◌++◌}
 use Rattle.std.specs.Option.{option_map}
 use Rattle.rt_rib.specs.declared.routes.Route.{Route}
@@ -11,25 +11,25 @@ use Rattle.rt_rib.specs.Book.{table_of}
 use Rattle.yarib_c.specs.declared.held.Held.{Held}
 use Rattle.yarib_c.specs.declared.held.Held.TheVariants.{Plain, Journaled, Forwarding}
 
--- how many routes a feed may have: none in a table that changes no more
+-- the maximum number of routes of a feed, which is 0 in a table that can't change
 abbrev pub limit_of : Held → ℕ
 limit_of (Plain plain) = plain.table.limit
 limit_of (Journaled book) = book.limit
 limit_of (Forwarding fib) = 0
 
--- the routes by which it answers
+-- the routes from which it answers
 abbrev pub routes_in : Held → List Route
 routes_in (Plain plain) = plain.table.routes
 routes_in (Journaled book) = table_of book
 routes_in (Forwarding fib) = fib.value
 
--- the journal, where it keeps one
+-- the journal, if it keeps one
 abbrev pub journal_in : Held → Option (List Entry)
 journal_in (Plain plain) = None
 journal_in (Journaled book) = Some book.journal
 journal_in (Forwarding fib) = None
 
--- the journal that is asked for: none, or an empty one
+-- the requested journal: none, or an empty one
 abbrev pub journal_from : ℕ → Option (List Entry)
 journal_from zero = None
 journal_from (suc n) = Some []
@@ -40,13 +40,13 @@ pub record IsNew (limit kind : ℕ) (held : Held) : Type 0 where
   pub empty : routes_in held ≡ []
   pub journal : journal_in held ≡ journal_from kind
 
--- it is a forwarding table, which changes no more
+-- it is a forwarding table, which can't change
 abbrev pub IsForwarding : Held → Type 0
 IsForwarding (Plain plain) = ⊥
 IsForwarding (Journaled book) = ⊥
 IsForwarding (Forwarding fib) = Unit {0}
 
--- it is a table beside which a forwarding table follows its commands
+-- it is a table with a forwarding table that follows its commands
 abbrev pub IsFollowed : Held → Type 0
 IsFollowed (Plain plain) = plain.is_followed ≡ true
 IsFollowed (Journaled book) = ⊥
@@ -58,33 +58,33 @@ IsPlain (Plain plain) = Unit {0}
 IsPlain (Journaled book) = ⊥
 IsPlain (Forwarding fib) = ⊥
 
--- limit, routes and journal are as they were
+-- limit, routes and journal are unchanged
 pub record IsSame (old new : Held) : Type 0 where
   pub limited : limit_of new ≡ limit_of old
   pub routes : routes_in new ≡ routes_in old
   pub journal : journal_in new ≡ journal_in old
 
--- where it keeps a journal, that has room for so many entries
+-- if it keeps a journal, the journal has room for this many entries
 abbrev pub HasRoom : ℕ → Held → Held → Type 0
 HasRoom entries old (Plain plain) = Unit {0}
 HasRoom entries old (Journaled book) = entries ≤ book.room
 HasRoom entries old (Forwarding fib) = Unit {0}
 
--- the command was answered as the sequential table answers it, the routes are what it leaves there, and a journal has gained
--- the one entry at its end
+-- the command was answered as by the sequential table, the routes are those that the sequential table has afterwards,
+-- and a journal has gained this entry at its end
 pub record Applied (old new : Held) (feed : ℕ) (cmd : Cmd) (reply : Reply) : Type 0 where
   pub replied : reply ≡ reply_of (limit_of old) (routes_in old) feed cmd
   pub limited : limit_of new ≡ limit_of old
   pub routes : routes_in new ≡ table_after (limit_of old) (routes_in old) feed cmd
   pub journal : journal_in new ≡ option_map (λ entries. entries ++ record { feed = feed; cmd = cmd; reply = reply } ∷ []) (journal_in old)
 
--- the command wants memory: it puts a route in, or its entry has no room in the journal
+-- the command needs memory: it inserts a route, or its entry has no room in the journal
 abbrev pub WantsMemory : Held → ℕ → Cmd → Type 0
 WantsMemory (Plain plain) feed cmd = reply_of plain.table.limit plain.table.routes feed cmd ≡ Added
 WantsMemory (Journaled book) feed cmd = (book.room ≡ 0) ⊎ (reply_of book.limit (table_of book) feed cmd ≡ Added)
 WantsMemory (Forwarding fib) feed cmd = ⊥
 
--- the command was refused for memory, and all is as it was
+-- the command failed because memory ran out, and nothing has changed
 pub record NotApplied (old new : Held) (feed : ℕ) (cmd : Cmd) : Type 0 where
   pub same : IsSame old new
   pub wanted : WantsMemory old feed cmd

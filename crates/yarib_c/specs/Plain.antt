@@ -1,8 +1,8 @@
--- What contracts see of a table that keeps no journal.
+-- A table that keeps no journal, as contracts see it.
 use Rattle.std.specs.Prelude.{Bool}
 use Rattle.rt_rib.specs.Book.{TableContents}
 
--- the table, and whether a forwarding table is beside it, by which look-ups go
+-- the table, and whether it has a forwarding table, which look-ups then use
 pub record PlainContents : Type 0 where
   pub table : TableContents
   pub is_followed : Bool

@@ -1,9 +1,9 @@
--- Which routes C asks for.
+-- The routes that C selects.
 use Rattle.std.specs.Prelude.{◌≡◌, ◌≢◌, ℕ, zero, suc, ◌<◌, ◌⊎◌, Bool, true, false, List, Option, Some, None}
 use Rattle.rt_cidr.specs.declared.prefixes.Prefix.{Prefix}
 use Rattle.rt_rib.specs.declared.routes.Route.{Route}
-use Rattle.rt_rib.specs.declared.selection.Part.{Part}
-use Rattle.rt_rib.specs.declared.selection.Part.TheVariants.{All, Within, Covering, Exact}
+use Rattle.rt_rib.specs.declared.selection.PrefixFilter.{PrefixFilter}
+use Rattle.rt_rib.specs.declared.selection.PrefixFilter.TheVariants.{All, Within, Covering, Exact}
 use Rattle.rt_rib.specs.declared.selection.Selection.{Selection}
 use Rattle.rt_rib.specs.Book.{IsFeed}
 use Rattle.rt_rib.specs.Selection.{selected}
@@ -11,38 +11,38 @@ use Rattle.yarib_c.specs.declared.routes.YaribRoute.{YaribRoute}
 use Rattle.yarib_c.specs.declared.selections.YaribSelection.{YaribSelection}
 use Rattle.yarib_c.specs.Lists.{ShowsRoutes}
 
--- a part, a feed or a choice has a number that there is not
+-- the number of a part, a feed or a choice is invalid
 abbrev pub IsOutOfRange : YaribSelection → Type 0
 IsOutOfRange c = (3 < c.part) ⊎ (((c.feed ≢ 0) × ¬ IsFeed c.feed) ⊎ (1 < c.only_best))
 
--- the numbers stand for the prefix
+-- the numbers denote the prefix
 abbrev pub IsTo : YaribSelection → Prefix → Type 0
 IsTo c p = (p.base ≡ c.base) × (p.len ≡ c.len)
 
--- and for the part of the prefixes
-abbrev pub IsPart : YaribSelection → Part → Type 0
+-- the numbers denote the part of the prefixes
+abbrev pub IsPart : YaribSelection → PrefixFilter → Type 0
 IsPart c All = c.part ≡ 0
 IsPart c (Within p) = (c.part ≡ 1) × IsTo c p
 IsPart c (Covering p) = (c.part ≡ 2) × IsTo c p
 IsPart c (Exact p) = (c.part ≡ 3) × IsTo c p
 
--- the feed's routes, or for 0 those of any
+-- the feed whose routes are selected, or any feed for 0
 abbrev pub feed_asked : ℕ → Option ℕ
 feed_asked zero = None
 feed_asked (suc n) = Some (suc n)
 
--- 1 for the best routes alone
+-- 1 for only the best routes
 abbrev pub best_number : Bool → ℕ
 best_number false = 0
 best_number true = 1
 
--- the numbers stand for the selection
+-- the numbers denote the selection
 pub record IsSelection (c : YaribSelection) (asked : Selection) : Type 0 where
   pub part : IsPart c asked.part
   pub feed : asked.feed ≡ feed_asked c.feed
   pub best : best_number asked.only_best ≡ c.only_best
 
--- of the routes that are asked for those from the index on are shown
+-- the selected routes from index `skip` on are shown
 pub record ShowsSelected (c : YaribSelection) (routes : List Route) (skip : ℕ) (shown : List YaribRoute) (total : ℕ) : Type 0 where
   pub asked : Selection
   pub is : IsSelection c asked

@@ -10,7 +10,7 @@ use crate::lists::FormOf;
 use crate::routes::YaribRoute;
 use crate::status::{BAD_NUMBER, DONE, NONE_LEFT, WRONG_KIND};
 use rt_cidr::Addr;
-use rt_diff::{By, Comparison, TableAnswer};
+use rt_diff::{CompareBy, Comparison, TableAnswer};
 use std::alloc::Global;
 
 /// A range of addresses that two tables answer otherwise, and their answers. By hops each has a hop and no more.
@@ -72,14 +72,16 @@ fn compare(old: &Held, new: &Held, by: u32, from: u32, difference: &mut YaribDif
     ensures known { (result ≡ 0) ⊎ ((result ≡ 2) ⊎ ((result ≡ 6) ⊎ (result ≡ 10))) }
 {
     let by = match by {
-        0 => By::Hop,
-        1 => By::Route,
+        0 => CompareBy::Hop,
+        1 => CompareBy::Route,
         _ => return BAD_NUMBER,
     };
     let (Some(old), Some(new)) = (old.table(), new.table()) else {
         return WRONG_KIND;
     };
-    match Comparison::of(old.answers(), new.answers(), by).first_difference(Addr(from)) {
+    match Comparison::of(old.lookup_cursor(), new.lookup_cursor(), by).first_difference(Addr(
+        from,
+    )) {
         None => NONE_LEFT,
         Some(found) => {
             *difference = YaribDifference {

@@ -1,7 +1,7 @@
 //! What a handle holds.
-ghost use Rattle.std.specs.Prelude.{◌≡◌, ◌<◌, ◌≤◌, MatchOption, MatchResult, OnOk};
+ghost use Rattle.std.specs.Prelude.{◌≡◌, ◌<◌, ◌≤◌, IfSome, MatchOption, MatchResult, OnOk};
 ghost use Rattle.rt_rib.specs.Book.{IsLimit, IsFeed};
-ghost use Rattle.yarib_c.specs.Kinds.{IsForwarding, IsNew, IsSame, HasRoom, Applied, NotApplied};
+ghost use Rattle.yarib_c.specs.Kinds.{routes_in, IsForwarding, IsNew, IsSame, HasRoom, Applied, NotApplied};
 ghost use Rattle.yarib_c.specs.Sizes.{TakesBytes};
 ghost use Rattle.yarib_c.specs.inside.Tables.{IsTableOf};
 
@@ -58,6 +58,17 @@ impl Held {
             Held::Plain(plain) => Some(plain.table()),
             Held::Journaled(book) => Some(book.table()),
             Held::Forwarding(_) => None,
+        }
+    }
+
+    /// Returns the forwarding table by which it answers, if there is one.
+    pub(crate) fn forwarding(&self) -> Option<&Fib<Global>>
+        ensures { IfSome result (λ fib. fib.now ≡ routes_in self.now) }
+    {
+        match self {
+            Held::Plain(plain) => plain.beside(),
+            Held::Journaled(_) => None,
+            Held::Forwarding(fib) => Some(fib),
         }
     }
 

@@ -4,11 +4,11 @@
 //! C keeps a table behind a [`Yarib`], which is a pointer and no more: null where it holds nothing. It holds a table, with or
 //! without a journal, or a forwarding table (`src/held.rt`). Nothing checks a caller that is not Rattle, so no export has a
 //! `requires`: what it can test itself it answers with a status. Each status has a clause that says when it comes and what
-//! stays, and one clause lists the statuses that there are. Contracts see what a handle holds (`specs/Handles.antt`), and what
+//! stays, and one clause lists the statuses that there are. Contracts see what a handle holds (`specs/Handle.antt`), and what
 //! a call does to it in the words of the libraries: replies are `reply_of`'s, look-ups those of `look_up`.
 //!
-//! A `Global` takes no bytes, so C passes nothing for a parameter `alloc`. What C owes is in the header: no null pointer, no
-//! copy of a handle, and one call at a time on a handle.
+//! A `Global` takes no bytes, so C passes nothing for a parameter `alloc`. What C owes an export: no null pointer, no copy of a
+//! handle, and one call at a time on a handle. `bindings/c/handles.c` sees to the last, so the header asks for the others alone.
 #![tactic(auto)]
 
 mod changes;

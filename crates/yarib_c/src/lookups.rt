@@ -1,16 +1,18 @@
-//! Many look-ups at once: their addresses taken from C, and the answers put where C wants them, a few dozen at a time.
+//! Look-ups for C: of one address, or of many, whose answers are put where C wants them.
 ghost use Rattle.std.specs.Prelude.{◌≡◌, ℕ, ◌+◌, ◌<◌, ◌≤◌, length, map};
 ghost use Rattle.rt_trie.specs.Map.{address_at};
 ghost use Rattle.rt_rib.specs.LookUp.{look_up};
 ghost use Rattle.yarib_c.specs.Kinds.{routes_in};
-ghost use Rattle.yarib_c.specs.Forms.{answer_as};
-ghost use Rattle.yarib_c.specs.Calls.{addr, answers_in};
+ghost use Rattle.yarib_c.specs.Forms.{answer_as, router_as};
+ghost use Rattle.yarib_c.specs.Calls.{addr, answers_in, routers_in};
 ghost use Rattle.yarib_c.specs.inside.Places.{number_at, told_at};
 
 use crate::held::Held;
-use crate::routes::YaribRoute;
+use crate::routes::{YaribRoute, router_number};
 use rt_cidr::Addr;
+use rt_fib::Fib;
 use rt_rib::Route;
+use std::alloc::Global;
 
 /// How many addresses are asked at once.
 const CHUNK: usize = 32;
@@ -72,5 +74,87 @@ fn look_up(held: &Held, addresses: &[Addr], answers: &mut [Option<Route>])
         Held::Plain(plain) => plain.look_up(addresses, answers),
         Held::Journaled(book) => book.look_up(addresses, answers),
         Held::Forwarding(fib) => fib.look_up_each(addresses, answers),
+    }
+}
+
+/// Returns the answer for one address.
+pub(crate) fn answer_one(held: &Held, addr: Addr) -> Option<Route>
+    ensures { result ≡ look_up addr (routes_in held.now) }
+{
+    match held {
+        Held::Plain(plain) => plain.look_up_one(addr),
+        Held::Journaled(book) => {
+            let mut found = [None];
+            book.look_up(&[addr], &mut found);
+            found[0]
+        }
+        Held::Forwarding(fib) => fib.look_up(addr),
+    }
+}
+
+/// Writes for each address the router to which its answer leads, as `router_number` does. A forwarding table is asked for one
+/// address after another, any other table for a few dozen at once.
+pub(crate) fn route_each(
+    held: &Held,
+    addresses: &[u32],
+    no_route: u32,
+    discard: u32,
+    routers: &mut [u32],
+)
+    requires { length routers.old ≡ length addresses.now }
+    ensures { routers.new ≡ routers_in no_route discard (routes_in held.now) addresses.now }
+{
+    match held.forwarding() {
+        Some(fib) => route_by(fib, addresses, no_route, discard, routers),
+        None => route_chunks(held, addresses, no_route, discard, routers),
+    }
+}
+
+/// The same by a forwarding table.
+fn route_by(fib: &Fib<Global>, addresses: &[u32], no_route: u32, discard: u32, routers: &mut [u32])
+    requires { length routers.old ≡ length addresses.now }
+    ensures { routers.new ≡ routers_in no_route discard fib.now addresses.now }
+{
+    for k in 0..addresses.len() {
+        routers[k] = router_number(fib.look_up(Addr(addresses[k])), no_route, discard);
+    }
+}
+
+/// The same, a few dozen addresses at once.
+fn route_chunks(held: &Held, addresses: &[u32], no_route: u32, discard: u32, routers: &mut [u32])
+    requires { length routers.old ≡ length addresses.now }
+    ensures { routers.new ≡ routers_in no_route discard (routes_in held.now) addresses.now }
+{
+    let mut start = 0;
+    while start < addresses.len() {
+        let size = (addresses.len() - start).min(CHUNK);
+        route_chunk(held, addresses, no_route, discard, routers, start, size);
+        start += size;
+    }
+}
+
+/// The same for so many addresses from an index on.
+fn route_chunk(
+    held: &Held,
+    addresses: &[u32],
+    no_route: u32,
+    discard: u32,
+    routers: &mut [u32],
+    start: usize,
+    size: usize,
+)
+    requires chunk { size ≤ CHUNK }
+    requires within { start + size ≤ length addresses.now }
+    requires size { length routers.old ≡ length addresses.now }
+    ensures each { (j : ℕ) → j < size → number_at routers.new (start + j)
+        ≡ router_as no_route discard (look_up (addr (number_at addresses.now (start + j))) (routes_in held.now)) }
+    ensures rest { (k : ℕ) → k < start → number_at routers.new k ≡ number_at routers.old k }
+{
+    let mut asked = [Addr(0); CHUNK];
+    copy_chunk(addresses, &mut asked, start, size);
+    let mut found = [None; CHUNK];
+    look_up(held, &asked[..size], &mut found[..size]);
+    for k in 0..size {
+        routers[start + k] = router_number(found[k], no_route, discard);
     }
 }

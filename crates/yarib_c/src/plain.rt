@@ -1,5 +1,5 @@
 //! A table that keeps no journal, and where that is asked for a forwarding table beside it.
-ghost use Rattle.std.specs.Prelude.{◌≡◌, ◌+◌, ◌≤◌, ◌^◌, true, false, [], length, map, IfOk, OnOk, OnErr};
+ghost use Rattle.std.specs.Prelude.{◌≡◌, ◌+◌, ◌≤◌, ◌^◌, true, false, [], length, map, IfOk, IfSome, OnOk, OnErr};
 ghost use Rattle.rt_rib.specs.declared.commands.Reply.TheVariants.{Added};
 ghost use Rattle.rt_rib.specs.Sequential.{reply_of};
 ghost use Rattle.rt_rib.specs.LookUp.{look_up};
@@ -11,7 +11,7 @@ ghost use Rattle.yarib_c.specs.inside.Beside.{IsBeside, MayFollow};
 use crate::sizes::node_bytes;
 use rt_cidr::Addr;
 use rt_fib::Fib;
-use rt_fib::laws::tables_keep_outside;
+use rt_fib::laws::tables_preserve_lookups_outside_prefix;
 use rt_rib::{Cmd, Refused, Reply, Route, Table};
 use std::alloc::Global;
 use std::marker::Model;
@@ -80,7 +80,7 @@ impl PlainTable {
         self.table.holds();
         let reply = self.table.apply(feed, cmd)?;
         self.table.holds();
-        tables_keep_outside();
+        tables_preserve_lookups_outside_prefix();
         self.beside = followed(self.beside.take(), &self.table, &cmd);
         Ok(reply)
     }
@@ -93,6 +93,27 @@ impl PlainTable {
         match &self.beside {
             None => self.table.look_up(addresses, answers),
             Some(fib) => fib.look_up_each(addresses, answers),
+        }
+    }
+
+    /// Returns the forwarding table beside it, if there is one.
+    pub(crate) fn beside(&self) -> Option<&Fib<Global>>
+        ensures { IfSome result (λ fib. fib.now ≡ self.now.table.routes) }
+    {
+        self.beside.as_ref()
+    }
+
+    /// Returns the best route of the longest prefix that covers the address.
+    pub(crate) fn look_up_one(&self, addr: Addr) -> Option<Route>
+        ensures { result ≡ look_up addr self.now.table.routes }
+    {
+        match &self.beside {
+            None => {
+                let mut found = [None];
+                self.table.look_up(&[addr], &mut found);
+                found[0]
+            }
+            Some(fib) => fib.look_up(addr),
         }
     }
 

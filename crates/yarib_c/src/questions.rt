@@ -1,15 +1,16 @@
 //! Calls that ask a table and change nothing in it.
 ghost use Rattle.std.specs.Prelude.{◌≡◌, ◌≢◌, ◌⊎◌, None, Some, length};
-ghost use Rattle.rt_rib.specs.LookUp.{look_up_all};
+ghost use Rattle.rt_rib.specs.LookUp.{look_up, look_up_all};
 ghost use Rattle.yarib_c.specs.Kinds.{routes_in, journal_in, IsForwarding};
-ghost use Rattle.yarib_c.specs.Calls.{held_in, Holds, addr, answers_in};
+ghost use Rattle.yarib_c.specs.Forms.{answer_as};
+ghost use Rattle.yarib_c.specs.Calls.{held_in, Holds, addr, answers_in, routers_in};
 ghost use Rattle.yarib_c.specs.Lists.{ShowsRoutes, ShowsJournal};
 
 use crate::commands::YaribEntry;
 use crate::handle::{Yarib, with_held};
 use crate::held::Held;
 use crate::lists::put;
-use crate::lookups::answer_each;
+use crate::lookups::{answer_each, answer_one, route_each};
 use crate::routes::YaribRoute;
 use crate::status::{BAD_SIZE, DONE, NO_MEMORY, WRONG_KIND};
 use rt_cidr::Addr;
@@ -35,6 +36,53 @@ pub extern "C" fn yarib_look_up(
     }
     with_held!(table, alloc, held => {
         answer_each(&held, addresses, answers);
+        DONE
+    })
+}
+
+/// Writes the best route of the longest prefix that covers the address.
+#[unsafe(no_mangle)]
+pub extern "C" fn yarib_look_up_one(
+    alloc: Global,
+    table: &mut Yarib,
+    address: u32,
+    answer: &mut YaribRoute,
+) -> u32
+    ensures done { result ≡ 0 → Holds table.old (λ held. answer.new ≡ answer_as (look_up (addr address) (routes_in held))) }
+    ensures silent { result ≢ 0 → answer.new ≡ answer.old }
+    ensures same { held_in table.new ≡ held_in table.old }
+    ensures absent { result ≡ 1 → held_in table.old ≡ None }
+    ensures known { (result ≡ 0) ⊎ (result ≡ 1) }
+{
+    with_held!(table, alloc, held => {
+        *answer = YaribRoute::answer(answer_one(&held, Addr(address)));
+        DONE
+    })
+}
+
+/// Writes for each of the addresses the router of its best route, or `no_route`, or `discard` if its packets are discarded. Both
+/// lists are as long.
+#[unsafe(no_mangle)]
+pub extern "C" fn yarib_hops(
+    alloc: Global,
+    table: &mut Yarib,
+    addresses: &[u32],
+    no_route: u32,
+    discard: u32,
+    hops: &mut [u32],
+) -> u32
+    ensures done { result ≡ 0 → Holds table.old (λ held. hops.new ≡ routers_in no_route discard (routes_in held) addresses.now) }
+    ensures silent { result ≢ 0 → hops.new ≡ hops.old }
+    ensures same { held_in table.new ≡ held_in table.old }
+    ensures absent { result ≡ 1 → held_in table.old ≡ None }
+    ensures size { result ≡ 5 → length hops.old ≢ length addresses.now }
+    ensures known { (result ≡ 0) ⊎ ((result ≡ 1) ⊎ (result ≡ 5)) }
+{
+    if hops.len() != addresses.len() {
+        return BAD_SIZE;
+    }
+    with_held!(table, alloc, held => {
+        route_each(&held, addresses, no_route, discard, hops);
         DONE
     })
 }

@@ -1,6 +1,6 @@
 //! Routes as C has them.
 ghost use Rattle.std.specs.Prelude.{◌≡◌};
-ghost use Rattle.yarib_c.specs.Forms.{hop_number, via_number};
+ghost use Rattle.yarib_c.specs.Forms.{hop_number, via_number, router_as};
 
 use crate::lists::FormOf;
 use rt_rib::{Hop, Route};
@@ -26,6 +26,19 @@ pub(crate) fn numbers_of(hop: Hop) -> (u8, u32)
     match hop {
         Hop::Via(addr) => (1, addr.0),
         Hop::Discard => (2, 0),
+    }
+}
+
+/// Returns the address of the router to which an answer leads, or the number for no route or for discarding.
+pub(crate) fn router_number(found: Option<Route>, no_route: u32, discard: u32) -> u32
+    ensures { result ≡ router_as no_route discard found }
+{
+    match found {
+        None => no_route,
+        Some(route) => match route.hop {
+            Hop::Via(addr) => addr.0,
+            Hop::Discard => discard,
+        },
     }
 }
 

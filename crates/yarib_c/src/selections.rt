@@ -12,7 +12,7 @@ use crate::lists::put;
 use crate::routes::YaribRoute;
 use crate::status::{BAD_BITS, BAD_LENGTH, BAD_NUMBER, DONE, NO_MEMORY, WRONG_KIND};
 use rt_cidr::{Prefix, TextFault};
-use rt_rib::{Part, Selection, feed_ok};
+use rt_rib::{PrefixFilter, Selection, feed_ok};
 use std::alloc::Global;
 
 /// Which routes are asked for. `part` is 0 for those to any prefix; with the prefix of `base` and `len` it is 1 for those to it and
@@ -37,18 +37,18 @@ impl YaribSelection {
     }
 
     /// The part of the prefixes for which the numbers stand.
-    fn read_part(&self) -> Result<Part, TextFault>
+    fn read_part(&self) -> Result<PrefixFilter, TextFault>
         requires { self.now.part ≤ 3 }
         ensures { AnswersPart self.now result }
     {
         if self.part == 0 {
-            return Ok(Part::All);
+            return Ok(PrefixFilter::All);
         }
         let prefix = Prefix::new(self.base, self.len)?;
         Ok(match self.part {
-            1 => Part::Within(prefix),
-            2 => Part::Covering(prefix),
-            _ => Part::Exact(prefix),
+            1 => PrefixFilter::Within(prefix),
+            2 => PrefixFilter::Covering(prefix),
+            _ => PrefixFilter::Exact(prefix),
         })
     }
 }

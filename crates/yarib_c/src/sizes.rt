@@ -10,18 +10,18 @@ pub const NODE_BYTES: usize = 48;
 pub const ENTRY_BYTES: usize = 56;
 
 /// So many are counted at most.
-pub const MOST_COUNTED: usize = 1 << 40;
+pub const MAX_COUNTED: usize = 1 << 40;
 
 /// What so many nodes take.
 pub(crate) fn node_bytes(count: usize) -> usize
     ensures { result ≡ bytes_of NODE_BYTES count }
 {
-    NODE_BYTES * count.min(MOST_COUNTED)
+    NODE_BYTES * count.min(MAX_COUNTED)
 }
 
 /// What so many entries take.
 pub(crate) fn entry_bytes(count: usize) -> usize
     ensures { result ≡ bytes_of ENTRY_BYTES count }
 {
-    ENTRY_BYTES * count.min(MOST_COUNTED)
+    ENTRY_BYTES * count.min(MAX_COUNTED)
 }

@@ -1,4 +1,4 @@
-//! What a line and a run are refused for, in words.
+//! The texts of the faults of a line and of a run.
 
 use rt_feed::{LineFault, RunFault};
 use test_support::misshown;
@@ -54,8 +54,8 @@ static LINE_FAULTS: [(LineFault, &str, &str); 8] = [
     ),
 ];
 
-/// Fails where `Display` or `Debug` shows another text for a `RunFault` or a `LineFault`.
-/// Fails where F2 shows `fault F1`, or E8 tells of 127 bytes.
+/// Catches another text of `Display` or `Debug` for a `RunFault` or a `LineFault`.
+/// Catches an F2 that shows `fault F1`, or an E8 that shows 127 bytes.
 #[test]
 fn faults_have_their_texts(rt: HostRuntime) {
     assert!(rt; misshown(rt.alloc(), &RUN_FAULTS) == Ok(None));

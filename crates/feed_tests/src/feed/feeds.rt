@@ -10,10 +10,10 @@ use std::sync::atomic::{AtomicU64, Ordering};
 use std::test::Fail;
 use std::thread::{self, Threads};
 
-/// How many commands are asked at once.
+/// The number of commands of a batch.
 const BATCH: usize = 3;
 
-/// Admits each command alone but the second. Refuses every batch (M2), and records how many commands each had.
+/// Admits each single command except the second. Refuses every batch (M2), and records the number of its commands.
 #[derive(Drop)]
 struct Recording {
     calls: u32,
@@ -35,7 +35,7 @@ impl Judge for Recording {
     }
 }
 
-/// Gates that go on together: how many there are, how many were called, and how many have given up.
+/// Gates that go on together: the number of all, of those that were called, and of those that have given up.
 #[derive(Drop)]
 struct Gathering {
     gates: u64,
@@ -44,8 +44,8 @@ struct Gathering {
 }
 
 impl Gathering {
-    /// Waits until all gates were called, and answers whether that came to pass. One that has waited for long gives up,
-    /// and then so do all: a run of one gate after another ends, with refusals.
+    /// Waits until all gates were called, and returns true if they were. A gate that has waited for long gives up, and
+    /// then so do all: a run of one gate after another ends, with refusals.
     fn have_met(&self) -> bool {
         self.called.fetch_add(1, Ordering::SeqCst);
         for _ in 0..5_000_000 {
@@ -62,7 +62,7 @@ impl Gathering {
     }
 }
 
-/// Holds its gate's one call until each gate of the gathering was called, and then admits it, if that has come to pass.
+/// Holds its gate's one call until each gate of the gathering was called, and then admits it, if that has happened.
 #[derive(Drop)]
 struct Meeting<'a> {
     gathering: &'a Gathering,
@@ -81,7 +81,8 @@ fn new_recording(alloc: Global) -> Recorder<Recording> {
     })
 }
 
-/// Asks the text of a recording gate, up to so many commands at once: the batches have these lengths, and the report says this.
+/// Runs the text through a recording gate, in batches of up to `batch` commands. Asserts that the batches have these
+/// lengths, and the report is this text.
 fn assert_asked<R: Wait + Abort>(
     rt: &R,
     alloc: Global,
@@ -101,19 +102,19 @@ fn assert_asked<R: Wait + Abort>(
     assert_eq!(rt; printed.as_slice(), wanted);
 }
 
-/// Fails where `run_feed` always returns M3.
-/// Fails where a refused command is asked again: `1:2 dumped 0`, instead of `1:2 refused`.
-/// Fails where a refused command has no line, or ends the feed: `1:2` is missing, or `1:3`.
+/// Catches a `run_feed` that always returns M3.
+/// Catches a refused command that is executed again: `1:2 dumped 0`, instead of `1:2 refused`.
+/// Catches a refused command that has no line, or ends the feed: `1:2` is missing, or `1:3`.
 #[test]
 fn a_refused_command_is_reported_and_the_rest_go_on(rt: HostRuntime) {
     let wanted = b"1:1 dumped 0\n1:2 refused\n1:3 dumped 0\n";
     assert_asked(&rt, rt.alloc(), b"dump\ndump\ndump\n", 1, &[], wanted);
 }
 
-/// Fails where `run_feed` asks one by one where it was told a batch.
-/// Fails where a batch is cut in two: the gate had 1, 2, 1, 2, 0, 1 commands, instead of 3, 3, 1.
-/// Fails where a faulty line ends a batch: the gate had 2, 3, 2.
-/// Fails where the commands of a refused batch are asked again one by one: `1:6 dumped 0`, instead of `1:6 refused`.
+/// Catches a `run_feed` that executes commands one by one despite a batch.
+/// Catches a batch that is split in two: the gate had 1, 2, 1, 2, 0, 1 commands, instead of 3, 3, 1.
+/// Catches a faulty line that ends a batch: the gate had 2, 3, 2.
+/// Catches commands of a refused batch that are executed again one by one: `1:6 dumped 0`, instead of `1:6 refused`.
 #[test]
 fn faulty_and_skipped_lines_take_no_place_in_a_batch(rt: HostRuntime) {
     let text = b"dump\ndump\nfrob\n# note\ndump\ndump\ndump\ndump\ndump\n";
@@ -129,8 +130,8 @@ fn faulty_and_skipped_lines_take_no_place_in_a_batch(rt: HostRuntime) {
     assert_asked(&rt, rt.alloc(), text, 3, &[3, 3, 1], wanted);
 }
 
-/// Fails where `run_feed` returns M3 beyond 1,000,000 lines or answers, or asks at once for the room of a whole batch,
-/// of `usize::MAX` commands say: `Refused`.
+/// Catches a `run_feed` that returns M3 beyond 1,000,000 lines or answers, or reserves the room of a whole batch at
+/// once, of `usize::MAX` commands say: `Refused`.
 #[test]
 fn a_batch_may_have_more_than_a_million_commands(rt: HostRuntime) -> Result<(), Fail> {
     let text = "dump\n".repeat(rt.alloc(), 1_000_001)?;
@@ -141,13 +142,13 @@ fn a_batch_may_have_more_than_a_million_commands(rt: HostRuntime) -> Result<(), 
     Ok(())
 }
 
-/// The text of so many commands.
+/// Returns the text of `commands` commands.
 fn dumps(alloc: Global, commands: usize) -> Result<Vec<u8>, AllocError> {
     let text = "dump\n".repeat(alloc, commands)?;
     Vec::from_slice(alloc, text.as_bytes())
 }
 
-/// So many such texts.
+/// Returns `feeds` such texts.
 fn dumps_of_each(alloc: Global, feeds: u64, commands: usize) -> Result<Vec<Vec<u8>>, AllocError> {
     let mut texts = Vec::new(alloc);
     for _ in 0..feeds {
@@ -156,8 +157,8 @@ fn dumps_of_each(alloc: Global, feeds: u64, commands: usize) -> Result<Vec<Vec<u
     Ok(texts)
 }
 
-/// Fails where more texts than feeds are run.
-/// Fails where the feeds are asked before they are counted.
+/// Catches a run of more texts than feeds.
+/// Catches feeds whose commands are executed before the feeds are counted.
 #[test]
 fn a_run_without_texts_or_with_other_feeds_asks_nothing(rt: HostRuntime) -> Result<(), Fail> {
     let texts = dumps_of_each(rt.alloc(), 2, 1)?;
@@ -172,7 +173,7 @@ fn a_run_without_texts_or_with_other_feeds_asks_nothing(rt: HostRuntime) -> Resu
     Ok(())
 }
 
-/// A feed of a gate before each of those that gather.
+/// Returns a feed with a gate for each place of the gathering.
 fn gathered<'a>(
     alloc: Global,
     gathering: &'a Gathering,
@@ -185,7 +186,8 @@ fn gathered<'a>(
     Ok(feeds)
 }
 
-/// Runs so many feeds, each of which asks so many commands at once. Each has a report of its lines, none refused.
+/// Runs `gates` feeds, each with `commands` commands in one batch. Asserts that each has a report of its lines,
+/// none refused.
 fn assert_meet<R: Threads + Wait + Sync + Abort>(
     rt: &R,
     alloc: Global,
@@ -216,7 +218,7 @@ fn assert_meet<R: Threads + Wait + Sync + Abort>(
     Ok(())
 }
 
-/// Whether the feed has a report of so many lines, none refused.
+/// Returns true if the feed has a report of `commands` lines, none refused.
 fn is_answered(feed: &Feed<Recorder<Meeting<'_>>>, commands: usize) -> bool {
     match &feed.report {
         Some(report) => !report.has_refusal() && report.lines().len() == commands,
@@ -224,10 +226,10 @@ fn is_answered(feed: &Feed<Recorder<Meeting<'_>>>, commands: usize) -> bool {
     }
 }
 
-/// Fails where `run_feeds` always returns F3.
-/// Fails where feeds run one after another, always or only where a batch is more than one command, or 8 or 16 at a
-/// time: a report has a refusal, as `2 feeds, 1 at once`, `2 feeds, 3 at once`, `17 feeds, 1 at once`.
-/// Fails where 63 feeds run at a time: it does not end in the time of a test.
+/// Catches a `run_feeds` that always returns F3.
+/// Catches feeds that run one after another, always or only for batches of more than one command, or 8 or 16 at a time:
+/// a report has a refusal, as `2 feeds, 1 at once`, `2 feeds, 3 at once`, `17 feeds, 1 at once`.
+/// Catches feeds that run 63 at a time: it does not end in the time of a test.
 #[test]
 fn feeds_are_asked_at_the_same_time(rt: HostRuntime) -> Result<(), Fail> {
     for gates in [2, 3, 16, 17, 63, 64] {

@@ -1,4 +1,4 @@
-//! Reports, and what is written of them and of routes: byte for byte, and over writers that stumble.
+//! Reports, and the texts of reports and routes: byte for byte, and over writers that stumble.
 use rt_cidr::{Addr, Prefix, TextFault};
 use rt_feed::*;
 use rt_rib::{Hop, Reply, Route};
@@ -7,7 +7,7 @@ use std::io::{self, Write};
 use std::process::Abort;
 use test_support::{StumblingWriter, each_fault, is_told};
 
-/// A report with an answer for each line from the first on.
+/// Returns a report with an answer for each line from the first on.
 fn report_of(alloc: Global, answers: &[Answer]) -> Result<Report, AllocError> {
     let mut report = Report::new(alloc);
     for (i, answer) in answers.iter().enumerate() {
@@ -23,7 +23,7 @@ const ADDED: Answer = Answer::Did(Reply::Added);
 
 const FAULT: Answer = Answer::Fault(LineFault::Hop);
 
-/// Whether the lines have these answers.
+/// Returns true if the lines have these answers.
 fn have_answers(lines: &[Line], answers: &[Answer]) -> bool {
     for (line, answer) in lines.iter().zip(answers) {
         if line.answer != *answer {
@@ -50,7 +50,7 @@ fn reports_keep_lines_and_tell_refusals_and_faults(rt: HostRuntime) {
     }
 }
 
-/// What the report of feed 64 says that has every answer without a route.
+/// The report of feed 64 with every answer without a route, as text.
 const PRINTED_ANSWERS: &[u8] = b"64:1 added
 64:2 withdrawn
 64:3 exists
@@ -93,7 +93,7 @@ const ANSWERS: [Answer; 18] = [
     Answer::Fault(LineFault::LineLength),
 ];
 
-/// Fails where `write_report` gives up at once.
+/// Catches a `write_report` that gives up at once.
 #[test]
 fn prints_every_answer_without_a_route(rt: HostRuntime) {
     let mut out = Vec::new(rt.alloc());
@@ -133,10 +133,10 @@ fn write_each<W: Write>(w: &mut W, sample: &Sample) -> io::Result<()> {
     let [ten, other] = sample.routes;
     write_report(w, 1, &sample.report)?;
     write_table(w, &sample.routes)?;
-    write_rows(w, &sample.routes)?;
-    write_found(w, Addr(0x0a00_0001), Some(ten))?;
-    write_found(w, Addr(0), None)?;
-    write_all_found(w, Addr(0x0a02_0001), &[other, ten])
+    write_routes(w, &sample.routes)?;
+    write_lookup(w, Addr(0x0a00_0001), Some(ten))?;
+    write_lookup(w, Addr(0), None)?;
+    write_all_matches(w, Addr(0x0a02_0001), &[other, ten])
 }
 
 const EACH: &[u8] = b"1:1 added
@@ -153,8 +153,8 @@ table 2
 10.2.0.1 also 10.0.0.0/8 feed 1 pref 10 via 192.0.2.1 shorter
 ";
 
-/// Fails where `put` takes each write for a whole one: `1` is all that is written.
-/// Fails where `write_report`, `write_table`, `write_rows`, `write_found` or `write_all_found` gives up at once.
+/// Catches a `put` that takes each write for a whole one: only `1` is written.
+/// Catches a `write_report`, `write_table`, `write_routes`, `write_lookup` or `write_all_matches` that gives up at once.
 #[test]
 fn writes_a_byte_a_call(rt: HostRuntime) {
     let sample = new_sample(&rt, rt.alloc());
@@ -166,12 +166,12 @@ fn writes_a_byte_a_call(rt: HostRuntime) {
 /// Writes a report without a line, and no row.
 fn write_none(w: &mut StumblingWriter, alloc: Global) -> io::Result<()> {
     write_report(w, 1, &Report::new(alloc))?;
-    write_rows(w, &[])
+    write_routes(w, &[])
 }
 
-/// No clause can tell: neither an empty write nor a flush changes what the writer holds.
-/// Fails where the writer is flushed after each row, or each line of the report.
-/// Fails where it is flushed, or asked to write nothing, where there is no line.
+/// No clause can exclude these: neither an empty write nor a flush changes the writer's contents.
+/// Catches a flush of the writer after each row, or each line of the report.
+/// Catches a flush or an empty write without a line to write.
 #[test]
 fn makes_one_write_for_each_line_and_no_other_call(rt: HostRuntime) {
     let sample = new_sample(&rt, rt.alloc());
@@ -180,7 +180,7 @@ fn makes_one_write_for_each_line_and_no_other_call(rt: HostRuntime) {
     assert!(rt; write_each(&mut out, &sample).is_ok() && out.calls == 12);
 }
 
-/// Whether the writer's own fault, after so many bytes, is what every text answers, and nothing more was written.
+/// Returns true if every text returns the writer's own error, after `room` bytes, and nothing more was written.
 fn stops(alloc: Global, sample: &Sample, room: usize, fault: io::Error) -> bool {
     let mut out = StumblingWriter::new(alloc, 7, room, Some(fault));
     let written = write_each(&mut out, sample);
@@ -189,10 +189,10 @@ fn stops(alloc: Global, sample: &Sample, room: usize, fault: io::Error) -> bool 
 }
 
 /// After each byte the numbers are those of an interrupted call, a full disk and a broken pipe.
-/// Fails where a line of the report, a row, the count or what was found loses the number of the writer's fault: `after 0
-/// bytes`, `81`, `73`, `243`.
-/// Fails where the lines after the first answer another fault, if only another number of its kind: `after 10 bytes`.
-/// Fails where what was found answers `Other` in place of the system's `TimedOut`: `after 250 bytes`.
+/// Catches a line of the report, a row, the count or a look-up result that loses the number of the writer's error:
+/// `after 0 bytes`, `81`, `73`, `243`.
+/// Catches lines after the first that return another error, if only another number of its kind: `after 10 bytes`.
+/// Catches a look-up result that returns `Other` instead of the system's `TimedOut`: `after 250 bytes`.
 #[test]
 fn stops_with_the_writers_own_fault(rt: HostRuntime) {
     let sample = new_sample(&rt, rt.alloc());

@@ -1,4 +1,4 @@
-//! Gates to a shared table of two feeds: what they answer, and what the journal and the routes then are.
+//! Gates to a shared table of two feeds: their answers, and the journal and the routes after them.
 ghost use Rattle.std.specs.Prelude.{◌≡◌, IfOk};
 ghost use Rattle.rt_rib.specs.Book.{IsLimit};
 ghost use Rattle.rt_shared.specs.tests.Testing.{AreBoth};
@@ -12,7 +12,7 @@ use std::process::Abort;
 use std::sync::Wait;
 use std::test::Fail;
 
-/// The k-th of prefixes that don't meet.
+/// Returns the k-th of prefixes that don't overlap.
 fn nth(rt: &impl Abort, k: u32) -> Prefix {
     Prefix::new(k.wrapping_mul(256), 24).expect(rt, "a prefix")
 }
@@ -25,7 +25,7 @@ fn add(rt: &impl Abort, k: u32) -> Cmd {
     }
 }
 
-/// A table of two feeds and their passes.
+/// Returns a table of two feeds and their passes.
 fn pair(alloc: Global, limit: u32) -> Result<(SharedRib<1>, FeedPass, FeedPass), Fail>
     requires { IsLimit limit }
     ensures { IfOk result (λ m. AreBoth m.0 m.1 m.2) }
@@ -36,7 +36,8 @@ fn pair(alloc: Global, limit: u32) -> Result<(SharedRib<1>, FeedPass, FeedPass),
     Ok((table, first, second))
 }
 
-/// Asks a command of feed 1, and five at once, and none, of feed 2: whether they are answered so.
+/// Executes a command of feed 1, and a batch of five and one of none of feed 2. Returns true if they are answered
+/// as given.
 fn are_answered<R: Wait>(
     rt: &R,
     alloc: Global,
@@ -56,7 +57,7 @@ fn are_answered<R: Wait>(
     one == Ok(Reply::Added) && five == Ok(()) && none == Ok(()) && is_told
 }
 
-/// The entry of this number: of a command of feed 1, and behind it of those of feed 2.
+/// Returns the entry of this number: first of the command of feed 1, and then of the commands of feed 2.
 fn entry(at: usize, cmds: &[Cmd; 5], outcomes: &[Outcome; 5]) -> Option<Entry> {
     if at == 0 {
         let (feed, cmd, reply) = (1, cmds[0], Reply::Added);
@@ -72,7 +73,7 @@ fn entry(at: usize, cmds: &[Cmd; 5], outcomes: &[Outcome; 5]) -> Option<Entry> {
     }
 }
 
-/// Whether the journal has these entries.
+/// Returns true if the journal has these entries.
 fn are_entries(entries: &[Entry], cmds: &[Cmd; 5], outcomes: &[Outcome; 5]) -> bool {
     for (at, found) in entries.iter().enumerate() {
         if entry(at, cmds, outcomes) != Some(*found) {
@@ -82,7 +83,8 @@ fn are_entries(entries: &[Entry], cmds: &[Cmd; 5], outcomes: &[Outcome; 5]) -> b
     entries.len() == 6
 }
 
-/// The book of a table with two feeds that were asked so, and the routes that it had before it was settled.
+/// Returns the book of a table whose two feeds executed these commands, and the routes that it had before
+/// it was settled.
 fn asked<R: Wait + Abort>(
     rt: &R,
     alloc: Global,
@@ -101,8 +103,9 @@ fn asked<R: Wait + Abort>(
     Ok((table.settle(rt, passes), routes))
 }
 
-/// Fails where `SharedRib::new` always returns `Refused`, or `apply`, `apply_batch` or `routes` of a `SharedRib`.
-/// Fails where `TableGate::apply` or `apply_batch` asks and answers `Refused`.
+/// Catches a `SharedRib::new`, or an `apply`, `apply_batch` or `routes` of a `SharedRib`, that always
+/// returns `Refused`.
+/// Catches a `TableGate::apply` or `apply_batch` that executes its commands and returns `Refused`.
 #[test]
 fn gates_answer_by_their_table(rt: HostRuntime) -> Result<(), Fail> {
     let cmd = add(&rt, 1);
@@ -127,16 +130,16 @@ fn gates_answer_by_their_table(rt: HostRuntime) -> Result<(), Fail> {
     Ok(())
 }
 
-/// A batch of each of these sizes is asked.
+/// The sizes of the batches that are executed.
 static SIZES: [usize; 27] = [
     0, 1, 2, 3, 4, 5, 6, 7, 8, 9, 16, 17, 63, 64, 65, 255, 256, 257, 512, 513, 1_024, 1_025, 2_000,
     4_097, 8_192, 8_193, 66_000,
 ];
 
-/// How many routes the large table has: more than 65,536.
+/// The number of routes of the large table: more than 65,536.
 const ROUTES: u32 = 66_000;
 
-/// So many commands that each add a route.
+/// Returns `count` commands that each add a route.
 fn adds(rt: &impl Abort, alloc: Global, count: u32) -> Vec<Cmd> {
     let mut cmds = Vec::new(alloc);
     for k in 0..count {
@@ -145,7 +148,7 @@ fn adds(rt: &impl Abort, alloc: Global, count: u32) -> Vec<Cmd> {
     cmds
 }
 
-/// Asks batches of each size, and a command by itself: none is refused.
+/// Executes batches of each size, and a single command. Asserts that none is refused.
 fn ask_each<R: Wait + Abort>(rt: &R, alloc: Global, gate: &mut TableGate<'_, 1>, cmds: &[Cmd])
     ensures { (gate.new.table ≡ gate.old.table) × (gate.new.feed ≡ gate.old.feed) }
 {
@@ -158,17 +161,17 @@ fn ask_each<R: Wait + Abort>(rt: &R, alloc: Global, gate: &mut TableGate<'_, 1>,
     assert!(rt; gate.apply(rt, Cmd::Dump) == Ok(Reply::Dumped(ROUTES)));
 }
 
-/// Fails where `TableGate::apply_batch` refuses a batch of 8, or of more than 1,024: `8 at once`, `1025 at once`.
-/// Fails where `SharedRib::apply_batch` refuses a batch of 8 or of more than 512 commands, the 8th of a batch, or those beyond
-/// its 1,024th, or `apply` beyond 1,024 entries.
-/// Fails where `routes` refuses beyond 65,536 routes, or to a feed without an entry.
+/// Catches a `TableGate::apply_batch` that refuses a batch of 8, or of more than 1,024: `8 at once`, `1025 at once`.
+/// Catches a `SharedRib::apply_batch` that refuses a batch of 8 or of more than 512 commands, the 8th of a batch, or
+/// those beyond its 1,024th, or an `apply` that refuses beyond 1,024 entries.
+/// Catches a `routes` that refuses beyond 65,536 routes, or to a feed without an entry.
 #[test]
 fn gates_take_batches_of_each_size(rt: HostRuntime) -> Result<(), Fail> {
     let alloc = rt.alloc();
     let (table, first, mut second) = pair(alloc, 1_000_000)?;
     let mut gate = TableGate::new(&table, first);
     ask_each(&rt, alloc, &mut gate, &adds(&rt, alloc, ROUTES));
-    // A feed that has asked nothing finds what the other one left.
+    // A feed that has executed nothing finds the routes that the other one left.
     let routes = table.routes(&rt, alloc, &mut second).expect(&rt, "memory");
     assert!(rt; routes.len() == ROUTES as usize);
     let passes = vec![in alloc; gate.into_pass(), second].expect(&rt, "memory");

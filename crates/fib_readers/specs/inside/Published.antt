@@ -1,11 +1,11 @@
--- The rule of what a writer shows its readers.
+-- The invariant on what a writer shows its readers.
 use Rattle.std.specs.Prelude.{◌≡◌, ℕ, List}
 use mathlib.Core.Option.{some}
 use lib.ListN.{get_elem?}
 use Rattle.rt_rib.specs.declared.routes.Route.{Route}
 use Rattle.fib_readers.specs.Readers.{BeginWith, EndIn}
 
--- what readers find is the last of the tables that were published, and these begin with those that each has seen
+-- readers find the last of the tables that were published, and these begin with those that each party has seen
 abbrev pub IsPublished : List Route → List (List (List Route)) → Type 0
 IsPublished table views =
     (published : List (List Route)) × EndIn published table

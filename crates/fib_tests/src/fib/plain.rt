@@ -1,8 +1,8 @@
-//! A look-up as its definition says it, over a plain list in any order.
+//! A look-up by its definition, over a plain list in any order.
 use rt_cidr::Addr;
 use rt_rib::Route;
 
-/// Whether the route goes before the other where both match.
+/// Returns true if the route is better than the other where both match.
 fn beats(route: &Route, other: &Route) -> bool {
     let (len, other_len) = (route.prefix.len(), other.prefix.len());
     if len != other_len {
@@ -11,7 +11,7 @@ fn beats(route: &Route, other: &Route) -> bool {
     route.pref < other.pref || route.pref == other.pref && route.feed < other.feed
 }
 
-/// The best of the routes whose prefix covers the address.
+/// Returns the best of the routes whose prefix covers the address.
 pub(super) fn best_of(routes: &[Route], addr: Addr) -> Option<Route> {
     let mut best: Option<Route> = None;
     for route in routes {

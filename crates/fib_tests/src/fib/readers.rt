@@ -1,8 +1,8 @@
-//! Readers of a forwarding table beside the writer that publishes the next ones.
+//! Tests readers of a forwarding table together with the writer that publishes the next ones.
 mod beside;
 
 use super::around;
-use fib_readers::{FibReader, FibReading, FibWriter};
+use fib_readers::{FibReadGuard, FibReader, FibWriter};
 use rt_cidr::Addr;
 use rt_fib::Fib;
 use rt_rib::{Book, Cmd, Hop};
@@ -10,10 +10,10 @@ use std::alloc::Global;
 use std::process::Abort;
 use std::sync::Wait;
 
-/// The address that is asked for.
+/// The address that is looked up.
 const ASKED: u32 = 0x0a00_0001;
 
-/// A table of one route to the address, of this preference.
+/// Returns a table of one route to the address, with this preference.
 fn fib_of(rt: &impl Abort, alloc: Global, pref: u32) -> Fib<Global> {
     let mut book = Book::new(alloc, 100);
     let prefix = around(rt, ASKED, 31);
@@ -30,12 +30,12 @@ fn publish<R: Wait + Abort>(rt: &R, alloc: Global, writer: FibWriter, pref: u32)
     writer
 }
 
-/// The preference of the route that is found.
-fn pref_of(reading: &FibReading) -> Option<u32> {
+/// Returns the preference of the route that is found.
+fn pref_of(reading: &FibReadGuard) -> Option<u32> {
     reading.look_up(Addr(ASKED)).map(|route| route.pref)
 }
 
-/// The preference that a reader finds which enters now, if the writer hasn't ended.
+/// Returns the preference that a reader finds if it enters now, or nothing if the writer has ended.
 fn ask(reader: FibReader) -> (FibReader, Option<u32>) {
     match reader.enter() {
         Ok(reading) => {
@@ -46,7 +46,7 @@ fn ask(reader: FibReader) -> (FibReader, Option<u32>) {
     }
 }
 
-/// Fails where a reader goes on finding a table when another is published, or finds one when the writer has ended.
+/// Catches a reader that still finds a table after the next one is published, or finds one after the writer has ended.
 #[test]
 fn a_reader_finds_the_table_that_was_published_last(rt: HostRuntime) {
     let alloc = rt.alloc();

@@ -1,4 +1,4 @@
-//! A forwarding table whose memory is refused: each growth of `new` and of `follow` in turn.
+//! Tests a forwarding table that is refused memory: at each growth of `new` and of `follow` in turn.
 ghost use Rattle.std.specs.Prelude.{◌≡◌};
 ghost use Rattle.rt_rib.specs.Book.{table_of};
 ghost use Rattle.rt_fib.specs.Laws.{KeepsOutside};
@@ -6,22 +6,22 @@ ghost use Rattle.rt_fib.specs.Laws.{KeepsOutside};
 use super::{any_prefix, around, assert_answers, assert_of_book, cmd_of, edge_addr, long_len};
 use linked_list_allocator::LocalHeap;
 use rt_fib::Fib;
-use rt_fib::laws::commands_keep_outside;
+use rt_fib::laws::commands_preserve_lookups_outside_prefix;
 use rt_rib::{Book, Cmd, Hop, Route};
 use std::alloc::{AllocError, Global};
 use std::process::Abort;
 use test_support::{Dice, take_the_rest};
 
-/// How many entries there are, of 4 bytes each.
+/// Says how many entries there are, of 4 bytes each.
 const ENTRIES: usize = 1 << 24;
 
-/// How many bytes a region has for blocks and answers.
+/// Says how many bytes a region has for blocks and answers.
 const ROOM: usize = 1 << 18;
 
-/// How often memory may be refused before a call succeeds, at most.
+/// Says how often memory may be refused before a call succeeds.
 const MOST: usize = 10_000;
 
-/// All memory that a region still had: in pages, and what was less than a page in blocks of its least size.
+/// Holds all memory that a region still had: pages, and blocks of the least size for what was less than a page.
 #[derive(Drop)]
 struct Filling<'h> {
     pages: Vec<Box<[u64; 64], &'h LocalHeap>>,
@@ -43,7 +43,7 @@ impl<'h> Filling<'h> {
         Ok(Filling { pages, rest })
     }
 
-    /// Gives a block back, or where there is none a page.
+    /// Gives back a block, or a page if there is no block.
     fn give_back(&mut self) {
         match self.rest.pop() {
             Some(block) => drop(block),
@@ -52,12 +52,12 @@ impl<'h> Filling<'h> {
     }
 }
 
-/// A region with room for the entries, for blocks and for answers.
+/// Returns a region with room for the entries, for blocks and for answers.
 fn region(rt: &impl Abort, alloc: Global) -> LocalHeap {
     LocalHeap::new(alloc, 4 * ENTRIES + ROOM).expect(rt, "memory")
 }
 
-/// A book of so many routes, drawn by lot.
+/// Returns a book with `count` random routes.
 fn book_of(rt: &impl Abort, alloc: Global, dice: &mut Dice, count: u32) -> Book<Global> {
     let mut book = Book::new(alloc, 1_000);
     for pref in 0..count {
@@ -69,8 +69,8 @@ fn book_of(rt: &impl Abort, alloc: Global, dice: &mut Dice, count: u32) -> Book<
     book
 }
 
-/// Makes the book's table in the region, and gives a block back after each refusal, until it is made: how often it was refused.
-/// Only the entries have room at first.
+/// Makes the book's table in the region, and gives a block back after each refusal, until it is made. Returns how often it was
+/// refused. Only the entries have room at first.
 fn make_starved(rt: &impl Abort, alloc: Global, heap: &LocalHeap, book: &Book<Global>) -> usize {
     let entries: Vec<u32, &LocalHeap> = Vec::with_capacity(heap, ENTRIES).expect(rt, "memory");
     let mut filling = Filling::of(alloc, heap).expect(rt, "memory");
@@ -95,8 +95,8 @@ fn each_growth_of_a_new_table_refused_in_turn(rt: HostRuntime) {
     assert!(rt; refused > 5, "{refused}");
 }
 
-/// Has the table follow the command, and gives a block back after each refusal, until it does: how often it was refused. After a
-/// refusal it answers by the routes before.
+/// Makes the table follow the command, and gives a block back after each refusal, until it succeeds. Returns how often it was refused.
+/// After a refusal the table answers by the routes before.
 fn follow_starved<'h>(
     rt: &impl Abort,
     filling: &mut Filling<'h>,
@@ -118,7 +118,7 @@ fn follow_starved<'h>(
     panic!(rt; "never followed");
 }
 
-/// Has the book answer the command, and the table follow it where all of its region is taken: how often it was refused.
+/// Makes the book answer the command, and the table follow it while its region is full. Returns how often it was refused.
 fn change_starved<'h>(
     rt: &impl Abort,
     alloc: Global,
@@ -131,13 +131,13 @@ fn change_starved<'h>(
     ensures { fib.new ≡ table_of book.new }
 {
     let before = book.routes(alloc).expect(rt, "memory");
-    commands_keep_outside();
+    commands_preserve_lookups_outside_prefix();
     book.apply(1, cmd).expect(rt, "memory");
     let mut filling = Filling::of(alloc, heap).expect(rt, "memory");
     follow_starved(rt, &mut filling, book, fib, &cmd, &before)
 }
 
-/// Has a table follow commands drawn by lot, each where all of its region is taken: how often it was refused.
+/// Makes a table follow random commands, each while its region is full. Returns how often it was refused.
 fn change_many<'h>(rt: &impl Abort, alloc: Global, heap: &'h LocalHeap) -> usize {
     let mut dice = Dice(17);
     let mut book = book_of(rt, alloc, &mut dice, 20);
@@ -153,7 +153,7 @@ fn change_many<'h>(rt: &impl Abort, alloc: Global, heap: &'h LocalHeap) -> usize
     refused
 }
 
-/// Fails where a refused change leaves an answer of the table after it.
+/// Catches a refused change that leaves an answer of the table after it.
 #[test]
 fn each_growth_of_a_change_refused_in_turn(rt: HostRuntime) {
     let heap = region(&rt, rt.alloc());

@@ -1,16 +1,16 @@
-//! A book that changes, and a forwarding table that follows it.
+//! Tests a forwarding table that follows a book.
 ghost use Rattle.std.specs.Prelude.{◌≡◌};
 ghost use Rattle.rt_rib.specs.Book.{table_of, IsFeed};
 
 use super::{any_cmd, assert_answers, assert_of_book};
 use rt_fib::Fib;
-use rt_fib::laws::commands_keep_outside;
+use rt_fib::laws::commands_preserve_lookups_outside_prefix;
 use rt_rib::{Book, Cmd};
 use std::alloc::Global;
 use std::process::Abort;
 use test_support::Dice;
 
-/// Has the book answer the command, and the forwarding table follow it.
+/// Makes the book answer the command, and the forwarding table follow it.
 pub(super) fn follow(
     rt: &impl Abort,
     book: &mut Book<Global>,
@@ -22,12 +22,12 @@ pub(super) fn follow(
     requires same { fib.old ≡ table_of book.old }
     ensures { fib.new ≡ table_of book.new }
 {
-    commands_keep_outside();
+    commands_preserve_lookups_outside_prefix();
     book.apply(feed, cmd).expect(rt, "memory");
     fib.follow(book, &cmd).expect(rt, "memory");
 }
 
-/// So many commands drawn by lot, each followed.
+/// Makes the forwarding table follow `count` random commands.
 fn follow_many(
     rt: &impl Abort,
     dice: &mut Dice,
@@ -45,14 +45,14 @@ fn follow_many(
     }
 }
 
-/// It takes at most twice the memory of a new one.
+/// Tests that it takes at most twice the memory of a new one.
 fn assert_small(rt: &impl Abort, alloc: Global, book: &Book<Global>, fib: &Fib<Global>) {
     let new: Fib<Global> = Fib::new(alloc, book).expect(rt, "memory");
     assert!(rt; fib.memory() <= new.memory().saturating_mul(2));
 }
 
-/// Changes a book in so many rounds of so many commands, and after each round compares the table that followed them with the
-/// book's routes, and its memory with that of a new one.
+/// Changes a book in `rounds` rounds of `commands` commands. After each round compares the table that followed with the book's routes,
+/// and its memory with that of a new one.
 fn change(rt: &impl Abort, alloc: Global, rounds: u32, commands: u32) {
     let mut dice = Dice(3);
     let mut book = Book::new(alloc, 1_000_000);
@@ -69,13 +69,13 @@ fn follows_a_hundred_thousand_commands(rt: HostRuntime) {
     change(&rt, rt.alloc(), 20, 5_000);
 }
 
-/// Fails where a table that follows its book is never built anew.
+/// Catches a table that never uses its unused blocks and answers again.
 #[test]
 fn takes_little_memory_over_a_million_commands(rt: HostRuntime) {
     change(&rt, rt.alloc(), 20, 50_000);
 }
 
-/// Fails where a copy follows with the table that it was made of, or leaves out a block.
+/// Catches a copy that changes with the original, or leaves out a block.
 #[test]
 fn a_copy_stays(rt: HostRuntime) {
     let alloc = rt.alloc();

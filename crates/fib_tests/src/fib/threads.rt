@@ -1,4 +1,4 @@
-//! One forwarding table that many threads ask.
+//! Tests one forwarding table in which many threads look up.
 use super::{UNIVERSES, around};
 use rt_cidr::Addr;
 use rt_fib::Fib;
@@ -7,12 +7,12 @@ use std::alloc::Global;
 use std::process::Abort;
 use std::thread::{self, Threads};
 
-/// The preference of what the table answers the address.
+/// Returns the preference of what the table answers the address.
 fn pref_of(fib: &Fib<Global>, addr: u32) -> Option<u32> {
     fib.look_up(Addr(addr)).map(|route| route.pref)
 }
 
-/// Asks the table from so many threads at once, each for the first address of one of the universes.
+/// Looks up on several threads at once, each the first address of one of the universes.
 fn ask_at_once<R: Threads + Sync + Abort>(rt: &R, alloc: Global, fib: &Fib<Global>) {
     let found = thread::map_indices(rt, alloc, 12, &|i| pref_of(fib, UNIVERSES[i % 3]));
     for (i, pref) in found.expect(rt, "memory").iter().enumerate() {
@@ -20,7 +20,7 @@ fn ask_at_once<R: Threads + Sync + Abort>(rt: &R, alloc: Global, fib: &Fib<Globa
     }
 }
 
-/// Fails where a table may not be lent to another thread, since then this doesn't compile.
+/// Catches a table that may not be lent to another thread: then this doesn't compile.
 #[test]
 fn many_threads_ask_one_table(rt: HostRuntime) {
     let mut book = Book::new(rt.alloc(), 100);

@@ -1,4 +1,4 @@
-//! Tables made at once, by each address of the universes.
+//! Tests tables made at once, at each address of the universes.
 use super::{SIZE, UNIVERSES, any_prefix, around, assert_of_book};
 use rt_cidr::{Addr, Prefix};
 use rt_fib::Fib;
@@ -7,13 +7,13 @@ use std::alloc::Global;
 use std::process::Abort;
 use test_support::Dice;
 
-/// A command that puts in a route of this prefix.
+/// Returns a command that adds a route of this prefix.
 fn add(prefix: Prefix, pref: u32) -> Cmd {
     let hop = Hop::Discard;
     Cmd::Add { prefix, pref, hop }
 }
 
-/// A book of so many routes of two feeds, drawn by lot.
+/// Returns a book with `count` random routes of two feeds.
 fn any_book(rt: &impl Abort, alloc: Global, dice: &mut Dice, count: u32) -> Book<Global> {
     let mut book = Book::new(alloc, 1_000);
     for pref in 0..count {
@@ -30,7 +30,7 @@ fn assert_made(rt: &impl Abort, alloc: Global, book: &Book<Global>) {
     assert_of_book(rt, alloc, &fib, book);
 }
 
-/// Fails where an answer of `look_up` is that of a neighbour's address.
+/// Catches a `look_up` that returns the answer of the next address.
 #[test]
 fn each_address_of_the_universes(rt: HostRuntime) {
     let mut dice = Dice(5);
@@ -40,7 +40,7 @@ fn each_address_of_the_universes(rt: HostRuntime) {
     }
 }
 
-/// A book with host routes at both edges of each block of the universes, and a default route.
+/// Returns a book with host routes at both edges of each block of the universes, and a default route.
 fn book_of_edges(rt: &impl Abort, alloc: Global) -> Book<Global> {
     let mut book = Book::new(alloc, 1_000);
     book.apply(1, add(around(rt, 0, 0), 1)).expect(rt, "memory");
@@ -62,7 +62,7 @@ fn host_routes_at_the_edges_of_blocks(rt: HostRuntime) {
     assert_made(&rt, rt.alloc(), &book);
 }
 
-/// Compares the answers to all addresses of a universe at once with those to each by itself.
+/// Compares the answers to all addresses of a universe at once with the answers to each one alone.
 fn assert_each(rt: &impl Abort, alloc: Global, fib: &Fib<Global>, first: u32) {
     let mut addresses = Vec::new(alloc);
     let mut answers: Vec<Option<Route>> = Vec::new(alloc);

@@ -1,4 +1,4 @@
--- A list of marks, to which each place adds marks of its own: what a lent value may be. For the tests.
+-- A list of marks, to which each place adds its own marks: a lent value for tests.
 use Rattle.std.specs.Prelude.{◌≡◌, ◌≢◌, ℕ, List, [], ◌∷◌, ◌++◌}
 use Rattle.std.proofs.Common.{sym, ap, ◌∙◌, append_assoc, append-nil}
 
@@ -12,15 +12,15 @@ abbrev pub AllOf : ℕ → List ℕ → Type 0
 AllOf place [] = Unit {0}
 AllOf place (x ∷ xs) = (x ≡ place) × AllOf place xs
 
--- others may have added marks, but this place none
+-- others may have added marks, but not this place
 abbrev pub MarksGrow : ℕ → List ℕ → List ℕ → Type 0
 MarksGrow place before after = (rest : List ℕ) × (after ≡ before ++ rest) × NoneOf place rest
 
--- this place may have added marks, and nobody else
+-- only this place may have added marks
 abbrev pub MarksAdded : ℕ → List ℕ → List ℕ → Type 0
 MarksAdded place before after = (rest : List ℕ) × (after ≡ before ++ rest) × AllOf place rest
 
--- nothing may have happened
+-- others may have added nothing
 pub marks_grow_same : (place : ℕ) (a : List ℕ) → MarksGrow place a a
 marks_grow_same place a = ([], sym (append-nil a), tt)
 
@@ -28,7 +28,7 @@ marks_grow_same place a = ([], sym (append-nil a), tt)
 pub marks_added_same : (place : ℕ) (a : List ℕ) → MarksAdded place a a
 marks_added_same place a = ([], sym (append-nil a), tt)
 
--- what one place adds was added by others, for every other place
+-- marks that one place adds are marks added by others, for every other place
 none_by_all : (place other : ℕ) → other ≢ place → (xs ys : List ℕ) → NoneOf place xs → AllOf other ys
     → NoneOf place (xs ++ ys)
 none_by_all place other ne [] [] h k = tt

@@ -1,4 +1,4 @@
-//! A list of marks, to which each place that is inside adds one of its own.
+//! A list of marks, to which each place that is inside adds its own mark.
 ghost use Rattle.std.specs.Prelude.{◌≡◌, ℕ, [], ◌∷◌, ◌++◌};
 ghost use Rattle.lock_tests.specs.tests.Marks.{MarksGrow, MarksAdded, marks_grow_same, marks_added_same, marks_grow_by_other};
 
@@ -8,7 +8,7 @@ use std::time::{Clock, Duration};
 use std::{hint, thread};
 use ya_lock::{Kept, Pass, TreeLock};
 
-/// The places that entered, in order. A place adds marks of its own alone.
+/// The places that entered, in order. A place adds only its own marks.
 #[derive(Drop)]
 pub(super) struct Marks {
     places: Vec<usize>,
@@ -34,30 +34,30 @@ impl Marks {
         }
     }
 
-    /// Adds a mark, or leaves the list as it is where memory runs out.
+    /// Adds a mark, or leaves the list as it is if memory runs out.
     fn add(&mut self, place: usize)
         ensures { MarksAdded place self.old.places.items self.new.places.items }
     {
         let _ = self.places.push(place);
     }
 
-    /// How many marks there are.
+    /// Returns the number of marks.
     pub(super) fn len(&self) -> usize {
         self.places.len()
     }
 
-    /// How many marks the place has made.
+    /// Returns the number of the place's marks.
     pub(super) fn count(&self, place: usize) -> usize {
         self.places.iter().filter(|p| **p == place).count()
     }
 }
 
-/// What a place does inside before it makes its mark.
+/// The action of a place inside before it makes its mark.
 #[derive(Clone, Copy)]
 pub(super) enum Hold {
     Nothing,
-    // It spins about as long as another place looks before it sleeps, a little more or less each time: some ring just when
-    // the other is about to sleep.
+    // It spins about as long as another place looks before it sleeps, a little more or less each time: some ring just
+    // when the other is about to sleep.
     Spins,
     // It sleeps, and so do all others.
     Sleeps,
@@ -77,7 +77,7 @@ impl Hold {
     }
 }
 
-/// Enters as often as that, and makes a mark each time.
+/// Enters `times` times, and makes a mark each time.
 pub(super) fn mark<R: Wait + Clock, const L: u32>(
     rt: &R,
     lock: &TreeLock<Marks, L>,

@@ -10,7 +10,7 @@ use std::thread::Threads;
 use std::time::{Clock, CpuClock, Duration};
 use ya_lock::{Pass, TreeLock};
 
-/// Is inside for a fifth of a second.
+/// Stays inside for a fifth of a second.
 fn stay<R: Wait + Clock, const L: u32>(rt: &R, lock: &TreeLock<Number, L>, pass: Pass<Number>)
     requires { pass.lock ≡ lock.now }
 {
@@ -19,7 +19,7 @@ fn stay<R: Wait + Clock, const L: u32>(rt: &R, lock: &TreeLock<Number, L>, pass:
     let _ = lock.leave(guard);
 }
 
-/// The processor time of a passage that begins a little later.
+/// Returns the processor time of a passage that begins a little later.
 fn time_of<R: Wait + Clock + CpuClock, const L: u32>(
     rt: &R,
     lock: &TreeLock<Number, L>,
@@ -34,8 +34,8 @@ fn time_of<R: Wait + Clock + CpuClock, const L: u32>(
     rt.thread_cpu_time().ok()?.checked_sub(before)
 }
 
-/// The last place waits at the root until the first one, inside for a fifth of a second, goes out: that takes it less
-/// than a quarter of that in processor time.
+/// Lets the last place wait at the root until the first one, inside for a fifth of a second, goes out. Asserts that the
+/// wait takes less than a quarter of that in processor time.
 fn assert_sleeps_at_the_root<R: Threads + Wait + Clock + CpuClock + Sync + Abort, const L: u32>(
     rt: &R,
     alloc: Global,
@@ -57,13 +57,13 @@ fn assert_sleeps_at_the_root<R: Threads + Wait + Clock + CpuClock + Sync + Abort
     assert!(rt; time < Duration::from_millis(50), "{time:?} at {L} levels");
 }
 
-/// Fails where a place never sleeps, by the processor time of a wait of a fifth of a second.
+/// Catches a place that never sleeps, by the processor time of a wait of a fifth of a second.
 #[test]
 fn a_thread_that_waits_leaves_the_processor_to_others(rt: HostRuntime) {
     assert_sleeps_at_the_root::<_, 1>(&rt, rt.alloc());
 }
 
-/// Fails where a place never sleeps, or only at the first level.
+/// Catches a place that never sleeps, or only at the first level.
 #[test]
 fn a_place_that_waits_at_the_root_leaves_the_processor_to_others(rt: HostRuntime) {
     assert_sleeps_at_the_root::<_, 2>(&rt, rt.alloc());

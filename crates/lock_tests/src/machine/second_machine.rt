@@ -1,14 +1,14 @@
 //! A second machine, written from the table of the steps in docs/LOCK.md over a map of named words. It shares no code
-//! with the crate, but for the types of what it tells.
+//! with the crate except the types of its results.
 use std::alloc::Global;
 use std::collections::BTreeMap;
 use std::process::Abort;
 use ya_core::{Mark, Step, Word};
 
-/// How many places there are at most.
+/// The maximum number of places.
 const PLACES: usize = 64;
 
-/// Where a process of the second machine stands. Points 1 to 10 are those of the way in, 11 to 13 those of the way out.
+/// The state of a process of the second machine. Points 1 to 10 are on the way in, points 11 to 13 on the way out.
 #[derive(Clone, Copy)]
 struct Stand {
     point: u32,
@@ -60,7 +60,7 @@ impl SecondMachine {
         }
     }
 
-    /// Stores the value, or loads one where there is none to store. What the word then is.
+    /// Stores the value, or loads one without a value to store. Returns the word's value then.
     fn access(&mut self, rt: &impl Abort, name: Name, stored: Option<u64>) -> u64 {
         let Some(value) = stored else {
             return self.words.get(&name).copied().unwrap_or(0);
@@ -70,7 +70,7 @@ impl SecondMachine {
         value
     }
 
-    /// Where a place stands that goes on: one that is idle or inside begins its way in or out.
+    /// Returns the state of a place that goes on: an idle place begins its way in, and a place inside its way out.
     fn begun(&self, stand: Stand) -> Stand {
         let (point, level) = match stand.point {
             IDLE => (1, 1),
@@ -84,7 +84,7 @@ impl SecondMachine {
         }
     }
 
-    /// Where the place stands after it loaded or stored the value.
+    /// Returns the state of the place after it loaded or stored the value.
     fn next(&self, stand: Stand, own: u64, value: u64) -> Stand {
         let won = match stand.point {
             4 => value == 0,
@@ -116,7 +116,7 @@ impl SecondMachine {
         }
     }
 
-    /// The next point of the same level.
+    /// Returns the next point of the same level.
     fn point_after(&self, point: u32, value: u64) -> u32 {
         match point {
             6 if value != 0 => 8,
@@ -127,7 +127,7 @@ impl SecondMachine {
     }
 }
 
-/// What a point stores, if it doesn't load.
+/// Returns the value that a point stores, or `None` if it loads.
 fn stored(point: u32, own: u64) -> Option<u64> {
     match point {
         1 | 2 => Some(own),
@@ -146,7 +146,7 @@ fn mark(point: u32) -> Mark {
     }
 }
 
-/// The word that the place is to load or store.
+/// Returns the word that the place is to load or store.
 fn word(place: usize, stand: Stand) -> Word {
     let level = stand.level;
     let node = place.checked_shr(level).unwrap_or(0);

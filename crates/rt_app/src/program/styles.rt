@@ -1,13 +1,13 @@
-//! How routes are told: with feeds' numbers, with their names, or as JSON.
+//! Styles of printed routes: with feeds' numbers, with their names, or as JSON.
 
-use super::Stop;
-use command_line::Telling;
-use rt_feed::{Form, Labelling, feed_name, labels_of, numbers_beside};
-use rt_run::MOST_TEXTS;
+use super::ProgramError;
+use command_line::OutputOptions;
+use rt_feed::{Form, Labelling, feed_name, labels_of, pair_feeds_by_name};
+use rt_run::MAX_FEED_FILES;
 use std::alloc::{AllocError, Global};
 
-/// In which form routes are told.
-pub(super) fn form_of(telling: Telling) -> Form {
+/// Returns the form of printed routes.
+pub(super) fn form_of(telling: OutputOptions) -> Form {
     match (telling.json, telling.names) {
         (true, _) => Form::Json,
         (false, true) => Form::Labels,
@@ -15,15 +15,15 @@ pub(super) fn form_of(telling: Telling) -> Form {
     }
 }
 
-/// What stands for each of the feeds of these files, where not its number alone does. Stops where names are asked for and a
-/// file has none, or two have one.
+/// Returns the labels of these files' feeds; none if feeds are printed by number only. Stops if there are too many files or
+/// if, with `--names`, a file has no valid feed name or two files have the same.
 pub(super) fn labels_for<'w>(
     alloc: Global,
-    telling: Telling,
+    telling: OutputOptions,
     files: &[&'w str],
-) -> Result<Vec<Vec<u8>>, Stop<'w>> {
-    if files.len() > MOST_TEXTS {
-        return Err(Stop::TooMany);
+) -> Result<Vec<Vec<u8>>, ProgramError<'w>> {
+    if files.len() > MAX_FEED_FILES {
+        return Err(ProgramError::TooMany);
     }
     if telling.names {
         check_names(files)?;
@@ -37,8 +37,8 @@ pub(super) fn labels_for<'w>(
     Ok(labels_of(alloc, labelling, files)?)
 }
 
-/// What stands for the feeds of two sets of files, by the numbers by which they are told, and these numbers of the new ones:
-/// none where each is told by its own.
+/// The labels of the feeds of two sets of files, at the positions of the feeds' identifying numbers, and these numbers for the
+/// new feeds: none if each feed keeps its own number.
 #[derive(Drop)]
 pub(super) struct SideLabels {
     pub(super) old: Vec<Vec<u8>>,
@@ -46,13 +46,14 @@ pub(super) struct SideLabels {
     pub(super) new_numbers: Vec<u32>,
 }
 
-/// These of the old and the new files: feeds that are told by their names are paired by them. Stops as `labels_for` does.
+/// Returns the labels of the old and the new files. With `--names`, feeds with the same name on both sides are paired. Stops
+/// as `labels_for` does.
 pub(super) fn side_labels<'w>(
     alloc: Global,
-    telling: Telling,
+    telling: OutputOptions,
     old_files: &[&'w str],
     new_files: &[&'w str],
-) -> Result<SideLabels, Stop<'w>> {
+) -> Result<SideLabels, ProgramError<'w>> {
     let mut labels = SideLabels {
         old: Vec::new(alloc),
         new: Vec::new(alloc),
@@ -61,13 +62,13 @@ pub(super) fn side_labels<'w>(
     if !telling.names && !telling.json {
         return Ok(labels);
     }
-    if old_files.len() > MOST_TEXTS || new_files.len() > MOST_TEXTS {
-        return Err(Stop::TooMany);
+    if old_files.len() > MAX_FEED_FILES || new_files.len() > MAX_FEED_FILES {
+        return Err(ProgramError::TooMany);
     }
     labels.old = labels_for(alloc, telling, old_files)?;
     labels.new = labels_for(alloc, telling, new_files)?;
     if telling.names {
-        labels.new_numbers = numbers_beside(alloc, old_files, new_files)?;
+        labels.new_numbers = pair_feeds_by_name(alloc, old_files, new_files)?;
         let most = old_files.len() + new_files.len();
         labels.new = placed(
             alloc,
@@ -79,7 +80,7 @@ pub(super) fn side_labels<'w>(
     Ok(labels)
 }
 
-/// The labels, each at the place of its number from 1 to the most, and nothing at the others.
+/// Returns the labels, each at the position of its number from 1 to `most`, and an empty label at each other position.
 fn placed(
     alloc: Global,
     most: usize,
@@ -93,7 +94,7 @@ fn placed(
     Ok(all)
 }
 
-/// The label of this number, or nothing.
+/// Returns the label of this number, or an empty one.
 fn label_of(
     alloc: Global,
     number: usize,
@@ -108,21 +109,21 @@ fn label_of(
     Ok(Vec::new(alloc))
 }
 
-/// Stops where a file has no name for its feed, or has that of an earlier one.
-fn check_names<'w>(files: &[&'w str]) -> Result<(), Stop<'w>> {
+/// Stops if a file has no valid feed name, or the same feed name as an earlier file.
+fn check_names<'w>(files: &[&'w str]) -> Result<(), ProgramError<'w>> {
     for (index, file) in files.iter().enumerate() {
         let name = feed_name(file.as_bytes());
         if !is_name(name) {
-            return Err(Stop::NoName(file));
+            return Err(ProgramError::EmptyFeedName(file));
         }
         if let Some(earlier) = file_of_name(&files[..index], name) {
-            return Err(Stop::OneName(earlier, file));
+            return Err(ProgramError::DuplicateFeedName(earlier, file));
         }
     }
     Ok(())
 }
 
-/// The first file whose feed has this name.
+/// Returns the first file whose feed has this name.
 fn file_of_name<'w>(files: &[&'w str], name: &[u8]) -> Option<&'w str> {
     for file in files {
         if feed_name(file.as_bytes()) == name {
@@ -132,7 +133,7 @@ fn file_of_name<'w>(files: &[&'w str], name: &[u8]) -> Option<&'w str> {
     None
 }
 
-/// Whether a line can tell a feed by this name: it isn't empty, and has no space and no control character.
+/// Returns true if the feed name is valid: it isn't empty and contains no space and no control character.
 fn is_name(name: &[u8]) -> bool {
     !name.is_empty() && name.iter().all(|byte| *byte > b' ' && *byte != 127)
 }

@@ -1,23 +1,23 @@
--- What the search knows of the two tables from an address on.
+-- What the search knows about the two tables from an address on.
 use Rattle.std.specs.Prelude.{◌≡◌, ◌≢◌, ℕ, ◌+◌, ◌^◌, ◌<◌, ◌≤◌, min, Option, None, Some}
 use Rattle.rt_cidr.specs.declared.address.Addr.{Addr}
-use Rattle.rt_diff.specs.declared.table_answers.By.{By}
+use Rattle.rt_diff.specs.declared.table_answers.CompareBy.{CompareBy}
 use Rattle.rt_diff.specs.declared.pieces.Piece.{Piece}
 use Rattle.rt_diff.specs.declared.pieces.Pieces.{Pieces}
-use Rattle.rt_diff.specs.Answers.{ToldTable, answer_of}
+use Rattle.rt_diff.specs.Answers.{RenumberedTable, answer_of}
 use Rattle.rt_diff.specs.Differences.{IsAlike, HasAnswers}
 
--- each address from this one to the piece's last is answered as the piece says
-abbrev pub IsPieceFrom : By → ToldTable → Addr → Piece → Type 0
+-- each address from this one to the piece's last has the piece's answer
+abbrev pub IsPieceFrom : CompareBy → RenumberedTable → Addr → Piece → Type 0
 IsPieceFrom by table from piece = (addr : Addr) → from.0 ≤ addr.0 → addr.0 ≤ piece.last.0 → answer_of by addr table ≡ piece.answer
 
--- and this one is there
-pub record IsPieceAt (by : By) (table : ToldTable) (from : Addr) (piece : Piece) : Type 0 where
+-- and the piece reaches this address
+pub record IsPieceAt (by : CompareBy) (table : RenumberedTable) (from : Addr) (piece : Piece) : Type 0 where
   pub some : from.0 ≤ piece.last.0
   pub each : IsPieceFrom by table from piece
 
 -- both tables' pieces
-pub record ArePieces (by : By) (old new : ToldTable) (pieces : Pieces) : Type 0 where
+pub record ArePieces (by : CompareBy) (old new : RenumberedTable) (pieces : Pieces) : Type 0 where
   pub of_old : IsPieceAt by old pieces.from pieces.old
   pub of_new : IsPieceAt by new pieces.from pieces.new
 
@@ -25,33 +25,33 @@ pub record ArePieces (by : By) (old new : ToldTable) (pieces : Pieces) : Type 0 
 abbrev pub reach : Pieces → ℕ
 reach pieces = min pieces.old.last.0 pieces.new.last.0
 
--- the pieces behind those that both reach, or that these reach the last address of all
-abbrev pub AreBehind : By → ToldTable → ToldTable → Pieces → Option Pieces → Type 0
+-- the pieces after the last address that both reach, or that address is the last of all
+abbrev pub AreBehind : CompareBy → RenumberedTable → RenumberedTable → Pieces → Option Pieces → Type 0
 AreBehind by old new pieces None = reach pieces + 1 ≡ 2 ^ 32
 AreBehind by old new pieces (Some next) = (next.from.0 ≡ reach pieces + 1) × ArePieces by old new next
 
--- every address from one on is alike, up to one that isn't reached
-abbrev pub AreAlike : By → ToldTable → ToldTable → Addr → ℕ → Type 0
+-- every address from this one on, up to but not including the end, has the same answer in both tables
+abbrev pub AreAlike : CompareBy → RenumberedTable → RenumberedTable → Addr → ℕ → Type 0
 AreAlike by old new from end = (addr : Addr) → from.0 ≤ addr.0 → addr.0 < end → IsAlike by old new addr
 
--- the first pieces from an address on whose answers differ, or that there are none
-pub record AreFirstUnlike (by : By) (old new : ToldTable) (from : Addr) (pieces : Pieces) : Type 0 where
+-- the first pieces from an address on whose answers differ, or there are none
+pub record AreFirstUnlike (by : CompareBy) (old new : RenumberedTable) (from : Addr) (pieces : Pieces) : Type 0 where
   pub onward : from.0 ≤ pieces.from.0
   pub before : AreAlike by old new from pieces.from.0
   pub there : ArePieces by old new pieces
   pub differ : pieces.old.answer ≢ pieces.new.answer
 
-abbrev pub FindsUnlike : By → ToldTable → ToldTable → Addr → Option Pieces → Type 0
+abbrev pub FindsUnlike : CompareBy → RenumberedTable → RenumberedTable → Addr → Option Pieces → Type 0
 FindsUnlike by old new from None = AreAlike by old new from (2 ^ 32)
 FindsUnlike by old new from (Some pieces) = AreFirstUnlike by old new from pieces
 
--- each address from the pieces' first up to this end is answered as they say
-abbrev pub AnsweredSo : By → ToldTable → ToldTable → Pieces → ℕ → Type 0
-AnsweredSo by old new pieces end =
+-- each address from the pieces' first up to, but not including, this end has their answers
+abbrev pub HoldsUpTo : CompareBy → RenumberedTable → RenumberedTable → Pieces → ℕ → Type 0
+HoldsUpTo by old new pieces end =
     (addr : Addr) → pieces.from.0 ≤ addr.0 → addr.0 < end → HasAnswers by old new addr pieces.old.answer pieces.new.answer
 
--- the last address up to which both tables go on so
-pub record IsEnd (by : By) (old new : ToldTable) (pieces : Pieces) (last : Addr) : Type 0 where
+-- the last address such that both tables give these answers up to it
+pub record IsEnd (by : CompareBy) (old new : RenumberedTable) (pieces : Pieces) (last : Addr) : Type 0 where
   pub some : pieces.from.0 ≤ last.0
-  pub so_far : AnsweredSo by old new pieces (last.0 + 1)
+  pub so_far : HoldsUpTo by old new pieces (last.0 + 1)
   pub ends : (addr : Addr) → addr.0 ≡ last.0 + 1 → addr.0 < 2 ^ 32 → ¬ HasAnswers by old new addr pieces.old.answer pieces.new.answer

@@ -1,4 +1,4 @@
--- How far a run has come: which lines were read, which commands wait, what the gate was asked.
+-- The progress of a run: the lines read, the commands that wait, and the gate's gains.
 use Rattle.std.specs.Prelude.{◌≡◌, ◌⊎◌, ℕ, ◌+◌, ◌<◌, List, [], ◌∷◌, ◌++◌, All, length, map, take, drop, zip}
 use Rattle.rt_rib.specs.declared.commands.Cmd.{Cmd}
 use Rattle.rt_shared.specs.declared.outcome.Outcome.{Outcome}
@@ -6,69 +6,69 @@ use Rattle.rt_shared.specs.declared.outcome.Outcome.TheVariants.{Refused}
 use Rattle.rt_feed.specs.declared.report.Line.{Line}
 use Rattle.rt_feed.specs.declared.report.Answer.TheVariants as answer
 use Rattle.rt_feed.specs.declared.versions.Version.{Version}
-use Rattle.rt_feed.specs.Lines.{CutsLine, LineOutcome, Becomes, heading, report_lines, asked_of}
-use Rattle.rt_shared.specs.Visits.{Visit, visit_of}
+use Rattle.rt_feed.specs.Lines.{CutsLine, LineOutcome, TextYields, heading, report_lines, commands_of}
+use Rattle.rt_shared.specs.Visits.{AnsweredBatch, visit_of}
 use Rattle.rt_feed.specs.Visits.{Gains, concatenated, piece_of}
 use Rattle.rt_feed.specs.inside.Filling.{filled}
 
--- the commands that wait have been asked, in one visit if there are any, and the report has what became of them, from
--- this index on
-pub record AnswersWaiting {G : Type 0} (holds : G → List Visit → Type 0) (old new : G) (cmds : List Cmd) (first : ℕ) (report report' : List Line) : Type 0 where
+-- the commands that waited were executed, in one visit if there are any, and the report has their outcomes from this
+-- index on
+pub record AnswersWaiting {G : Type 0} (holds : G → List AnsweredBatch → Type 0) (old new : G) (cmds : List Cmd) (first : ℕ) (report report' : List Line) : Type 0 where
   pub outcomes : List Outcome
   pub each : length outcomes ≡ length cmds
   pub gained : Gains holds old new (map visit_of (piece_of (zip cmds outcomes)))
   pub reported : (report' ≡ take first report ++ filled (drop first report) outcomes)
       ⊎ ((report' ≡ report) × (outcomes ≡ map (λ cmd. Refused) cmds))
 
--- how far a run has come: by which version it reads, its report, where the lines begin in it that were read since the gate
--- was last asked, and the commands that wait
+-- the progress of a run: its version, its report, the report's index of the first line read since the gate was last
+-- called, and the commands that wait
 pub record RunSoFar : Type 0 where
   pub version : Version
   pub report : List Line
   pub first : ℕ
   pub gathered : List Cmd
 
--- the command of the line of this number waits, and stands in the report as refused
+-- the command of the line of this number waits, and is in the report as refused
 pub record Gathers (number : ℕ) (cmd : Cmd) (run run' : RunSoFar) : Type 0 where
   pub reported : run'.report ≡ run.report ++ record { number = number; answer = answer.Refused } ∷ []
   pub gathered : run'.gathered ≡ run.gathered ++ cmd ∷ []
   pub first : run'.first ≡ run.first
   pub version : run'.version ≡ run.version
 
--- the commands of these lines were asked in pieces of `batch` each, a visit for each piece
-pub record AskedWhole {G : Type 0} (holds : G → List Visit → Type 0) (batch : ℕ) (lines : List LineOutcome) (old now : G) : Type 0 where
+-- the commands of these lines were executed in pieces of `batch` each, with a visit for each piece
+pub record ExecutedWhole {G : Type 0} (holds : G → List AnsweredBatch → Type 0) (batch : ℕ) (lines : List LineOutcome) (old now : G) : Type 0 where
   pub pieces : List (List (Cmd × Outcome))
   pub full : All (λ piece. length piece ≡ batch) pieces
-  pub is_joined : asked_of lines ≡ concatenated pieces
+  pub is_joined : commands_of lines ≡ concatenated pieces
   pub gained : Gains holds old now (map visit_of pieces)
 
--- the run reports the lines of both lists, and the commands of the second are gathered and stand in its report as refused
+-- the run reports the lines of both lists, and the commands of the second are gathered and are in its report as refused
 pub record HasGathered (run : RunSoFar) (settled waiting : List LineOutcome) : Type 0 where
   pub reported : run.report ≡ report_lines 1 (settled ++ waiting)
   pub first : run.first ≡ length (report_lines 1 settled)
-  pub gathered : asked_of waiting ≡ map (λ cmd. (cmd, Refused)) run.gathered
+  pub gathered : commands_of waiting ≡ map (λ cmd. (cmd, Refused)) run.gathered
 
--- the run has read so many lines of the text, and this rest is unread. First come lines whose commands were asked, from
--- the one that tells the version on; the commands of the others wait
-pub record HasRead {G : Type 0} (holds : G → List Visit → Type 0) (batch : ℕ) (text rest : List ℕ) (number : ℕ) (old now : G) (run : RunSoFar) : Type 0 where
+-- the run has read `number` lines of the text, and this rest is unread. First come lines whose commands were executed,
+-- including the line of the version; the commands of the others wait
+pub record HasRead {G : Type 0} (holds : G → List AnsweredBatch → Type 0) (batch : ℕ) (text rest : List ℕ) (number : ℕ) (old now : G) (run : RunSoFar) : Type 0 where
   pub settled : List LineOutcome
   pub waiting : List LineOutcome
-  pub becomes : Becomes text (settled ++ waiting) rest
+  pub becomes : TextYields text (settled ++ waiting) rest
   pub versioned : becomes.version ≡ run.version
   pub earlier : List LineOutcome
   pub headed : settled ≡ heading run.version ++ earlier
   pub counted : number ≡ length (settled ++ waiting)
-  pub asked : AskedWhole holds batch settled old now
+  pub asked : ExecutedWhole holds batch settled old now
   pub held : HasGathered run settled waiting
 
 -- the same, and fewer than a batch wait
-abbrev pub IsReading : {G : Type 0} → (G → List Visit → Type 0) → ℕ → List ℕ → List ℕ → ℕ → G → G → RunSoFar → Type 0
+abbrev pub IsReading : {G : Type 0} → (G → List AnsweredBatch → Type 0) → ℕ → List ℕ → List ℕ → ℕ → G → G → RunSoFar → Type 0
 IsReading {G} holds batch text rest number old now run =
     HasRead holds batch text rest number old now run × (length run.gathered < batch)
 
--- this line is read: if it is the first of the rest of a text whose lines before it were read, then it and they were
+-- this line is read: if it is the first of the rest of a text whose lines before it were read, then all of them were
 -- read, whatever the text is
-abbrev pub ReadsOneMore : {G : Type 0} → (G → List Visit → Type 0) → ℕ → ℕ → List ℕ → G → G → RunSoFar → RunSoFar → Type 0
+abbrev pub ReadsOneMore : {G : Type 0} → (G → List AnsweredBatch → Type 0) → ℕ → ℕ → List ℕ → G → G → RunSoFar → RunSoFar → Type 0
 ReadsOneMore {G} holds batch number line old new run run' =
     (text rest next : List ℕ) (earlier : ℕ) (start : G) → number ≡ earlier + 1 → IsReading holds batch text rest earlier start old run → CutsLine rest line next
     → IsReading holds batch text next number start new run'

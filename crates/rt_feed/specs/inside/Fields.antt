@@ -1,4 +1,4 @@
--- How the parser goes from field to field, and what it has read of them.
+-- The parser's way from field to field, and the fields read until then.
 use Rattle.std.specs.Prelude.{◌≡◌, ℕ, ◌^◌, ◌<◌, List, [], ◌∷◌, codes, Option, None, Some, Ok, Err}
 use Rattle.std.specs.declared.result.Result.{Result}
 use Rattle.std.specs.Borrow.{Bor}
@@ -15,12 +15,12 @@ use Rattle.rt_feed.specs.declared.parse.Name.TheVariants as name
 use Rattle.rt_feed.specs.CommandText.{words, route_words, HasHop, HasCommand}
 use Rattle.rt_feed.specs.Grammar.{Kind, prefix, preference, hop, fields, IsOfKind, IsFaultOf, IsFaultAfter, IsFaultOfFields}
 
--- the fields of what follows a space, if there is one
+-- the fields of the text after a space, if there is one
 abbrev pub fields_of_rest : Option (Bor (List ℕ)) → List (List ℕ)
 fields_of_rest None = []
 fields_of_rest (Some text) = fields text.now
 
--- how a command's name is spelled
+-- the spelling of a command's name
 abbrev pub name_text : Name → List ℕ
 name_text name.Add = codes "add"
 name_text name.Replace = codes "replace"
@@ -35,7 +35,7 @@ pub record IsRoute (version : Version) (rest : List (List ℕ)) (prefix : Prefix
   pub fits : pref < 2 ^ 32
   pub has : HasHop version hop
 
--- the field is not what it is to be, and this is its fault
+-- the field is of the wrong kind, and this is its fault
 pub record IsFaulty (kind : Kind) (field : List ℕ) (answer : LineFault) : Type 0 where
   pub none : ¬ IsOfKind kind field
   pub told : IsFaultOf kind field answer
@@ -45,15 +45,15 @@ abbrev pub AnswersFields : Version → List (List ℕ) → Result Cmd LineFault 
 AnswersFields version line (Ok cmd) = HasCommand version cmd × (line ≡ words cmd)
 AnswersFields version line (Err answer) = IsFaultOfFields version line answer
 
--- what follows `add` and `replace`
+-- the kinds of the fields of `add` and `replace`
 abbrev pub route_kinds : Version → List Kind
 route_kinds version = prefix ∷ preference ∷ hop version ∷ []
 
--- the fault of the fields after a command's name, which are to be these
+-- the fault of the fields after a command's name, which must be of these kinds
 abbrev pub IsFaultAmong : List Kind → List (List ℕ) → LineFault → Type 0
 IsFaultAmong kinds rest answer = IsFaultAfter (Some kinds) rest answer
 
--- the line's fault for a text that is no prefix
+-- the line's fault for a text that isn't a prefix
 abbrev pub prefix_fault : TextFault → LineFault
 prefix_fault Text = fault.Text
 prefix_fault Length = fault.PrefixLength

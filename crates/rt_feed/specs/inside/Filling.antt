@@ -1,11 +1,11 @@
--- A report in which commands that wait for their answers stand as refused.
+-- A report with commands that wait for their answers as refused.
 use Rattle.std.specs.Prelude.{List, [], ◌∷◌, if◌then◌else◌}
 use Rattle.rt_shared.specs.declared.outcome.Outcome.{Outcome}
 use Rattle.rt_feed.specs.declared.report.Line.{Line}
 use Rattle.rt_feed.specs.Reports.{is_fault}
 use Rattle.rt_feed.specs.Lines.{command_answer}
 
--- the lines, of which those that are no faults were given these outcomes, in order
+-- the lines, after those that aren't faults were given these outcomes, in order
 abbrev pub filled : List Line → List Outcome → List Line
 filled [] outcomes = []
 filled (line ∷ lines) [] = line ∷ lines

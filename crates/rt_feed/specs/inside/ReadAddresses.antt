@@ -1,25 +1,25 @@
--- How far a text of addresses has been read.
+-- The progress of reading a text of addresses.
 use Rattle.std.specs.Prelude.{◌≡◌, ℕ, ◌+◌, List, [], ◌∷◌, ◌++◌, Option, length}
 use Rattle.std.specs.declared.result.Result.{Result}
 use Rattle.rt_cidr.specs.declared.address.Addr.{Addr}
 use Rattle.rt_feed.specs.declared.parse.LineFault.{LineFault}
 use Rattle.rt_feed.specs.declared.faulty.FaultyLines.{FaultyLines}
-use Rattle.rt_feed.specs.Lines.{LinesSay}
+use Rattle.rt_feed.specs.Lines.{LinesParseAs}
 use Rattle.rt_feed.specs.Addresses.{AnswersAddressLine, addresses_said, faults_said, faulty_lines}
 
--- lines that say these have these addresses, and these of them are faulty
+-- lines with these answers have these addresses and these faults
 pub record AreSaid (says : List (Result (Option Addr) LineFault)) (addresses : List Addr) (faulty : FaultyLines) : Type 0 where
   pub said : addresses ≡ addresses_said says
   pub faults : faulty ≡ faulty_lines (faults_said 1 says)
 
--- so many lines of the text were read, this rest is unread, and these are their addresses and faulty lines
+-- `number` lines of the text were read, this rest is unread, and these are their addresses and faulty lines
 pub record AreRead (text rest : List ℕ) (number : ℕ) (addresses : List Addr) (faulty : FaultyLines) : Type 0 where
   pub says : List (Result (Option Addr) LineFault)
-  pub lines : LinesSay AnswersAddressLine text says rest
+  pub lines : LinesParseAs AnswersAddressLine text says rest
   pub counted : number ≡ length says
   pub are_said : AreSaid says addresses faulty
 
--- the line of this number is taken in: whatever the lines before it say, it says this besides
+-- the line of this number is read: whatever the answers for the lines before it, one answer is added
 abbrev pub PutsLine : ℕ → List ℕ → List Addr → FaultyLines → List Addr → FaultyLines → Type 0
 PutsLine number line old faulty new faulty' =
     (says : List (Result (Option Addr) LineFault)) → number ≡ length says + 1 → AreSaid says old faulty

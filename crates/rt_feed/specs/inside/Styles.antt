@@ -1,4 +1,4 @@
--- The parts of what is told in a style, on both sides of a feed's label.
+-- The parts of a text in a style, on both sides of a feed's label.
 use Rattle.std.specs.Prelude.{ℕ, List, [], ◌∷◌, ◌++◌, codes, decimal}
 use Rattle.std.specs.List.{flat_map}
 use Rattle.rt_cidr.specs.declared.address.Addr.{Addr}
@@ -13,7 +13,7 @@ use Rattle.rt_feed.specs.Json.{hop_members}
 use Rattle.rt_feed.specs.DifferenceText.{SideStylesContents, way_text}
 use Rattle.rt_feed.specs.Styles.{also_object}
 
--- a form in which feeds are told by labels: this one, or that of lines with labels in place of that with numbers
+-- a form with labels: this one, or the lines with labels instead of the lines with numbers
 abbrev pub by_label : Form → Form
 by_label Json = Json
 by_label form = Labels
@@ -22,7 +22,7 @@ by_label form = Labels
 abbrev pub both_by_label : SideStylesContents → SideStylesContents
 both_by_label styles = record { form = by_label styles.form; old_labels = styles.old_labels; new_labels = styles.new_labels }
 
--- of two texts that of the form: the first stands in lines, the second in objects
+-- the text for the form: the first for lines, the second for objects
 abbrev pub either : Form → List ℕ → List ℕ → List ℕ
 either Json line object = object
 either form line object = line
@@ -37,29 +37,29 @@ unfoldable pub route_front : Form → Route → List ℕ
 route_front form r =
     either form [] (codes "{\"prefix\":\"") ++ (prefix_text r.prefix.base r.prefix.len ++ either form (codes " feed ") (codes "\",\"feed\":"))
 
--- and behind it, without an object's end
+-- a route after its feed's label, without an object's end
 unfoldable pub route_back : Form → Route → List ℕ
 route_back form r =
     either form (codes " pref ") (codes ",\"pref\":") ++ (decimal r.pref ++ (either form (codes " via ") (codes ",") ++ hop_as form r.hop))
 
--- a route, without an object's end; here and below `label` is that of each feed
+-- a route, without an object's end; here and below `label` gives the label of each feed
 unfoldable pub route_open : Form → (ℕ → List ℕ) → Route → List ℕ
 route_open form label r = route_front form r ++ (label r.feed ++ route_back form r)
 
--- the address that was looked up and this word, or it as the beginning of an object
+-- the address and this word, or the same as the beginning of an object
 unfoldable pub asked_head : Form → Addr → List ℕ → List ℕ
 asked_head form addr word = either form [] (codes "{\"address\":\"") ++ (address_text addr.0 ++ either form word (codes "\",\"route\":"))
 
--- why a route was left behind the best one, and the end of its line or object
+-- the reason why a route lost to the best one, and the end of its line or object
 unfoldable pub reason_end : Form → Route → Route → List ℕ
 reason_end form best r = either form (codes " ") (codes ",\"reason\":\"") ++ (reason_text best r ++ either form (codes "\n") (codes "\"}"))
 
--- a route that was left behind the best one, an object behind this text
+-- a route that lost to the best one, an object after this text
 unfoldable pub other_as : Form → (ℕ → List ℕ) → Addr → Route → List ℕ → Route → List ℕ
 other_as Json label addr best comma r = comma ++ also_object label best r
 other_as form label addr best comma r = also_line (λ s. route_line (label s.feed) s) addr best r
 
--- all that were left behind it, objects with commas between them
+-- all routes that lost to it, objects with commas between them
 unfoldable pub others_as : Form → (ℕ → List ℕ) → Addr → Route → List Route → List ℕ
 others_as form label addr best [] = []
 others_as form label addr best (r ∷ rs) = other_as form label addr best [] r ++ flat_map (other_as form label addr best (codes ",")) rs
@@ -70,17 +70,17 @@ range_front form d =
     either form [] (codes "{\"first\":\"") ++ (address_text d.first.0 ++ (either form (codes "-") (codes "\",\"last\":\"")
     ++ (address_text d.last.0 ++ either form (codes " ") (codes "\",\"old\":"))))
 
--- where packets go
+-- a next hop in an answer
 unfoldable pub way_as : Form → Hop → List ℕ
 way_as Json hop = codes "{" ++ (hop_members hop ++ codes "}")
 way_as form hop = way_text hop
 
--- how many routes there are, and to how many prefixes
+-- the text of the numbers of routes and of prefixes
 unfoldable pub totals_line : Form → ℕ → ℕ → List ℕ
 totals_line form routes prefixes =
     either form (codes "routes ") (codes "{\"routes\":") ++ (decimal routes ++ (either form (codes " prefixes ") (codes ",\"prefixes\":")
     ++ (decimal prefixes ++ either form (codes "\n") (codes "}\n"))))
 
--- how many routes there are of what was named
+-- the end of the text of a number of routes
 unfoldable pub count_tail : Form → ℕ → List ℕ
 count_tail form count = either form (codes " routes ") (codes ",\"routes\":") ++ (decimal count ++ either form (codes "\n") (codes "}\n"))

@@ -1,4 +1,4 @@
-//! How many routes there are, in numbers: in all, of each feed, and to prefixes of each length.
+//! The numbers of routes: in all, of each feed, and to prefixes of each length.
 ghost use Rattle.std.specs.Prelude.{◌≡◌, ◌++◌, length, codes, decimal};
 ghost use Rattle.rt_cidr.specs.Output.{WritesText};
 ghost use Rattle.rt_cidr.specs.ShortText.{FitsInShortText};
@@ -10,13 +10,13 @@ ghost use Rattle.rt_feed.specs.inside.Styles.{totals_line, count_tail};
 use super::{Form, Style};
 use crate::parts::put_parts;
 use rt_cidr::{ShortText, put};
-use rt_rib::{MOST_FEEDS, Route};
+use rt_rib::{MAX_FEEDS, Route};
 use std::io::{self, Write};
 
-/// How long a prefix may be.
-const MOST_BITS: u8 = 32;
+/// The maximum length of a prefix.
+const MAX_BITS: u8 = 32;
 
-/// Writes how many routes there are, and to how many prefixes.
+/// Writes the number of routes, and of their prefixes.
 #[tactic(auto, using(crate::proofs::CountParts::totals_line_fits))]
 pub(super) fn write_totals<W: Write>(w: &mut W, form: Form, routes: &[Route]) -> io::Result<()>
     ensures { WritesText (W.contents w.old) (W.contents w.new) (totals_as form (length routes.now) (prefix_count routes.now)) result }
@@ -26,7 +26,7 @@ pub(super) fn write_totals<W: Write>(w: &mut W, form: Form, routes: &[Route]) ->
     put(w, text.as_bytes())
 }
 
-/// Writes of each feed how many of the routes it has, where it has one.
+/// Writes the number of routes of each feed that has one.
 pub(super) fn write_feeds<W: Write>(
     w: &mut W,
     style: &Style<'_>,
@@ -36,27 +36,27 @@ pub(super) fn write_feeds<W: Write>(
         (each_below (λ feed. count_as style.now.form (codes "feed") (feed_as style.now.form (label_of style.now.labels) feed) (count_of feed routes.now)) 65) result }
 {
     let mut feed = 0;
-    while feed <= MOST_FEEDS as u32 {
+    while feed <= MAX_FEEDS as u32 {
         put_feed(w, style, feed, count_of(routes, feed))?;
         feed += 1;
     }
     Ok(())
 }
 
-/// Writes of each length how many of the routes are to prefixes of it, where one is.
+/// Writes the number of routes to prefixes of each length that has one.
 pub(super) fn write_lengths<W: Write>(w: &mut W, form: Form, routes: &[Route]) -> io::Result<()>
     ensures { WritesText (W.contents w.old) (W.contents w.new)
         (each_below (λ len. count_as form (codes "length") (decimal len) (length_count len routes.now)) 33) result }
 {
     let mut len = 0;
-    while len <= MOST_BITS {
+    while len <= MAX_BITS {
         put_length(w, form, len, length_count(routes, len))?;
         len += 1;
     }
     Ok(())
 }
 
-/// Writes how many routes a feed has, where it has one.
+/// Writes the number of routes of a feed, unless it is 0.
 #[tactic(auto, using(crate::proofs::CountParts::number_fits))]
 fn put_feed<W: Write>(w: &mut W, style: &Style<'_>, feed: u32, count: usize) -> io::Result<()>
     ensures { WritesText (W.contents w.old) (W.contents w.new)
@@ -71,7 +71,7 @@ fn put_feed<W: Write>(w: &mut W, style: &Style<'_>, feed: u32, count: usize) -> 
     }
 }
 
-/// Writes how many routes are to prefixes of a length, where one is.
+/// Writes the number of routes to prefixes of a length, unless it is 0.
 #[tactic(auto, using(crate::proofs::CountParts::number_fits))]
 fn put_length<W: Write>(w: &mut W, form: Form, len: u8, count: usize) -> io::Result<()>
     ensures { WritesText (W.contents w.old) (W.contents w.new) (count_as form (codes "length") (decimal len) count) result }
@@ -81,7 +81,7 @@ fn put_length<W: Write>(w: &mut W, form: Form, len: u8, count: usize) -> io::Res
     put_count(w, form, b"length", number.as_bytes(), count)
 }
 
-/// Writes how many routes there are of what is of this kind and name, where there is one.
+/// Writes the number of routes of this kind and name, unless it is 0.
 #[tactic(auto, using(crate::proofs::CountParts::count_tail_fits))]
 fn put_count<W: Write>(
     w: &mut W,
@@ -101,7 +101,7 @@ fn put_count<W: Write>(
     put_parts(w, &[front, kind, middle, name, tail.as_bytes()])
 }
 
-/// To how many prefixes the routes are, where those to one stand together.
+/// Returns the number of prefixes of the routes, if routes to the same prefix are adjacent.
 fn prefix_count(routes: &[Route]) -> usize
     ensures { result ≡ prefix_count routes.now }
 {
@@ -121,7 +121,7 @@ fn prefix_count(routes: &[Route]) -> usize
     count
 }
 
-/// How many of the routes the feed has.
+/// Returns the number of the feed's routes.
 fn count_of(routes: &[Route], feed: u32) -> usize
     ensures { result ≡ count_of feed routes.now }
 {
@@ -132,7 +132,7 @@ fn count_of(routes: &[Route], feed: u32) -> usize
     count
 }
 
-/// How many of the routes are to prefixes of this length.
+/// Returns the number of routes to prefixes of this length.
 fn length_count(routes: &[Route], len: u8) -> usize
     ensures { result ≡ length_count len routes.now }
 {
@@ -143,9 +143,9 @@ fn length_count(routes: &[Route], len: u8) -> usize
     count
 }
 
-// Each function below puts its text in front.
+// Each function below prepends its text.
 
-/// `routes ROUTES prefixes PREFIXES` and LF, or it as an object.
+/// Prepends `routes ROUTES prefixes PREFIXES` and LF, or the same as an object.
 #[tactic(auto, using(rt_cidr::proofs::Promised::prepending), unfolding(crate::specs::inside::Styles::totals_line))]
 fn prepend_totals(text: &mut ShortText, form: Form, routes: usize, prefixes: usize)
     requires room { FitsInShortText (totals_line form routes prefixes) text.old }
@@ -158,7 +158,7 @@ fn prepend_totals(text: &mut ShortText, form: Form, routes: usize, prefixes: usi
     text.prepend(form.either(b"routes ", b"{\"routes\":"));
 }
 
-/// ` routes COUNT` and LF, or it as a member.
+/// Prepends ` routes COUNT` and LF, or the same as a member.
 #[tactic(auto, using(rt_cidr::proofs::Promised::prepending), unfolding(crate::specs::inside::Styles::count_tail))]
 fn prepend_tail(text: &mut ShortText, form: Form, count: usize)
     requires room { FitsInShortText (count_tail form count) text.old }

@@ -1,4 +1,4 @@
-//! What look-ups found: lines in which a feed's label stands in place of its number, or JSON objects (RFC 8259), one a line.
+//! Look-up results: lines with a feed's label instead of its number, or JSON objects (RFC 8259), one a line.
 ghost use Rattle.std.specs.Prelude.{◌≡◌, ◌++◌, [], codes};
 ghost use Rattle.std.specs.List.{flat_map};
 ghost use Rattle.rt_cidr.specs.Output.{WritesText};
@@ -14,7 +14,7 @@ use rt_cidr::{Addr, ShortText, put};
 use rt_rib::Route;
 use std::io::{self, Write};
 
-/// The best route that covers an address, and how it is told.
+/// The best route that covers an address, and its style.
 #[derive(Clone, Copy)]
 struct Best<'a> {
     style: &'a Style<'a>,
@@ -22,8 +22,8 @@ struct Best<'a> {
     route: Route,
 }
 
-/// Writes what a look-up of the address found.
-pub(super) fn write_found<W: Write>(
+/// Writes the result of a look-up of the address.
+pub(super) fn write_lookup<W: Write>(
     w: &mut W,
     style: &Style<'_>,
     addr: Addr,
@@ -42,7 +42,7 @@ pub(super) fn write_found<W: Write>(
 }
 
 /// Writes all routes that cover the address: each on a line, or all in one object.
-pub(super) fn write_all_found<W: Write>(
+pub(super) fn write_all_matches<W: Write>(
     w: &mut W,
     style: &Style<'_>,
     addr: Addr,
@@ -61,7 +61,7 @@ pub(super) fn write_all_found<W: Write>(
     put(w, form.either(b"", b"]}\n"))
 }
 
-/// Writes that no route covers the address; an object ends so.
+/// Writes that no route covers the address; `end` ends an object.
 #[tactic(auto, using(crate::proofs::LineParts::fits))]
 fn put_none<W: Write>(w: &mut W, form: Form, addr: Addr, end: &[u8]) -> io::Result<()>
     ensures { WritesText (W.contents w.old) (W.contents w.new) (asked_head form addr (codes " no route\n") ++ either form [] end.now) result }
@@ -71,7 +71,7 @@ fn put_none<W: Write>(w: &mut W, form: Form, addr: Addr, end: &[u8]) -> io::Resu
     put_parts(w, &[head.as_bytes(), form.either(b"", end)])
 }
 
-/// Writes the address and the best route, and a text behind them.
+/// Writes the address and the best route, and a text after them.
 #[tactic(auto, using(crate::proofs::LineParts::fits))]
 fn put_best<W: Write>(w: &mut W, best: &Best<'_>, tail: &[u8]) -> io::Result<()>
     ensures { WritesText (W.contents w.old) (W.contents w.new) (asked_head best.now.style.now.form best.now.addr (codes " route ")
@@ -82,7 +82,7 @@ fn put_best<W: Write>(w: &mut W, best: &Best<'_>, tail: &[u8]) -> io::Result<()>
     put_route(w, best.style, head.as_bytes(), &best.route, tail)
 }
 
-/// Writes the routes that were left behind the best one, each with the reason; objects with commas between them.
+/// Writes the routes that lost to the best one, each with the reason; objects have commas between them.
 fn write_others<W: Write>(w: &mut W, best: &Best<'_>, others: &[Route]) -> io::Result<()>
     ensures { WritesText (W.contents w.old) (W.contents w.new)
         (others_as best.now.style.now.form (label_of best.now.style.now.labels) best.now.addr best.now.route others.now) result }
@@ -94,7 +94,7 @@ fn write_others<W: Write>(w: &mut W, best: &Best<'_>, others: &[Route]) -> io::R
     write_further(w, best, further)
 }
 
-/// Writes further ones, objects each behind a comma.
+/// Writes further such routes, each object after a comma.
 fn write_further<W: Write>(w: &mut W, best: &Best<'_>, further: &[Route]) -> io::Result<()>
     ensures { WritesText (W.contents w.old) (W.contents w.new)
         (flat_map (other_as best.now.style.now.form (label_of best.now.style.now.labels) best.now.addr best.now.route (codes ",")) further.now) result }
@@ -105,7 +105,7 @@ fn write_further<W: Write>(w: &mut W, best: &Best<'_>, further: &[Route]) -> io:
     Ok(())
 }
 
-/// Writes one route that was left behind the best one, an object behind this text.
+/// Writes one route that lost to the best one, an object after this text.
 #[tactic(auto, using(crate::proofs::LineParts::fits))]
 fn put_other<W: Write>(w: &mut W, best: &Best<'_>, comma: &[u8], route: &Route) -> io::Result<()>
     ensures { WritesText (W.contents w.old) (W.contents w.new)
@@ -120,9 +120,9 @@ fn put_other<W: Write>(w: &mut W, best: &Best<'_>, comma: &[u8], route: &Route) 
     put_route(w, best.style, front, route, end.as_bytes())
 }
 
-// Each function below puts its text in front.
+// Each function below prepends its text.
 
-/// The address and this word, or `{"address":"ADDR","route":`.
+/// Prepends the address and this word, or `{"address":"ADDR","route":`.
 #[tactic(auto, using(rt_cidr::proofs::Promised::prepending), unfolding(crate::specs::inside::Styles::asked_head))]
 fn prepend_asked(text: &mut ShortText, form: Form, addr: Addr, word: &[u8])
     requires room { FitsInShortText (asked_head form addr word.now) text.old }
@@ -133,7 +133,7 @@ fn prepend_asked(text: &mut ShortText, form: Form, addr: Addr, word: &[u8])
     text.prepend(form.either(b"", b"{\"address\":\""));
 }
 
-/// ` REASON` and LF, or `,"reason":"REASON"}`.
+/// Prepends ` REASON` and LF, or `,"reason":"REASON"}`.
 #[tactic(auto, using(rt_cidr::proofs::Promised::prepending), unfolding(crate::specs::inside::Styles::reason_end))]
 fn prepend_reason(text: &mut ShortText, form: Form, best: &Route, route: &Route)
     requires room { FitsInShortText (reason_end form best.now route.now) text.old }

@@ -33,7 +33,7 @@ pub(super) fn write_difference<W: Write>(
     put(w, form.either(b"\n", b"}\n"))
 }
 
-/// Writes what an address is answered, behind a text.
+/// Writes a text, and after it the answer for an address.
 #[tactic(auto, using(crate::proofs::LineParts::fits))]
 fn put_answered<W: Write>(
     w: &mut W,
@@ -56,9 +56,9 @@ fn put_answered<W: Write>(
     }
 }
 
-// Each function below puts its text in front.
+// Each function below prepends its text.
 
-/// `FIRST-LAST `, or `{"first":"FIRST","last":"LAST","old":`.
+/// Prepends `FIRST-LAST `, or `{"first":"FIRST","last":"LAST","old":`.
 #[tactic(auto, using(rt_cidr::proofs::Promised::prepending), unfolding(crate::specs::inside::Styles::range_front))]
 fn prepend_front(text: &mut ShortText, form: Form, difference: &Difference)
     requires room { FitsInShortText (range_front form difference.now) text.old }
@@ -72,7 +72,7 @@ fn prepend_front(text: &mut ShortText, form: Form, difference: &Difference)
     text.prepend(form.either(b"", b"{\"first\":\""));
 }
 
-/// `via ADDR` or `discard`, or the next hop as an object.
+/// Prepends `via ADDR` or `discard`, or the next hop as an object.
 #[tactic(auto, using(rt_cidr::proofs::Promised::prepending), unfolding(crate::specs::inside::Styles::way_as, crate::specs::DifferenceText::answered_text))]
 fn prepend_way_as(text: &mut ShortText, form: Form, hop: Hop)
     requires room { FitsInShortText (way_as form hop) text.old }

@@ -1,4 +1,4 @@
-//! A route between two texts, its feed told by a label.
+//! A route between two texts, with the label of its feed.
 ghost use Rattle.std.specs.Prelude.{◌≡◌, ◌++◌};
 ghost use Rattle.rt_cidr.specs.Output.{WritesText};
 ghost use Rattle.rt_cidr.specs.ShortText.{FitsInShortText};
@@ -13,7 +13,7 @@ use rt_cidr::ShortText;
 use rt_rib::{Hop, Route};
 use std::io::{self, Write};
 
-/// Writes the route between two texts. An object's end stands in the second one.
+/// Writes the route between two texts. The second one has the end of an object.
 pub(super) fn put_route<W: Write>(
     w: &mut W,
     style: &Style<'_>,
@@ -28,7 +28,7 @@ pub(super) fn put_route<W: Write>(
     put_labelled(w, style.form(), head, route, label, tail)
 }
 
-/// Writes the route between two texts, its feed by this label.
+/// Writes the route between two texts, with this label of its feed.
 #[tactic(auto, using(crate::proofs::LineParts::fits))]
 fn put_labelled<W: Write>(
     w: &mut W,
@@ -49,9 +49,9 @@ fn put_labelled<W: Write>(
     put_parts(w, &[back.as_bytes(), tail])
 }
 
-// Each function below puts its text in front.
+// Each function below prepends its text.
 
-/// `PREFIX feed `, or `{"prefix":"PREFIX","feed":`.
+/// Prepends `PREFIX feed `, or `{"prefix":"PREFIX","feed":`.
 #[tactic(auto, using(rt_cidr::proofs::Promised::prepending), unfolding(crate::specs::inside::Styles::route_front))]
 fn prepend_front(text: &mut ShortText, form: Form, route: &Route)
     requires room { FitsInShortText (route_front form route.now) text.old }
@@ -62,7 +62,7 @@ fn prepend_front(text: &mut ShortText, form: Form, route: &Route)
     text.prepend(form.either(b"", b"{\"prefix\":\""));
 }
 
-/// ` pref P via HOP`, or `,"pref":P,` and the next hop as members.
+/// Prepends ` pref P via HOP`, or `,"pref":P,` and the next hop as members.
 #[tactic(auto, using(rt_cidr::proofs::Promised::prepending), unfolding(crate::specs::inside::Styles::route_back))]
 fn prepend_back(text: &mut ShortText, form: Form, route: &Route)
     requires room { FitsInShortText (route_back form route.now) text.old }
@@ -74,7 +74,7 @@ fn prepend_back(text: &mut ShortText, form: Form, route: &Route)
     text.prepend(form.either(b" pref ", b",\"pref\":"));
 }
 
-/// The next hop's address or `discard`, or the next hop as members of an object.
+/// Prepends the next hop's address or `discard`, or the next hop as members of an object.
 fn prepend_hop_as(text: &mut ShortText, form: Form, hop: Hop)
     requires room { FitsInShortText (hop_as form hop) text.old }
     ensures { text.new ≡ hop_as form hop ++ text.old }
@@ -85,7 +85,7 @@ fn prepend_hop_as(text: &mut ShortText, form: Form, hop: Hop)
     }
 }
 
-/// The next hop as members of an object.
+/// Prepends the next hop as members of an object.
 #[tactic(auto, using(rt_cidr::proofs::Promised::prepending))]
 pub(super) fn prepend_hop_members(text: &mut ShortText, hop: Hop)
     requires room { FitsInShortText (hop_members hop) text.old }

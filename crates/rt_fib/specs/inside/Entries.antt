@@ -1,8 +1,9 @@
 -- How entries, blocks and answers say what a table answers each address.
-use Rattle.std.specs.Prelude.{◌≡◌, ℕ, ◌+◌, ◌*◌, ◌/◌, ◌^◌, ◌<◌, ◌≤◌, ◌⊎◌, List, [], length, get_or, Option, None}
+use Rattle.std.specs.Prelude.{◌≡◌, ℕ, ◌+◌, ◌*◌, ◌/◌, ◌^◌, ◌<◌, ◌≤◌, ◌⊎◌, List, length, get_or, Option}
 use Rattle.rt_cidr.specs.declared.address.Addr.{Addr}
 use Rattle.rt_rib.specs.declared.routes.Route.{Route}
 use Rattle.rt_rib.specs.LookUp.{look_up}
+use Rattle.rt_fib.specs.inside.Pools.{Places, Has}
 
 -- the address of this number
 abbrev pub at : ℕ → Addr
@@ -12,48 +13,51 @@ at n = record { 0 = n }
 abbrev pub entry_at : List ℕ → Addr → ℕ
 entry_at entries addr = get_or entries (addr.0 / 256) 0
 
--- the longer list begins as the other
-pub record Grows {T : Type 0} (old new : List T) : Type 0 where
-  pub longer : length old ≤ length new
-  pub same : (i : ℕ) (d : T) → i < length old → get_or new i d ≡ get_or old i d
-
--- the number is that of the answer
-pub record IsNumber (answers : List (Option Route)) (number : ℕ) (answer : Option Route) : Type 0 where
-  pub within : number < length answers
-  pub is : get_or answers number None ≡ answer
-
 -- the entry is the number of an answer
-pub record IsWhole (answers : List (Option Route)) (entry : ℕ) (answer : Option Route) : Type 0 where
+pub record IsWhole (answers : Places (Option Route)) (since entry : ℕ) (answer : Option Route) : Type 0 where
   pub short : entry < 2 ^ 31
-  pub number : IsNumber answers entry answer
-
--- the block has the number of the answer at this place
-pub record HasNumber (block : List ℕ) (answers : List (Option Route)) (k : ℕ) (answer : Option Route) : Type 0 where
-  pub place : k < length block
-  pub number : IsNumber answers (get_or block k 0) answer
+  pub number : Has answers since entry answer
 
 -- the entry names a block that has the number of the answer at this place
-pub record NamesBlock (blocks : List (List ℕ)) (answers : List (Option Route)) (entry k : ℕ) (answer : Option Route) : Type 0 where
+pub record NamesBlock (blocks : Places (List ℕ)) (answers : Places (Option Route)) (since entry k : ℕ) (answer : Option Route) : Type 0 where
   pub block : ℕ
+  pub numbers : List ℕ
   pub long : entry ≡ 2 ^ 31 + block
-  pub within : block < length blocks
-  pub there : HasNumber (get_or blocks block []) answers k answer
+  pub named : Has blocks since block numbers
+  pub place : k < length numbers
+  pub number : Has answers since (get_or numbers k 0) answer
 
 -- the entry leads to the answer at this place
-abbrev pub Leads : List (List ℕ) → List (Option Route) → ℕ → ℕ → Option Route → Type 0
-Leads blocks answers entry k answer = IsWhole answers entry answer ⊎ NamesBlock blocks answers entry k answer
+abbrev pub Leads : Places (List ℕ) → Places (Option Route) → ℕ → ℕ → ℕ → Option Route → Type 0
+Leads blocks answers since entry k answer = IsWhole answers since entry answer ⊎ NamesBlock blocks answers since entry k answer
 
 -- the entry leads to what the table answers each of the 256 addresses whose first 24 bits are i
-abbrev pub IsEntry : List Route → List (List ℕ) → List (Option Route) → ℕ → ℕ → Type 0
-IsEntry table blocks answers i entry =
-    (k : ℕ) → k < 256 → Leads blocks answers entry k (look_up (at (i * 256 + k)) table)
+abbrev pub IsEntry : List Route → Places (List ℕ) → Places (Option Route) → ℕ → ℕ → ℕ → Type 0
+IsEntry table blocks answers since i entry =
+    (k : ℕ) → k < 256 → Leads blocks answers since entry k (look_up (at (i * 256 + k)) table)
 
 -- the entries are those of so many first 24 bits, from these on
-pub record AreFrom (first : ℕ) (entries : List ℕ) (blocks : List (List ℕ)) (answers : List (Option Route)) (table : List Route) (count : ℕ) : Type 0 where
+pub record AreFrom (first : ℕ) (entries : List ℕ) (blocks : Places (List ℕ)) (answers : Places (Option Route)) (since : ℕ) (table : List Route) (count : ℕ) : Type 0 where
   pub size : length entries ≡ count
-  pub each : (i : ℕ) → i < count → IsEntry table blocks answers (first + i) (get_or entries i 0)
+  pub each : (i : ℕ) → i < count → IsEntry table blocks answers since (first + i) (get_or entries i 0)
+
+-- the first so many entries lead to what is in use since this round
+pub record AreUpTo (entries : List ℕ) (blocks : Places (List ℕ)) (answers : Places (Option Route)) (since : ℕ) (table : List Route) (count : ℕ) : Type 0 where
+  pub each : (i : ℕ) → i < count → IsEntry table blocks answers since i (get_or entries i 0)
 
 -- the entries are those of all addresses
-pub record AreAll (entries : List ℕ) (blocks : List (List ℕ)) (answers : List (Option Route)) (table : List Route) : Type 0 where
+pub record AreAll (entries : List ℕ) (blocks : Places (List ℕ)) (answers : Places (Option Route)) (since : ℕ) (table : List Route) : Type 0 where
   pub size : length entries ≡ 2 ^ 24
-  pub each : (i : ℕ) → i < 2 ^ 24 → IsEntry table blocks answers i (get_or entries i 0)
+  pub all : AreUpTo entries blocks answers since table (2 ^ 24)
+
+-- and the first of them lead to what was marked in this round
+pub record AreCells (entries : List ℕ) (blocks : Places (List ℕ)) (answers : Places (Option Route)) (since marked : ℕ) (table : List Route) : Type 0 where
+  pub all : AreAll entries blocks answers since table
+  pub first : AreUpTo entries blocks answers (since + 1) table marked
+  pub within : marked ≤ 2 ^ 24
+  pub rounds : since + 1 < 2 ^ 32
+
+-- wherever the one entry led, the other leads to what is in use in the next round too
+abbrev pub LeadsOn : Places (List ℕ) → Places (Option Route) → Places (List ℕ) → Places (Option Route) → ℕ → ℕ → ℕ → Type 0
+LeadsOn blocks answers more longer since entry next =
+    (k : ℕ) (answer : Option Route) → k < 256 → Leads blocks answers since entry k answer → Leads more longer (since + 1) next k answer

@@ -4,6 +4,7 @@ use Rattle.rt_cidr.specs.declared.prefixes.Prefix.{Prefix}
 use Rattle.rt_cidr.specs.Prefix.{covers}
 use Rattle.rt_rib.specs.declared.routes.Route.{Route}
 use Rattle.rt_fib.specs.declared.spans.Span.{Span}
+use Rattle.rt_fib.specs.inside.Pools.{Places}
 use Rattle.rt_fib.specs.inside.Entries.{at, IsEntry}
 
 -- no address of another entry is the prefix's
@@ -20,8 +21,8 @@ pub record ArePut (old new fresh : List ℕ) (first count : ℕ) : Type 0 where
   pub behind : (i : ℕ) → first + count ≤ i → get_or new i 0 ≡ get_or old i 0
 
 -- the span's entries are those of the table, and the others stayed
-pub record AreRenewed (old new : List ℕ) (blocks : List (List ℕ)) (answers : List (Option Route)) (table : List Route) (span : Span) : Type 0 where
+pub record AreRenewed (old new : List ℕ) (blocks : Places (List ℕ)) (answers : Places (Option Route)) (since : ℕ) (table : List Route) (span : Span) : Type 0 where
   pub size : length new ≡ length old
-  pub there : (i : ℕ) → span.first ≤ i → i < span.end → IsEntry table blocks answers i (get_or new i 0)
+  pub there : (i : ℕ) → span.first ≤ i → i < span.end → IsEntry table blocks answers since i (get_or new i 0)
   pub before : (i : ℕ) → i < span.first → get_or new i 0 ≡ get_or old i 0
   pub behind : (i : ℕ) → span.end ≤ i → get_or new i 0 ≡ get_or old i 0

@@ -1,4 +1,4 @@
--- The offers at a prefix, and the laws of a map that proofs use.
+-- The offers at a prefix, and the theorems about maps that proofs use.
 use Rattle.std.specs.Prelude.{ℕ, List, [], ◌∷◌, ◌++◌, Option, Some, None, map, slice_index_or}
 use Rattle.std.specs.List.{Contains}
 use Rattle.rt_cidr.specs.declared.address.Addr.{Addr}
@@ -11,11 +11,11 @@ use Rattle.rt_rib.specs.declared.offers.Offer.{Offer}
 use Rattle.rt_rib.specs.LookUp.{look_up}
 use Rattle.rt_rib.specs.Maps.{Map, route_by}
 
--- what a route offers for its prefix
+-- a route's offer for its prefix
 abbrev pub offer_of : Route → Offer
 offer_of r = record { feed = r.feed; pref = r.pref; hop = r.hop }
 
--- what was found at a prefix as a list, which is empty where nothing was
+-- the offers found at a prefix, or the empty list if nothing was found
 abbrev pub offers_in : Option (List Offer) → List Offer
 offers_in None = []
 offers_in (Some offers) = offers
@@ -28,20 +28,20 @@ offers_at m p = offers_in (get m p)
 abbrev pub route_at : List (Option Route) → ℕ → Option Route
 route_at answers k = slice_index_or answers k None
 
--- what a look-up of each address finds
+-- the answer to a look-up of each address
 abbrev pub look_up_each : List Addr → List Route → List (Option Route)
 look_up_each addresses routes = map (λ addr. look_up addr routes) addresses
 
--- the routes of the map, those of its last prefix first, and each prefix's as they stand
+-- the routes of the map, with the last prefix first; each prefix's routes are in their usual order
 abbrev pub routes_backward : Map → List Route
 routes_backward [] = []
 routes_backward ((p, offers) ∷ rest) = routes_backward rest ++ map (route_by p) offers
 
--- the map holds the route: what stands at its prefix contains what it offers
+-- the map holds the route: the offers at its prefix contain its offer
 abbrev pub HasRoute : Map → Route → Type 0
 HasRoute m r = Contains (offers_at m r.prefix) (offer_of r)
 
--- what the laws of rt_trie say of maps with offers, and rt_cidr's of equal prefixes
+-- the theorems of rt_trie for maps of offers, and of rt_cidr for equal prefixes
 pub record MapLaws : Type 0 where
   pub put : PutIsSeen (List Offer)
   pub erase : EraseIsSeen (List Offer)

@@ -1,4 +1,4 @@
--- That a book's trie holds the book's table has one proof at most, so a ghost field may keep it.
+-- That a book's trie holds the book's table has at most one proof, so a ghost field may keep it.
 use Rattle.std.specs.Prelude.{◌≡◌, List}
 use Rattle.std.specs.Coded.{Coded-set, coded_list}
 use Rattle.std.proofs.Props.{props}

@@ -1,9 +1,9 @@
--- What is written, as the text of one value.
+-- Output as the text of one value.
 use Rattle.std.specs.Prelude.{◌≡◌, ℕ, ◌<◌, ◌≤◌, ◌^◌, List, ◌++◌, length, IfSome, Option, Result, Ok, Err}
 use Rattle.std.specs.List.{flat_map}
 use Rattle.std.specs.Io.KnownBytes.{Appends}
 use Rattle.rt_cidr.specs.Output.{AppendsBeginning}
-use Rattle.rt_rib.specs.declared.limits.TheConstants.{MOST_FEEDS}
+use Rattle.rt_rib.specs.declared.limits.TheConstants.{MAX_FEEDS}
 use Rattle.rt_feed.specs.declared.faults.RunFault.TheVariants as fault
 use Rattle.rt_feed.specs.Printed.{table_text}
 use Rattle.rt_feed.specs.Counts.{counts_as}
@@ -18,11 +18,12 @@ use Rattle.rt_run.specs.inside.Comparisons.{IsFirstOf, lines_of}
 use Rattle.rt_run.specs.RunText.{reports_text}
 use Rattle.rt_run.specs.TableText.{answers_text}
 
--- for each address, in order, all that was found for it
+-- for each address, in order, all routes that cover it
 abbrev pub matches_text : StyleContents → List AddressMatches → List ℕ
 matches_text style all = flat_map (λ one. all_found_as style.form (label_of style.labels) one.addr one.routes.items) all
 
--- the text of the reports and the table, of the answers, of all that was found, of the differences, of the routes or how many there are, or of a replay
+-- the text of the reports and the table, of the answers, of all covering routes, of the differences, of the routes or of their
+-- number, or of a replay
 abbrev pub output_text : Output → List ℕ
 output_text (output.Run reports routes) = reports_text 1 reports.now ++ table_text routes.now
 output_text (output.Answers style table fib addresses) = answers_text style.now addresses.now table.now.routes
@@ -32,10 +33,10 @@ output_text (output.Routes style routes) = rows_as style.now.form (label_of styl
 output_text (output.Counts style routes) = counts_as style.now.form (label_of style.now.labels) routes.now
 output_text (output.Replay steps inside) = replay_text_of steps.now inside
 
--- of reports there are at most as many as feeds, a forwarding table answers by the table, the difference is the
--- first, and of steps there are so many that each has a number
+-- there are no more reports than feeds; a forwarding table is made from the table; the difference is the first; and the
+-- number of steps fits into a step's number
 abbrev pub IsOutput : Output → Type 0
-IsOutput (output.Run reports routes) = length reports.now ≤ MOST_FEEDS
+IsOutput (output.Run reports routes) = length reports.now ≤ MAX_FEEDS
 IsOutput (output.Answers style table fib addresses) = IfSome fib.now (λ fib. fib ≡ table.now.routes)
 IsOutput (output.Matches style all) = Unit {0}
 IsOutput (output.Differences asked old new first) = IsFirstOf asked.now old.now.routes new.now.routes first
@@ -43,7 +44,7 @@ IsOutput (output.Routes style routes) = Unit {0}
 IsOutput (output.Counts style routes) = Unit {0}
 IsOutput (output.Replay steps inside) = length steps.now < 2 ^ 63
 
--- the text was put behind what the writer had; nothing was, for want of memory; or a beginning of the text
+-- the text was appended to the writer's contents; or nothing, if memory ran out; or a beginning of the text
 abbrev pub Writes : List ℕ → Option (List ℕ) → Option (List ℕ) → Result (Unit {0}) AppFault → Type 0
 Writes text old new (Ok done) = Appends old new text
 Writes text old new (Err (Run refusal)) = (refusal ≡ fault.Memory) × (new ≡ old)

@@ -1,4 +1,4 @@
--- Texts that are executed one after another: what a command, a line, a text and the texts so far have done.
+-- Texts that are executed one after another: the effect of a command, a line, a text and the texts so far.
 use Rattle.std.specs.Prelude.{◌≡◌, ℕ, ◌+◌, ◌<◌, ◌≤◌, List, [], ◌∷◌, ◌++◌, length, map, Option}
 use Rattle.rt_rib.specs.declared.commands.Cmd.{Cmd}
 use Rattle.rt_rib.specs.declared.commands.Entry.{Entry}
@@ -9,9 +9,9 @@ use Rattle.rt_shared.specs.Visits.{visit_of, entries}
 use Rattle.rt_feed.specs.declared.report.Answer.{Answer}
 use Rattle.rt_feed.specs.declared.versions.Version.{Version}
 use Rattle.rt_feed.specs.Grammar.{AnswersLine}
-use Rattle.rt_feed.specs.Lines.{LineOutcome, Becomes, LinesBecome, reading, command_answer, line_answer, report_lines, asked_by, asked_of}
-use Rattle.rt_run.specs.declared.tallies.Tally.{Tally}
-use Rattle.rt_run.specs.RunText.{IsHistory, reports_of}
+use Rattle.rt_feed.specs.Lines.{LineOutcome, TextYields, LinesYield, reading, command_answer, line_answer, report_lines, command_of, commands_of}
+use Rattle.rt_run.specs.declared.tallies.RejectedInput.{RejectedInput}
+use Rattle.rt_run.specs.RunText.{IsJournalOfRun, reports_of}
 use Rattle.rt_run.specs.TableText.{tally_of}
 
 -- the feed's commands had these outcomes: to each lawful journal that leaves the old routes their entries may be appended, and
@@ -33,26 +33,26 @@ pub record ExecutesLine (version : Version) (feed : ℕ) (line : List ℕ) (old 
   pub outcome : LineOutcome
   pub reads : AnswersLine version line (reading outcome)
   pub answered : answer ≡ line_answer outcome
-  pub continued : Continues feed (asked_by outcome) old new
+  pub continued : Continues feed (command_of outcome) old new
 
 -- the whole text was executed, and this is the tally of the report that it would have
-pub record ExecutesText (feed : ℕ) (text : List ℕ) (old new : TableState) (tally : Tally) : Type 0 where
+pub record ExecutesText (feed : ℕ) (text : List ℕ) (old new : TableState) (tally : RejectedInput) : Type 0 where
   pub outcomes : List LineOutcome
-  pub becomes : Becomes text outcomes []
-  pub continued : Continues feed (asked_of outcomes) old new
+  pub becomes : TextYields text outcomes []
+  pub continued : Continues feed (commands_of outcomes) old new
   pub tallied : tally ≡ tally_of (report_lines 1 outcomes)
 
--- so many lines of the text were executed: whatever the rest becomes, the text becomes these lines and then those
-pub record IsExecuting (version : Version) (feed : ℕ) (text rest : List ℕ) (number : ℕ) (old now : TableState) (tally : Tally) : Type 0 where
+-- the first lines of the text were executed: whatever the rest becomes, the text becomes these lines and then the rest
+pub record IsExecuting (version : Version) (feed : ℕ) (text rest : List ℕ) (number : ℕ) (old now : TableState) (tally : RejectedInput) : Type 0 where
   pub outcomes : List LineOutcome
-  pub onward : (more : List LineOutcome) → LinesBecome version rest more [] → Becomes text (outcomes ++ more) []
+  pub onward : (more : List LineOutcome) → LinesYield version rest more [] → TextYields text (outcomes ++ more) []
   pub counted : number ≡ length outcomes
   pub within : number + length rest ≤ length text
-  pub continued : Continues feed (asked_of outcomes) old now
+  pub continued : Continues feed (commands_of outcomes) old now
   pub tallied : tally ≡ tally_of (report_lines 1 outcomes)
 
 -- fewer lines were counted than this number
-pub record IsBelow (number : ℕ) (tally : Tally) : Type 0 where
+pub record IsBelow (number : ℕ) (tally : RejectedInput) : Type 0 where
   pub faulty : tally.faulty.count < number
   pub full : tally.full < number
   pub existing : tally.existing < number
@@ -60,10 +60,10 @@ pub record IsBelow (number : ℕ) (tally : Tally) : Type 0 where
   pub refused : tally.refused < number
 
 -- these texts were run to their ends: some history of them leaves the table, and these are the tallies of their reports
-pub record LeavesSoFar (texts : List (List ℕ)) (limit batch : ℕ) (table : TableState) (tallies : List Tally) : Type 0 where
+pub record LeavesSoFar (texts : List (List ℕ)) (limit batch : ℕ) (table : TableState) (tallies : List RejectedInput) : Type 0 where
   pub limited : table.limit ≡ limit
   pub journal : List Entry
   pub outcomes : List (List LineOutcome)
-  pub history : IsHistory texts limit batch journal outcomes
+  pub history : IsJournalOfRun texts limit batch journal outcomes
   pub left : table.routes ≡ table_of_journal limit journal
   pub tallied : tallies ≡ map tally_of (reports_of outcomes)

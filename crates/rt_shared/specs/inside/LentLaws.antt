@@ -1,4 +1,4 @@
--- Why the relations of a lent book meet the laws of what a lock lends.
+-- The relations of a lent book satisfy the laws of a lent value.
 use Rattle.std.proofs.Common.{◌≡◌, ◌≢◌, ℕ, List, [], ◌++◌, refl, sym, ap, ◌∙◌, append_assoc, append-nil, subst, arith}
 use Rattle.std.proofs.lemmas.List.Elements.{All-nil, All-append, All-weaker}
 use Rattle.rt_rib.specs.declared.commands.Entry.{Entry}
@@ -6,11 +6,11 @@ use Rattle.rt_shared.specs.declared.lent.Lent.{Lent}
 use Rattle.rt_shared.specs.Visits.{AllBy, NoneBy, Since}
 use Rattle.rt_shared.specs.Table.{feed_of, HasSameBounds, GrowsByOthers, GrowsByFeed}
 
--- nothing may have happened
+-- others may have added nothing
 pub since_same : (feed : ℕ) (journal : List Entry) → Since feed journal journal
 since_same feed journal = record { others = []; grown = sym (append-nil journal); by_others = All-nil _ }
 
--- what others add twice they add
+-- entries that others add after other entries by others are added by others
 pub since_others : (feed : ℕ) (a b own : List Entry) → Since feed a b → NoneBy feed own → Since feed a (b ++ own)
 since_others feed a b own s none = record {
   others = s.others ++ own;
@@ -18,7 +18,7 @@ since_others feed a b own s none = record {
   by_others = All-append (λ e. e.feed ≢ feed) s.others own s.by_others none;
 }
 
--- what is one feed's is no other's
+-- an entry of one feed belongs to no other feed
 pub none_by_other : (feed other : ℕ) → other ≢ feed → (own : List Entry) → AllBy other own → NoneBy feed own
 none_by_other feed other ne own all = All-weaker (λ e. e.feed ≡ other) (λ e. e.feed ≢ feed) (λ e is same. ne (sym is ∙ same)) own all
 

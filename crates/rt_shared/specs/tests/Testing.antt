@@ -1,4 +1,4 @@
--- The passes of a table of two feeds. For the tests.
+-- The passes of a table of two feeds, for tests.
 use Rattle.std.specs.Prelude.{◌≡◌}
 use Rattle.rt_shared.specs.Table.{SharedId, HeldPass}
 

@@ -1,5 +1,5 @@
--- What a link holds: its pairs in order, how many nodes, and of which kind its node is; and what a look-up has still to
--- find there. In a list in order the last pair that covers an address is the longest that does.
+-- The contents of a link: its pairs in order, the number of its nodes, the kind of its node, and what a look-up can
+-- still find there. In an ordered list, the last pair that covers an address is the longest one that does.
 use Rattle.std.specs.Prelude.{◌≡◌, ℕ, Box, ◌+◌, ◌++◌, [], ◌∷◌, Option, Some, None, IsNone, ◌⊎◌, ◌≤◌, nat_le, filter, IfSome, if◌then◌else◌}
 use Rattle.std.specs.Prelude.{Bool, ◌&&◌}
 use Rattle.std.specs.Option.{option_copied}
@@ -31,7 +31,7 @@ pairs (Leaf len base b) = own_pair b.value.prefix (Some b.value.value)
 pairs (Fork' len base p left right q) = pairs left ++ pairs right
 pairs (Full' len base p left right q v) = own_pair q v ++ (pairs left ++ pairs right)
 
--- how many nodes
+-- the number of nodes
 abbrev pub count : {V A : Type 0} → Link V A → ℕ
 count Empty = 0
 count (Leaf len base b) = 1
@@ -62,14 +62,14 @@ IsForkOf q (Leaf len base b) = ⊥
 IsForkOf q (Fork' len base p left right prefix) = prefix ≡ q
 IsForkOf q (Full' len base p left right prefix v) = ⊥
 
--- the link holds a node with this base, and p stands there as seen from it
+-- the link holds a node with this base, and this is the position of p relative to it
 pub record IsSeenFrom {V A : Type 0} (link : Link V A) (base : ℕ) (p : Prefix) (position : Position) : Type 0 where
   pub node : Prefix
   pub root_is : root link ≡ Some node
   pub base_is : base ≡ node.base
   pub stands : StandsAt node p position
 
--- the link holds nothing
+-- the link is empty
 abbrev pub IsVacant : {V A : Type 0} → Link V A → Type 0
 IsVacant link = IsNone (root link)
 
@@ -80,7 +80,7 @@ IsLone (Leaf len base b) = ⊥
 IsLone (Fork' len base p left right q) = IsVacant left ⊎ IsVacant right
 IsLone (Full' len base p left right q v) = (v ≡ None) × (IsVacant left ⊎ IsVacant right)
 
--- the link holds a node of this prefix, value and sides, and what stands below it is lawful
+-- the link holds a node with this prefix, value and sides, and everything below it is lawful
 pub record IsNode {V A : Type 0} (link : Link V A) (q : Prefix) (v : Option V) (left right : Link V A) : Type 0 where
   pub pairs_are : pairs link ≡ own_pair q v ++ (pairs left ++ pairs right)
   pub root_is : root link ≡ Some q
@@ -89,7 +89,7 @@ pub record IsNode {V A : Type 0} (link : Link V A) (q : Prefix) (v : Option V) (
   pub left_lawful : IsLawfulTrie left
   pub right_lawful : IsLawfulTrie right
 
--- the view is of the node that the link holds, where what stands below it is lawful: its pairs, or its prefix, value and sides
+-- the view shows the link's node: its pairs, or, if everything below is lawful, its prefix, value and sides
 abbrev pub IsNodeView : {V A : Type 0} → Link V A → NodeView V A → Type 0
 IsNodeView link Vacant = pairs link ≡ []
 IsNodeView link (Single q v) = pairs link ≡ (q, v.now) ∷ []
@@ -107,35 +107,35 @@ abbrev pub last_cover : {V : Type 0} → Pairs V → Addr → Option (Prefix × 
 last_cover [] a = None
 last_cover ((q, v) ∷ rest) a = or_else (last_cover rest a) (if covers q a then Some (q, v) else None)
 
--- the pairs whose prefix is no longer than that
+-- the pairs whose prefix has at most `most` bits
 abbrev pub no_longer : {V : Type 0} → ℕ → Pairs V → Pairs V
 no_longer most m = filter (λ x. nat_le x.0.len most) m
 
--- the link's node, if it holds one, is no longer than that
+-- the link's node, if it holds one, has at most `most` bits
 abbrev pub IsNoLonger : {V A : Type 0} → ℕ → Link V A → Type 0
 IsNoLonger most link = IfSome (root link) (λ q. q.len ≤ most)
 
--- the pairs below the link where it goes on
+-- the pairs below the link at which a look-up continues
 abbrev pub pairs_below : {V A : Type 0} → Option (Bor (Link V A)) → Pairs V
 pairs_below None = []
 pairs_below (Some link) = pairs link.now
 
--- what is found at last: below the link where the look-up goes on, or else the best so far
+-- the final answer: from below the link at which the look-up continues, or else the best so far
 abbrev pub sought : {V A : Type 0} → Option (Bor (Link V A)) → Addr → Option (Prefix × V) → Option (Prefix × V)
 sought next a best = or_else (last_cover (pairs_below next) a) best
 
--- whether the prefix is no longer than that, and covers the address
+-- true if the prefix has at most `most` bits and covers the address
 abbrev pub covers_to : ℕ → Prefix → Addr → Bool
 covers_to most q a = nat_le q.len most && covers q a
 
--- the pairs whose prefix is and does so
+-- the pairs whose prefix has at most `most` bits and covers the address
 abbrev pub covering_to : {V : Type 0} → ℕ → Pairs V → Addr → Pairs V
 covering_to most m a = filter (λ x. covers_to most x.0 a) m
 
--- the pairs whose prefix is and does so below the link where the walk over them goes on
+-- the same pairs below the link at which the iteration over them continues
 abbrev pub covering_below : {V A : Type 0} → Option (Bor (Link V A)) → ℕ → Addr → Pairs V
 covering_below next most a = covering_to most (pairs_below next) a
 
--- the link where it goes on is lawful
+-- the link at which the descent continues is lawful below
 abbrev pub IsLawfulOn : {V A : Type 0} → Option (Bor (Link V A)) → Type 0
 IsLawfulOn next = IfSome next (λ link. IsLawfulBelow link.now)

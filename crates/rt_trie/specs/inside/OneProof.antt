@@ -1,4 +1,4 @@
--- That a trie is lawful, and that pairs are in order, has one proof at most, so a ghost field may keep it.
+-- That a trie is lawful, and that pairs are in order, each has at most one proof, so a ghost field may keep it.
 use Rattle.std.specs.Prelude.{◌≡◌, Bool, List, [], ◌∷◌}
 use Rattle.std.specs.Coded.{Coded-set, coded_list, ×_prop, Unit-prop}
 use Rattle.std.proofs.Props.{props}

@@ -1,8 +1,8 @@
--- A list of references, by what they point to.
+-- Lists of references, by the values that they point to.
 use Rattle.std.specs.Prelude.{ℕ, zero, suc, List, [], ◌∷◌, Option, Some, None}
 use Rattle.std.specs.Borrow.{Bor}
 
--- what the reference at an index points to
+-- the value that the reference at an index points to
 abbrev pub link_at : {X : Type 0} → List (Bor X) → ℕ → Option X
 link_at [] k = None
 link_at (x ∷ xs) zero = Some x.now

@@ -1,4 +1,4 @@
--- What callers see of a trie: a finite map, and how many nodes it takes.
+-- A trie as callers see it: a finite map, with its nodes.
 use Rattle.std.specs.Prelude.{◌≡◌, length}
 use Rattle.rt_trie.specs.declared.tries.Trie.TheInside.{Inside}
 use Rattle.rt_trie.specs.inside.Links.{pairs, count}

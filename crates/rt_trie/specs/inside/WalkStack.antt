@@ -1,4 +1,4 @@
--- What a walk has still to give: the pairs of the links on its stack, the last one first.
+-- What a walk has still to return: the pairs of the links on its stack, the last one first.
 use Rattle.std.specs.Prelude.{◌≡◌, ℕ, zero, suc, ◌+◌, ◌<◌, ◌≤◌, ◌++◌, List, [], Option, Some, None, IfSome, IsSomeAnd, length}
 use Rattle.std.specs.Borrow.{Bor}
 use Rattle.rt_cidr.specs.declared.prefixes.Prefix.{Prefix}
@@ -22,23 +22,23 @@ abbrev pub stack_pairs : {V A : Type 0} → List (Bor (Link V A)) → ℕ → Pa
 stack_pairs xs zero = []
 stack_pairs xs (suc k) = pairs_of (link_at xs k) ++ stack_pairs xs k
 
--- a link that is lawful, and whose node, if it has one, has at least that length
+-- the link is lawful, and its node, if it has one, has at least length k
 abbrev pub IsFrom : {V A : Type 0} → ℕ → Link V A → Type 0
 IsFrom k link = IsLawfulTrie link × IfSome (root link) (λ q. k ≤ q.len)
 
--- the links of the stack are lawful, and the node at each index has at least that length
+-- the links of the stack are lawful, and the node at each index is at least as long as the index
 pub record IsWalkStack {V A : Type 0} (xs : List (Bor (Link V A))) (len : ℕ) : Type 0 where
   pub size : length xs ≡ PLACES
   pub few : len ≤ PLACES
   pub each : (k : ℕ) → k < len → IsSomeAnd (link_at xs k) (IsFrom k)
 
--- a lawful link with fewer nodes than the other, whose node, if it has one, is longer than a node of the other
+-- a lawful link with fewer nodes than the other, whose node, if it has one, is longer than the other's
 pub record IsSideOf {V A : Type 0} (link side : Link V A) : Type 0 where
   pub lawful : IsLawfulTrie side
   pub fewer : count side < count link
   pub above : (k : ℕ) → IsFrom k link → (k ≤ 32) × IsFrom (k + 1) side
 
--- it is told where the pairs of the link are that come from p on, and what the sides are
+-- the step says where the pairs of the link from p on are, and its sides are lawful, with fewer nodes
 abbrev pub IsStepTo : {V A : Type 0} → Link V A → Prefix → StepTo V A → Type 0
 IsStepTo link p Whole = (from_prefix (pairs link) p ≡ pairs link) × IsFilled link
 IsStepTo link p Nothing = from_prefix (pairs link) p ≡ []

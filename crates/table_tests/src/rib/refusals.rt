@@ -1,6 +1,5 @@
-//! A book whose memory is refused: each growth of each command in turn.
-use super::plain::Plain;
-use super::{add, addr, ask, assert_routes, assert_same, prefix, region, route, via};
+//! A book whose allocations fail: each growth of each command in turn.
+use super::{add, addr, answered, ask, assert_routes, assert_same, prefix, region, route, via};
 use linked_list_allocator::LocalHeap;
 use rt_cidr::{Addr, Prefix};
 use rt_rib::*;
@@ -8,20 +7,20 @@ use std::alloc::Global;
 use std::process::Abort;
 use test_support::take_the_rest;
 
-/// How many routes a feed may have.
+/// The maximum number of routes of a feed.
 const LIMIT: u32 = 5;
 
-/// The blocks that a region is filled with.
+/// The blocks that fill a region.
 type Blocks<'h> = Vec<Box<u8, &'h LocalHeap>>;
 
-/// All memory that the region still has, in blocks of its least size.
+/// Allocates all memory that the region still has, in blocks of its smallest size.
 fn all_the_rest<'h>(rt: &impl Abort, alloc: Global, heap: &'h LocalHeap) -> Blocks<'h> {
     let mut blocks = Vec::new(alloc);
     take_the_rest(heap, &mut blocks).expect(rt, "a small region");
     blocks
 }
 
-/// Takes up the room that the journal still has, where there is no memory for more.
+/// Uses up the room that the journal still has, without memory for more.
 fn fill(rt: &impl Abort, book: &mut Book<&LocalHeap>) {
     for _ in 0..100u32 {
         if book.apply(2, Cmd::Dump).is_err() {
@@ -31,7 +30,7 @@ fn fill(rt: &impl Abort, book: &mut Book<&LocalHeap>) {
     panic!(rt; "the journal is too large");
 }
 
-/// The command that puts in the route.
+/// Returns the command that inserts the route.
 fn adding(route: &Route) -> Cmd {
     Cmd::Add {
         prefix: route.prefix,
@@ -40,7 +39,7 @@ fn adding(route: &Route) -> Cmd {
     }
 }
 
-/// A book of these routes, with five entries, so that its journal has room for more.
+/// Returns a book of these routes, with five entries, so that its journal has room for more.
 fn book_of<'h>(rt: &impl Abort, heap: &'h LocalHeap, routes: &[Route]) -> Book<&'h LocalHeap> {
     let mut book = Book::new(heap, LIMIT);
     for route in routes {
@@ -53,23 +52,23 @@ fn book_of<'h>(rt: &impl Abort, heap: &'h LocalHeap, routes: &[Route]) -> Book<&
     book
 }
 
-/// What the list answers the command of a feed.
-fn plain_reply(rt: &impl Abort, alloc: Global, plain: &mut Plain, feed: u32, cmd: Cmd) -> Reply {
-    plain.apply(alloc, feed, cmd).expect(rt, "memory")
-}
-
-/// What the list with these routes answers the command of feed 1, and the routes that it then has.
-fn by_the_list(rt: &impl Abort, alloc: Global, routes: &[Route], cmd: Cmd) -> (Reply, Vec<Route>) {
-    let mut plain = Plain::new(alloc, LIMIT);
+/// Returns the reply of a book with these routes and ample memory to the command of feed 1, and its routes after it.
+fn with_ample_memory(
+    rt: &impl Abort,
+    alloc: Global,
+    routes: &[Route],
+    cmd: Cmd,
+) -> (Reply, Vec<Route>) {
+    let mut book = Book::new(alloc, LIMIT);
     for route in routes {
-        plain_reply(rt, alloc, &mut plain, route.feed, adding(route));
+        ask(rt, &mut book, (route.feed, adding(route), Reply::Added));
     }
-    let reply = plain_reply(rt, alloc, &mut plain, 1, cmd);
-    (reply, plain.sorted().expect(rt, "memory"))
+    let reply = answered(rt, &mut book, 1, cmd);
+    (reply, book.routes(alloc).expect(rt, "memory"))
 }
 
-/// Asks the command of feed 1, which is answered so or refused. A refusal leaves the book these entries and routes.
-/// Answers whether it was refused.
+/// Executes the command of feed 1, which has this reply or fails. A failure leaves the book these entries and routes.
+/// Returns true if it failed.
 fn is_refused<'h>(
     rt: &impl Abort,
     spare: &'h LocalHeap,
@@ -93,8 +92,8 @@ fn is_refused<'h>(
     true
 }
 
-/// Asks the command of feed 1, and gives back a block after each refusal, until it is answered so: how often it was
-/// refused.
+/// Executes the command of feed 1, and frees a block after each failure, until it has this reply; returns the number of
+/// failures.
 fn refusals<'h>(
     rt: &impl Abort,
     spare: &'h LocalHeap,
@@ -113,8 +112,8 @@ fn refusals<'h>(
     panic!(rt; "never answered");
 }
 
-/// Asks the command of a book in a region of which the rest is taken. Where the journal has room for the entry, it is
-/// refused exactly where it puts in a route that doesn't fit into its prefix's list.
+/// Executes the command on a book in a full region. If the journal has room for the entry, the command fails if and
+/// only if it inserts a route that doesn't fit into its prefix's list.
 fn starve<'h>(
     rt: &impl Abort,
     alloc: Global,
@@ -133,7 +132,7 @@ fn starve<'h>(
     assert_same(rt, "refused", refused > 0, is_short);
 }
 
-/// Asks the command of a book of these routes, all of whose memory is taken, and then lists its routes.
+/// Executes the command on a book of these routes, in a full region, and then lists its routes.
 fn starve_book_of(
     rt: &impl Abort,
     alloc: Global,
@@ -142,13 +141,13 @@ fn starve_book_of(
     room: (bool, bool),
     cmd: Cmd,
 ) {
-    let (ample, after) = by_the_list(rt, alloc, routes, cmd);
+    let (ample, after) = with_ample_memory(rt, alloc, routes, cmd);
     let mut book = book_of(rt, heaps.0, routes);
     starve(rt, alloc, heaps, &mut book, room, (cmd, ample));
     assert_routes(rt, heaps.0, &book, &after);
 }
 
-/// One of each command, and three adds: at the prefix, below it, and of one that parts from it.
+/// Returns one of each command, and three adds: at the prefix, below it, and of one that diverges from it.
 fn commands(rt: &impl Abort, wide: Prefix) -> [Cmd; 8] {
     [
         add(wide, 3, 1),
@@ -168,7 +167,7 @@ fn commands(rt: &impl Abort, wide: Prefix) -> [Cmd; 8] {
     ]
 }
 
-/// Asks each command of a book of the first of these routes, none at first and then one more each time.
+/// Executes each command on a book of the first of these routes: first of none, and then of one more each time.
 fn starve_books_of(
     rt: &impl Abort,
     alloc: Global,
@@ -187,15 +186,16 @@ fn starve_books_of(
     }
 }
 
-/// Fails where `Book::routes` takes its memory from the book's allocator, not from the one that it is given.
-/// Fails where `Added` is answered where the trie was refused a node: nothing was refused where something had to be.
+/// Catches a `Book::routes` that allocates with the book's allocator instead of the given one.
+/// Catches an `apply` that returns `Added` though the trie couldn't allocate a node: nothing was refused where
+/// something had to be.
 #[test]
 fn each_growth_of_each_command_refused_in_turn(rt: HostRuntime) {
     let heap = region(&rt, rt.alloc(), 4_096);
     let spare = region(&rt, rt.alloc(), 4_096);
     let wide = prefix(&rt, addr(10, 0, 0, 0), 8);
     let cmds = commands(&rt, wide);
-    // One offer of the feed at the prefix among others, and others alone.
+    // An offer of the feed at the prefix among others, and only others.
     let own = [route(wide, 1, 5), route(wide, 2, 4), route(wide, 3, 5)];
     starve_books_of(&rt, rt.alloc(), (&heap, &spare), &own, &cmds);
     let others = [route(wide, 2, 4), route(wide, 3, 5), route(wide, 4, 1)];
@@ -203,8 +203,8 @@ fn each_growth_of_each_command_refused_in_turn(rt: HostRuntime) {
     assert_eq!(rt; heap.used(), 0);
 }
 
-/// Asks the command of feed 1 where all memory is taken, and gives it back. It is refused and makes no entry, and a
-/// dump still tells this number of routes.
+/// Executes the command of feed 1 in a full region, and then frees the region. The command fails and makes no entry,
+/// and a dump still returns this number of routes.
 fn refuse<'h>(
     rt: &impl Abort,
     alloc: Global,
@@ -220,12 +220,12 @@ fn refuse<'h>(
     ask(rt, book, (1, Cmd::Dump, Reply::Dumped(routes)));
 }
 
-/// Asks for room for so many entries, which is refused.
+/// Requests room for this number of entries, which fails.
 fn refuse_room(rt: &impl Abort, book: &mut Book<&LocalHeap>, entries: usize) {
     assert_eq!(rt; book.reserve(entries), Err(Refused), "{entries} entries");
 }
 
-/// Reserves room for nine entries, and fills it where all memory is taken.
+/// Reserves room for nine entries, and fills it in a full region.
 fn fill_reserved<'h>(
     rt: &impl Abort,
     alloc: Global,
@@ -240,7 +240,7 @@ fn fill_reserved<'h>(
     }
 }
 
-/// Fails where `reserve` answers `Ok` though memory is refused, or a refused one leaves the book with less room.
+/// Catches a `reserve` that returns `Ok` though memory runs out, or one that fails and leaves the book with less room.
 #[test]
 fn reserved_room_lasts_where_all_memory_is_taken(rt: HostRuntime) {
     let heap = region(&rt, rt.alloc(), 4_096);
@@ -255,8 +255,8 @@ fn reserved_room_lasts_where_all_memory_is_taken(rt: HostRuntime) {
     assert_same(&rt, "entries", book.journal().len(), 10);
 }
 
-/// Looks up all that covers the address, in memory of the spare region: that is all routes of the book, or it is
-/// refused.
+/// Looks up all routes for the address, with memory of the spare region: the result has all routes of the book, or the
+/// look-up fails. Returns true if it failed.
 fn is_look_up_refused<'h>(
     rt: &impl Abort,
     book: &Book<&'h LocalHeap>,
@@ -271,8 +271,8 @@ fn is_look_up_refused<'h>(
     false
 }
 
-/// Looks up all that covers the address, and gives back a block of the spare region after each refusal, until it is
-/// answered: how often it was refused.
+/// Looks up all routes for the address, and frees a block of the spare region after each failure, until it succeeds;
+/// returns the number of failures.
 fn refused_look_ups<'h>(
     rt: &impl Abort,
     book: &Book<&'h LocalHeap>,
@@ -289,7 +289,7 @@ fn refused_look_ups<'h>(
     panic!(rt; "never answered");
 }
 
-/// Fails where a look-up of all answers with what it has found so far where a growth of its list is refused.
+/// Catches a look-up of all that returns what it has found so far if its list can't grow.
 #[test]
 fn a_look_up_of_all_is_refused_or_whole(rt: HostRuntime) {
     let heap = region(&rt, rt.alloc(), 16_384);
@@ -306,7 +306,7 @@ fn a_look_up_of_all_is_refused_or_whole(rt: HostRuntime) {
     let mut blocks = all_the_rest(&rt, rt.alloc(), &spare);
     let inner = addr(10, 1, 2, 3);
     let refused = refused_look_ups(&rt, &book, (&heap, &spare), &mut blocks, inner);
-    // Each growth of the list was refused; the last one takes a quarter of the region and more.
+    // Each growth of the list failed once; the last one needs a quarter of the region and more.
     assert!(rt; refused > 4);
     assert_same(&rt, "entries", book.journal().len(), 40);
 }
@@ -320,7 +320,7 @@ fn refused_room_for_a_route_makes_no_entry(rt: HostRuntime) {
         let cmd = add(prefix(&rt, addr(first, 0, 0, 0), 8), 1, 1);
         ask(&rt, &mut book, (1, cmd, Reply::Added));
     }
-    // The journal has room, and there is none for a node.
+    // The journal has room, but no memory is left for a node.
     let next = add(prefix(&rt, addr(200, 0, 0, 0), 8), 1, 1);
     refuse(&rt, rt.alloc(), &heap, &mut book, next, 4);
     ask(&rt, &mut book, (1, next, Reply::Added));

@@ -1,25 +1,25 @@
-//! A book at its greatest sizes and values: where memory is ample, each command is answered.
+//! A book at its maximum sizes and values: with enough memory, each command is answered.
 use super::{add, addr, answered, ask, assert_same, prefix, route, via};
 use rt_cidr::Addr;
 use rt_rib::*;
 use std::alloc::Global;
 use std::process::Abort;
 
-/// The greatest number that a feed may have.
+/// The highest feed number.
 const LAST_FEED: u32 = 64;
 
-/// How many routes the large table has: more than 65,536.
+/// The number of routes of the large table: more than 65,536.
 const ROUTES: u32 = 66_000;
 
-/// How many entries the long journal has: more than a million, and no fewer than the room that it has after its last
-/// growth but one, so that it has grown beyond a million.
+/// The number of entries of the long journal: more than a million, and at least as many as it has room for after its
+/// last growth but one, so that it has grown beyond a million.
 const ENTRIES: u32 = 1_050_000;
 
-/// How many entries the large table's journal has before the purge: as many as it has room for, which is a power of
+/// The number of entries of the large table's journal before the purge: as many as it has room for, which is a power of
 /// two.
 const FULL: usize = 131_072;
 
-/// The last address and feed, and the greatest preference.
+/// Returns the route with the last address and feed, and the highest preference number.
 fn greatest(rt: &impl Abort) -> Route {
     Route {
         prefix: prefix(rt, addr(255, 255, 255, 255), 32),
@@ -29,8 +29,8 @@ fn greatest(rt: &impl Abort) -> Route {
     }
 }
 
-/// Each command of the last feed with the greatest values, what it is answered in an empty table, and what one after
-/// the other.
+/// Returns each command of the last feed with the highest values, its reply in an empty table, and its reply after the
+/// previous ones.
 fn rows(route: Route) -> [(Cmd, Reply, Reply); 6] {
     let Route {
         prefix,
@@ -53,19 +53,19 @@ fn rows(route: Route) -> [(Cmd, Reply, Reply); 6] {
     ]
 }
 
-/// Fails where `Book::apply` refuses the greatest address, preference or feed, in an `add` or where the journal has to
-/// grow.
+/// Catches a `Book::apply` that fails for the highest address, preference or feed, in an `add` or when the journal has
+/// to grow.
 #[test]
 fn the_greatest_values_are_answered(rt: HostRuntime) {
     let mut book = Book::new(rt.alloc(), 1_000_000);
     for (cmd, alone, reply) in rows(greatest(&rt)) {
         ask(&rt, &mut book, (LAST_FEED, cmd, reply));
-        // Each by itself, where the journal has no room yet.
+        // Each in a new book, whose journal has no room yet.
         ask(&rt, &mut Book::new(rt.alloc(), 1), (LAST_FEED, cmd, alone));
     }
 }
 
-/// Fails where an `add` of a prefix that has 4, 8 or 63 offers is refused.
+/// Catches an `add` that fails for a prefix with 4, 8 or 63 offers.
 #[test]
 fn every_feed_offers_one_prefix(rt: HostRuntime) {
     let mut book = Book::new(rt.alloc(), 1);
@@ -83,7 +83,7 @@ fn every_feed_offers_one_prefix(rt: HostRuntime) {
     assert_same(&rt, "routes", count_of_routes(&rt, rt.alloc(), &book), 64);
 }
 
-/// How many routes the book lists.
+/// Returns the number of routes that the book lists.
 fn count_of_routes(rt: &impl Abort, alloc: Global, book: &Book<Global>) -> usize {
     book.routes(alloc).expect(rt, "memory").len()
 }
@@ -100,8 +100,8 @@ fn fill(rt: &impl Abort, book: &mut Book<Global>) {
     }
 }
 
-/// Fails where `Book::routes` refuses beyond 65,536 routes.
-/// Fails where a purge of more than 1,024 routes is refused where the journal has to grow.
+/// Catches a `Book::routes` that fails beyond 65,536 routes.
+/// Catches a purge of more than 1,024 routes that fails when the journal has to grow.
 #[test]
 fn more_than_65_536_routes_are_listed_and_purged(rt: HostRuntime) {
     let mut book = Book::new(rt.alloc(), 1_000_000);
@@ -115,7 +115,7 @@ fn more_than_65_536_routes_are_listed_and_purged(rt: HostRuntime) {
     );
 }
 
-/// Fails where `Book::apply` refuses beyond 200,000 or 1,000,000 entries.
+/// Catches a `Book::apply` that fails beyond 200,000 or 1,000,000 entries.
 #[test]
 fn more_than_a_million_entries_are_kept(rt: HostRuntime) {
     let mut book = Book::new(rt.alloc(), 1);

@@ -1,4 +1,4 @@
-//! Insertions that succeed, and those that are refused memory, which change nothing to be seen.
+//! Insertions that succeed, and insertions that fail because memory runs out, which have no visible effect.
 
 use super::{
     Blocks, STORED, assert_after, assert_counts, assert_found, assert_longest, assert_pairs,
@@ -11,8 +11,8 @@ use rt_trie::Trie;
 use std::alloc::{Allocator, Global};
 use std::process::Abort;
 
-/// Asks to put in a new pair, and adds it to the list where it is put in. Where memory is refused the value comes back
-/// and no node is made.
+/// Inserts a new pair, and adds it to the list if that succeeds. If memory runs out, the value is returned and no node
+/// is made.
 fn ask<A: Allocator + Copy>(
     rt: &impl Abort,
     trie: &mut Trie<u32, A>,
@@ -43,7 +43,7 @@ fn a_region_of_512_bytes_refuses_and_keeps(rt: HostRuntime) {
     assert!(rt; 1 < stored.len() && stored.len() < 64);
 }
 
-/// What stays where memory is refused: the pairs, the nodes, and nothing at the new prefix.
+/// Checks what stays if memory runs out: the pairs and the nodes, with nothing at the new prefix.
 fn assert_kept<A: Allocator + Copy>(
     rt: &impl Abort,
     trie: &Trie<u32, A>,
@@ -56,7 +56,7 @@ fn assert_kept<A: Allocator + Copy>(
     assert_pairs(rt, trie, pairs);
 }
 
-/// Asks to put in the value 7. Where memory is refused it comes back, and trie and region are as they were.
+/// Inserts the value 7. If memory runs out, the value is returned, and trie and region are unchanged.
 fn is_put_in<'h>(
     rt: &impl Abort,
     heap: &'h LocalHeap,
@@ -77,7 +77,7 @@ fn is_put_in<'h>(
     false
 }
 
-/// Gives back one block more each time, until the prefix is put in: how often it was refused.
+/// Frees one block more each time, until the prefix is inserted; returns the number of failures.
 fn refusals<'h>(
     rt: &impl Abort,
     heap: &'h LocalHeap,
@@ -95,9 +95,9 @@ fn refusals<'h>(
     panic!(rt; "never put in");
 }
 
-/// Puts in the pairs, then the new one, in a region that is full, then with one block, and so on until it is put in. So
-/// each box that the insertion asks for is refused, the first at the start and the last just before the end; each time
-/// the trie is as it was, and the region too.
+/// Inserts the pairs, and then the new one: first in a full region, then with one free block, and so on until it
+/// succeeds. So each allocation of the insertion fails once, from the first to the last; each time trie and region are
+/// unchanged.
 fn refuse_each_box(
     rt: &impl Abort,
     alloc: Global,
@@ -121,9 +121,9 @@ const APART: &str = "192.0.2.0/24";
 
 const LOW: &str = "1.0.0.0/8";
 
-/// What is stored, and the new prefix.
+/// The stored prefixes, and the new one.
 static INSERTIONS: [(&[&str], &str); 19] = [
-    // A leaf where nothing was.
+    // A leaf in an empty link.
     (&[], WIDE),
     // A leaf that becomes a full node, with the new one on either side.
     (&[WIDE], ONE),
@@ -136,7 +136,7 @@ static INSERTIONS: [(&[&str], &str); 19] = [
     (&[WIDE, ONE], "0.0.0.0/0"),
     (&[APART], "192.0.0.0/16"),
     (&[APART], "0.0.0.0/0"),
-    // A fork beside a leaf, a fork and a full node, on either side: two boxes.
+    // A fork next to a leaf, a fork and a full node, on either side: two boxes.
     (&[ONE], APART),
     (&[ONE], LOW),
     (&[ONE, TWO], APART),
@@ -150,8 +150,8 @@ static INSERTIONS: [(&[&str], &str); 19] = [
     (&[WIDE, "10.255.0.0/16"], "10.255.2.0/24"),
 ];
 
-/// Fails where `insert` keeps a box that it was given when the next is refused, a fork's when the leaf's is: the region
-/// is not as it was.
+/// Catches an `insert` that keeps a box if the next can't be allocated, the fork's if the leaf's fails: the region is
+/// not as it was.
 #[test]
 fn each_box_of_each_insertion_refused_in_turn(rt: HostRuntime) {
     let heap = region(&rt, rt.alloc(), 2_048);
@@ -162,14 +162,14 @@ fn each_box_of_each_insertion_refused_in_turn(rt: HostRuntime) {
     }
 }
 
-/// Takes out a pair, which is there until then.
+/// Removes a pair, which is stored until then.
 fn take_one<A: Allocator + Copy>(rt: &impl Abort, trie: &mut Trie<u32, A>, p: Prefix, value: u32) {
     assert_value(rt, trie, p, Some(value));
     take_out(rt, trie, p, Some(value));
     take_out(rt, trie, p, None);
 }
 
-/// What is asked where nothing is put in.
+/// Checks the answers of the calls that insert nothing.
 fn assert_answers<A: Allocator + Copy>(
     rt: &impl Abort,
     trie: &Trie<u32, A>,
@@ -183,7 +183,7 @@ fn assert_answers<A: Allocator + Copy>(
     assert_longest(rt, trie, 0x0a01_0203, Some((narrow, 4)));
 }
 
-/// Fails where a call other than `insert` needs memory of its own.
+/// Catches a call other than `insert` that allocates.
 #[test]
 fn nothing_but_an_insertion_asks_for_memory(rt: HostRuntime) {
     let heap = region(&rt, rt.alloc(), 2_048);
@@ -192,7 +192,7 @@ fn nothing_but_an_insertion_asks_for_memory(rt: HostRuntime) {
     assert_answers(&rt, &trie, &pairs);
     put_over(&rt, &mut trie, prefix(&rt, "10.0.0.0/8"), 20, 2);
     write_at(&rt, &mut trie, prefix(&rt, "10.0.0.0/8"), 2);
-    // Each removal in a region that is full: a leaf below a fork, a full node with one branch, one with two.
+    // Each removal in a full region: a leaf below a fork, a full node with one branch, one with two.
     for (p, value) in &pairs {
         take_one(&rt, &mut trie, *p, *value);
         take_all(&rt, &heap, &mut blocks);

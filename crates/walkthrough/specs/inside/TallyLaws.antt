@@ -1,8 +1,8 @@
--- Why a place's part stays while others change theirs.
+-- A place's part is unchanged while others change theirs.
 use Rattle.std.proofs.Common.{◌≢◌, ℕ, sym, ◌∙◌}
 use Rattle.walkthrough.specs.declared.lock.Tally.{Tally}
 use Rattle.walkthrough.specs.Tally.{KeepsPart, KeepsOthers}
 
--- what another place does keeps this one's part
+-- another place's change keeps this one's part
 pub keeps_after : (place other : ℕ) (a b c : Tally) → other ≢ place → KeepsPart place a b → KeepsOthers other b c → KeepsPart place a c
 keeps_after place other a b c apart since done = done place (λ e. apart (sym e)) ∙ since

@@ -1,4 +1,4 @@
--- What holds of every machine, and of a step that it takes.
+-- The invariant of a machine, and the contract of its step.
 use Rattle.std.specs.Prelude.{◌≡◌, ℕ, ◌^◌, ◌≤◌, List, length}
 use Rattle.ya_core.specs.declared.process.Process.{Process}
 use Rattle.ya_core.specs.declared.step.Step.{Step}
@@ -11,14 +11,14 @@ use Rattle.ya_core.specs.Machines.{Rows, state_of, step_of}
 abbrev pub rows : ℕ → List ℕ → List Process → Rows
 rows levels words processes = record { levels = levels; words = words; processes = processes }
 
--- what holds of every machine
+-- the invariant of a machine
 pub record IsMachine (m : Rows) : Type 0 where
   pub least : 1 ≤ m.levels
   pub words : length m.words ≡ count_of_words m.levels
   pub processes : length m.processes ≡ 2 ^ m.levels
   pub sound : IsSoundState m.levels (state_of m)
 
--- the place takes its step, after which the machine is one again, and this is told of it
+-- the place takes its step; the invariant still holds, and `step_told` is the record of the step
 pub record TakesStep (place : ℕ) (old new : Rows) (step_told : Step) : Type 0 where
   pub machine : IsMachine new
   pub step : StepsTo old.levels place (state_of old) (state_of new)

@@ -1,4 +1,4 @@
--- What a walk's accesses and levels are bounded by.
+-- Bounds of a walk's accesses and levels.
 use Rattle.std.specs.Prelude.{ℕ, ◌≤◌}
 use Rattle.std.specs.Prelude.{Option, Some, None}
 use Rattle.ya_core.specs.declared.word.Word.{Word}
@@ -6,12 +6,12 @@ use Rattle.ya_core.specs.declared.word.Word.TheVariants.{C, T, P}
 use Rattle.ya_core.specs.declared.word.Access.{Access}
 use Rattle.ya_core.specs.WalkerModel.{AccessIsWithin}
 
--- the word of the access that is due, if there is one, is one of the tree's
+-- the word of the due access, if any, is one of the tree's words
 abbrev pub DueIsWithin : ℕ → Option Access → Type 0
 DueIsWithin levels None = Unit {0}
 DueIsWithin levels (Some access) = AccessIsWithin levels access
 
--- the word is of one of the levels 1 to 6
+-- the level of the word is between 1 and 6, as far as its tests need that
 abbrev pub LevelIsSmall : Word → Type 0
 LevelIsSmall (C level node side) = (1 ≤ level) × (level ≤ 6)
 LevelIsSmall (T level node) = level ≤ 6

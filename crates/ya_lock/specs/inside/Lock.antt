@@ -1,4 +1,4 @@
--- The seats of passes and guards, of processes on their way in and out, and how far these have come.
+-- The seats of passes, of guards and of processes on their way in and out, and the progress of these processes.
 use Rattle.std.specs.Prelude.{◌≡◌, ℕ, ◌*◌, ◌^◌, ◌<◌, ◌≤◌, Bool, true, false, [], ◌∷◌, Some, None, ◌⊎◌}
 use Rattle.std.specs.Prelude as std
 use Rattle.atomic_table.specs.Table.{Me}
@@ -17,22 +17,23 @@ use Rattle.ya_core.specs.Steps.{after_entry, next_of}
 abbrev pub HasTree : LockId → ℕ → Type 0
 HasTree lock levels = lock.words ≡ row_length levels
 
--- what stays as it is on the way of a place: its lock, the place, and the value that it has seen, or leaves on its way out
+-- the constant parts of a place on its way: its lock, the place, and the value that it has seen, or leaves on its
+-- way out
 pub record WayOf (V : Type 0) : Type 0 where
   pub lock : LockId
   pub place : ℕ
   pub seen : V
 
--- a place on its way: what stays, and its walk
+-- a place on its way: its constant parts and its walk
 pub record OnWay (V : Type 0) : Type 0 where
   pub of : WayOf V
   pub walk : Walk
 
--- what stays of a pass
+-- the constant parts of a pass
 abbrev pub way_of : {V : Type 0} → IdlePass V → WayOf V
 way_of pass = record { lock = pass.lock; place = pass.place; seen = pass.seen }
 
--- the guard of a place that has come inside, where it found this value after so many remote accesses
+-- the guard of a place that has come inside, found this value and made `remote` remote accesses
 abbrev pub guard_at : {V : Type 0} → WayOf V → V → ℕ → OpenGuard V
 guard_at way found remote = record {
   lock = way.lock;
@@ -49,7 +50,7 @@ pub record HasPlace (lock : LockId) (place : ℕ) : Type 0 where
   pub words : HasTree lock levels
   pub below : place < 2 ^ levels
 
--- the table of a lock of so many levels: it has the words of their tree and one slot, and knows their number
+-- the table of a lock of `levels` levels: it has the words of their tree and one slot, and its key is their number
 pub record IsLockTable (levels : ℕ) (key : ℕ) (table : LockId) : Type 0 where
   pub least : 1 ≤ levels
   pub most : levels ≤ 6
@@ -58,27 +59,29 @@ pub record IsLockTable (levels : ℕ) (key : ℕ) (table : LockId) : Type 0 wher
   pub slots : table.slots ≡ 1
 
 module _ {V : Type 0} where
-  -- the view is that of the place's process which has seen the value, and which has made so many remote accesses since
-  -- its entry began; an idle one has made none of the next entry, and any number in its last passage
+  -- the view has the place's process, which has seen the value, and which has made `remote` remote accesses since its
+  -- entry began. An idle process has made none of the next entry, and any number in its last passage
   abbrev pub HasMade : ℕ → V → Process → ℕ → View V → Type 0
   HasMade place value Idle remote view = (last : ℕ) × (view ≡ Seated place Idle value last) × (remote ≡ 0)
   HasMade place value process remote view = view ≡ Seated place process value remote
 
-  -- the seat of a pass: its process is idle, its last passage made so many remote accesses, and it has no slot
+  -- the seat of a pass: its process is idle, its last passage made `remote` remote accesses, and it has no slot
   pub record SeatIdle (lock : LockId) (place : ℕ) (seen : V) (remote : ℕ)
       (me : Me (std.Option V) (View V)) : Type 0 where
     pub process : me ≡ (Seated place Idle seen remote, [])
     pub in_tree : HasPlace lock place
 
-  -- the seat of a guard: its process is inside, its entry made so many remote accesses, and it has the slot of the value
+  -- the seat of a guard: its process is inside, its entry made `remote` remote accesses, and it has the slot of
+  -- the value
   pub record SeatInside (lock : LockId) (place : ℕ) (found : V) (remote : ℕ)
       (me : Me (std.Option V) (View V)) : Type 0 where
     pub process : me ≡ (Seated place Inside found remote, (0, None) ∷ [])
     pub in_tree : HasPlace lock place
     pub count : (levels : ℕ) → HasTree lock levels → remote ≤ 7 * levels
 
-  -- the seat of a place on its way, by where its process stands: told to enter, it has what its last passage left; inside
-  -- it has the slot, with the value found, which may have come of the one seen; told to leave, with the one that it leaves
+  -- the seat of a place on its way, by its process. At the begin of an entry it has the view of its last passage's end.
+  -- Inside it has the slot with the value found, which others may have made of the value seen; at the begin of an exit
+  -- it has the slot with the value that it leaves
   abbrev SeatAt : (since done : ℕ → V → V → Type 0) → ℕ → V → Process → Bool → ℕ → Me (std.Option V) (View V) → Type 0
   SeatAt since done place seen Idle true remote me =
       (remote ≡ 0) × ((last : ℕ) × (me ≡ (Seated place Idle seen last, [])))
@@ -88,12 +91,11 @@ module _ {V : Type 0} where
       (found : V) × since place seen found × (me ≡ (Seated place Inside found remote, (0, Some found) ∷ []))
   SeatAt since done place seen process begun remote me = (begun ≡ false) × (me ≡ (Seated place process seen remote, []))
 
-  -- the seat of a walk: its process stands where the walk does, after as many remote accesses
+  -- the seat of a walk: it has the walk's process and number of remote accesses
   abbrev pub SeatOf : (since done : ℕ → V → V → Type 0) → V → Walk → Me (std.Option V) (View V) → Type 0
   SeatOf since done seen w me = SeatAt since done w.place seen w.process w.begun w.remote me
 
-  -- the seat is one of the lock's table, and stands where the walk does, which is that of the place in a tree of so many
-  -- levels
+  -- the seat is one of the lock's table, and agrees with the walk, a walk of the place in a tree of `levels` levels
   pub record IsOnWay (since done : ℕ → V → V → Type 0) (levels : ℕ) (lock table : LockId) (place : ℕ) (seen : V) (w : Walk)
       (me : Me (std.Option V) (View V)) : Type 0 where
     pub own : table ≡ lock
@@ -127,11 +129,11 @@ IsReleased Idle = Unit {0}
 IsReleased (Leaving level X1) = Unit {0}
 IsReleased _ = ⊥
 
--- its walk comes from there
+-- its walk has just released a level
 abbrev pub HasReleased : Walk → Type 0
 HasReleased w = IsReleased w.process × (w.begun ≡ false)
 
--- the walk stands where the store in the spin word of the rival leads: behind e7, or behind x3
+-- the walk is just after the store in the spin word of the rival: after e7, or after x3
 abbrev pub HasStoredFor : ℕ → ℕ → Walk → Type 0
 HasStoredFor levels rival w =
     (level found : ℕ)

@@ -1,15 +1,15 @@
-//! Places that are led in by hand, an access at a time.
+//! Places that are led in by hand, one access at a time.
 ghost use Rattle.std.specs.Prelude.{◌≡◌, ◌^◌, ◌<◌, IfSome};
 
-use crate::door::Crowd;
 use crate::passage::Passage;
+use crate::throttle::Contention;
 use crate::{Guard, Kept, Pass, TreeLock};
 use std::marker::Model;
 use std::sync::Wait;
 use std::time::{CpuClock, Duration};
 use ya_core::{EntryPoint, Op, Process};
 
-/// Whether that place sleeps, or is about to.
+/// Returns true if that place sleeps, or is about to.
 pub(crate) fn sleeps<V: Kept + Drop, const L: u32>(lock: &TreeLock<V, L>, place: usize) -> bool
     requires { place < 2 ^ L }
 {
@@ -17,7 +17,7 @@ pub(crate) fn sleeps<V: Kept + Drop, const L: u32>(lock: &TreeLock<V, L>, place:
     shared.peek(TreeLock::<V, L>::bell(place)) == 1
 }
 
-/// A place on its way in, which makes its accesses when it is told to. Contracts see its lock.
+/// A place on its way in, which makes its accesses on demand. Contracts see its lock.
 #[derive(Drop)]
 pub(crate) struct LedPlace<'a, V: Kept + Drop, const L: u32> {
     passage: Passage<'a, V, L>,
@@ -32,7 +32,7 @@ impl<'a, V: Kept + Drop, const L: u32> Model for LedPlace<'a, V, L> {
 }
 
 impl<'a, V: Kept + Drop, const L: u32> LedPlace<'a, V, L> {
-    /// The place of that pass, whose first access is due.
+    /// Returns the place of that pass, with its first access due.
     pub(crate) fn begin(lock: &'a TreeLock<V, L>, pass: Pass<V>) -> Self
         requires { pass.lock ≡ lock.now }
         ensures { result ≡ lock.now }
@@ -42,7 +42,7 @@ impl<'a, V: Kept + Drop, const L: u32> LedPlace<'a, V, L> {
         }
     }
 
-    /// Makes so many accesses, and none once it is inside.
+    /// Makes `times` accesses, fewer if it comes inside.
     pub(crate) fn advance(self, times: usize) -> Self
         ensures { result ≡ self.entry }
     {
@@ -53,7 +53,7 @@ impl<'a, V: Kept + Drop, const L: u32> LedPlace<'a, V, L> {
         led
     }
 
-    /// Makes its next access, and none where it is inside.
+    /// Makes its next access, unless it is inside.
     fn step(self) -> Self
         ensures { result ≡ self.entry }
     {
@@ -64,7 +64,7 @@ impl<'a, V: Kept + Drop, const L: u32> LedPlace<'a, V, L> {
         LedPlace { passage }
     }
 
-    /// Competes with a rival that it found, and comes inside where no level is above. Whether it found one.
+    /// Competes with a rival that it found, and comes inside if there is no higher level. Returns true if it found one.
     pub(crate) fn compete<R: Wait>(self, rt: &R) -> bool {
         let LedPlace { passage } = self;
         let Process::Entering(_, EntryPoint::E5(_)) = passage.walker.process() else {
@@ -74,7 +74,8 @@ impl<'a, V: Kept + Drop, const L: u32> LedPlace<'a, V, L> {
         true
     }
 
-    /// The processor time that it takes to wait to be let in at its level, or nothing where it isn't at that wait.
+    /// Returns the processor time of its wait to be let in at its level, or `None` if it isn't at that wait or the
+    /// clock fails.
     pub(crate) fn time_to_be_let_in<R: Wait + CpuClock>(self, rt: &R) -> Option<Duration> {
         let LedPlace { passage } = self;
         let Process::Entering(_, EntryPoint::E10) = passage.walker.process() else {
@@ -85,7 +86,7 @@ impl<'a, V: Kept + Drop, const L: u32> LedPlace<'a, V, L> {
         rt.thread_cpu_time().ok()?.checked_sub(before)
     }
 
-    /// Its guard, once it is inside.
+    /// Returns its guard, once it is inside.
     pub(crate) fn guard(self) -> Option<Guard<V>>
         ensures { IfSome result (λ g. (g.lock ≡ self.entry) × (g.value ≡ g.found)) }
     {
@@ -93,6 +94,6 @@ impl<'a, V: Kept + Drop, const L: u32> LedPlace<'a, V, L> {
         let Op::Inside = passage.walker.op() else {
             return None;
         };
-        Some(TreeLock::take_value(passage, Crowd::NONE))
+        Some(TreeLock::take_value(passage, Contention::NONE))
     }
 }

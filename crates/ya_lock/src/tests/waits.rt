@@ -1,4 +1,4 @@
-//! Waits of places that were led so far: to be woken by a rival that comes later, and to be let in.
+//! Waits of places that were led to them: to be woken by a rival that comes later, and to be let in.
 ghost use Rattle.std.specs.Prelude.{◌≡◌, ◌≤◌};
 
 use crate::tests::led::{LedPlace, sleeps};
@@ -11,8 +11,8 @@ use std::thread;
 use std::thread::Threads;
 use std::time::{Clock, CpuClock, Duration};
 
-/// Looks, for ten seconds at most, until the other place sleeps, and then announces itself and comes in. Whether the other
-/// slept, and then competed.
+/// Looks, for at most ten seconds, until the other place sleeps, and then announces itself and comes in. Returns true
+/// if the other slept and this place then found it at the root.
 fn come_late<R: Wait + Clock>(
     rt: &R,
     lock: &TreeLock<Number, 1>,
@@ -25,7 +25,7 @@ fn come_late<R: Wait + Clock>(
     slept && competed
 }
 
-/// Whether the second place sleeps within ten seconds.
+/// Returns true if the second place sleeps within ten seconds.
 fn falls_asleep<R: Clock>(rt: &R, lock: &TreeLock<Number, 1>) -> bool {
     for _ in 0..10_000u32 {
         thread::sleep(rt, Duration::from_millis(1));
@@ -44,7 +44,7 @@ fn pass_through<R: Wait>(rt: &R, lock: &TreeLock<Number, 1>, pass: Pass<Number>)
     let _ = lock.leave(guard);
 }
 
-/// Whether a place that sleeps until its rival announces itself comes in, and the rival after it.
+/// Returns true if a place that sleeps until its rival announces itself comes in, and the rival after it.
 fn both_come_in<R: Threads + Wait + Clock + Sync + Abort>(rt: &R, alloc: Global) -> bool {
     let (lock, first, second) = ends::<_, 1>(rt, alloc);
     let shared = &lock;
@@ -60,21 +60,21 @@ fn both_come_in<R: Threads + Wait + Clock + Sync + Abort>(rt: &R, alloc: Global)
     competed
 }
 
-/// Fails where a bell isn't rung after e7: it hangs.
+/// Catches a bell that isn't rung after e7: the test hangs.
 #[test]
 fn a_place_that_sleeps_is_woken_by_a_rival_that_came_later(rt: HostRuntime) {
     assert!(rt; both_come_in(&rt, rt.alloc()));
 }
 
-/// Leads both to the root, and there so far that the first is inside, and the last has been woken and waits to be let
-/// in: it announced itself after the first, which then woke it.
+/// Leads both to the root, until the first is inside, and the last has been woken and waits to be let in: it announced
+/// itself after the first, which then woke it.
 fn meet<'a, const L: u32>(
     first: LedPlace<'a, Number, L>,
     last: LedPlace<'a, Number, L>,
 ) -> (LedPlace<'a, Number, L>, LedPlace<'a, Number, L>)
     ensures { (result.0 ≡ first.entry) × (result.1 ≡ last.entry) }
 {
-    // A level where nobody else is takes four accesses.
+    // A level without a competitor takes four accesses.
     let below = (L as usize).wrapping_sub(1).wrapping_mul(4);
     let first = first.advance(below);
     let last = last.advance(below);
@@ -93,7 +93,7 @@ fn meet<'a, const L: u32>(
     (first, last)
 }
 
-/// Is inside for a fifth of a second, and goes out. Whether it was inside.
+/// Stays inside for a fifth of a second, and goes out. Returns true if it was inside.
 fn stay_on<R: Clock, const L: u32>(
     rt: &R,
     lock: &TreeLock<Number, L>,
@@ -109,8 +109,8 @@ fn stay_on<R: Clock, const L: u32>(
     true
 }
 
-/// A place that has been woken waits to be let in at the root, by another which is inside for a fifth of a second: that
-/// takes it less than a quarter of that in processor time.
+/// Asserts that a woken place waits at the root to be let in with less than 50 ms of processor time, while the other is
+/// inside for 200 ms.
 fn assert_sleeps_until_let_in<R: Threads + Wait + Clock + CpuClock + Sync + Abort, const L: u32>(
     rt: &R,
     alloc: Global,
@@ -134,7 +134,8 @@ fn assert_sleeps_until_let_in<R: Threads + Wait + Clock + CpuClock + Sync + Abor
     assert!(rt; time < Duration::from_millis(50), "{time:?} at {L} levels");
 }
 
-/// Fails where a place sleeps at its first wait alone, and never at that to be let in, or there at the first level alone.
+/// Catches a place that sleeps only at its first wait and never at the wait to be let in, or at that wait only on
+/// level 1.
 #[test]
 fn a_place_that_waits_to_be_let_in_leaves_the_processor_to_others(rt: HostRuntime) {
     assert_sleeps_until_let_in::<_, 1>(&rt, rt.alloc());

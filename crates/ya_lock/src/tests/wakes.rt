@@ -1,10 +1,10 @@
-//! Wakes just when the one to be woken falls asleep.
+//! Wakes just when the place to be woken falls asleep.
 ghost use Rattle.std.specs.Prelude.{◌≡◌, ◌<◌};
 
-use crate::door::Crowd;
 use crate::rule::SPACING;
 use crate::tests::led::sleeps;
 use crate::tests::{Number, ends};
+use crate::throttle::Contention;
 use crate::{Pass, TreeLock};
 use std::alloc::Global;
 use std::process::Abort;
@@ -13,7 +13,7 @@ use std::thread::Threads;
 use std::time::{Clock, Duration, Instant};
 use std::{hint, thread};
 
-/// What a place that is inside waits for before it goes out.
+/// The sign of the other place that ends a place's stay inside.
 #[derive(Clone, Copy)]
 enum Sign {
     /// The other has announced itself: it looks at its spin word some times, and then it sleeps.
@@ -23,7 +23,7 @@ enum Sign {
 }
 
 impl Sign {
-    /// Whether that place of two has given the sign.
+    /// Returns true if that place of two has given the sign.
     fn is_given(self, lock: &TreeLock<Number, 1>, place: usize) -> bool
         requires { place < 2 }
     {
@@ -35,7 +35,7 @@ impl Sign {
         }
     }
 
-    /// Waits until that place of two gives the sign, though not for long where it doesn't come. Whether it came.
+    /// Waits for a short time until that place of two gives the sign. Returns true if it did.
     fn wait(self, lock: &TreeLock<Number, 1>, place: usize) -> bool
         requires { place < 2 }
     {
@@ -49,18 +49,18 @@ impl Sign {
     }
 }
 
-/// As many pauses.
+/// Makes this number of pauses.
 fn pause(times: usize) {
     for _ in 0..times {
         hint::spin_loop();
     }
 }
 
-/// How many pauses a place makes between its first look at its spin word and its last before it sleeps.
+/// The number of pauses of a place between its first look at its spin word and its last before it sleeps.
 const PAUSES: usize = 575;
 
-/// The sign that a place waits for this time, and how many pauses it makes after it: now until the other is about to
-/// sleep, and now until it is about to look for the last time, a little more or less each time.
+/// Returns the sign to wait for in this round, and the number of pauses after it. In even rounds the other place is
+/// then about to sleep, and in odd rounds about to look for the last time, a little more or less each time.
 fn sign_of(round: usize) -> (Sign, usize) {
     if round % 2 == 0 {
         (Sign::Bell, round / 2 % 64)
@@ -69,7 +69,8 @@ fn sign_of(round: usize) -> (Sign, usize) {
     }
 }
 
-/// Enters for five seconds, and goes out just when the other place falls asleep. How often the other gave the sign.
+/// Enters for five seconds, and goes out just when the other place falls asleep. Returns the number of signs of
+/// the other.
 fn wake_often<R: Wait + Clock>(rt: &R, lock: &TreeLock<Number, 1>, pass: Pass<Number>) -> usize
     requires { pass.lock ≡ lock.now }
 {
@@ -91,14 +92,15 @@ fn wake_often<R: Wait + Clock>(rt: &R, lock: &TreeLock<Number, 1>, pass: Pass<Nu
     given
 }
 
-/// Whether five seconds haven't passed.
+/// Returns true before five seconds have passed.
 fn is_early<R: Clock>(rt: &R, start: Instant) -> bool {
     start
         .elapsed(rt)
         .is_ok_and(|past| past < Duration::from_secs(5))
 }
 
-/// Enters without a nap at the door, and goes out just when the other place falls asleep. Whether it gave the sign.
+/// Enters without a nap at the door, and goes out just when the other place falls asleep. Returns true if the other
+/// gave the sign.
 fn wake_once<R: Wait>(
     rt: &R,
     lock: &TreeLock<Number, 1>,
@@ -109,7 +111,7 @@ fn wake_once<R: Wait>(
     ensures { result.1.lock ≡ lock.now }
 {
     let mut pass = pass;
-    pass.crowd = Crowd::NONE;
+    pass.crowd = Contention::NONE;
     let guard = lock.enter(rt, pass);
     let other = if guard.place() == 0 { 1 } else { 0 };
     let (sign, pauses) = sign_of(round);
@@ -118,7 +120,7 @@ fn wake_once<R: Wait>(
     (given, lock.leave(guard))
 }
 
-/// How often each of two places gave the other a sign.
+/// Returns the number of signs that each of two places saw from the other.
 fn wake_each_other<R: Threads + Wait + Clock + Sync + Abort>(
     rt: &R,
     alloc: Global,
@@ -132,8 +134,8 @@ fn wake_each_other<R: Threads + Wait + Clock + Sync + Abort>(
     )
 }
 
-/// Fails where a waker wakes without storing 0 in the bell, or before it stores it, and where a place parks on its bell
-/// without a second look: it hangs in some of its runs.
+/// Catches a waker that wakes without storing 0 in the bell, or before it stores it, and a place that parks on its bell
+/// without a second look: the test hangs in some of its runs.
 #[test]
 fn a_place_that_falls_asleep_is_woken(rt: HostRuntime) {
     let (first, second) = wake_each_other(&rt, rt.alloc());

@@ -1,6 +1,6 @@
 use Rattle.std.proofs.Common.{◌≡◌, ◌∙◌, ap, sym, subst}
 use Rattle.std.proofs.lemmas.List.{take_all}
-use Rattle.ya_core.specs.Worlds.{TellsInside}
+use Rattle.ya_core.specs.Worlds.{ReportsInside}
 use Rattle.ya_replay.specs.inside.ReplayText.{inside_after}
 use Rattle.ya_replay.proofs.WhoIsInside.{tells_after}
 use Rattle.ya_replay.proofs.inside_place.Goals as goal
@@ -10,4 +10,4 @@ returns c levels picks last some run =
     let steps = c.args.steps.now in
     let all : c.loop-step.inside ≡ inside_after steps = c.loop-step.invariant
     ∙ ap inside_after (take_all c.loop-step.step-index steps c.loop-step-test.false) in
-    subst (λ inside. TellsInside last inside) (sym all) (tells_after levels picks steps last some run)
+    subst (λ inside. ReportsInside last inside) (sym all) (tells_after levels picks steps last some run)

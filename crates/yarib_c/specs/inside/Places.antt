@@ -1,4 +1,4 @@
--- What stands at an index.
+-- Elements at an index.
 use Rattle.std.specs.Prelude.{ℕ, List, slice_index_or}
 use Rattle.yarib_c.specs.declared.routes.YaribRoute.{YaribRoute}
 use Rattle.yarib_c.specs.Forms.{no_route}

@@ -1,4 +1,4 @@
--- The table of what a handle holds.
+-- The table that a handle holds.
 use Rattle.std.specs.Prelude.{◌≡◌}
 use Rattle.rt_rib.specs.Book.{TableContents}
 use Rattle.yarib_c.specs.declared.held.Held.{Held}

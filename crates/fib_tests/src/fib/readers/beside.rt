@@ -1,7 +1,7 @@
-//! Readers on threads of their own. Each table has a number, by which a reader knows the plain list that it was made of.
+//! Tests readers on several threads. Each table has a number, by which a reader knows the plain list that it was made of.
 use super::super::plain::best_of;
 use super::super::{SIZE, UNIVERSES, around, cmd_of, edge_addr, long_len};
-use fib_readers::{FibReader, FibReading, FibWriter};
+use fib_readers::{FibReadGuard, FibReader, FibWriter};
 use rt_cidr::Addr;
 use rt_fib::Fib;
 use rt_rib::{Book, Cmd, Hop, Route};
@@ -11,16 +11,16 @@ use std::sync::Wait;
 use std::thread::{self, JoinHandle, Threads};
 use test_support::Dice;
 
-/// How many tables are shown.
+/// Says how many tables are published.
 const TABLES: u32 = 12;
 
-/// How many threads read.
+/// Says how many threads read.
 const READERS: usize = 3;
 
 /// The number of a table is the preference of its route to this address, which no other prefix covers.
 const NUMBERED: u32 = 0xc000_0200;
 
-/// Makes a book the next table's: a hundred commands drawn by lot, and the number.
+/// Makes the book of the next table: by a hundred random commands, and by the number.
 fn make_next(rt: &impl Abort, dice: &mut Dice, book: &mut Book<Global>, number: u32) {
     for _ in 0..100u32 {
         let (addr, len) = (edge_addr(dice), long_len(dice));
@@ -37,7 +37,7 @@ fn make_next(rt: &impl Abort, dice: &mut Dice, book: &mut Book<Global>, number: 
     }
 }
 
-/// The routes of each table, by its number.
+/// Returns the routes of each table, by its number.
 fn all_routes(rt: &impl Abort, alloc: Global) -> Vec<Vec<Route>> {
     let mut dice = Dice(21);
     let mut book = Book::new(alloc, 1_000);
@@ -50,8 +50,8 @@ fn all_routes(rt: &impl Abort, alloc: Global) -> Vec<Vec<Route>> {
     tables
 }
 
-/// The number of the table that was found, of which each answer is the plain list's.
-fn number_of(rt: &impl Abort, reading: &FibReading, tables: &[Vec<Route>]) -> usize {
+/// Returns the number of the table that was found. Each of its answers is that of the plain list.
+fn number_of(rt: &impl Abort, reading: &FibReadGuard, tables: &[Vec<Route>]) -> usize {
     let number = reading.look_up(Addr(NUMBERED)).map(|route| route.pref);
     let number = number.expect(rt, "no number") as usize;
     let routes = tables.get(number).expect(rt, "no such table");
@@ -66,8 +66,8 @@ fn number_of(rt: &impl Abort, reading: &FibReading, tables: &[Vec<Route>]) -> us
     number
 }
 
-/// Reads until the last table is found or the writer has ended: the number of the table that was found last. None is found that
-/// was shown before another that this reader has found.
+/// Reads until the last table is found or the writer has ended. Returns the number of the table that was found last. Tests that no
+/// table is found after one that was published later.
 fn read_on(rt: &impl Abort, reader: FibReader, tables: &[Vec<Route>]) -> usize {
     let mut reader = reader;
     let mut last = 0usize;
@@ -86,7 +86,7 @@ fn read_on(rt: &impl Abort, reader: FibReader, tables: &[Vec<Route>]) -> usize {
     last
 }
 
-/// Shows the book's table.
+/// Publishes the book's table.
 fn show<R: Wait + Abort>(
     rt: &R,
     alloc: Global,
@@ -99,7 +99,7 @@ fn show<R: Wait + Abort>(
     writer
 }
 
-/// Shows the tables behind the first in turn.
+/// Publishes the tables after the first in turn.
 fn show_rest<R: Wait + Abort>(
     rt: &R,
     alloc: Global,
@@ -115,7 +115,7 @@ fn show_rest<R: Wait + Abort>(
     writer
 }
 
-/// What each thread returns.
+/// Returns what each thread returned.
 fn join_all<R: Threads + Abort>(
     rt: &R,
     alloc: Global,
@@ -128,7 +128,7 @@ fn join_all<R: Threads + Abort>(
     found
 }
 
-/// Shows each table in turn, beside threads that read: the number of the table that each found last.
+/// Publishes each table in turn, while threads read. Returns the number of the table that each thread found last.
 fn show_beside<R: Threads + Wait + Abort + Sync>(
     rt: &R,
     alloc: Global,
@@ -155,8 +155,8 @@ fn show_beside<R: Threads + Wait + Abort + Sync>(
     })
 }
 
-/// Fails where a reader finds an answer of another table than it has entered, one that was shown earlier than another that it
-/// has found, or never the last.
+/// Catches a reader that finds an answer of another table than the one it entered, a table that was published before one that it has
+/// found, or never the last.
 #[test]
 fn readers_on_threads_find_each_answer_of_one_table(rt: HostRuntime) {
     let alloc = rt.alloc();

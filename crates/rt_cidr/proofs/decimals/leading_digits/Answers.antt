@@ -21,7 +21,7 @@ loop-byte-preserved c =
           (capped-digits_value text at c.loop-byte.value c.loop-byte-test.true (rw so_far.count at so_far.value) digit);
     }
 
--- the digits that the loop went through are those at the front, where no digit follows
+-- the digits that the loop read are those at the front, if no digit follows
 leading : (text : List ℕ) (value len : ℕ) → len ≤ length text → AllDigits 10 (take len text) →
     value ≡ capped (digits_value 10 (take len text)) → 10 ≤ digit_value (get_or text len 0) → LeadingDigits text value len
 leading text value len within digits is_value ends =

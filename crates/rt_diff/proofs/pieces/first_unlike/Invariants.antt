@@ -2,7 +2,7 @@ use Rattle.std.proofs.Common.{◌≡◌, ◌-◌, ◌^◌, ◌≤◌}
 use Rattle.rt_diff.specs.inside.Pieces.{ArePieces, AreAlike}
 use Rattle.rt_diff.proofs.pieces.first_unlike.Given as goal
 
--- every address before these pieces is alike
+-- every address before these pieces has the same answer in both tables
 abbrev pub invariant-loop-by : goal.invariant-loop-by
 invariant-loop-by g l = record {
   same_old_table : l.old ≡ l.fn.old;

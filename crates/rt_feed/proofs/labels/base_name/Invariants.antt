@@ -4,7 +4,7 @@ use Rattle.rt_cidr.specs.Text.{slash}
 use Rattle.rt_feed.specs.Labels.{base_name}
 use Rattle.rt_feed.proofs.labels.base_name.Given as goal
 
--- the name is what stands behind the last slash so far
+-- the name is the part after the last slash so far
 abbrev pub invariant-loop-rest : goal.invariant-loop-rest
 invariant-loop-rest l = base_name l.path ≡ (if list_any (λ b. b == slash) l.rest then base_name l.rest else l.name)
 

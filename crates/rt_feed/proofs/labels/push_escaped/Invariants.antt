@@ -3,6 +3,6 @@ use Rattle.std.specs.List.{flat_map}
 use Rattle.rt_feed.specs.Json.{escaped}
 use Rattle.rt_feed.proofs.labels.push_escaped.Given as goal
 
--- what stands for the bytes so far is behind the text
+-- the escaped bytes so far were appended to the text
 abbrev pub invariant-loop-byte : goal.invariant-loop-byte
 invariant-loop-byte l = l.text.items ≡ l.fn.text.items ++ flat_map escaped (take l.byte-index l.bytes)

@@ -15,6 +15,6 @@ returns g c =
     let first = rw (c.as_bytes.ensures, c.prepend_count.ensures, c.new-text.ensures, append-nil) at c.in_ok-put.ensures.ok in
     let rows = rows_text c.args.routes.now in
     record {
-      ok = on_ok_weaker c.write_rows.result (appends_after _ _ _ (count_text (length c.args.routes.now)) rows first) c.write_rows.ensures.ok;
-      err = on_err_weaker c.write_rows.result (begins_after _ _ _ (count_text (length c.args.routes.now)) rows first) c.write_rows.ensures.err;
+      ok = on_ok_weaker c.write_routes.result (appends_after _ _ _ (count_text (length c.args.routes.now)) rows first) c.write_routes.ensures.ok;
+      err = on_err_weaker c.write_routes.result (begins_after _ _ _ (count_text (length c.args.routes.now)) rows first) c.write_routes.ensures.err;
     }

@@ -2,7 +2,7 @@ use Rattle.std.proofs.Common.{◌≡◌, ◌≤◌, ◌++◌, length, take, drop
 use Rattle.rt_feed.specs.inside.Filling.{filled}
 use Rattle.rt_feed.proofs.report.fill_lines.Given as goal
 
--- the lines so far were given the outcomes so far, and what is left goes on so
+-- the lines so far were given the outcomes so far, and the remaining lines get the remaining outcomes
 abbrev pub invariant-loop-index : goal.invariant-loop-index
 invariant-loop-index l = record {
   within : l.next ≤ length l.outcomes;

@@ -1,5 +1,5 @@
 use Rattle.std.proofs.Common.{◌≡◌, ◌+◌, length}
-use Rattle.rt_fib.specs.inside.Entries.{Grows}
+use Rattle.rt_fib.specs.inside.Pools.{places, filling, Fills}
 use Rattle.rt_fib.specs.inside.Pieces.{IsNumberedFrom, AreNumbers}
 use Rattle.rt_fib.proofs.filling.numbers_from.Given as goal
 
@@ -7,8 +7,9 @@ use Rattle.rt_fib.proofs.filling.numbers_from.Given as goal
 abbrev pub invariant-numbers : goal.invariant-numbers
 invariant-numbers g l = record {
   kept : l.table ≡ l.fn.table;
-  grows : Grows l.fn.answers.items l.answers.items;
+  blocks : l.pools.blocks ≡ l.fn.pools.blocks;
+  fills : Fills l.since (filling l.fn.pools.answers) (filling l.pools.answers);
   full : length l.numbers ≡ 256;
-  made : AreNumbers l.fn.table l.numbers l.answers.items l.first l.k;
-  piece : IsNumberedFrom l.fn.table l.answers.items (l.first + l.k) l.piece;
+  made : AreNumbers l.fn.table l.numbers (places l.pools.answers) (l.since + 1) l.first l.k;
+  piece : IsNumberedFrom l.fn.table (places l.pools.answers) (l.since + 1) (l.first + l.k) l.piece;
 }

@@ -1,5 +1,6 @@
-use Rattle.std.proofs.Common.{◌≡◌, ◌-◌, ◌*◌, ◌≤◌}
-use Rattle.rt_fib.specs.inside.Entries.{AreFrom, Grows}
+use Rattle.std.proofs.Common.{◌≡◌, ◌+◌, ◌-◌, ◌*◌, ◌≤◌}
+use Rattle.rt_fib.specs.inside.Pools.{places, filling, Fills}
+use Rattle.rt_fib.specs.inside.Entries.{AreFrom}
 use Rattle.rt_fib.specs.inside.Pieces.{IsNumberedFrom}
 use Rattle.rt_fib.proofs.filling.span_entries.Given as goal
 
@@ -9,10 +10,10 @@ invariant-entries g l = record {
   onward : l.fn.span.first ≤ l.i;
   within : l.i ≤ l.fn.span.end;
   kept : l.table ≡ l.fn.table;
-  blocks : Grows l.fn.blocks.items l.blocks.items;
-  grows : Grows l.fn.answers.items l.answers.items;
-  made : AreFrom l.fn.span.first l.entries.items l.blocks.items l.answers.items l.fn.table (l.i - l.fn.span.first);
-  piece : IsNumberedFrom l.fn.table l.answers.items (l.i * 256) l.piece;
+  blocks : Fills l.since (filling l.fn.pools.blocks) (filling l.pools.blocks);
+  fills : Fills l.since (filling l.fn.pools.answers) (filling l.pools.answers);
+  made : AreFrom l.fn.span.first l.entries.items (places l.pools.blocks) (places l.pools.answers) (l.since + 1) l.fn.table (l.i - l.fn.span.first);
+  piece : IsNumberedFrom l.fn.table (places l.pools.answers) (l.since + 1) (l.i * 256) l.piece;
 }
 
 abbrev pub decreases-entries : goal.decreases-entries

@@ -7,7 +7,7 @@ use Rattle.rt_rib.specs.inside.Maps.{routes_backward}
 use Rattle.rt_rib.proofs.MapMatches.{look_up_all-backward}
 use Rattle.rt_rib.proofs.lookups.all_of.Goals as goal
 
--- one prefix more
+-- one more prefix
 gone_down : (done more all : List Route) (ahead rest : Map) (p : Prefix) (offers same : List Offer) → routes_backward ahead ++ done ≡ all
     → ahead ≡ (p, offers) ∷ rest → same ≡ offers → more ≡ map (route_by p) same ++ done → routes_backward rest ++ more ≡ all
 gone_down done more all ahead rest p offers same before first is appended =

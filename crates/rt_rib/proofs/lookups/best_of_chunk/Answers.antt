@@ -11,7 +11,7 @@ use Rattle.rt_rib.specs.Maps.{routes_of}
 use Rattle.rt_rib.specs.inside.Maps.{route_at}
 use Rattle.rt_rib.proofs.lookups.best_of_chunk.Goals as goal
 
--- what is read of the answers to a part of the addresses
+-- an answer read among the answers to some of the addresses
 longest_at : {V : Type 0} (m : Pairs V) (addresses : List Addr) (start size k : ℕ) (answers rest : List (Option (Prefix × Bor V)))
     (d : Option (Prefix × Bor V)) → start + size ≤ length addresses → k < size → length answers ≡ size
     → AreLongest m (take (start + size - start) (drop start addresses)) answers

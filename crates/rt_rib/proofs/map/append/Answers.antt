@@ -3,7 +3,7 @@ use Rattle.std.proofs.lemmas.List.{append-nil, map_more, take_all}
 use Rattle.rt_rib.specs.Maps.{route_by}
 use Rattle.rt_rib.proofs.map.append.Goals as goal
 
--- one element more of those that are made of the elements of a list
+-- one more of the images of a list's elements
 made_more : {X Y : Type 0} (f : X → Y) (start : List Y) (xs : List X) (i : ℕ) (d : X) (made more : List Y) (y : Y) → i < length xs
     → made ≡ start ++ map f (take i xs) → y ≡ f (get_or xs i d) → more ≡ made ++ y ∷ [] → more ≡ start ++ map f (take (i + 1) xs)
 made_more f start xs i d made more y l before same pushed =

@@ -3,6 +3,6 @@ use Rattle.rt_trie.specs.Map.{containing}
 use Rattle.rt_rib.specs.Maps.{routes_of}
 use Rattle.rt_rib.proofs.selection.routes_covering.Given as goal
 
--- those that are there, and those still to come
+-- the routes already in the list and the remaining ones
 abbrev pub invariant-loop-stored : goal.invariant-loop-stored
 invariant-loop-stored g l = l.routes.items ++ routes_of l.stored-iterator ≡ routes_of (containing l.map.pairs l.fn.prefix)

@@ -2,4 +2,4 @@ use Rattle.rt_run.proofs.SameTallies.{same_tallies as law}
 use Rattle.rt_run.proofs.laws.same_tallies.Goals as goal
 
 pub returns : goal.returns
-returns c = law c.feeds_stand_alone.ensures c.visits.ensures.entries c.one_reading.ensures
+returns c = law c.feeds_are_independent.ensures c.visits.ensures.entries c.one_reading.ensures

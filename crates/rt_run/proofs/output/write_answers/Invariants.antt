@@ -3,7 +3,7 @@ use Rattle.std.specs.Io.KnownBytes.{Appends}
 use Rattle.rt_run.specs.TableText.{answers_text}
 use Rattle.rt_run.proofs.output.write_answers.Given as goal
 
--- a text was written, and with the answers of the rest behind it is that of all
+-- a text was written; followed by the answers of the rest it is the text of all answers
 abbrev pub invariant-loop-rest : goal.invariant-loop-rest
 invariant-loop-rest g l = record {
   text : List ℕ;

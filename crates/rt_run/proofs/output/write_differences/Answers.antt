@@ -7,10 +7,10 @@ use Rattle.rt_feed.specs.DifferenceText.{difference_as}
 use Rattle.rt_rib.specs.declared.routes.Route.{Route}
 use Rattle.rt_diff.specs.declared.comparison.Difference.{Difference}
 use Rattle.rt_diff.specs.Differences.{IsFirstDifference}
-use Rattle.rt_run.specs.DiffText.{AskedDiff}
+use Rattle.rt_run.specs.DiffText.{DiffContents}
 use Rattle.rt_run.specs.inside.Comparisons.{IsFirstFrom, addresses_from}
 use Rattle.rt_run.proofs.output.write_differences.Given.{Over}
-use Rattle.rt_run.proofs.output.write_differences.Goals.{After-difference_behind-next}
+use Rattle.rt_run.proofs.output.write_differences.Goals.{After-difference_after-next}
 use Rattle.rt_run.proofs.Comparing.{none_so_far, none_left, one_more, all_so_far, stops_there}
 use Rattle.rt_run.proofs.output.write_differences.Goals as goal
 
@@ -33,13 +33,13 @@ returns-in_err-write_difference_as g c =
           (rw c.in-Some.is at far) c.loop-next.invariant.written begun;
     })
 
--- what comes behind a range that was written, by the two tables
-first_behind : (g : Over) (c : After-difference_behind-next g)
+-- the next difference of the two tables after a range that was written
+first_behind : (g : Over) (c : After-difference_after-next g)
     → IsFirstFrom c.args.terms.now c.args.old.now.routes c.args.new.now.routes (record { 0 = c.in-Some.difference.last.0 + 1 })
-    c.difference_behind-next.result
+    c.difference_after-next.result
 first_behind g c =
-    subst (λ t. IsFirstDifference t.by t.old_table t.new_table (record { 0 = c.in-Some.difference.last.0 + 1 }) c.difference_behind-next.result)
-    c.loop-next.invariant.tables c.difference_behind-next.ensures.first
+    subst (λ t. IsFirstDifference t.by t.old_table t.new_table (record { 0 = c.in-Some.difference.last.0 + 1 }) c.difference_after-next.result)
+    c.loop-next.invariant.tables c.difference_after-next.ensures.first
 
 pub loop-next-preserved : goal.loop-next-preserved
 loop-next-preserved g c =
@@ -47,16 +47,16 @@ loop-next-preserved g c =
     let behind = first_behind g c in
     let put = rw c.styles.ensures at c.in_ok-write_difference_as.ensures.ok in
     record {
-      tables = c.difference_behind-next.ensures.kept ∙ c.loop-next.invariant.tables;
+      tables = c.difference_after-next.ensures.kept ∙ c.loop-next.invariant.tables;
       text = c.loop-next.invariant.text ++ difference_as c.args.terms.now.styles c.in-Some.difference;
       written = appends_after _ _ _ c.loop-next.invariant.text (difference_as c.args.terms.now.styles c.in-Some.difference)
           c.loop-next.invariant.written put;
       far = one_more c.args.terms.now c.args.old.now.routes c.args.new.now.routes c.loop-next.invariant.text c.in-Some.difference
-          c.difference_behind-next.result (rw c.in-Some.is at far) behind;
+          c.difference_after-next.result (rw c.in-Some.is at far) behind;
     }
 
--- fewer addresses are left behind a range
-fewer : (asked : AskedDiff) (old new : List Route) (d : Difference) (next : Option Difference) → d.first.0 ≤ d.last.0 → d.last.0 < 2 ^ 32
+-- fewer addresses are left after a range
+fewer : (asked : DiffContents) (old new : List Route) (d : Difference) (next : Option Difference) → d.first.0 ≤ d.last.0 → d.last.0 < 2 ^ 32
     → IsFirstFrom asked old new (record { 0 = d.last.0 + 1 }) next → addresses_from next < addresses_from (Some d)
 fewer asked old new d None some fits first = omega arith
 fewer asked old new d (Some e) some fits first = omega (arith, first.onward)
@@ -65,7 +65,7 @@ pub loop-next-smaller : goal.loop-next-smaller
 loop-next-smaller g c =
     let far = rw c.in-Some.is at c.loop-next.invariant.far in
     let d = far.first.difference in
-    rw c.in-Some.is (fewer c.args.terms.now c.args.old.now.routes c.args.new.now.routes c.in-Some.difference c.difference_behind-next.result
+    rw c.in-Some.is (fewer c.args.terms.now c.args.old.now.routes c.args.new.now.routes c.in-Some.difference c.difference_after-next.result
     d.some d.fits (first_behind g c))
 
 pub returns : goal.returns

@@ -6,15 +6,15 @@ use Rattle.rt_run.specs.inside.Outputs.{matches_text}
 use Rattle.ya_replay.proofs.Promised.{begins_all, appends_next}
 use Rattle.rt_run.proofs.output.write_matches.Goals as goal
 
-pub returns-in_err-write_all_found_as : goal.returns-in_err-write_all_found_as
-returns-in_err-write_all_found_as g c =
+pub returns-in_err-write_all_matches_styled : goal.returns-in_err-write_all_matches_styled
+returns-in_err-write_all_matches_styled g c =
     let fault = err_from_is_err_and c.from_residual.result c.from_residual.ensures.1 in
     let text : AddressMatches → List ℕ = λ one. all_found_as c.args.style.now.form (label_of c.args.style.now.labels) one.addr one.routes.items in
     rw fault.1 (record {
       ok = tt;
       err = begins_all (λ n. text) (λ n. matches_text c.args.style.now) (λ n. refl)
           (λ n x xs. refl) c.args.all.now c.loop-one.one-index c.one-item.result c.loop-one-test.true c.one-item.is _ _ _
-          c.loop-one.invariant (rw (← c.as_slice.ensures.value) c.in_err-write_all_found_as.ensures.err);
+          c.loop-one.invariant (rw (← c.as_slice.ensures.value) c.in_err-write_all_matches_styled.ensures.err);
     })
 
 pub loop-one-preserved : goal.loop-one-preserved
@@ -22,4 +22,4 @@ loop-one-preserved g c =
     let text : AddressMatches → List ℕ = λ one. all_found_as c.args.style.now.form (label_of c.args.style.now.labels) one.addr one.routes.items in
     appends_next (λ n. text) (λ n. matches_text c.args.style.now) (λ n. refl)
     (λ n x xs. refl) c.args.all.now c.loop-one.one-index c.one-item.result c.loop-one-test.true c.one-item.is _ _ _
-    c.loop-one.invariant (rw (← c.as_slice.ensures.value) c.in_ok-write_all_found_as.ensures.ok)
+    c.loop-one.invariant (rw (← c.as_slice.ensures.value) c.in_ok-write_all_matches_styled.ensures.ok)

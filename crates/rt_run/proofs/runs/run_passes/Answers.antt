@@ -32,8 +32,8 @@ returns g c =
     let written : take c.in_ok-feeds.feeds.len (feeds' ++ drop (length feeds') feeds) ≡ feeds' =
     all_written c.in_ok-feeds.feeds.len feeds' feeds c.in_ok-feeds.feeds.ok.0 as_many in
     let gates : c.close_gates.new.passes.items ≡ gates_of feeds' = c.close_gates.ensures.passes ∙ ap gates_of written in
-    let behind : c.put_behind.new.passes.items ≡ gates_of feeds' ++ drop (length texts) passes =
-    c.put_behind.ensures ∙ (ap (λ (ps : List HeldPass). ps ++ c.in_ok-idle.idle.items) gates
+    let behind : c.append_passes.new.passes.items ≡ gates_of feeds' ++ drop (length texts) passes =
+    c.append_passes.ensures ∙ (ap (λ (ps : List HeldPass). ps ++ c.in_ok-idle.idle.items) gates
     ∙ ap (λ (ps : List HeldPass). gates_of feeds' ++ ps) (c.in_ok-idle.ensures {u = tt}).tail) in
     let reported : map Some c.close_gates.new.reports.items ≡ map (λ (f : Feed HeldPass). f.report) feeds' =
     c.close_gates.ensures.reports ∙ ap (map (λ (f : Feed HeldPass). f.report)) written in

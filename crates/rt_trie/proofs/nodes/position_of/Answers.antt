@@ -11,7 +11,7 @@ use Rattle.rt_trie.proofs.nodes.position_of.Goals.{Then-offset-lt-END, else-len-
 use Rattle.rt_trie.proofs.nodes.position_of.Goals.{else-len-via-else-len, else-len-2-via-then-len-2+else-covers}
 use Rattle.rt_trie.proofs.nodes.position_of.Goals.{else-len-2-via-else-len-2}
 
--- a prefix that begins where the key covers it begins in its block
+-- a prefix whose base the key covers begins in the key's block
 begins_inside : (c : Then-offset-lt-END) (q : Prefix) → IsKeyOf c.args.len c.args.base q
     → (covers q (record { 0 = c.base.result }) ≡ true) × (q.base ≤ c.args.p.now.base) × (c.args.p.now.base < past q) × (c.args.p.now.len ≤ 32)
 begins_inside c q k =

@@ -25,7 +25,7 @@ returns-then-not-covers g c = λ link n.
           sym (step_none _ _ _ _ _ (joined _ _ _ _ _ n) b best (alike ∙ sym c.if-not-covers.ensures));
     }
 
--- the best from the node on, at each address up to which its prefix reaches
+-- the best answer down to the node, for each address up to the prefix's reach
 own_found : (g : Over) (c : After-middle g) (b : Addr) → c.args.address.0 ≤ b.0 → b.0 ≤ c.min-last.result
     → or_else (last_cover (own_pair c.args.prefix (option_copied c.args.value)) b) (pair_copied c.args.place.now.best) ≡ pair_copied c.best_from-best.result
 own_found g c b from to =

@@ -58,7 +58,7 @@ returns-in-Above-clause-erased g t c =
     (full_none c.in-Full.full c.in-Full.full.value old p _ c.in-Full.is refl c.requires.lawful
     (c.position_of-in-Full.ensures c.in-Full.full.value.prefix key) c.in-Above.is) c.in-Full.is
 
--- the link before what isn't needed is taken away, and what stood at p
+-- the link before a node that isn't needed is removed, and the old value at p
 halfway : (g : Over) (t : ℕ) (c : Joined-link g t) → IsHalfway c.args.link.now c.match-link.link c.args.p
     × (c.match-link.gone ≡ get (pairs c.args.link.now) c.args.p)
 halfway g t c =

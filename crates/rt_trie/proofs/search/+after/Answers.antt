@@ -7,12 +7,12 @@ use Rattle.rt_trie.proofs.PrefixOrder.{lt_before}
 use Rattle.rt_trie.proofs.LinkOrder.{node_after-lower, node_after-upper, node_after-all, node_after-none, below_left, below_right}
 use Rattle.rt_trie.proofs.search.+after.Goals as goal
 
--- the answer on the left stands, where there is one
+-- if there is an answer on the left, it is the answer
 found_first : (o d : Option Prefix) → (o ≡ None → ⊥) → o ≡ or_else o d
 found_first None d h = absurd (h refl)
 found_first (Some x) d h = refl
 
--- what comes after p of a single pair
+-- the next prefix after p in a list of a single pair
 after_single : {V : Type 0} (m : Pairs V) (p q : Prefix) (v : V) (comes : Bool) → m ≡ (q, v) ∷ [] → before p q ≡ comes
     → next_after m p ≡ (if comes then Some q else None)
 after_single m p q v comes e h = ap (λ m. next_after m p) e ∙ ap (λ comes. if comes then Some q else None) h

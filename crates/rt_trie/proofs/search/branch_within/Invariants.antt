@@ -4,7 +4,7 @@ use Rattle.rt_trie.specs.inside.Links.{pairs, count}
 use Rattle.rt_trie.specs.inside.Lawful.{IsLawfulTrie}
 use Rattle.rt_trie.proofs.search.branch_within.Given as goal
 
--- the link is lawful, and what lies in the prefix is below it
+-- the link is lawful, and has all pairs in the prefix
 abbrev pub invariant-loop-prefix : goal.invariant-loop-prefix
 invariant-loop-prefix g l = record {
   lawful : IsLawfulTrie l.link;

@@ -8,7 +8,7 @@ use Rattle.rt_trie.proofs.search.get.Goals.{After-longest_to}
 use Rattle.rt_trie.proofs.search.get.Goals as goal
 use Rattle.rt_trie.proofs.search.get.Goals.{in_default-via-in-Some+else-eq, in_default-via-in_default}
 
--- what stands at the prefix is the value of what was found, if that is its pair
+-- the value at the prefix is the value of the pair found, if its prefix is the same
 found : (g : Over) (c : After-longest_to g) → get (pairs c.args.root.now) c.args.p ≡ value_at c.args.p (pair_copied c.longest_to.result)
 found g c =
     get_of_found (pairs c.args.root.now) c.args.p c.len.result c.base.result _ (pairs_ordered c.args.root.now c.requires.0)

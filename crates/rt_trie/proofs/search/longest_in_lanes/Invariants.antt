@@ -3,7 +3,7 @@ use Rattle.rt_trie.specs.Map.{answer_at}
 use Rattle.rt_trie.proofs.Lanes.{AreOnTheWay, work_of}
 use Rattle.rt_trie.proofs.search.longest_in_lanes.Given as goal
 
--- the first lanes are listed, and have no answer yet
+-- the first k lanes are listed, and have no answer yet
 abbrev pub invariant-loop-k : goal.invariant-loop-k
 invariant-loop-k g l = record {
   none : (j : ℕ) → j < l.k → answer_at l.answers (l.start + j) ≡ None;
@@ -13,7 +13,7 @@ invariant-loop-k g l = record {
   long : length l.answers ≡ length l.addresses;
 }
 
--- each lane is on its way, and the turn is that of one that goes on
+-- each lane still proceeds or has its final answer; if any proceeds, k is the index of one that does
 abbrev pub invariant-loop-going : goal.invariant-loop-going
 invariant-loop-going g l = record {
   way : AreOnTheWay l.root l.addresses l.start l.size l.lanes l.order l.going l.answers;

@@ -3,7 +3,7 @@ use Rattle.rt_trie.specs.Map.{IsLongest, address_at, answer_at}
 use Rattle.rt_trie.specs.inside.Links.{pairs}
 use Rattle.rt_trie.proofs.search.longest_many.Given as goal
 
--- the answers before the start are right
+-- the answers before `start` are right
 abbrev pub invariant-loop-start : goal.invariant-loop-start
 invariant-loop-start g l = record {
   each : (k : ℕ) → k < l.start → IsLongest (pairs l.root) (address_at l.addresses k) (answer_at l.answers k);

@@ -6,7 +6,7 @@ use Rattle.rt_trie.proofs.walks.step_to.Given.{Over}
 use Rattle.rt_trie.proofs.walks.step_to.Goals.{After-position_of}
 use Rattle.rt_trie.proofs.walks.step_to.Goals as goal
 
--- where the prefix stands as seen from the node
+-- the position of the prefix relative to the node
 stands : (g : Over) (c : After-position_of g) → StandsAt c.in-Branch.prefix c.args.p c.position_of.result
 stands g c = c.position_of.ensures c.in-Branch.prefix (record { len_is = c.len.ensures; base_is = c.base.ensures })
 

@@ -3,15 +3,15 @@ use Rattle.std.specs.Option.{is_some}
 use Rattle.rt_rib.specs.Book.{table_of}
 use Rattle.rt_rib.specs.declared.routes.Route.{Route}
 use Rattle.rt_diff.specs.declared.comparison.Difference.{Difference}
-use Rattle.rt_diff.specs.declared.table_answers.By.TheVariants as by
-use Rattle.rt_diff.specs.Answers.{by_own}
+use Rattle.rt_diff.specs.declared.table_answers.CompareBy.TheVariants as by
+use Rattle.rt_diff.specs.Answers.{own_numbers}
 use Rattle.rt_diff.specs.Differences.{IsFirstDifference}
 use Rattle.walkthrough.specs.Diff.{GoAlike}
 use Rattle.walkthrough.proofs.diff.go_alike.Goals as goal
 
--- all addresses go alike exactly where no range is the first one
+-- all addresses go the same way if and only if there is no first range
 none_found : (old new : List Route) (found : Option Difference) (none : Bool)
-    → IsFirstDifference by.Hop (by_own old) (by_own new) (record { 0 = 0 }) found → is_some found ≡ not none → IsTrue none ↔ GoAlike old new
+    → IsFirstDifference by.Hop (own_numbers old) (own_numbers new) (record { 0 = 0 }) found → is_some found ≡ not none → IsTrue none ↔ GoAlike old new
 none_found old new None true first is = (λ t addr small. first addr (omega arith) small, λ alike. refl)
 none_found old new None false first is = absurd (cc)
 none_found old new (Some d) true first is = absurd (cc)

@@ -2,12 +2,12 @@ use Rattle.std.proofs.Common.{◌≡◌, ℕ, ◌<◌, List, [], length, drop, R
 use Rattle.std.proofs.Math.Seq.{drop-length}
 use Rattle.rt_cidr.proofs.buffer.OutputBuffer.send.Goals as goal
 
--- where all was written, nothing remains
+-- if everything was written, nothing remains
 no_rest : {X E : Type 0} (r : Result X E) (held rest : List ℕ) (n : ℕ) → rest ≡ drop n held → OnOk r (n ≡ length held) → OnOk r (rest ≡ [])
 no_rest (Ok x) held rest n is all = is ∙ ap (λ k. drop k held) all ∙ drop-length held
 no_rest (Err e) held rest n is all = tt
 
--- where not all was written, something remains
+-- if not everything was written, something remains
 some_rest : {X E : Type 0} (r : Result X E) (held rest : List ℕ) (n : ℕ) → rest ≡ drop n held → OnErr r (n < length held) → OnErr r (0 < length rest)
 some_rest (Ok x) held rest n is less = tt
 some_rest (Err e) held rest n is less = omega (arith, less, ap length is, length-drop n held)

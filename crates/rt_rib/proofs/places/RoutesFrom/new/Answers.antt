@@ -8,7 +8,7 @@ use Rattle.rt_rib.proofs.places.RoutesFrom.new.Given.{Over}
 use Rattle.rt_rib.proofs.places.RoutesFrom.new.Goals.{In-Some}
 use Rattle.rt_rib.proofs.places.RoutesFrom.new.Goals as goal
 
--- the first pair from the prefix on, and those behind it
+-- the first pair from the prefix on, and those after it
 first : (g : Over) (c : In-Some g)
     → from_prefix c.args.map.now.pairs c.args.from.now.prefix ≡ (c.in-Some.prefix, c.in-Some.offers.now) ∷ c.next.new.self
 first g c = sym c.walk_from-walk.ensures.pairs ∙ c.in-Some.ensures.steps

@@ -10,8 +10,8 @@ use Rattle.rt_rib.proofs.BestRoutes.{IsTable-passing}
 use Rattle.rt_rib.proofs.Selections.{selected_of_part}
 use Rattle.rt_rib.proofs.table.Table.select.Goals as goal
 
-pub keep_asked-requires : goal.keep_asked-requires
-keep_asked-requires g c =
+pub keep_selected-requires : goal.keep_selected-requires
+keep_selected-requires g c =
     subst IsTable (sym c.in_ok-routes.ensures)
     (IsTable-passing c.same_prefix.ensures (is_in c.args.asked.now.part) (routes_of c.self.inside.map.pairs) c.self.invariant.table)
 
@@ -20,5 +20,5 @@ returns g c =
     let asked = c.args.asked.now in
     let kept : List Route → List Route = λ routes. filter (is_by asked.feed) (if asked.only_best then best_routes routes else routes) in
     rw (← c.self.view_is)
-    (c.keep_asked.ensures ∙ ap kept c.in_ok-routes.ensures
+    (c.keep_selected.ensures ∙ ap kept c.in_ok-routes.ensures
     ∙ selected_of_part c.same_prefix.ensures asked (routes_of c.self.inside.map.pairs) c.self.invariant.table)

@@ -12,7 +12,7 @@ use Rattle.rt_shared.specs.Visits.{Since}
 use Rattle.rt_shared.specs.Table.{HeldPass, SharedId, HasSameBounds, Settles}
 use Rattle.rt_shared.proofs.shared_rib.SharedRib.settle.Goals as goal
 
--- what the pass has seen begins the journal
+-- the journal that the pass has seen is a prefix of this one, with no entry of its feed after it
 abbrev Begins : List Entry → HeldPass → Type 0
 Begins journal p = Since p.feed p.seen journal
 
@@ -72,7 +72,7 @@ loop-pass-preserved g c =
           (since_of idle.result c.in-Some-pop.pass c.loop-pass.guard.found idle.ensures.feed idle.ensures.seen c.confirm-guard.ensures.fresh) i.since);
     }
 
--- the book that is left has the table's limit and as many feeds
+-- the resulting book has the table's limit and its number of feeds
 module _ (table : SharedId) (idle : IdlePass Lent) (entered guard : OpenGuard Lent) (book : Lent)
     (of : shared_id idle ≡ table) (same : guard ≡ entered) (is : entered ≡ guard_of idle entered.found entered.remote)
     (closed : book ≡ guard.value) where
@@ -81,11 +81,11 @@ module _ (table : SharedId) (idle : IdlePass Lent) (entered guard : OpenGuard Le
   found_is = ap (λ (x : OpenGuard Lent). x.found) same ∙ (sym (ap (λ (x : OpenGuard Lent). x.value) is)
       ∙ (ap (λ (x : OpenGuard Lent). x.value) (sym same) ∙ sym closed))
 
-  -- what it has found, in the table's numbers
+  -- the book's limit is the table's
   limit_is : HasSameBounds idle.seen entered.found → book.book.limit ≡ table.limit
   limit_is kept = ap (λ (l : Lent). l.book.limit) (sym found_is ∙ ap (λ (x : OpenGuard Lent). x.found) same) ∙ (kept.limit ∙ ap (λ (t : SharedId). t.limit) of)
 
-  -- how many feeds it has
+  -- the book's number of feeds is the table's
   feeds_is : HasSameBounds idle.seen entered.found → book.feeds ≡ table.feeds
   feeds_is kept = ap (λ (l : Lent). l.feeds) (sym found_is ∙ ap (λ (x : OpenGuard Lent). x.found) same) ∙ (kept.feeds ∙ ap (λ (t : SharedId). t.feeds) of)
 

@@ -9,7 +9,7 @@ use Rattle.rt_trie.proofs.covering.CoveringIterator.next.Goals.{in_default-view-
 use Rattle.rt_trie.proofs.covering.CoveringIterator.next.Goals.{in_default-view-via-in_default-view}
 use Rattle.rt_trie.proofs.covering.CoveringIterator.next.Goals as goal
 
--- a node that covers the address gives way to its own pair and the side where the address lies
+-- a node that covers the address is replaced by its own pair and the side that the address is on
 at_branch : (g : Over) (c : After-half g)
     → IsLawfulBelow c.half.result.now × (own_pair c.in-Branch.prefix (option_copied c.in-Branch.value)
     ++ covering_to c.loop-self.self-inside.most (pairs c.half.result.now) c.loop-self.self-inside.address ≡ c.args.self.now) × (count c.half.result.now < count c.in-Some.link.now)

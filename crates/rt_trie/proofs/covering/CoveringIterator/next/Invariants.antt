@@ -3,7 +3,7 @@ use Rattle.rt_trie.specs.inside.Links.{covering_below, IsLawfulOn}
 use Rattle.rt_trie.proofs.CoveringPairs.{nodes_below}
 use Rattle.rt_trie.proofs.covering.CoveringIterator.next.Given as goal
 
--- the link is lawful, and what covers the address below it is what is still to come
+-- the link is lawful, and the remaining pairs are those below it that cover the address
 abbrev pub invariant-loop-self : goal.invariant-loop-self
 invariant-loop-self g l = record {
   lawful : IsLawfulOn l.self-inside.below;

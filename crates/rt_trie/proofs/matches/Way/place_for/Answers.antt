@@ -7,7 +7,7 @@ use Rattle.rt_trie.proofs.matches.Way.place_for.Given.{Over}
 use Rattle.rt_trie.proofs.matches.Way.place_for.Goals.{After-back_to, then-a-from, else-a-from}
 use Rattle.rt_trie.proofs.matches.Way.place_for.Goals as goal
 
--- the places that are kept are of this trie, from the address on
+-- the kept places belong to this trie, for addresses from the given one on
 kept : (g : Over) (c : After-back_to g) → AreMatches c.args.root.now c.args.a c.if-a-from.self
 kept g c = elim c.if-a-from.branch [
   | then-a-from w ↦
@@ -16,7 +16,7 @@ kept g c = elim c.if-a-from.branch [
       rw w.self-is record { lawful = c.requires.lawful; few = c.requires.few; places = later_places _ _ _ _ w.if-a-from.false c.requires.places }
 ]
 
--- and so are those that are left
+-- and so do those that remain
 left : (g : Over) (c : After-back_to g) → AreMatches c.args.root.now c.args.a c.back_to.new.self
 left g c =
     let k = kept g c in

@@ -16,7 +16,7 @@ insert-requires-clause-given g c = record {
   value = refl;
 }
 
--- it was done, by which the rest is told
+-- the insertion was done, from which the rest follows
 done : (g : Over) (c : Then-insert g)
     → IsInserted c.self.inside.root c.insert.new.link c.self.inside.nodes c.insert.new.given.nodes c.args.p (Some c.args.v) c.insert.new.given.value
 done g c =

@@ -6,10 +6,10 @@ pub invariant_of-self : goal.invariant_of-self
 invariant_of-self g c =
     let i = c.retain.ensures in
     record {
-      lawful = i.sifted.lawful;
+      lawful = i.retained.lawful;
       len = omega (arith, c.self.invariant.len, i.len);
       nodes = omega (arith, c.self.invariant.nodes, i.nodes);
     }
 
 pub returns-clause-ordered : goal.returns-clause-ordered
-returns-clause-ordered g c = pairs_ordered c.retain.new.link c.retain.ensures.sifted.lawful.0
+returns-clause-ordered g c = pairs_ordered c.retain.new.link c.retain.ensures.retained.lawful.0

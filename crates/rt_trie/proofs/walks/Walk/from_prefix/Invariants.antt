@@ -4,7 +4,7 @@ use Rattle.rt_trie.specs.inside.Links.{pairs, count}
 use Rattle.rt_trie.specs.inside.WalkStack.{stack_pairs, IsFrom, IsWalkStack}
 use Rattle.rt_trie.proofs.walks.Walk.from_prefix.Given as goal
 
--- what comes from p on is so below the link, and then on the stack
+-- the pairs from p on are those below the link, followed by those on the stack
 abbrev pub invariant-loop-stack : goal.invariant-loop-stack
 invariant-loop-stack g l = record {
   stack : IsWalkStack l.stack l.len;

@@ -5,7 +5,7 @@ use Rattle.rt_trie.proofs.walks.WalkIterator.next.Given.{Over}
 use Rattle.rt_trie.proofs.walks.WalkIterator.next.Goals.{In-Vacant, After-put_sides}
 use Rattle.rt_trie.proofs.walks.WalkIterator.next.Goals as goal
 
--- a link that holds nothing is passed over
+-- an empty link is skipped
 empty_step : (g : Over) (c : In-Vacant g) → IsPassed c.loop-self.self-inside.stack c.loop-self.self-inside.len (c.loop-self.self-inside.len - 1)
 empty_step g c =
     empty_at c.loop-self.self-inside.stack c.loop-self.self-inside.len c.link_at.result.now c.loop-self.invariant.stack
@@ -19,7 +19,7 @@ loop-self-preserved-in-Vacant g c =
 pub loop-self-smaller-in-Vacant : goal.loop-self-smaller-in-Vacant
 loop-self-smaller-in-Vacant g c = (empty_step g (goal.at.loop-self-smaller-in-Vacant g c).In-Vacant).2
 
--- a node on top of the stack gives way to its sides
+-- a node on top of the stack is replaced by its sides
 branch_step : (g : Over) (c : After-put_sides g)
     → GivesWay c.loop-self.self-inside.stack c.put_sides.new.stack c.loop-self.self-inside.len c.in-Branch.prefix (option_copied c.in-Branch.value)
 branch_step g c =

@@ -3,7 +3,7 @@ use Rattle.rt_trie.specs.inside.WalkStack.{stack_pairs, IsWalkStack}
 use Rattle.rt_trie.proofs.WalkStacks.{weight_of}
 use Rattle.rt_trie.proofs.walks.WalkIterator.next.Given as goal
 
--- the stack is lawful, and has the pairs that are still to come
+-- the stack is lawful, and has the remaining pairs
 abbrev pub invariant-loop-self : goal.invariant-loop-self
 invariant-loop-self g l = record {
   stack : IsWalkStack l.self-inside.stack l.self-inside.len;

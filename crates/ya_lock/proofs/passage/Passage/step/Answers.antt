@@ -21,11 +21,11 @@ use Rattle.ya_lock.proofs.ProcessSteps.{counted, allows}
 use Rattle.ya_lock.proofs.PassageSteps.{ready_by, stays, told_due}
 use Rattle.ya_lock.proofs.passage.Passage.step.Goals as goal
 
--- the access that is due is of a word of the tree
+-- the due access is of a word of the tree
 due_word : (w : Walk) (a : Access) → IsWalk w → access_of w.levels w.place w.process ≡ a → AccessIsWithin w.levels a
 due_word w a p is = subst (AccessIsWithin w.levels) is (within_access w.levels w.place w.process p.least p.in_tree p.proper)
 
--- which lies before the making word, at an index that is no great number
+-- which lies before the making word, at a small index
 due_index : (levels number : ℕ) (word : Word) → levels ≤ 6 → IsWord levels word → number ≡ number_of levels word
     → (8 * number ≡ index_of levels word) × (8 * number + 8 ≤ making_index levels) × (8 * number < 4584)
 due_index levels number word most within is =
@@ -33,7 +33,7 @@ due_index levels number word most within is =
     let i : ℕ = index_of levels word in let below : i + 8 ≤ m = index_below levels word within in
     let at : 8 * number ≡ i = ap (λ (k : ℕ). 8 * k) is ∙ index_is levels word in (at, omega arith, omega arith)
 
--- so the table lets the seat of the walk's place make it
+-- so the table allows the seat of the walk's place to make it
 may_step : {V : Type 0} (since done : ℕ → V → V → Type 0) (since_same : (place : ℕ) (a : V) → since place a a)
     (since_done : (place other : ℕ) (a b c : V) → other ≢ place → since place a b → done other b c → since place a c)
     (w : Walk) (a : Access) (L number key id : ℕ) (table : LockId) (me : Me (Option V) (View V)) (seen : V)
@@ -57,7 +57,7 @@ may_step since done since_same since_done w a L number key id table me seen due 
           view.0 me a is p.in_tree word index.0 view.1 ready.2)),
     )
 
--- the walk as clauses see it is the one of the fields
+-- the walk in the clauses is the walk of the fields
 due_to : {V : Type 0} (inside seen : OnWay V) → inside ≡ seen → (op_of seen.walk ≢ op.Idle) × (op_of seen.walk ≢ op.Inside)
     → (op_of inside.walk ≢ op.Idle) × (op_of inside.walk ≢ op.Inside)
 due_to {V} inside seen is due =
@@ -120,7 +120,7 @@ invariant_of-self g c =
           c.load-value.new.seat.me (due_to _ c.args.self.now c.self.view_is c.requires) i.seat i.tree h.2 is;
     }
 
--- so the place comes nearer, and its count rises by no more than its bound, by what its walk is told
+-- the place comes nearer, and its count rises by no more than its bound, with the value passed to its walk
 goes_by : {V : Type 0} (inside seen : OnWay V) (new : Walk) (value : ℕ) → inside ≡ seen → IsWalk inside.walk
     → MayBeTold (due inside.walk) value → new ≡ walk_after inside.walk value
     → ComesNearer seen.walk new × (new.remote + most_remote seen.walk ≤ seen.walk.remote + most_remote new)

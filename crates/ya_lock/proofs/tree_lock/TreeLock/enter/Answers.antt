@@ -3,8 +3,8 @@ use Rattle.ya_lock.specs.Lock.{IdlePass}
 use Rattle.ya_lock.proofs.TreeSize.{place_below}
 use Rattle.ya_lock.proofs.tree_lock.TreeLock.enter.Goals as goal
 
-pub come_to_door-crowd-requires : goal.come_to_door-crowd-requires
-come_to_door-crowd-requires g c =
+pub throttle_if_contended-crowd-requires : goal.throttle_if_contended-crowd-requires
+throttle_if_contended-crowd-requires g c =
     let same = ap (λ (q : IdlePass g.row.V.Denot). q.lock) c.pass.view_is ∙ c.requires in (
       lit< tt,
       place_below c.pass.inside.seat.table_id c.self.inside.table.shared.table_id c.pass.inside.place g.row.L g.row.L

@@ -1,0 +1,179 @@
+"""BGP's choice among the routes to one prefix: attributes in, order out.
+
+The steps are those of RFC 4271, section 9.1.2.2, after the degree of preference of section 9.1.1; each decides if all
+steps before it are tied:
+
+1. the highest local preference
+2. the shortest AS path: a set counts as one AS, a confederation's segment as none (RFC 5065, section 5.3)
+3. the lowest origin: IGP, EGP, INCOMPLETE
+4. the lowest MED (a route without one has 0), only among routes from the same neighbouring AS
+5. EBGP before IBGP; a peer of the same confederation counts as internal (RFC 5065, section 5.3)
+6. the lowest cost of the path to the next hop
+7. the lowest BGP identifier of the speaker, or for a reflected route its ORIGINATOR_ID (RFC 4456, section 9)
+8. the shortest CLUSTER_LIST (RFC 4456, section 9)
+9. the lowest address of the peer
+10. the lowest number among several paths of one peer (RFC 7911 leaves this open)
+
+An attribute that the input doesn't show counts as equal for all routes, so that the next step decides.
+
+MED doesn't give an order: among three routes, each may lose to another. The best route is that of the standard, which
+doesn't depend on how the routes are listed: first the best of each neighbouring AS, then the best of these without MED.
+Unless they are configured to do so (deterministic MED), BIRD and FRR go through the routes in their listed order
+instead, and each time keep the better of two (`in turn`).
+
+The next route is the one that would be the best without any route of the earlier ones' sources; this is the daemon's
+choice when their sessions end. When the session of a later source ends, the choice among the others may change, and no
+order of the sources can express that."""
+import functools
+import ipaddress
+import re
+import typing
+
+# the maximum of a local preference, a MED and an address
+GREATEST = 4294967295
+# the local preference of a route without one
+LOCAL_PREF = 100
+ORIGINS = {"IGP": 0, "EGP": 1, "INCOMPLETE": 2}
+# a confederation's segments of a path, as bgpdump and FRR print them or as BIRD does, and a set
+CONFEDERATION = re.compile(r"\([^)]*\)|\[[^]]*\]")
+# how the path begins that came from a peer of the same confederation
+INSIDE = ("(", "[")
+SET = re.compile(r"\{[^}]*\}")
+# the neighbouring AS of a path that names none
+OWN = ""
+# the bits at which the steps before MED begin in their number
+LENGTH_AT, PREFERENCE_AT, AHEAD_AT, MED_BITS = 2, 32, 64, 32
+# A candidate is a tuple of these: the values compared before MED and those compared after it, the number of a peer's
+# path, MED, the AS path, the source, and the route that it represents. The lowest of the first three is the best.
+BEFORE, BEHIND, NUMBER, MED, PATH, SOURCE, WHAT = range(7)
+
+
+class Attributes(typing.NamedTuple):
+    """The attributes that a route is compared by, except path and MED, which differ from prefix to prefix. `ahead` is
+    what its daemon compares first, the lowest wins."""
+
+    ahead: int = 0
+    local_pref: int = LOCAL_PREF
+    origin: int = ORIGINS["IGP"]
+    internal: bool = False
+    cost: int = 0
+    identifier: tuple = ()
+    clusters: int = 0
+    peer: tuple = ()
+
+
+class Standing(typing.NamedTuple):
+    """The compared values of attributes: those before MED, without the path's length, and those after it, for a path
+    from outside and for one from a confederation's peer."""
+
+    before: int
+    behind: tuple
+    behind_inside: tuple
+
+
+def length_of(path):
+    """The number of AS in a path."""
+    if "(" in path or "{" in path or "[" in path:
+        return len(SET.sub(" set ", CONFEDERATION.sub(" ", path)).split())
+    return path.count(" ") + 1 if path else 0
+
+
+def neighbour_of(path):
+    """The neighbouring AS: the first of the path after a confederation's segments, or the own AS if that isn't in a
+    sequence (RFC 4271, section 9.1.2.2 c; RFC 5065, section 5.3)."""
+    first = path.partition(" ")[0]
+    if first[:1] in "([{":
+        outside = CONFEDERATION.sub(" ", path).split()
+        return outside[0] if outside and not outside[0].startswith("{") else OWN
+    return first
+
+
+def before_med(local_pref, length, origin, ahead=0):
+    """The steps before MED as one number: numbers are compared faster than tuples."""
+    return ahead << AHEAD_AT | (GREATEST - local_pref) << PREFERENCE_AT | length << LENGTH_AT | origin
+
+
+def with_med(before, med):
+    """The same followed by MED, if MED is compared whatever the neighbouring AS."""
+    return before << MED_BITS | med
+
+
+@functools.lru_cache(1024)
+def address_order(text):
+    """The sort key of an address; IPv4 comes before IPv6, and text that isn't an address before both."""
+    try:
+        address = ipaddress.ip_address(text)
+    except ValueError:
+        return 0, 0, text
+    return address.version, int(address), ""
+
+
+def standing(attributes):
+    ahead, local_pref, origin, internal, *behind = attributes
+    return Standing(before_med(local_pref, 0, origin, ahead), (internal, *behind), (True, *behind))
+
+
+def candidate(standing, path, med, number, source, what, always_compare_med=False):
+    before, behind, behind_inside = standing
+    before += length_of(path) << LENGTH_AT
+    if always_compare_med:
+        before, med = with_med(before, med), 0
+    return before, behind_inside if path.startswith(INSIDE) else behind, number, med, path, source, what
+
+
+def best_of_each(candidates, in_turn=False):
+    """The best candidate of each source, in the order of choice."""
+    ordered = sorted(candidates)
+    if med_decides(ordered):
+        return list(one_by_one(candidates, first_in_turn if in_turn else first_of_neighbours))
+    if len({candidate[SOURCE] for candidate in ordered}) == len(ordered):
+        return ordered
+    best = {}
+    for candidate in ordered:
+        best.setdefault(candidate[SOURCE], candidate)
+    return list(best.values())
+
+
+def med_decides(candidates):
+    """Returns True if two candidates of the same neighbouring AS are equal before MED and have different MEDs."""
+    if len({candidate[MED] for candidate in candidates}) == 1:
+        return False
+    neighbours = [neighbour_of(candidate[PATH]) for candidate in candidates]
+    if len(set(neighbours)) == len(candidates):
+        return False
+    meds = {}
+    for candidate, neighbour in zip(candidates, neighbours):
+        if meds.setdefault((candidate[BEFORE], neighbour), candidate[MED]) != candidate[MED]:
+            return True
+    return False
+
+
+def one_by_one(candidates, first):
+    """Each time the first of the remaining sources."""
+    left = [(candidate, neighbour_of(candidate[PATH])) for candidate in candidates]
+    while left:
+        best = first(left)
+        yield best
+        left = [pair for pair in left if pair[0][SOURCE] != best[SOURCE]]
+
+
+def first_of_neighbours(pairs):
+    """The first of those that are each the first of a neighbouring AS."""
+    best = {}
+    for candidate, neighbour in pairs:
+        order = candidate[BEFORE], candidate[MED], candidate
+        if neighbour not in best or order < best[neighbour]:
+            best[neighbour] = order
+    return min(candidate for _, _, candidate in best.values())
+
+
+def first_in_turn(pairs):
+    """Goes through the routes in turn, and each time keeps the better of two."""
+    (best, best_neighbour), *others = pairs
+    for candidate, neighbour in others:
+        before, best_before = candidate[BEFORE], best[BEFORE]
+        if neighbour == best_neighbour:
+            before, best_before = (before, candidate[MED]), (best_before, best[MED])
+        if (before, candidate) < (best_before, best):
+            best, best_neighbour = candidate, neighbour
+    return best

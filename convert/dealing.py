@@ -1,0 +1,138 @@
+"""The feed files of the sources' commands: one for each source, several for a source with more routes than a feed may
+have and, with --merge, one for many sources together."""
+import contextlib
+import itertools
+import pathlib
+import shutil
+import typing
+
+from errors import Refused, naming
+
+FIRST_LINE = "version 2\n"
+MERGED = "merged"
+# how much of a file is copied at once
+BLOCK = 1 << 20
+
+
+class Source(typing.NamedTuple):
+    """A source's commands in a file: how many there are, and how many routes it has at a time, at most."""
+
+    name: str
+    file: pathlib.Path
+    commands: int
+    routes: int
+
+    def feeds(self, limit):
+        """Returns how many feeds the source needs."""
+        return max(1, -(-self.routes // limit))
+
+    def counted(self, limit):
+        """Returns the source with the number of its prefixes, if it needs several feeds: each has a part of these."""
+        is_whole = self.routes <= limit or self.commands == self.routes
+        return self if is_whole else self._replace(routes=len(places_of(self.file)))
+
+
+def plan(sources, most, limit, prefixes):
+    """Returns the sources that have feeds of their own, and those that share one so that there are at most `most` feeds:
+    those with the fewest routes. `prefixes` is how many prefixes have routes in all."""
+    needed = sum(source.feeds(limit) for source in sources)
+    if needed <= most:
+        return sources, []
+    by_size, routes = sorted(sources, key=lambda source: source.routes), 0
+    for number, source in enumerate(by_size, 1):
+        routes += source.routes
+        needed -= source.feeds(limit)
+        if number > 1 and needed + -(-min(routes, prefixes) // limit) <= most:
+            together = by_size[:number]
+            return [source for source in sources if source not in together], together
+    raise Refused(f"the routes need more than {most} feeds, of {limit} routes each: raise --merge")
+
+
+def state_of(file):
+    """Returns the routes that a source's commands leave: the preference and the next hop of each prefix."""
+    routes = {}
+    with naming(file), open(file) as lines:
+        for line in lines:
+            word, *fields = line.split()
+            if word == "purge":
+                routes.clear()
+            elif word == "withdraw":
+                del routes[fields[0]]
+            else:
+                routes[fields[0]] = int(fields[1]), fields[2]
+    return routes
+
+
+def merged(sources, folder):
+    """Writes the best route of each prefix among these sources as one source. Returns that, and how many routes were left
+    out."""
+    best, routes = {}, 0
+    for source in sources:
+        state = state_of(source.file)
+        source.file.unlink()
+        routes += len(state)
+        for prefix, route in state.items():
+            if prefix not in best or route[0] < best[prefix][0]:
+                best[prefix] = route
+    # the files of sources have numbers
+    file = folder / MERGED
+    with naming(file), open(file, "w") as opened:
+        opened.writelines(f"add {prefix} {preference} {hop}\n" for prefix, (preference, hop) in best.items())
+    return Source(MERGED, file, len(best), len(best)), routes - len(best)
+
+
+def write(source, folder, names):
+    """Writes the source's commands to feeds of these names, those of each prefix to one of them."""
+    if len(names) == 1:
+        copy(source.file, folder / names[0])
+    else:
+        deal(source, folder, names)
+    source.file.unlink()
+
+
+def copy(file, feed):
+    with naming(feed), open(feed, "wb") as written, open(file, "rb") as lines:
+        written.write(FIRST_LINE.encode())
+        shutil.copyfileobj(lines, written, BLOCK)
+
+
+def deal(source, folder, names):
+    with contextlib.ExitStack() as stack:
+        stack.enter_context(naming(folder / names[0]))
+        feeds = [stack.enter_context(open(folder / name, "w")) for name in names]
+        for feed in feeds:
+            feed.write(FIRST_LINE)
+        lines = stack.enter_context(open(source.file))
+        if source.commands == source.routes:
+            deal_routes(lines, source.routes, feeds)
+        else:
+            deal_commands(lines, places_of(source.file), feeds)
+
+
+def deal_routes(lines, number, feeds):
+    """Divides `number` lines among feeds; each line adds a route to another prefix."""
+    for part, feed in enumerate(feeds):
+        size = number * (part + 1) // len(feeds) - number * part // len(feeds)
+        feed.writelines(itertools.islice(lines, size))
+
+
+def prefix_of(line):
+    """Returns the prefix that a command is about; "" for a purge."""
+    return line.split(" ", 2)[1].rstrip("\n") if " " in line else ""
+
+
+def places_of(file):
+    """Returns the prefixes of a file's commands, each with its place in the order of their first occurrence."""
+    places = {}
+    with naming(file), open(file) as lines:
+        for prefix in filter(None, map(prefix_of, lines)):
+            places.setdefault(prefix, len(places))
+    return places
+
+
+def deal_commands(lines, places, feeds):
+    """Divides commands among feeds; several may be about a prefix, and a purge goes to all feeds."""
+    for line in lines:
+        prefix = prefix_of(line)
+        for feed in [feeds[places[prefix] * len(feeds) // len(places)]] if prefix else feeds:
+            feed.write(line)

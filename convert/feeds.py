@@ -1,0 +1,808 @@
+"""Shared by the converters into feeds: reading a table, ranking its routes, and writing them as feed files."""
+import argparse
+import codecs
+import contextlib
+import functools
+import gc
+import ipaddress
+import json
+import operator
+import os
+import pathlib
+import re
+import shlex
+import signal
+import stat
+import struct
+import sys
+import typing
+from socket import AF_INET, inet_pton
+
+import dealing
+from ending import NAME, NO_MEMORY
+from errors import Missing, Refused, Wrong, in_words, naming
+from folders import Folder
+
+# what erases a terminal's line
+ERASED = "\r\033[K"
+GREATEST = 4294967295
+MAX_FEED_FILES = 64
+# the number of names that a message lists
+MOST_NAMED = 3
+# how many routes a feed may have without `--limit`, and with it
+USUAL_LIMIT, GREATEST_LIMIT = 65536, 1000000
+DISCARD = "discard"
+# the next hop written for a connected network, as in the output of `route -n`
+CONNECTED = "0.0.0.0"
+BLOCK = 1 << 20
+# seconds between two lines of progress
+EACH = 1
+# a longer line or value isn't a table's, and a table has fewer bytes
+LONGEST, MOST_BYTES = 1 << 24, 10**11
+# JSON: the maximum length of what isn't a string, and what may be between values
+LONGEST_WORD, BLANKS = 16, re.compile(r"[ \t\r\n]*")
+KINDS = {"[": "a list", "{": "an object"}
+# the cache size for values that many routes share
+MOST_KNOWN = 16384
+# why FRR doesn't use a path that is valid
+SET_ASIDE = frozenset(("damped", "history", "removed"))
+# the number of lines that are kept before they are written
+MOST_WAITING = 200000
+# how a compressed file begins, and what reads it
+COMPRESSED = {b"\x1f\x8b": ("gzip", "zcat"), b"\xfd7zXZ\0": ("xz", "xzcat"), b"BZh": ("bzip2", "bzcat"),
+              b"\x28\xb5\x2f\xfd": ("zstd", "zstdcat")}
+# the exit status if some addresses may get another answer than from the daemon, or `yarib` doesn't accept the files
+OTHERWISE = 3
+ENDS = f"""exit status:
+  0 done   1 refused, nothing is changed   2 command line
+  {OTHERWISE} written, but some addresses may be answered differently than by the daemon,
+    or there are more feeds than yarib accepts; standard error says why"""
+# the signals that end a converter
+ENDING = (signal.SIGTERM, signal.SIGHUP, signal.SIGINT)
+# the number of an address's four bytes
+NUMBER = struct.Struct(">I").unpack
+# the bits past a prefix of that length
+HOST_BITS = {str(length): (1 << 32 - length) - 1 for length in range(33)}
+
+
+def say(text):
+    """Writes a line on standard error, if that is open: else `print` would write it to standard output. On a terminal
+    it replaces the progress line."""
+    if sys.stderr is not None:
+        # if nobody reads it, nothing else changes
+        with contextlib.suppress(OSError):
+            os.write(2, f"{ERASED if is_terminal() else ''}{text}\n".encode())
+
+
+class Offer(typing.NamedTuple):
+    """A source's route to a prefix. `wish` is the daemon's own number, and the higher one wins; `sought` is the address
+    that the daemon looked up among its routes to find the next hop, if it did."""
+
+    source: str
+    hop: str
+    wish: int | None = None
+    # the address that the daemon looked up among its routes to find the hop
+    sought: str | None = None
+
+
+class Notes:
+    """Counts what is left out, by its name, in the order of the names' first occurrence. `differs` is set if some
+    addresses get another answer than from the daemon because of it."""
+
+    def __init__(self):
+        self.left_out, self.told = {}, {}
+        self.differs = False
+
+    def leave_out(self, name, number=1, differs=False):
+        self.left_out[name] = self.left_out.get(name, 0) + number
+        self.differs = self.differs or differs
+
+    def tell(self, name, number=1, differs=False):
+        """Counts what is accepted but has to be reported."""
+        self.told[name] = self.told.get(name, 0) + number
+        self.differs = self.differs or differs
+
+    def report(self, taken, what):
+        parts = [f"{number} {name}" for name, number in self.left_out.items()]
+        lines = [f"accepted {taken} {what}; omitted " + (", ".join(parts) or "nothing")]
+        lines += [f"{number} {name}" for name, number in self.told.items()]
+        if self.differs:
+            lines.append(f"so some addresses may be answered differently than by the daemon (status {OTHERWISE})")
+        return "\n".join(lines)
+
+
+class Progress:
+    """If standard error is a terminal, a line there that is rewritten each second and erased at the end."""
+
+    def __init__(self):
+        self.input = self.files = None
+
+    def tell(self, *_):
+        parts = []
+        if self.input:
+            parts.append(f"{self.input.lines:,} lines")
+            if self.input.size:
+                parts.append(f"{100 * self.input.done // self.input.size} % of the input")
+        if self.files:
+            taken = self.files.taken + sum(map(len, self.files.waiting.values()))
+            parts.append(f"{len(self.files.waiting)} sources, {taken:,} routes")
+        os.write(2, (ERASED + ", ".join(parts)).encode())
+
+    def __enter__(self):
+        if is_terminal():
+            signal.signal(signal.SIGALRM, self.tell)
+            signal.setitimer(signal.ITIMER_REAL, EACH, EACH)
+
+    def __exit__(self, *_):
+        self.erase()
+
+    def erase(self):
+        """Ends the progress line, before anything else is written there."""
+        if is_terminal():
+            signal.setitimer(signal.ITIMER_REAL, 0)
+            os.write(2, ERASED.encode())
+
+
+def is_terminal():
+    # standard error may be closed
+    return sys.stderr is not None and sys.stderr.isatty()
+
+
+PROGRESS = Progress()
+
+
+class Input:
+    """Standard input, block by block; `after_block` is called after each.
+
+    `before` lines precede the lines in use, `lines` and `done` bytes were read in all, and `size` is the input's size
+    if it is known."""
+
+    def __init__(self, most):
+        with naming("standard input"):
+            status = os.fstat(0)
+        self.most = most
+        self.size = status.st_size if stat.S_ISREG(status.st_mode) else 0
+        self.done = self.before = self.lines = 0
+        self.after_block = lambda: None
+        PROGRESS.input = self
+
+    def blocks(self):
+        with naming("standard input"):
+            while data := os.read(0, BLOCK):
+                if self.done == 0:
+                    refuse_compressed(data)
+                self.done += len(data)
+                if self.done > self.most:
+                    raise Refused(f"the input has more than {self.most} bytes: raise the limit with --most")
+                yield data
+        if self.done == 0:
+            raise Refused("the input is empty")
+
+
+def refuse_compressed(data):
+    for begin, (form, reader) in COMPRESSED.items():
+        if data.startswith(begin):
+            raise Refused(f"the input is compressed ({form}): decompress it with {reader}")
+
+
+class Lines(Input):
+    """The entries of standard input, which here are its lines."""
+
+    def __init__(self, most):
+        super().__init__(most)
+        # of the last block: the entries, and an iterator over those that are not in use yet
+        self.entries, self.rest = [], iter(())
+
+    def last_end(self, data, begin):
+        """The end of the last whole entry, which is not before `begin`; -1 if there is none."""
+        return data.rfind(b"\n", begin)
+
+    def split(self, text):
+        return text.split("\n")
+
+    def texts(self):
+        """Whole entries; bytes that aren't UTF-8 occur only in parts that aren't used."""
+        rest = b""
+        for data in self.blocks():
+            begin = max(0, len(rest) - 1)
+            rest += data
+            end = self.last_end(rest, begin)
+            if end >= 0:
+                yield text_of(rest[: end + 1])
+                rest = rest[end + 1 :]
+            if len(rest) > LONGEST:
+                raise Refused(f"line {self.lines + 1} begins an entry that is too long for a table: {decoded(rest[:100])!r}")
+        if rest:
+            self.refuse_cut(rest)
+            yield text_of(rest)
+
+    def refuse_cut(self, rest):
+        """Refuses input that doesn't end with a line end, as the output of these daemons and programs does."""
+        *earlier, last = rest.split(b"\n")
+        if last:
+            number = self.lines + len(earlier) + 1
+            raise Refused(f"line {number} has no line end (LF), so the input is truncated: {decoded(last[:100])!r}")
+
+    def __iter__(self):
+        for text in self.texts():
+            self.before = self.lines
+            self.lines += text.count("\n") + 1
+            self.entries = self.split(text)
+            self.rest = iter(self.entries)
+            yield from self.rest
+            self.after_block()
+
+    @contextlib.contextmanager
+    def named(self):
+        """Reports an error with the number of its line. An exception's `behind` is the number of lines between the
+        first line of its entry and the line with the error."""
+        try:
+            yield
+        except (ValueError, LookupError) as error:
+            behind = getattr(error, "behind", 0)
+            *earlier, entry = self.entries[: len(self.entries) - operator.length_hint(self.rest)]
+            number = self.before + 1 + behind + sum(entry.count("\n") + 1 for entry in earlier)
+            line = entry.split("\n")[behind]
+            what = f": {error}" if isinstance(error, Wrong) else f" is not understood: {line[:100]!r}"
+            raise Refused(f"line {number}{what}") from None
+
+
+class Entries(Lines):
+    """The lines of standard input that don't begin with a tab, each with the following lines that do."""
+
+    def last_end(self, data, begin):
+        end = len(data)
+        while (end := data.rfind(b"\n", begin, end)) >= 0:
+            if data[end + 1 : end + 2] not in (b"", b"\t"):
+                break
+        return end
+
+    def split(self, text):
+        return re.split(r"\n(?!\t)", text)
+
+
+def decoded(data):
+    return data.decode("utf-8", errors="replace")
+
+
+def text_of(data):
+    """The text of whole lines without the last one's end."""
+    text = decoded(data)
+    return (text.replace("\r\n", "\n") if "\r" in text else text)[:-1]
+
+
+class Json(Input):
+    """The JSON document of standard input, which a command prints. It is read piece by piece, and what was read isn't
+    kept."""
+
+    def __init__(self, most, command):
+        super().__init__(most)
+        self.command = command
+        self.pieces = codecs.iterdecode(self.blocks(), "utf-8", errors="replace")
+        self.decode = json.JSONDecoder().raw_decode
+        # the unread text begins at `at`
+        self.text, self.at, self.ended = "", 0, False
+
+    def more(self):
+        """Reads on, by at least as much as is unread, so that parsing a long value is repeated only a few times."""
+        self.lines = self.before = self.before + self.text.count("\n", 0, self.at)
+        texts, wanted = [self.text[self.at :]], max(BLOCK, len(self.text) - self.at)
+        while wanted > 0 and not self.ended:
+            texts.append(next(self.pieces, ""))
+            wanted, self.ended = wanted - len(texts[-1]), not texts[-1]
+        self.text, self.at = "".join(texts), 0
+        self.after_block()
+
+    def wrong(self, what, at):
+        line = self.before + self.text.count("\n", 0, at) + 1
+        before = self.text[at : at + 40]
+        return Refused(f"the input is not JSON of {self.command}: {what} at line {line}, before {before!r}")
+
+    def sign(self):
+        """The next character that isn't blank, which remains unread; "" at the input's end."""
+        while True:
+            found = self.text[self.at : self.at + 1]
+            if found and not found.isspace():
+                return found
+            self.at = BLANKS.match(self.text, self.at).end()
+            if self.at < len(self.text) or self.ended:
+                return self.text[self.at : self.at + 1]
+            self.more()
+
+    def take(self, sign):
+        found = self.sign()
+        if found != sign:
+            is_other = found in KINDS and sign in KINDS
+            raise self.wrong(f"{KINDS[sign]} was expected" if is_other else f"{sign!r} is missing", self.at)
+        self.at += 1
+
+    def value(self):
+        """The next value as a whole."""
+        self.sign()
+        while True:
+            try:
+                value, end = self.decode(self.text, self.at)
+            except json.JSONDecodeError as error:
+                # what is only cut off may be whole when more is read
+                cut = error.msg.startswith("Unterminated") or error.pos > len(self.text) - LONGEST_WORD
+                if self.ended or not cut:
+                    raise self.wrong(error.msg, error.pos) from None
+                if len(self.text) - self.at > LONGEST:
+                    raise self.wrong("a value is too long for a table", self.at) from None
+            except (ValueError, RecursionError) as error:
+                raise self.wrong(str(error), self.at) from None
+            else:
+                # a number may go on
+                if end < len(self.text) or self.ended:
+                    self.at = end
+                    return value
+            self.more()
+
+    def elements(self):
+        """The values of an array."""
+        self.take("[")
+        between = "," if self.sign() != "]" else "]"
+        while between == ",":
+            yield self.value()
+            between = self.after_value("]")
+        self.take("]")
+
+    def members(self):
+        """The names of an object's members; the value of each is to be read when its name is given."""
+        self.take("{")
+        between = "," if self.sign() != "}" else "}"
+        while between == ",":
+            name = self.value()
+            if not isinstance(name, str):
+                raise self.wrong("a name is missing", self.at)
+            self.take(":")
+            yield name
+            between = self.after_value("}")
+        self.take("}")
+
+    def after_value(self, last):
+        """The character after a value: a comma, which is read, or the end, which remains unread."""
+        sign = self.sign()
+        if sign == ",":
+            self.at += 1
+        elif sign != last:
+            raise self.wrong(f"',' or {last!r} is missing", self.at)
+        return sign
+
+    def end(self):
+        if self.sign():
+            raise self.wrong("there is more after its end", self.at)
+
+    @contextlib.contextmanager
+    def named(self):
+        """Reports an error in a value with the number of the line on which the value ends."""
+        try:
+            yield
+        except (Wrong, Missing) as wrong:
+            line = self.before + self.text.count("\n", 0, self.at) + 1
+            read = f"; what is read is the output of {self.command}" if isinstance(wrong, Missing) else ""
+            raise Refused(f"line {line}: {wrong}{read}") from None
+
+
+def member(record, name, kind, absent=None):
+    """The member of a JSON object; `absent` is the value of a missing one, which is refused if `absent` is None."""
+    if type(record) is not dict:
+        raise Missing(f"an object was expected: {json.dumps(record)[:100]}")
+    value = record.get(name, absent)
+    # only `isinstance` counts true and false as numbers
+    if type(value) is not kind:
+        raise Missing(f"the member {name!r} is missing or of another kind: {json.dumps(record)[:100]}")
+    return value
+
+
+def address_number(text):
+    """The number of an IPv4 address; OSError or ValueError for any other text. An address has a single text, without
+    leading zeros."""
+    return NUMBER(inet_pton(AF_INET, text))[0]
+
+
+@functools.lru_cache(MOST_KNOWN)
+def is_ipv6(text, kind):
+    try:
+        kind(text)
+    except ValueError:
+        return False
+    return True
+
+
+def prefix_of(text, trailing_bits=False):
+    """The text of an IPv4 prefix, None for one of IPv6; any other text is Wrong. A prefix has a single text: no mask
+    instead of the length, no leading zeros. Bits past the length are accepted only with `trailing_bits`, which clears
+    them."""
+    address, _, length = text.partition("/")
+    try:
+        number, past = NUMBER(inet_pton(AF_INET, address))[0], HOST_BITS[length]
+    except (OSError, ValueError, KeyError):
+        if is_ipv6(text, ipaddress.IPv6Interface if trailing_bits else ipaddress.IPv6Network):
+            return None
+        raise Wrong(f"{text!r} is not a prefix") from None
+    if number & past == 0:
+        return text
+    if trailing_bits:
+        return f"{ipaddress.IPv4Address(number & ~past)}/{length}"
+    raise Wrong(f"{text!r} is not a prefix")
+
+
+def is_prefix(text):
+    """Returns True for an IPv4 prefix and False for one of IPv6; any other text is Wrong."""
+    return prefix_of(text) is not None
+
+
+@functools.lru_cache(MOST_KNOWN)
+def is_address(text):
+    """Returns True for an IPv4 address and False for one of IPv6; any other text is Wrong."""
+    try:
+        return address_number(text) is not None
+    except (OSError, ValueError):
+        if is_ipv6(text, ipaddress.IPv6Address):
+            return False
+        raise Wrong(f"{text!r} is not an address") from None
+
+
+def hop_of(prefix, address, arguments):
+    """The next hop that is written for an address of the daemon's."""
+    if is_address(address):
+        return arguments.connected if address == CONNECTED else address
+    if arguments.ipv6_hop is None:
+        raise Wrong(f"{prefix} has an IPv6 next hop ({address}): give an IPv4 address for such hops with --ipv6-hop")
+    return arguments.ipv6_hop
+
+
+def is_usable(path, valid):
+    """Returns True if the daemon may choose the path: it is valid, and neither damped nor removed (FRR shows that
+    separately)."""
+    # hardly any path has one of these
+    may_be = type(path) is not dict or not SET_ASIDE.isdisjoint(path)
+    unused = may_be and any(member(path, name, bool, False) for name in SET_ASIDE)
+    return not unused and (valid is None or member(path, valid, bool, False))
+
+
+def chosen_first(prefix, paths, notes, valid="valid", best="best"):
+    """The paths to an IPv4 prefix that a BGP daemon may use, its choice first; an empty list if it has no choice."""
+    if prefix_of(prefix) is None:
+        notes.leave_out("of IPv6", len(paths))
+        return []
+    usable = [path for path in paths if is_usable(path, valid)]
+    if len(usable) < len(paths):
+        notes.leave_out("that are not valid", len(paths) - len(usable))
+    if len(usable) > 1:
+        usable.sort(key=lambda path: not member(path, best, bool, False))
+    if usable and not member(usable[0], best, bool, False):
+        notes.leave_out("of prefixes without a chosen path", len(usable))
+        return []
+    return usable
+
+
+def one_each(offers, notes):
+    """The offers of a prefix without the further ones of a source."""
+    first = {}
+    for offer in offers:
+        first.setdefault(offer.source, offer)
+    leave_out_further(len(offers) - len(first), notes)
+    return first.values()
+
+
+def leave_out_further(number, notes):
+    """A feed has only one route to a prefix."""
+    if number:
+        notes.leave_out("further routes of a source to the same prefix", number)
+
+
+def preference_of(prefix, offer):
+    """The daemon's number, inverted."""
+    if offer.wish is None or offer.wish > GREATEST:
+        raise Refused(f"the route of {offer.source} to {prefix} has no number for --by: leave out --by")
+    return GREATEST - offer.wish
+
+
+def add_lines(files, prefix, offers, by_rank, notes):
+    """Adds the offers of a prefix, best first, to the feeds of their sources."""
+    for rank, offer in enumerate(one_each(offers, notes) if len(offers) > 1 else offers, 1):
+        source, hop, _, sought = offer
+        if sought:
+            files.sought.add((source, sought))
+        preference = rank if by_rank else preference_of(prefix, offer)
+        lines = files.waiting.get(source) or files.lines(source)
+        lines.append(f"add {prefix} {preference} {hop}\n")
+
+
+def file_names(sources):
+    """A file name for each source, no two of them the same."""
+    names = {}
+    for source in sources:
+        plain = stem = re.sub(r"^[.-]", "_", re.sub(r"[^A-Za-z0-9_.-]", "_", source)) or "_"
+        number = 1
+        while stem in names:
+            number += 1
+            stem = f"{plain}-{number}"
+        names[stem] = source
+    return [f"{name}.feed" for name in names]
+
+
+class FeedFiles:
+    """Feed files in a new directory, which replaces the given one only when everything is written.
+
+    A source's lines are appended to its list in `waiting`. Until they are named, the files are numbered in the order of
+    `waiting`."""
+
+    def __init__(self, arguments):
+        if arguments.merge and arguments.by != "rank":
+            raise Refused("--merge compares ranks of the whole table: leave out --by")
+        self.arguments, self.folder = arguments, Folder(arguments.folder, NAME)
+        self.waiting, self.counts = {}, []
+        # the sources with the addresses that the daemon looked up for them
+        self.sought = set()
+        self.taken = 0
+        PROGRESS.files = self
+
+    def __enter__(self):
+        self.folder.__enter__()
+        return self
+
+    def __exit__(self, *_):
+        self.folder.__exit__()
+
+    def lines(self, source):
+        return self.waiting.setdefault(source, [])
+
+    def path(self, number):
+        return self.folder.new / str(number)
+
+    def flush_many(self):
+        """Writes what waits, if that is many lines."""
+        if sum(map(len, self.waiting.values())) > MOST_WAITING:
+            self.flush()
+
+    def flush(self):
+        """Writes what waits."""
+        self.counts += [0] * (len(self.waiting) - len(self.counts))
+        for number, lines in enumerate(self.waiting.values()):
+            if lines:
+                with naming(self.path(number)), open(self.path(number), "a") as file:
+                    file.write("".join(lines))
+                self.taken += len(lines)
+                self.counts[number] += len(lines)
+                lines.clear()
+
+    def written(self, source):
+        """The lines of a source that are written."""
+        path = self.path(list(self.waiting).index(source))
+        if path.exists():
+            with naming(path), open(path) as file:
+                yield from file
+
+    def rewrite(self, source, lines):
+        """Replaces a source's lines."""
+        path = self.folder.new / "rewritten"
+        with naming(path), open(path, "w") as file:
+            file.writelines(lines)
+        path.rename(self.path(list(self.waiting).index(source)))
+
+    def sources(self, names, routes):
+        """The sources that have commands, under these names."""
+        every = zip(names, map(self.path, range(len(names))), self.counts, routes)
+        return [dealing.Source(*source).counted(GREATEST_LIMIT) for source in every if source[2]]
+
+    def put_in_place(self, sources):
+        """Puts the sources' commands into their files, and the directory into its place. Returns the number of feeds in
+        it, and lines about feeds that were replaced, kept or divided."""
+        stems = [name.removesuffix(".feed") for name in file_names([source.name for source in sources])]
+        parts = [[stem] if number == 1 else [f"{stem}-{part}of{number}" for part in range(1, number + 1)]
+                 for stem, number in zip(stems, (source.feeds(GREATEST_LIMIT) for source in sources))]
+        names = iter(file_names([name for dealt in parts for name in dealt]))
+        written = [[next(names) for _ in dealt] for dealt in parts]
+        for source, files in zip(sources, written):
+            dealing.write(source, self.folder.new, files)
+        replaced, kept = self.folder.put_in_place([name for files in written for name in files])
+        told = [f"replaced {replaced} feeds that {NAME} had written"] if replaced else []
+        if kept:
+            told.append(f"kept {len(kept)} feeds that {NAME} had not written: {listed(kept)}")
+        told += [f"{source.name} has {source.routes} routes, and a feed can have at most {GREATEST_LIMIT}: it is in {', '.join(files)}, "
+                 "each prefix in one of them" for source, files in zip(sources, written) if len(files) > 1]
+        return sum(map(len, written)) + len(kept), told
+
+    def merge(self, sources, most, prefixes):
+        """Merges the sources with the fewest routes into one feed, if there would be more than `most`. Returns the
+        sources, and lines that report it."""
+        own, together = dealing.plan(sources, most, GREATEST_LIMIT, prefixes)
+        if not together:
+            return own, []
+        source, left = dealing.merged(together, self.folder.new)
+        return [*own, source], [f"merged the {len(together)} sources with the fewest routes into {source.name}.feed, with the best "
+                                f"route of each prefix among theirs; {left} further routes are omitted"]
+
+    def finish(self, notes, prefixes, what="routes", names=None, routes=None):
+        """Puts the files into their place and prints a summary; a table without any accepted route is refused. Returns
+        the exit status. `prefixes` is the number of prefixes. `routes` has the number of routes of each source at a
+        time, if it isn't the number of its commands."""
+        self.flush()
+        if self.taken == 0:
+            raise Refused(notes.report(0, what).replace("\n", "; ") + "; nothing is written")
+        sources, merged = self.sources(names or list(self.waiting), routes or self.counts), []
+        if self.arguments.merge:
+            sources, merged = self.merge(sources, self.arguments.merge, prefixes)
+        number, told = self.put_in_place(sources)
+        PROGRESS.erase()
+        say("\n".join([notes.report(self.taken, what), *merged, *told]))
+        if number > MAX_FEED_FILES:
+            names = listed([source.name for source in sources])
+            say(f"{number} feeds are in the directory, and `yarib` accepts at most {MAX_FEED_FILES} files (status {OTHERWISE}): "
+                f"use --merge {MAX_FEED_FILES} to merge the sources with the fewest routes; the sources are {names}")
+        tell_limit(max(-(-source.routes // source.feeds(GREATEST_LIMIT)) for source in sources), self.arguments.folder)
+        return OTHERWISE if notes.differs or number > MAX_FEED_FILES else 0
+
+
+def listed(names):
+    """The first of these names."""
+    return ", ".join(names[:MOST_NAMED]) + (", .." if len(names) > MOST_NAMED else "")
+
+
+def tell_limit(routes, folder):
+    """Prints the limit that `yarib run` needs for a feed with this many routes, if it isn't the default."""
+    if routes > USUAL_LIMIT:
+        say(f"a feed has {routes} routes: `yarib run` needs --limit {routes}, as in yarib run --batch 256 --limit {routes} "
+            f"{shlex.quote(str(pathlib.Path(folder)))}/*.feed")
+
+
+def end(number, _):
+    """Ends the program after removing what it has begun, which a further signal doesn't interrupt."""
+    for ending in ENDING:
+        # Python is surprised by one that came before it was ignored
+        signal.signal(ending, lambda *_: None)
+    with contextlib.suppress(OSError):
+        os.write(2, f"{NAME}: ended by {signal.Signals(number).name}\n".encode())
+    sys.exit(128 + number)
+
+
+def end_by_signals():
+    for number in ENDING:
+        # what `nohup` or a shell ignores stays ignored
+        if signal.getsignal(number) in (signal.SIG_DFL, signal.default_int_handler):
+            signal.signal(number, end)
+
+
+def convert_table(arguments, given, read):
+    """Converts the table that `read(given, arguments, notes)` yields: each prefix with its offers, best first."""
+    notes, met = Notes(), set()
+    with FeedFiles(arguments) as files:
+        given.after_block = files.flush_many
+        with given.named():
+            for prefix, offers in read(given, arguments, notes):
+                if prefix in met:
+                    raise Refused(f"{prefix} occurs twice: the input has more than one table, or isn't in order")
+                met.add(prefix)
+                add_lines(files, prefix, offers, arguments.by == "rank", notes)
+        tell_of_finders(files, met, notes)
+        return files.finish(notes, len(met))
+
+
+def covering(address):
+    """The prefixes that cover the address, each with its length."""
+    number = address_number(address)
+    return {f"{ipaddress.IPv4Address(number & ~past)}/{length}": int(length) for length, past in HOST_BITS.items()}
+
+
+def tell_of_finders(files, met, notes):
+    """Reports the sources whose routes the daemon used to find next hops of other sources, if it would find others
+    without them. The table without such a source's feed keeps the next hops that were found with it."""
+    if not files.sought:
+        return
+    files.flush()
+    prefixes = {address: {prefix: length for prefix, length in covering(address).items() if prefix in met}
+                for address in {address for _, address in files.sought if is_address(address)}}
+    wanted = {prefix for found in prefixes.values() for prefix in found}
+    routes = {}
+    for source in files.waiting:
+        for line in files.written(source):
+            _, prefix, preference, hop = line.split()
+            if prefix in wanted:
+                routes.setdefault(prefix, []).append((int(preference), source, hop))
+    told = {}
+    for source, address in sorted(files.sought):
+        order = [route for prefix, _ in sorted(prefixes.get(address, {}).items(), key=lambda found: -found[1])
+                 for route in sorted(routes[prefix])]
+        _, finder, hop = order[0] if order else (0, source, "")
+        others = [other for _, name, other in order if name != finder]
+        if finder != source and hop != CONNECTED and others[:1] != [hop]:
+            told.setdefault(finder, {})[address] = source
+    for finder, found in told.items():
+        notes.tell(f"next hops ({listed(list(found))}) of {listed(sorted(set(found.values())))} are found by routes of {finder}: "
+                   f"without {finder} the daemon finds others, and the table without its feed keeps these", len(found))
+
+
+def parser(documentation, numbers=("local-pref",)):
+    """The options that all converters into feeds have. `numbers` are the numbers that preferences can be made of."""
+    made = plain_parser(documentation)
+    made.add_argument("folder", help="the directory of the feed files; files of others in it are kept")
+    made.add_argument(
+        "--by",
+        choices=["rank", *numbers],
+        default="rank",
+        help="the source of preferences: the daemon's order (1 is its choice), or its number p as 4294967295 - p",
+    )
+    made.add_argument("--connected", default=CONNECTED, metavar="ADDRESS", type=ipv4, help="the next hop of connected networks")
+    made.add_argument("--ipv6-hop", metavar="ADDRESS", type=ipv4, help="the next hop written for IPv6 next hops")
+    made.add_argument("--merge", metavar="N", type=count,
+                      help="write at most N feeds: merge the best routes of the sources with the fewest routes")
+    return made
+
+
+def always_compare_med(parser):
+    """The option of those that choose among BGP's routes."""
+    parser.add_argument(
+        "--always-compare-med",
+        action="store_true",
+        help="compare MED whatever the neighbouring AS (BIRD: med metric on; FRR: bgp always-compare-med)",
+    )
+
+
+def deterministic_med(parser):
+    """The option for daemons that compare routes in turn by default."""
+    parser.add_argument(
+        "--deterministic-med",
+        action="store_true",
+        help="don't compare MED in turn (BIRD: deterministic med on; FRR: bgp deterministic-med)",
+    )
+
+
+def as_number(text):
+    """The number of an AS of the command line."""
+    if not text.isdecimal() or not 0 < int(text) <= GREATEST:
+        raise ValueError
+    return int(text)
+
+
+def plain_parser(documentation):
+    made = argparse.ArgumentParser(
+        description=documentation, epilog=ENDS, formatter_class=argparse.RawDescriptionHelpFormatter, allow_abbrev=False
+    )
+    made.add_argument("--most", default=MOST_BYTES, metavar="BYTES", type=count,
+                      help="refuse an input of more bytes, in case it never ends (default: %(default)s)")
+    return made
+
+
+def ipv4(text):
+    """An address of the command line."""
+    return str(ipaddress.IPv4Address(text))
+
+
+def count(text):
+    """A positive number of the command line."""
+    if not text.isdecimal() or int(text) == 0:
+        raise ValueError
+    return int(text)
+
+
+def status_of(convert, *arguments):
+    """The exit status of a converter, even if it exits by itself, as for `--help`."""
+    try:
+        return convert(*arguments)
+    except SystemExit as ended:
+        return ended.code
+
+
+def run(convert, *arguments):
+    """Runs a converter, which returns its exit status; what it can't do is one line on standard error and status 1."""
+    # objects that are kept don't refer to themselves, so the cycle collector has nothing to find
+    gc.disable()
+    end_by_signals()
+    try:
+        with PROGRESS:
+            status = status_of(convert, *arguments)
+        if sys.stdout is not None:
+            with naming("standard output"):
+                sys.stdout.flush()
+        sys.exit(status)
+    except (Refused, Wrong, OSError) as error:
+        said = f"{NAME}: {in_words(error)}"
+    except MemoryError:
+        said = NO_MEMORY
+    # nobody reads what is left to be flushed
+    sys.stdout = None
+    say(said)
+    sys.exit(1)

@@ -1,0 +1,154 @@
+"""Shared by the converters from a table: the best route of each prefix, as `yarib table` or `yarib run` prints it."""
+import functools
+import json
+import re
+import sys
+
+import feeds
+
+REPORT = re.compile(r"\d+:\d+ .+")
+# a report's text for a line whose route is not in the table
+NOT_TAKEN = re.compile(r".* (?:full|refused|fault E\d)")
+HEAD = re.compile(r"table (\d+)")
+NOT_IN_TABLE = "lines of the report say full, refused or fault: their routes are not in the table"
+
+
+def table_lines(lines, notes):
+    """The table's lines: those after `table COUNT`, or all if the input is a bare list."""
+    given = iter(lines)
+    reports, not_taken, head, rows = 0, 0, None, 0
+    for line in given:
+        head = HEAD.fullmatch(line)
+        if head or not REPORT.fullmatch(line):
+            break
+        reports += 1
+        not_taken += NOT_TAKEN.fullmatch(line) is not None
+    if head is None and reports:
+        raise feeds.Refused("the table is missing: the input is only a report")
+    if head is None:
+        yield line
+    for line in given:
+        rows += 1
+        yield line
+    if head and rows != int(head[1]):
+        raise feeds.Refused(f"the table should have {head[1]} routes and has {rows}")
+    if not_taken:
+        notes.tell(NOT_IN_TABLE, not_taken, differs=True)
+
+
+def route_of(line):
+    """The prefix and the next hop of a line of the table, which names a feed by its number or (--names) by its name; with
+    --json it is an object."""
+    if line.startswith("{"):
+        route = json.loads(line)
+        prefix, hop = feeds.member(route, "prefix", str), route.get("via")
+        return prefix, feeds.DISCARD if hop is None and feeds.member(route, "discard", bool) else hop
+    prefix, feed, name, pref, preference, via, hop = line.split(" ")
+    if (feed, pref, via) != ("feed", "pref", "via") or not name or not preference.isdecimal():
+        raise ValueError
+    return prefix, hop
+
+
+def best_routes(most, notes):
+    """The prefixes and next hops of the best routes: the first line of each prefix."""
+    best = {}
+    lines = feeds.Lines(most)
+    hops = {feeds.DISCARD: feeds.DISCARD}
+    with lines.named():
+        for line in table_lines(lines, notes):
+            prefix, hop = route_of(line)
+            if hop not in hops:
+                if not feeds.is_address(hop):
+                    raise ValueError
+                hops[hop] = hop
+            if prefix not in best:
+                if not feeds.is_prefix(prefix):
+                    raise ValueError
+                best[prefix] = hops[hop]
+    if not best:
+        raise feeds.Refused("the table has no routes; nothing is written")
+    return best
+
+
+def kinds(devices, onlink):
+    """The kind of a route with a next hop, and its interface: that of the longest connected network that contains the
+    next hop, if there is one."""
+    networks = {}
+    for prefix, device in devices.items():
+        address, _, length = prefix.partition("/")
+        networks.setdefault(feeds.HOST_BITS[length], {})[feeds.address_number(address)] = device
+    networks = sorted(networks.items())
+
+    @functools.lru_cache(feeds.MOST_KNOWN)
+    def kind(hop):
+        if hop in (feeds.DISCARD, feeds.CONNECTED):
+            return hop, None
+        number = feeds.address_number(hop)
+        found = (bases[number & ~past] for past, bases in networks if number & ~past in bases)
+        device = next(found, None)
+        return ("outside", onlink) if device is None else ("via", device)
+
+    return kind
+
+
+def devices_of(connected, named):
+    """The interface of each connected network: `PREFIX=NAME`, or `NAME` if there is only one."""
+    devices = dict(word.split("=", 1) for word in named if "=" in word)
+    plain = [word for word in named if "=" not in word]
+    if len(plain) > 1:
+        raise feeds.Refused(f"--device {plain[0]} and --device {plain[1]}: give each with its network, PREFIX=NAME")
+    for prefix in devices:
+        if prefix not in connected:
+            raise feeds.Refused(f"--device {prefix}={devices[prefix]}: that isn't a connected network of the table")
+    left = [prefix for prefix in connected if prefix not in devices]
+    if not plain and left:
+        raise feeds.Refused(f"{left[0]} is a connected network: name its interface with --device")
+    if len(left) > 1:
+        several = ", ".join(left)
+        raise feeds.Refused(f"several connected networks ({several}): name each interface with --device PREFIX=NAME")
+    return devices | {prefix: plain[0] for prefix in left}
+
+
+def options(documentation):
+    parser = feeds.plain_parser(documentation)
+    parser.add_argument("--device", metavar="[PREFIX=]NAME", action="append", default=[],
+                        help="the interface of a connected network (next hop 0.0.0.0); without PREFIX, of the only one")
+    parser.add_argument("--onlink", metavar="NAME",
+                        help="the interface for next hops outside all connected networks of the table")
+    return parser
+
+
+def around(patterns, hop, kind, device):
+    """The text that a pattern writes before a route's prefix and the text after it."""
+    before, _, behind = patterns[kind].partition("{prefix}")
+    return before, behind.format(hop=hop, device=device)
+
+
+def convert(patterns, arguments, told_outside, before="", after="", further=None):
+    """Writes each best route by the pattern of its kind; connected networks come first, since they contain next hops.
+    What `further` makes of the best routes comes last. Returns the exit status."""
+    if sys.stdout is None:
+        raise feeds.Refused("standard output is closed")
+    notes = feeds.Notes()
+    best = best_routes(arguments.most, notes)
+    lines = list(further(best)) if further else []
+    connected = [prefix for prefix, hop in best.items() if hop == feeds.CONNECTED]
+    devices = devices_of(connected, arguments.device)
+    kind = kinds(devices, arguments.onlink)
+    if arguments.onlink:
+        patterns = patterns | {"outside": patterns["onlink"]}
+    text = functools.lru_cache(feeds.MOST_KNOWN)(lambda hop: around(patterns, hop, *kind(hop)))
+    with feeds.naming("standard output"):
+        sys.stdout.write(before)
+        sys.stdout.writelines(patterns["device"].format(prefix=prefix, device=devices[prefix]) for prefix in connected)
+        sys.stdout.writelines(prefix.join(text(hop)) for prefix, hop in best.items() if hop != feeds.CONNECTED)
+        sys.stdout.writelines(lines)
+        sys.stdout.write(after)
+        sys.stdout.flush()
+    for name, number in notes.told.items():
+        feeds.say(f"{number} {name} (status {feeds.OTHERWISE})")
+    outside = sum(kind(hop)[0] == "outside" for hop in best.values())
+    if outside and not arguments.onlink:
+        feeds.say(f"{outside} routes have a next hop outside all connected networks of the table: {told_outside} "
+                  "(use --onlink NAME to name the interface)")
+    return feeds.OTHERWISE if notes.differs else 0

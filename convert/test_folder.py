@@ -1,0 +1,204 @@
+"""Tests of the directory that a converter writes: files of others in it, interrupted writes, and two converters that
+write at once."""
+import fcntl
+import os
+import resource
+import signal
+import subprocess
+import time
+
+from trial import Failed, files_of, run, words
+
+LINE = "TABLE_DUMP2|1|B|127.0.{}.{}|1|10.0.0.0/8|1|IGP|192.0.2.1|0|0||NAG||\n"
+DUMP = LINE.format(0, 1).encode()
+OTHER_DUMP = LINE.format(0, 2).encode()
+BIRD = b"""Table master4:
+10.0.0.0/8           unicast [mine 09:20:39.677] * (150)
+	via 192.0.2.1 on uplink
+"""
+
+
+def expect(what, found, expected):
+    if found != expected:
+        raise Failed(f"{what}: {found!r} in place of {expected!r}")
+
+
+def names_in(folder):
+    return sorted(path.name for path in folder.iterdir())
+
+
+def converted(command, data, folder, status=0):
+    """The messages of a converter, which has to succeed or to end with that status."""
+    ended, _, said = run(command, data, folder)
+    if ended != status:
+        raise Failed(f"{command} has status {ended} and says {said}")
+    return said.splitlines()[1:]
+
+
+def check_own(made):
+    """What the converter wrote before is replaced and reported, even if it had many more sources."""
+    folder = made / "own"
+    many = "".join(LINE.format(number // 200, number % 200) for number in range(1500)).encode()
+    expect("many sources", converted("bgpdump-to-feeds", many, folder, 3),
+           ["1500 feeds are in the directory, and `yarib` accepts at most 64 files (status 3): use --merge 64 to merge the "
+            "sources with the fewest routes; the sources are 127.0.0.0, 127.0.0.1, 127.0.0.2, .."])
+    expect("many sources", len(files_of(folder)), 1500)
+    expect("its own", converted("bgpdump-to-feeds", DUMP, folder), ["replaced 1500 feeds that bgpdump-to-feeds had written"])
+    expect("its own", names_in(folder), [".written", "127.0.0.1.feed"])
+
+
+def check_others(made):
+    """Files of another converter, and files written by hand, are kept, even instead of a converter's file."""
+    folder = made / "others"
+    folder.mkdir(mode=0o750)
+    (folder / "hand.feed").write_text("version 2\n")
+    expect("by hand", converted("bgpdump-to-feeds", DUMP, folder),
+           ["kept 1 feeds that bgpdump-to-feeds had not written: hand.feed"])
+    expect("of others", converted("bird-to-feeds", BIRD, folder),
+           ["kept 2 feeds that bird-to-feeds had not written: 127.0.0.1.feed, hand.feed"])
+    expect("of both", converted("bgpdump-to-feeds", OTHER_DUMP, folder),
+           ["replaced 1 feeds that bgpdump-to-feeds had written",
+            "kept 2 feeds that bgpdump-to-feeds had not written: hand.feed, mine.feed"])
+    expect("of both", names_in(folder), [".written", "127.0.0.2.feed", "hand.feed", "mine.feed"])
+    expect("the mode", folder.stat().st_mode & 0o777, 0o750)
+    (folder / "127.0.0.2.feed").write_text("version 2\nadd 10.0.0.0/8 7 192.0.2.7\n")
+    expect("changed", converted("bgpdump-to-feeds", DUMP, folder),
+           ["kept 3 feeds that bgpdump-to-feeds had not written: 127.0.0.2.feed, hand.feed, mine.feed"])
+    status, _, said = run("bgpdump-to-feeds", OTHER_DUMP, folder)
+    if status != 1 or f"{folder}/127.0.0.2.feed is not what bgpdump-to-feeds wrote" not in said:
+        raise Failed(f"a name that is taken has status {status}: {said}")
+    expect("a name that is taken", (folder / "127.0.0.2.feed").read_text(), "version 2\nadd 10.0.0.0/8 7 192.0.2.7\n")
+    expect("a name that is taken", names_in(folder),
+           [".written", "127.0.0.1.feed", "127.0.0.2.feed", "hand.feed", "mine.feed"])
+
+
+def check_other_things(made):
+    """A directory that contains anything but feed files is refused."""
+    folder = made / "things"
+    folder.mkdir()
+    (folder / "notes.txt").write_text("mine\n")
+    status, _, said = run("bgpdump-to-feeds", DUMP, folder)
+    if status != 1 or "other files than feeds (notes.txt)" not in said:
+        raise Failed(f"a folder with other things has status {status}: {said}")
+    expect("a folder with other things", names_in(folder), ["notes.txt"])
+
+
+def check_link(made):
+    """A kept feed that is a link stays one, and what it leads to stays as it is."""
+    folder, elsewhere = made / "links", made / "elsewhere.feed"
+    folder.mkdir()
+    elsewhere.write_text("version 2\nadd 10.0.0.0/8 7 192.0.2.7\n")
+    (folder / "mine.feed").symlink_to("../elsewhere.feed")
+    for data in (DUMP, OTHER_DUMP):
+        expect("a link", converted("bgpdump-to-feeds", data, folder)[-1],
+               "kept 1 feeds that bgpdump-to-feeds had not written: mine.feed")
+        expect("a kept link", ((folder / "mine.feed").is_symlink(), os.readlink(folder / "mine.feed")), (True, "../elsewhere.feed"))
+        expect("what a link leads to", (elsewhere.stat().st_nlink, elsewhere.read_text()),
+               (1, "version 2\nadd 10.0.0.0/8 7 192.0.2.7\n"))
+    # a link that replaces a file of the converter belongs to somebody else, even if it leads to the same file
+    written = folder / "127.0.0.2.feed"
+    written.rename(made / "moved.feed")
+    written.symlink_to("../moved.feed")
+    status, _, said = run("bgpdump-to-feeds", OTHER_DUMP, folder)
+    expect(f"a link in place of a feed: {said}", (status, written.is_symlink()), (1, True))
+
+
+def check_root(made):
+    """The root isn't a directory that could be replaced."""
+    for name in ("/", "//", f"{made}/../" + "../" * 20):
+        status, _, said = run("bgpdump-to-feeds", DUMP, name)
+        expect(name, (status, said), (1, f"bgpdump-to-feeds: {name} can't be a directory of feeds: name one in it\n"))
+
+
+def started(folder):
+    """A converter that has written some lines and waits for more."""
+    command = [*words("bgpdump-to-feeds", "BLOCK, MOST_WAITING = 64, 0"), folder]
+    process = subprocess.Popen(command, stdin=subprocess.PIPE, stderr=subprocess.PIPE)
+    process.stdin.write(DUMP + DUMP.replace(b"10.0.0.0/8", b"10.1.0.0/16"))
+    process.stdin.flush()
+    begun = folder.parent / f".{folder.name}.new" / "0"
+    for _ in range(1000):
+        if begun.exists():
+            return process
+        time.sleep(0.02)
+    process.kill()
+    raise Failed(f"{begun} is not written")
+
+
+def check_two(made):
+    """If two write to a directory at once, the second is refused and the first succeeds."""
+    folder = made / "a" / "two"
+    first = started(folder)
+    status, _, said = run("bird-to-feeds", BIRD, folder)
+    if status != 1 or f"another converter is writing to {folder}" not in said:
+        raise Failed(f"the second of two has status {status}: {said}")
+    first.communicate()
+    expect("the first of two", (first.returncode, names_in(folder)), (0, [".written", "127.0.0.1.feed"]))
+    expect("beside it", names_in(folder.parent), ["two"])
+    # the first holds the lock of the new directory until it has removed the old one
+    with open(folder / ".written", "a") as record:
+        fcntl.flock(record, fcntl.LOCK_EX)
+        status, _, said = run("bird-to-feeds", BIRD, folder)
+    if status != 1 or f"another converter is writing to {folder}" not in said:
+        raise Failed(f"one that comes before the first has cleared away has status {status}: {said}")
+    expect("beside it", names_in(folder.parent), ["two"])
+
+
+def check_ended(made):
+    """A signal leaves nothing next to the directory; what a killed converter leaves is removed by the next one."""
+    for ending in (signal.SIGTERM, signal.SIGHUP, signal.SIGINT):
+        folder = made / ending.name / "feeds"
+        # what nohup or a shell's `&` has ignored would be so in the converter too
+        before = signal.signal(ending, signal.SIG_DFL)
+        process = started(folder)
+        signal.signal(ending, before)
+        process.send_signal(ending)
+        process.send_signal(signal.SIGINT)
+        said = process.communicate()[1]
+        ended = signal.Signals(process.returncode - 128).name if process.returncode > 128 else process.returncode
+        # of two that come at once either may be the first
+        expect(ending.name, ended in (ending.name, "SIGINT"), True)
+        expect(ending.name, (said, folder.parent.exists()), (f"bgpdump-to-feeds: ended by {ended}\n".encode(), False))
+    folder = made / "killed" / "feeds"
+    process = started(folder)
+    process.kill()
+    process.communicate()
+    expect("killed", names_in(folder.parent), [".feeds.new"])
+    converted("bgpdump-to-feeds", OTHER_DUMP, folder)
+    expect("after a killed one", (names_in(folder.parent), names_in(folder)), (["feeds"], [".written", "127.0.0.2.feed"]))
+    expect("after a killed one", (folder / "127.0.0.2.feed").read_text(), "version 2\nadd 10.0.0.0/8 1 192.0.2.1\n")
+
+
+def check_half_replaced(made):
+    """A run that was killed while it replaced the directory loses nothing: neither before the new one was in place, nor
+    after, nor what came in the meantime."""
+    folder = made / "half" / "feeds"
+    converted("bgpdump-to-feeds", DUMP, folder)
+    (folder / "hand.feed").write_text("version 2\n")
+    folder.rename(folder.parent / ".feeds.old")
+    status, _, said = run("bird-to-feeds", b"nonsense\n", folder)
+    expect(f"before it was in place: {said}", (status, names_in(folder), names_in(folder.parent)),
+           (1, [".written", "127.0.0.1.feed", "hand.feed"], ["feeds"]))
+    old = folder.parent / ".feeds.old"
+    folder.rename(old)
+    folder.mkdir()
+    os.link(old / "hand.feed", folder / "hand.feed")
+    (old / "late.feed").write_text("version 2\n")
+    converted("bird-to-feeds", BIRD, folder)
+    expect("after it was in place", (names_in(folder), names_in(folder.parent)),
+           ([".written", "hand.feed", "late.feed", "mine.feed"], ["feeds"]))
+
+
+def check_disk(made):
+    """An error of a file names it, and leaves nothing."""
+    folder = made / "disk" / "feeds"
+    limited = lambda: resource.setrlimit(resource.RLIMIT_FSIZE, (20, 20))
+    status, _, said = run("bgpdump-to-feeds", DUMP, folder, preexec_fn=limited)
+    expect("a file that can't be written", (status, said),
+           (1, f"bgpdump-to-feeds: {folder.parent}/.feeds.new/0: File too large\n"))
+    expect("a file that can't be written", folder.parent.exists(), False)
+
+
+def check(made):
+    for each in (check_own, check_others, check_other_things, check_link, check_root, check_two, check_ended, check_half_replaced, check_disk):
+        each(made)

@@ -1,0 +1,103 @@
+"""Shared by the tests: how a converter is run."""
+import importlib
+import ipaddress
+import os
+import pathlib
+import runpy
+import subprocess
+import sys
+import tempfile
+# what converters load, so that copies of this process have it
+import argparse, codecs, json, shutil
+
+HERE = pathlib.Path(__file__).resolve().parent
+SAMPLES = HERE / "samples"
+
+# Runs a converter with other constants of feeds.py.
+WITH_CONSTANTS = """
+import runpy, sys
+_, folder, constants, *sys.argv = sys.argv
+sys.path.insert(0, folder)
+import feeds
+exec(constants, vars(feeds))
+runpy.run_path(sys.argv[0], run_name="__main__")
+"""
+
+
+class Failed(Exception):
+    """A test failed; the text says how."""
+
+
+def words(command, constants=""):
+    """The command of a converter's call, which may change constants of feeds.py."""
+    name, *options = command.split()
+    return [*([sys.executable, "-c", WITH_CONSTANTS, HERE, constants] if constants else []), HERE / name, *options]
+
+
+def run(command, data, *more, constants="", **settings):
+    """Runs a converter: its status, its output, and its messages."""
+    done = subprocess.run([*words(command, constants), *more], input=data, capture_output=True, **settings)
+    return done.returncode, done.stdout.decode(), done.stderr.decode()
+
+
+def run_here(command, data, folder, constants=""):
+    """The status and the messages of a converter, as with `run`; it is run in a copy of this process, which starts
+    faster."""
+    name, *options = command.split()
+    with tempfile.TemporaryFile() as given, tempfile.TemporaryFile() as said:
+        given.write(data)
+        given.seek(0)
+        child = os.fork()
+        if child == 0:
+            os.dup2(given.fileno(), 0)
+            os.dup2(said.fileno(), 2)
+            run_in_child([str(HERE / name), *options, str(folder)], constants)
+        _, status = os.waitpid(child, 0)
+        said.seek(0)
+        return os.waitstatus_to_exitcode(status), said.read().decode()
+
+
+def run_in_child(words, constants):
+    status = 0
+    sys.argv = words
+    try:
+        if constants:
+            sys.path.insert(0, str(HERE))
+            exec(constants, vars(importlib.import_module("feeds")))
+        runpy.run_path(words[0], run_name="__main__")
+    except SystemExit as ended:
+        if isinstance(ended.code, str):
+            print(ended.code, file=sys.stderr)
+        status = ended.code if isinstance(ended.code, int) else 1
+    except BaseException as error:
+        print(repr(error), file=sys.stderr)
+        status = 2
+    os._exit(status)
+
+
+def state(files):
+    """The table's lines that the feeds leave, each by itself: ordered by base, length, preference, feed."""
+    rows = []
+    for number, file in enumerate(files, 1):
+        routes = {}
+        for word, *fields in (line.split() for line in file.read_text().splitlines()[1:]):
+            if word in ("add", "replace"):
+                if (fields[0] in routes) != (word == "replace"):
+                    raise Failed(f"{file.name} has a wrong {word} of {fields[0]}")
+                routes[fields[0]] = (int(fields[1]), number, fields[2])
+            elif word == "withdraw":
+                del routes[fields[0]]
+            else:
+                routes.clear()
+        rows += [(ipaddress.ip_network(prefix), *route) for prefix, route in routes.items()]
+    rows.sort(key=lambda row: (row[0].network_address, row[0].prefixlen, row[1], row[2]))
+    return [f"{prefix} feed {number} pref {preference} via {hop}" for prefix, preference, number, hop in rows]
+
+
+def text_of(files):
+    return "".join(f"== {file.name}\n{file.read_text()}" for file in files)
+
+
+def files_of(folder):
+    """The feed files of a directory."""
+    return sorted(folder.glob("*.feed"))

@@ -1,0 +1,124 @@
+//! `lookup` and `table`: queries of the final table of feed files, and reports of rejected input.
+
+use super::feed_choice::FeedNumbers;
+use super::prefixes::prefix_of;
+use super::styles::{form_of, labels_for};
+use super::warnings::{report_faulty_lines, report_rejected};
+use super::{Program, ProgramError};
+use command_line::{LookupRequest, PrefixFilterArg, TableRequest};
+use rt_cidr::Addr;
+use rt_feed::Style;
+use rt_rib::{PrefixFilter, Selection};
+use rt_run::{
+    AskedRoutes, ChosenTexts, LookupAddresses, RunInput, RunSummary, count_texts, lookup_all_texts,
+    lookup_texts, table_texts,
+};
+use std::alloc::Global;
+use std::io::Write;
+use std::rt::Files;
+use std::sync::Wait;
+use std::thread::Threads;
+
+impl<R: Files + Threads + Wait + Sync + AllocGlobal, O: Write, E: Write> Program<'_, R, O, E> {
+    /// Writes, for each address of the command line and then for each address of the file, all routes that cover it, or only
+    /// the best one. Reports rejected input, and returns the exit status.
+    pub(super) fn show_answers<'w>(
+        &mut self,
+        request: &LookupRequest<'w>,
+    ) -> Result<u8, ProgramError<'w>> {
+        let run = &request.run;
+        let named = named_addresses(self.alloc, request)?;
+        let labels = labels_for(self.alloc, request.telling, run.files.as_slice())?;
+        let feeds = FeedNumbers::of(self.alloc, &request.feeds, run.files.as_slice())?;
+        let texts = self.read_feeds(run.files.as_slice(), feeds.choice())?;
+        let text = match request.more {
+            Some(name) => self.read_file(name)?,
+            None => Vec::new(self.alloc),
+        };
+        let asked = RunInput::new(texts.as_slice(), run.limit, run.batch as usize);
+        let asked = ChosenTexts::new(&asked, feeds.choice());
+        let style = Style::new(form_of(request.telling), labels.as_slice());
+        let addresses = LookupAddresses {
+            named: named.as_slice(),
+            text: text.as_slice(),
+        };
+        let mut out = self.screen.beside(asked.count(), self.out);
+        let told = if request.all {
+            lookup_all_texts(self.alloc, &asked, &style, &addresses, &mut out)?
+        } else {
+            lookup_texts(self.alloc, &asked, &style, &addresses, &mut out)?
+        };
+        if let Some(name) = request.more {
+            report_faulty_lines(&mut self.screen, name, told.faulty);
+        }
+        report_summary(&mut self.screen, run.files.as_slice(), &told.run);
+        Ok(told.status)
+    }
+
+    /// Writes the selected routes, or their number. Reports rejected input, and returns the exit status.
+    pub(super) fn show_routes<'w>(
+        &mut self,
+        request: &TableRequest<'w>,
+    ) -> Result<u8, ProgramError<'w>> {
+        let run = &request.run;
+        let selection = selection_of(request)?;
+        let labels = labels_for(self.alloc, request.telling, run.files.as_slice())?;
+        let feeds = FeedNumbers::of(self.alloc, &request.feeds, run.files.as_slice())?;
+        let texts = self.read_feeds(run.files.as_slice(), feeds.choice_of_all())?;
+        let asked = RunInput::new(texts.as_slice(), run.limit, run.batch as usize);
+        let asked = ChosenTexts::new(&asked, feeds.choice_of_all());
+        let routes = AskedRoutes {
+            selection,
+            feeds: feeds.only.as_slice(),
+        };
+        let style = Style::new(form_of(request.telling), labels.as_slice());
+        let mut out = self.screen.beside(asked.count(), self.out);
+        let summary = if request.count {
+            count_texts(self.alloc, &asked, &style, &routes, &mut out)?
+        } else {
+            table_texts(self.alloc, &asked, &style, &routes, &mut out)?
+        };
+        report_summary(&mut self.screen, run.files.as_slice(), &summary);
+        Ok(summary.status)
+    }
+}
+
+/// Reports the rejected input of each file.
+pub(super) fn report_summary<E: Write>(err: &mut E, names: &[&str], summary: &RunSummary) {
+    for (name, tally) in names.iter().zip(summary.tallies.iter()) {
+        report_rejected(err, name, tally);
+    }
+}
+
+/// Returns the selection of the command line. Stops if an argument isn't a prefix.
+fn selection_of<'a>(request: &TableRequest<'a>) -> Result<Selection, ProgramError<'a>> {
+    let part = match request.part {
+        PrefixFilterArg::All => PrefixFilter::All,
+        PrefixFilterArg::Within(word) => PrefixFilter::Within(prefix_of(word)?),
+        PrefixFilterArg::Covering(word) => PrefixFilter::Covering(prefix_of(word)?),
+        PrefixFilterArg::Exact(word) => PrefixFilter::Exact(prefix_of(word)?),
+    };
+    Ok(Selection {
+        part,
+        only_best: request.only_best,
+        feed: None,
+    })
+}
+
+/// Returns the addresses of the command line. Stops if no address was given, or if an argument isn't an address.
+fn named_addresses<'a>(
+    alloc: Global,
+    request: &LookupRequest<'a>,
+) -> Result<Vec<Addr>, ProgramError<'a>> {
+    if request.addresses.is_empty() && request.more.is_none() {
+        return Err(ProgramError::NoAddresses);
+    }
+    let mut named = Vec::new(alloc);
+    for word in &request.addresses {
+        let Ok(address) = Addr::parse(word.as_bytes()) else {
+            return Err(ProgramError::InvalidAddress(word));
+        };
+        named.push(address)?;
+    }
+    Ok(named)
+}

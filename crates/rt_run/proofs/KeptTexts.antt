@@ -1,0 +1,68 @@
+-- The texts of a run in which some feeds are left out: as many as all, and one text more.
+use Rattle.std.proofs.Common.{◌≡◌, ℕ, zero, suc, ◌+◌, ◌<◌, Bool, true, false, List, [], ◌∷◌, ◌++◌, length, map, take, get_or, if◌then◌else◌}
+use Rattle.std.proofs.Common.{refl, sym, ap, subst, ◌∙◌, arith}
+use Rattle.std.proofs.lemmas.Bool.{cond-true, cond-false}
+use Rattle.std.proofs.lemmas.List.{length-map}
+use Rattle.rt_run.specs.ChosenFeeds.{texts_kept}
+use Rattle.rt_run.specs.LeftOut.{AreWithout}
+use Rattle.rt_run.proofs.InTurn.{texts_count}
+
+pub kept_length : (out : ℕ → Bool) (feed : ℕ) (texts : List (List ℕ)) → length (texts_kept out feed texts) ≡ length texts
+kept_length out feed [] = refl
+kept_length out feed (text ∷ texts) = ap suc (kept_length out (feed + 1) texts)
+
+pub count_kept : {V : Type 0} (out : ℕ → Bool) (items : V → List ℕ) (texts : List V) (n : ℕ) → n ≡ length texts → n ≡ length (texts_kept out 1 (map items texts))
+count_kept {V} out items texts n is = is ∙ (sym (length-map texts items) ∙ sym (kept_length out 1 (map items texts)))
+
+kept_append : (out : ℕ → Bool) (feed : ℕ) (texts : List (List ℕ)) (text : List ℕ)
+    → texts_kept out feed (texts ++ text ∷ []) ≡ texts_kept out feed texts ++ (if out (feed + length texts) then [] else text) ∷ []
+kept_append out feed [] text =
+    let last : feed ≡ feed + 0 = omega arith in
+    ap (λ (n : ℕ). (if out n then [] else text) ∷ []) last
+kept_append out feed (one ∷ texts) text =
+    let last : (feed + 1) + length texts ≡ feed + length (one ∷ texts) = omega arith in
+    ap (λ ts. (if out feed then [] else one) ∷ ts)
+    (kept_append out (feed + 1) texts text ∙ ap (λ (n : ℕ). texts_kept out (feed + 1) texts ++ (if out n then [] else text) ∷ []) last)
+
+-- the texts so far, and one more
+pub kept_more : {V : Type 0} (out : ℕ → Bool) (items : V → List ℕ) (texts : List V) (i : ℕ) (text kept : List ℕ) → i < length texts
+    → map items (take i texts) ++ text ∷ [] ≡ map items (take (i + 1) texts) → kept ≡ (if out (i + 1) then [] else text)
+    → texts_kept out 1 (map items (take i texts)) ++ kept ∷ [] ≡ texts_kept out 1 (map items (take (i + 1) texts))
+kept_more {V} out items texts i text kept here whole is =
+    let counted = texts_count items texts i here in
+    let number : i + 1 ≡ 1 + length (map items (take i texts)) = omega (arith, counted) in
+    ap (λ t. texts_kept out 1 (map items (take i texts)) ++ t ∷ []) (is ∙ ap (λ (n : ℕ). if out n then [] else text) number)
+    ∙ (sym (kept_append out 1 (map items (take i texts)) text) ∙ ap (texts_kept out 1) whole)
+
+pub kept_count : {V : Type 0} (out : ℕ → Bool) (items : V → List ℕ) (texts : List V) (i : ℕ) → i < length texts
+    → i + 1 ≡ length (texts_kept out 1 (map items (take i texts))) + 1
+kept_count {V} out items texts i here =
+    let counted = texts_count items texts i here in
+    let same = kept_length out 1 (map items (take i texts)) in
+    omega (arith, counted, same)
+
+-- the text of each feed, by its place
+kept_others : (out : ℕ → Bool) (feed : ℕ) (texts : List (List ℕ)) (k : ℕ) → out (k + feed) ≡ false → get_or (texts_kept out feed texts) k [] ≡ get_or texts k []
+kept_others out feed [] k stays = refl
+kept_others out feed (text ∷ texts) zero stays =
+    let here : 0 + feed ≡ feed = omega arith in
+    cond-false (out feed) [] text (ap out (sym here) ∙ stays)
+kept_others out feed (text ∷ texts) (suc k) stays =
+    let next : k + (feed + 1) ≡ suc k + feed = omega arith in
+    kept_others out (feed + 1) texts k (ap out next ∙ stays)
+
+kept_empty : (out : ℕ → Bool) (feed : ℕ) (texts : List (List ℕ)) (k : ℕ) → out (k + feed) ≡ true → get_or (texts_kept out feed texts) k [] ≡ []
+kept_empty out feed [] k leaves = refl
+kept_empty out feed (text ∷ texts) zero leaves =
+    let here : 0 + feed ≡ feed = omega arith in
+    cond-true (out feed) [] text (ap out (sym here) ∙ leaves)
+kept_empty out feed (text ∷ texts) (suc k) leaves =
+    let next : k + (feed + 1) ≡ suc k + feed = omega arith in
+    kept_empty out (feed + 1) texts k (ap out next ∙ leaves)
+
+pub are_without : (out : ℕ → Bool) (texts : List (List ℕ)) → AreWithout out texts (texts_kept out 1 texts)
+are_without out texts = record {
+  as_many = kept_length out 1 texts;
+  others = λ k stays. kept_others out 1 texts k stays;
+  empty = λ k leaves. kept_empty out 1 texts k leaves;
+}

@@ -1,0 +1,98 @@
+//! Runs in which some feeds are left out. The other feeds keep their numbers.
+ghost use Rattle.std.specs.Prelude.{◌≡◌, ◌≤◌, if◌then◌else◌, [], length};
+ghost use Rattle.rt_rib.specs.declared.limits.TheConstants.{MAX_FEEDS};
+ghost use Rattle.rt_run.specs.ChosenFeeds.{is_one_of, is_selected, is_left_out, texts_kept};
+ghost use Rattle.rt_run.specs.LeftOut.{AreWithout};
+
+use crate::run_input::RunInput;
+use std::marker::Model;
+
+/// Which feeds take part in a run: those that are selected, except those that are left out.
+#[derive(Clone, Copy, Debug)]
+pub struct FeedChoice<'a> {
+    /// The numbers of the selected feeds; if there are none, every feed is selected.
+    pub only: &'a [u32],
+    /// The numbers of feeds that are left out.
+    pub without: &'a [u32],
+}
+
+impl FeedChoice<'_> {
+    /// Returns true if the feed of this number is left out.
+    pub fn leaves_out(&self, feed: u32) -> bool
+        ensures { result ≡ is_left_out self.now.only.now self.now.without.now feed }
+    {
+        is_one_of(self.without, feed) || !is_selected(self.only, feed)
+    }
+
+    /// Returns the feed's text, or an empty one if the feed is left out.
+    pub(crate) fn text_of<'t>(&self, feed: u32, text: &'t [u8]) -> &'t [u8]
+        ensures { result.now ≡ (if is_left_out self.now.only.now self.now.without.now feed then [] else text.now) }
+    {
+        if self.leaves_out(feed) { &[] } else { text }
+    }
+}
+
+/// Returns true if the feed is selected: if it is one of these, or if there are none.
+pub(crate) fn is_selected(feeds: &[u32], feed: u32) -> bool
+    ensures { result ≡ is_selected feeds.now feed }
+{
+    feeds.is_empty() || is_one_of(feeds, feed)
+}
+
+/// Returns true if the feed is one of these.
+fn is_one_of(feeds: &[u32], feed: u32) -> bool
+    ensures { result ≡ is_one_of feeds.now feed }
+{
+    feeds.iter().any(|number| *number == feed)
+}
+
+/// The texts of a run's feeds, of which those of feeds that are left out count as empty: contracts see empty texts there,
+/// and the texts that were given aren't read.
+#[derive(Drop)]
+pub struct ChosenTexts<'a> {
+    pub(crate) texts: &'a [Vec<u8>],
+    pub(crate) limit: u32,
+    batch: usize,
+    pub(crate) choice: FeedChoice<'a>,
+}
+
+impl<'a> Model for ChosenTexts<'a> {
+    ghost use Rattle.std.specs.Prelude.{◌≤◌, length, map};
+    ghost use Rattle.rt_rib.specs.declared.limits.TheConstants.{MAX_FEEDS};
+    ghost use Rattle.rt_rib.specs.Book.{IsLimit};
+    ghost use Rattle.rt_run.specs.RunContents.{RunContents};
+    ghost use Rattle.rt_run.specs.ChosenFeeds.{is_left_out, texts_kept};
+
+    ghost Value = { RunContents };
+
+    ghost view = { λ t. record {
+      texts = texts_kept (is_left_out t.choice.only.now t.choice.without.now) 1 (map (λ text. text.items) t.texts.now);
+      limit = t.limit;
+      batch = t.batch;
+    } };
+
+    ghost invariant = { λ t. IsLimit t.limit × (length t.texts.now ≤ MAX_FEEDS) × (1 ≤ t.batch) };
+}
+
+impl<'a> ChosenTexts<'a> {
+    /// Returns these texts, without those of the feeds that the choice leaves out.
+    pub fn new(feeds: &RunInput<'a>, choice: FeedChoice<'a>) -> ChosenTexts<'a>
+        ensures texts { result ≡ record feeds.now { texts = texts_kept (is_left_out choice.entry.only.now choice.entry.without.now) 1 feeds.now.texts } }
+        ensures without { AreWithout (is_left_out choice.entry.only.now choice.entry.without.now) feeds.now.texts result.texts }
+    {
+        ChosenTexts {
+            texts: feeds.texts,
+            limit: feeds.limit,
+            batch: feeds.batch,
+            choice,
+        }
+    }
+
+    /// Returns the number of texts, those of feeds that are left out included.
+    pub fn count(&self) -> usize
+        ensures count { result ≡ length self.now.texts }
+        ensures few { result ≤ MAX_FEEDS }
+    {
+        self.texts.len()
+    }
+}

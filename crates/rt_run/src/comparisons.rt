@@ -1,0 +1,109 @@
+//! Comparisons of two runs: the addresses for which their final tables give different answers.
+ghost use Rattle.std.specs.Prelude.{◌≡◌, ◌≢◌, ◌↔◌, ◌⊎◌, []};
+ghost use Rattle.rt_run.specs.RunContents.{RunContents};
+ghost use Rattle.rt_run.specs.RunText.{WritesOrFails};
+ghost use Rattle.rt_run.specs.DiffText.{IsDiffText};
+ghost use Rattle.rt_run.specs.TableText.{LeavesTable};
+ghost use Rattle.rt_run.specs.inside.Comparisons.{compared_status, IsFirstOf};
+
+use crate::chosen::ChosenTexts;
+use crate::diff_options::DiffOptions;
+use crate::faults::AppFault;
+use crate::output::{Output, write_output};
+use crate::status::Status;
+use crate::tallies::RunSummary;
+use crate::turns::{FinishedQuery, run_in_turn};
+use rt_cidr::Addr;
+use rt_diff::Difference;
+use rt_feed::RunFault;
+use rt_rib::Table;
+use std::alloc::Global;
+use std::io::Write;
+
+/// The result of comparing two runs.
+#[derive(Debug, Drop)]
+pub struct DiffSummary {
+    /// The exit status: the maximum of both runs' statuses and, if the tables differ for some address, of 1.
+    pub status: u8,
+    /// The summary of the old run.
+    pub old: RunSummary,
+    /// The summary of the new run.
+    pub new: RunSummary,
+}
+
+/// Executes the old texts and then the new ones, one after another, each side over its own table. Then writes to `w` each
+/// range of addresses for which the two tables give different answers, in ascending order and on the given terms: a line
+/// `FIRST-LAST OLD -> NEW`, or a JSON object (`write_difference_as`). Writes nothing else; hence if nothing is written,
+/// both tables give the same answer for every address. Returns the summaries if everything was written. Its errors are
+/// those of `run_texts`: F1 if there is no old text or no new text; F3 also if there is no memory for the tallies.
+pub fn diff_texts<W: Write>(
+    alloc: Global,
+    old_asked: &ChosenTexts<'_>,
+    new_asked: &ChosenTexts<'_>,
+    terms: &DiffOptions<'_>,
+    w: &mut W,
+) -> Result<DiffSummary, AppFault>
+    ensures text { WritesOrFails (IsDiffText terms.now old_asked.now new_asked.now) (W.contents w.old) (W.contents w.new) result }
+    ensures no_text { (result ≡ Err (AppFault.Run RunFault.NoText)) ↔ ((old_asked.now.texts ≡ []) ⊎ (new_asked.now.texts ≡ [])) }
+{
+    if new_asked.count() == 0 {
+        return Err(AppFault::Run(RunFault::NoText));
+    }
+    let old = run_in_turn(alloc, old_asked)?;
+    let new = run_in_turn(alloc, new_asked)?;
+    let compared = compare_runs(alloc, &old, &new, terms, w);
+    old.leak_table();
+    new.leak_table();
+    compared
+}
+
+/// Writes the differences between two runs' tables, and returns the summaries.
+fn compare_runs<W: Write>(
+    alloc: Global,
+    old: &FinishedQuery,
+    new: &FinishedQuery,
+    terms: &DiffOptions<'_>,
+    w: &mut W,
+) -> Result<DiffSummary, AppFault>
+    ensures text { (old_asked new_asked : RunContents) → LeavesTable old_asked old.now.table.routes old.now.summary
+        → LeavesTable new_asked new.now.table.routes new.now.summary
+        → WritesOrFails (IsDiffText terms.now old_asked new_asked) (W.contents w.old) (W.contents w.new) result }
+    ensures ran { result ≢ Err (AppFault.Run RunFault.NoText) }
+{
+    let of_old = old.summary(alloc)?;
+    let of_new = new.summary(alloc)?;
+    let first = first_difference(&old.table, &new.table, terms);
+    let status = status_of(&of_old, &of_new, first);
+    write_output(
+        alloc,
+        Output::Differences(terms, &old.table, &new.table, first),
+        w,
+    )?;
+    Ok(DiffSummary {
+        status,
+        old: of_old,
+        new: of_new,
+    })
+}
+
+/// Returns the first difference between two tables.
+fn first_difference(
+    old: &Table<Global>,
+    new: &Table<Global>,
+    terms: &DiffOptions<'_>,
+) -> Option<Difference>
+    ensures { IsFirstOf terms.now old.now.routes new.now.routes result }
+{
+    terms.comparison(old, new).first_difference(Addr(0))
+}
+
+/// Returns the status, from the summaries of two runs and the first difference between their tables.
+fn status_of(old: &RunSummary, new: &RunSummary, first: Option<Difference>) -> u8
+    ensures { result ≡ compared_status old.now.status new.now.status first }
+{
+    let differ = match first {
+        Some(_) => Status::Differ as u8,
+        None => Status::Done as u8,
+    };
+    differ.max(old.status.max(new.status))
+}

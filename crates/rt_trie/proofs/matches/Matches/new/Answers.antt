@@ -1,4 +1,0 @@
-use Rattle.rt_trie.proofs.matches.Matches.new.Goals as goal
-
-pub invariant_of-result : goal.invariant_of-result
-invariant_of-result g c = record { lawful = c.requires; few = c.new.ensures.few; places = c.new.ensures.places (record { 0 = 0 }) }

@@ -1,0 +1,133 @@
+//! The door: if the root is contended (a crowd), a place naps before its first access, so that the place that is
+//! awake goes in and out without a competitor. Dice and Kogan, *Avoiding Scalability Collapse by Restricting
+//! Concurrency*, Euro-Par 2019. A nap is tuning, as a bell is: it ends by itself, so no wake can be lost, and no
+//! contract depends on it.
+ghost use Rattle.std.specs.Prelude.{◌^◌, ◌<◌, ◌≤◌};
+
+use crate::kept::Kept;
+use crate::rule::SPACING;
+use crate::tree_lock::TreeLock;
+use crossbeam_utils::Backoff;
+use std::sync::Wait;
+use std::time::Duration;
+
+/// A place naps only after this many entries in a row that found another place at the root; places that enter only now
+/// and then never nap.
+const CONTENDED_ENTRIES: u32 = 4;
+
+/// After this many entries in a row that find no other place, a place that napped forgets the crowd.
+const FORGOTTEN: u32 = 1_000;
+
+/// The number of looks for the crowd after a nap: if none of them finds another place, the crowd is gone.
+const LOOKS: u32 = 4;
+
+/// The number of spins between two looks, each twice as long as the one before: together some microseconds, more than a
+/// short turn.
+const SPINS: u32 = 7;
+
+/// A place's share of a turn, in microseconds. A nap lasts as long as the shares of all places.
+const NAP_MICROS_PER_PLACE: u64 = 200;
+
+/// A place's memory of its last entries.
+#[derive(Clone, Copy)]
+pub(crate) enum Contention {
+    /// No crowd: this number of entries in a row, fewer than `CONTENDED_ENTRIES`, found another place at the root.
+    Met(u32),
+    /// A crowd, and the number of entries since then that found no other place.
+    Remembered(u32),
+}
+
+impl Contention {
+    /// No entry found another place.
+    pub(crate) const NONE: Contention = Contention::Met(0);
+
+    /// Returns the memory after an entry that found no other place at the root.
+    #[inline(always)]
+    fn after_nobody(self) -> Contention {
+        match self {
+            Contention::Remembered(missed) if missed < FORGOTTEN => Contention::Remembered(
+                missed + 1,
+            ),
+            Contention::Met(_) | Contention::Remembered(_) => Contention::NONE,
+        }
+    }
+}
+
+impl<V: Kept + Drop, const L: u32> TreeLock<V, L> {
+    /// Naps once if the lock is crowded. `crowd` is the place's memory; returns its new memory. A place that remembers
+    /// a crowd naps as soon as it finds another place, so that the other goes on without a competitor.
+    #[inline(always)]
+    pub(crate) fn throttle_if_contended<R: Wait>(
+        &self,
+        rt: &R,
+        place: usize,
+        crowd: Contention,
+    ) -> Contention
+        requires { place < 2 ^ L }
+    {
+        if !self.is_taken() {
+            return crowd.after_nobody();
+        }
+        if let Contention::Met(times) = crowd {
+            return if times < CONTENDED_ENTRIES - 1 {
+                Contention::Met(times + 1)
+            } else {
+                Contention::Remembered(0)
+            };
+        }
+        self.nap(rt, place);
+        if self.is_taken_again() {
+            Contention::Remembered(0)
+        } else {
+            Contention::NONE
+        }
+    }
+
+    /// Returns true if a place is at the root at one of the next few looks.
+    #[cold]
+    #[inline(never)]
+    fn is_taken_again(&self) -> bool {
+        for _look in 0..LOOKS {
+            if self.is_taken() {
+                return true;
+            }
+            spin();
+        }
+        false
+    }
+
+    /// Returns true if some place competes at the root, or is inside. It is a guess: the words are loaded one
+    /// after the other.
+    #[inline(always)]
+    fn is_taken(&self) -> bool {
+        self.is_taken_from(0) || self.is_taken_from(1)
+    }
+
+    /// Returns true if some place competes on that side of the root.
+    #[inline(always)]
+    fn is_taken_from(&self, side: usize) -> bool
+        requires { side < 2 }
+    {
+        let shared = &self.table.shared;
+        shared.peek(SPACING * Self::shape().c(L, 0, side)) != 0
+    }
+
+    /// Sleeps for the shares of all places, or until a rival rings.
+    #[cold]
+    #[inline(never)]
+    fn nap<R: Wait>(&self, rt: &R, place: usize)
+        requires { place < 2 ^ L }
+    {
+        let shared = &self.table.shared;
+        let share_of_all = Duration::from_micros(NAP_MICROS_PER_PLACE << L);
+        shared.park_timeout(rt, Self::bell(place), 0, share_of_all);
+    }
+}
+
+/// Spins for the duration of a turn with a short hold.
+fn spin() {
+    let backoff = Backoff::new();
+    for _round in 0..SPINS {
+        backoff.spin();
+    }
+}

@@ -1,0 +1,15 @@
+use Rattle.std.proofs.Common.{◌≡◌, ℕ, ◌+◌, ◌<◌, length}
+use Rattle.yarib_c.specs.Kinds.{routes_in}
+use Rattle.rt_rib.specs.LookUp.{look_up}
+use Rattle.yarib_c.specs.Forms.{router_as}
+use Rattle.yarib_c.specs.Calls.{addr}
+use Rattle.yarib_c.specs.inside.Places.{number_at}
+use Rattle.yarib_c.proofs.lookups.route_chunk.Given as goal
+
+-- the first of these addresses are answered
+abbrev pub invariant-loop-k : goal.invariant-loop-k
+invariant-loop-k l = record {
+  each : (j : ℕ) → j < l.k → number_at l.routers (l.start + j) ≡ router_as l.no_route l.discard (look_up (addr (number_at l.addresses (l.start + j))) (routes_in l.held));
+  rest : (k : ℕ) → k < l.start → number_at l.routers k ≡ number_at l.fn.routers k;
+  long : length l.routers ≡ length l.addresses;
+}

@@ -1,0 +1,253 @@
+"""Checks that a browser that opens a page draws and shows what `yarib lookup` answers. A script that is added at the
+end of a copy of the page checks it, and writes what it finds into the page."""
+import bisect
+import html
+import itertools
+import json
+import random
+import re
+import subprocess
+
+import chart
+from readback import END, Failed, Page, expect, run, text_of
+from test_answers import DENSE, cases, check_comparison, check_table
+from test_colours import schemes
+
+# the number of cells that are checked in each view
+CELLS_ASKED = 150
+MOST_NAMED = 12
+# Reads in each view, for each colouring, the colour of each of the checked dots, also if only the legend's last line is
+# shown. For the cell of each dot it reads the text with the pointer on it, and the view after a click on it. Labels and
+# lines would cover the dots.
+ASKING = """
+<pre id="found"></pre>
+<script>
+begun.then(async () => {
+  element("labels").checked = false;
+  const found = [], paper = element("paper").getContext("2d"), goes = go, box = element("paper").getBoundingClientRect();
+  // a browser goes to so many places at once no more
+  let asked = "";
+  go = (place) => (asked = place);
+  for (const { base, length, side, places } of ASKED) {
+    Object.assign(shown, { base, length });
+    const colours = about.colourings.map((_, colouring) => {
+      shown.colouring = colouring;
+      return [-1, about.colourings[colouring].legend.length - 1].map((only) => {
+        shown.only = only;
+        draw();
+        return places.map((place) => {
+          const [x, y] = place.map((part) => ((part + 0.5) * PIXELS) / side);
+          const [red, green, blue] = paper.getImageData(x, y, 1, 1).data;
+          return "#" + (2 ** 24 + red * 65536 + green * 256 + blue).toString(16).slice(1);
+        });
+      });
+    });
+    shown.only = -1;
+    const pointed = places.map((place) => {
+      // the middle of the cell
+      const [x, y] = place.map((part) => ((Math.floor((part * SIDE) / side) + 0.5) * box.width) / SIDE);
+      const where = { clientX: box.left + x, clientY: box.top + y, pointerType: "mouse" };
+      element("paper").dispatchEvent(new PointerEvent("pointermove", where));
+      element("paper").dispatchEvent(new PointerEvent("click", where));
+      return [element("range").textContent, [...element("answers").children].map((one) => one.textContent), asked];
+    });
+    goes(asked);
+    found.push({ colours, pointed, hash: location.hash });
+  }
+  element("found").textContent = JSON.stringify(found);
+});
+</script>
+"""
+# Executes steps on a page, each after the one before has finished; records the view, the names and the colours in use
+# after each.
+DOING = """
+<pre id="found"></pre>
+<script>
+function press(key) {
+  element("paper").dispatchEvent(new KeyboardEvent("keydown", { key }));
+}
+function ask(text) {
+  element("wanted").value = text;
+  element("find").requestSubmit();
+}
+function alone(one) {
+  element("legend").children[one].firstChild.click();
+}
+function by(number) {
+  element("colourings").querySelectorAll("input")[number].click();
+}
+begun.then(async () => {
+  const found = [];
+  for (const step of STEPS) {
+    step();
+    await new Promise((done) => setTimeout(done, 100));
+    found.push([location.hash, element("range").textContent, new Set(colours()).size]);
+  }
+  element("found").textContent = JSON.stringify(found);
+});
+</script>
+"""
+STEPS_OF = b"""10.0.0.0-10.0.255.255 via 192.0.2.1 -> via 192.0.2.2
+10.2.0.0-10.8.255.255 no route -> via 192.0.2.2
+10.10.0.0-10.255.255.255 via 192.0.2.1 -> no route
+"""
+# Steps on the page of that comparison, and the results that are expected then.
+STEPS = [
+    ('element("back").click()', "", "", 4),
+    ('element("on").click()', "#10.0.0.0", "10.0.0.0", 4),
+    ('element("on").click()', "#10.2.0.0", "10.2.0.0", 4),
+    ('element("on").click()', "#10.10.0.0", "10.10.0.0", 4),
+    ('element("on").click()', "#10.10.0.0", "10.10.0.0", 4),
+    ('element("back").click()', "#10.2.0.0", "10.2.0.0", 4),
+    ('press("ArrowRight")', "#10.2.0.0", "10.2.0.3", 4),
+    ('press("ArrowLeft")', "#10.2.0.0", "10.2.0.0", 4),
+    ('press("ArrowLeft")', "#10.2.0.0", "10.2.0.0", 4),
+    ('press("ArrowDown")', "#10.2.0.0", "10.2.0.1", 4),
+    ('press("Enter")', "#10.2.0.1", "10.2.0.1", 4),
+    ('press("Escape")', "#10.0.0.0/8", "", 4),
+    ('press("Escape")', "#0.0.0.0/0", "", 4),
+    ('press("Escape")', "#0.0.0.0/0", "", 4),
+    ('ask("10.1.2.3")', "#10.1.2.3", "10.1.2.3", 4),
+    ('ask("10.1.2.256")', "#10.1.2.3", "10.1.2.3", 4),
+    ('ask("10.1.2.3/33")', "#10.1.2.3", "10.1.2.3", 4),
+    ('ask(" 10.16.0.0/12 ")', "#10.16.0.0/12", "10.16.0.0/24", 4),
+    ('press("Enter")', "#10.16.0.0/24", "10.16.0.0", 4),
+    ('location.hash = "nowhere"', "#nowhere", "", 4),
+    ("alone(1)", "#nowhere", "", 2),
+    ("alone(2)", "#nowhere", "", 2),
+    ("alone(2)", "#nowhere", "", 4),
+    ("alone(3)", "#nowhere", "", 2),
+    ("by(1)", "#nowhere", "", 3),
+    ("alone(1)", "#nowhere", "", 2),
+    ("by(2)", "#nowhere", "", 3),
+]
+
+
+def views(page, said):
+    """Yields the views to be compared, with some of their dots: those where an answer begins or ends, the last, and random
+    ones."""
+    draw = random.Random(61)
+    begins = [address for address in said if page.firsts[page.range_of(address)] == address]
+    bases = {(0, 0)} | {(draw.choice(begins) >> 32 - length << 32 - length, length) for length in (8, 16) for _ in range(3)}
+    for base, length in sorted(bases):
+        order = min(page.about["order"], (32 - length) // 2)
+        size = 1 << 32 - length - 2 * order
+        within = [(address - base) // size for address in begins if base <= address < base + (1 << 32 - length)]
+        dots = set(draw.sample(within, min(len(within), CELLS_ASKED)))
+        dots |= {draw.randrange(4**order) for _ in range(CELLS_ASKED)}
+        dots.add(4**order - 1)
+        if base <= DENSE < base + (1 << 32 - length):
+            dots.add((DENSE - base) // size)
+        # where the dots are in the view, from where they are among all addresses
+        side, whole = 2**order, length // 2 + order
+        places = [[part % side for part in chart.place((base + dot * size) // size, whole)] for dot in sorted(dots)]
+        yield {"base": base, "length": length, "size": size, "side": side, "dots": sorted(dots), "places": places}
+
+
+class Said:
+    """The answers of all addresses: for each of these addresses the answer and the colours, which hold up to the
+    next."""
+
+    def __init__(self, said):
+        self.addresses = sorted(said)
+        self.said = [said[address] for address in self.addresses]
+
+    def parts(self, first, last):
+        """The ranges within these addresses with a single text, each with that text."""
+        at = bisect.bisect(self.addresses, first) - 1
+        while first <= last:
+            behind = self.addresses[at + 1] if at + 1 < len(self.addresses) else END
+            yield first, min(behind - 1, last), self.said[at]
+            first, at = behind, at + 1
+
+
+# for a comparison, the strength of a cell's colour by the highest share of its addresses that change
+SHARES = ((1 / 16, 0.4), (1 / 4, 0.6), (3 / 4, 0.8), (1, 1))
+
+
+def mixed(scheme, colour, share, is_table):
+    """Returns a colour mixed with the ground's: for a comparison by the share of the addresses that change."""
+    strength = 1 if is_table else next(strength for most, strength in SHARES if share <= most)
+    parts = zip(*([int(scheme[name][at : at + 2], 16) for at in (1, 3, 5)] for name in ("ground", colour)))
+    return "#" + "".join(f"{int(ground + (own - ground) * strength + 0.5):02x}" for ground, own in parts)
+
+
+def expected_colours(scheme, colouring, said, first, last, is_table):
+    """Returns the colour of the most addresses that don't have the ground's, or of several such colours the first in
+    the legend. Then the colour if only the legend's last line is shown: that one, if any address has it."""
+    legend = colouring["legend"]
+    texts = {text: number for number, (text, *_) in enumerate(legend)}
+    counts = [0] * (len(texts) + 1)
+    for begin, end, (_, colours) in said.parts(first, last):
+        counts[texts.get(colours[colouring["name"]], len(texts) - 1)] += end + 1 - begin
+    most = max(range(1, len(counts)), key=lambda number: counts[number])
+    alone, size = len(legend) - 1, last + 1 - first
+    shares = (size - counts[0]) / size, counts[alone] / size
+    return [mixed(scheme, legend[number if counts[number] else 0][1], share, is_table)
+            for number, share in zip((most, alone), shares)]
+
+
+def expected_words(said, first, size, length):
+    """The name of a cell, and the answers that are shown of it."""
+    last, lines = first + size - 1, []
+    # neighbours with the same text are a single range of a comparison, and of a table if a single route is the answer
+    for answer, found in itertools.groupby(said.parts(first, last), key=lambda part: part[2][0]):
+        found = list(found)
+        lines.append((f"{text_of(found[0][0])}-{text_of(found[-1][1])} " if size > 1 else "") + answer)
+    more = len(lines) - MOST_NAMED
+    if more > 0:
+        lines[MOST_NAMED:] = [f"and {more:,} more range{'s' if more > 1 else ''}"]
+    return [f"{text_of(first)}/{length}" if size > 1 else text_of(first), lines]
+
+
+def found_by(browser, made, page, script, dark):
+    """The results of a script at the end of the page."""
+    file = made / "asked.html"
+    file.write_text(page.text.replace("</body>", script + "</body>"))
+    scheme = f"--blink-settings=preferredColorScheme={0 if dark else 1}"
+    command = [browser, "--headless", "--no-sandbox", "--disable-gpu", scheme,
+               "--virtual-time-budget=60000", "--window-size=1600,1200", "--dump-dom", file.as_uri()]
+    shown = subprocess.run(command, capture_output=True, text=True, timeout=300).stdout
+    found = re.search(r'<pre id="found">(.*?)</pre>', shown, re.S)
+    if not found or not found[1]:
+        raise Failed(f"{browser} shows no answer: {shown[-500:]}")
+    return json.loads(html.unescape(found[1]))
+
+
+def check_steps(browser, made):
+    """Buttons, keys and queries lead to the right view."""
+    page = Page(run("diff-to-map", data=STEPS_OF)[1])
+    steps = ", ".join(f"() => {{ {step}; }}" for step, *_ in STEPS)
+    done = found_by(browser, made, page, DOING.replace("STEPS", f"[{steps}]"), False)
+    for (step, *wanted), found in zip(STEPS, done, strict=True):
+        expect(f"what is found after {step}", found, wanted)
+
+
+def check_shown(browser, made, page, said, dark):
+    asking, said = list(views(page, said)), Said(said)
+    scheme = schemes(page)[dark]
+    script = ASKING.replace("ASKED", json.dumps(asking))
+    for view, found in zip(asking, found_by(browser, made, page, script, dark), strict=True):
+        base, length, size = view["base"], view["length"], view["size"]
+        cell = 1 << 16 - length
+        for number, dot in enumerate(view["dots"]):
+            first = base + dot * size
+            where = f"dot {dot} of {text_of(base)}/{length}"
+            for colouring, colours in zip(page.about["colourings"], found["colours"], strict=True):
+                expect(f"the colours of {where} by {colouring['name']}", [shown[number] for shown in colours],
+                       expected_colours(scheme, colouring, said, first, first + size - 1, page.about["kind"] == "table"))
+            begin = first - first % cell
+            goes = text_of(begin) + (f"/{length + 16}" if length < 16 else "")
+            expect(f"what is said of {where}, and where a click goes", found["pointed"][number],
+                   [*expected_words(said, begin, cell, length + 16), goes])
+        expect("where the page goes", found["hash"], f"#{found['pointed'][-1][-1]}")
+
+
+def check(program, made, browser):
+    tables, comparisons = cases(made)
+    check_steps(browser, made)
+    for dark in (False, True):
+        for files in (tables[0], tables[-1]):
+            check_shown(browser, made, *check_table(program, made, files), dark)
+        for by, (old, new) in itertools.product(("hop", "route"), (comparisons[0], comparisons[-1])):
+            check_shown(browser, made, *check_comparison(program, made, old, new, by), dark)

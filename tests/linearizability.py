@@ -1,0 +1,71 @@
+"""A judge of runs: whether some order of the feeds' batches explains the output of a run of their texts.
+
+It reads each text line by line, and pairs each command with the answer that the output has for that line. If the output
+has another line, or lacks one, nothing explains it. Each feed's commands are then split into batches of `batch`
+commands, the last of which may be shorter. A state of the search consists of the number of commands that each feed has
+left, and the routes in the table. From a state the search continues with the next batch of each feed: it answers the
+batch's commands from the table, one after another and with nothing between them. It abandons this path at the first
+answer that differs from the printed one. The output is explained if some path leads to the end of all feeds, and the
+text after the reports is then the table of the final state.
+
+No state is searched twice. A command changes only the routes of its own feed, so all paths that leave each feed the
+same commands have led to the same table.
+
+The judge is for texts whose lines are valid or have the fault E1, and for runs with ample memory: it doesn't accept a
+refusal as an answer.
+"""
+from table_model import Table, table_text
+
+TAKES = {"add": 3, "replace": 3, "withdraw": 1, "lookup": 1, "dump": 0}
+
+
+def read(text):
+    """The commands of a text, each with its line's number; None instead of a command if the line's fault is E1."""
+    takes, commands = TAKES, []
+    if text.startswith("version 2\n"):
+        text, takes = text.removeprefix("version 2"), TAKES | {"purge": 0}
+    for number, line in enumerate(text.split("\n"), 1):
+        if line[:1] not in ("", "#"):
+            name, *fields = line.split(" ")
+            commands.append((number, (name, *fields) if takes.get(name) == len(fields) else None))
+    return commands
+
+
+def explains(feeds, limit, batch, output):
+    """Returns True if some order of the batches of these feeds explains the output. `feeds` has the commands of each
+    feed's text. Each feed may have `limit` routes and executes `batch` commands at once."""
+    lines, answered = iter(output.split("\n")), []
+    for feed, commands in enumerate(feeds, 1):
+        asked = []
+        for number, command in commands:
+            heading, line = f"{feed}:{number} ", next(lines, "")
+            if not line.startswith(heading) or command is None and line != heading + "fault E1":
+                return False
+            if command is not None:
+                asked.append((command, line.removeprefix(heading)))
+        answered.append(asked)
+    return search(answered, limit, batch, "\n".join(lines))
+
+
+def search(feeds, limit, batch, printed):
+    """Returns True if some path leads to the end of all feeds, and this is the text of the table at its end."""
+    start = tuple(map(len, feeds))
+    seen, unvisited = {start}, [(start, Table(limit))]
+    while unvisited:
+        unasked, table = unvisited.pop()
+        if not any(unasked):
+            return table_text(table.listed()) == printed
+        for at, left in enumerate(unasked):
+            first = len(feeds[at]) - left
+            visit = feeds[at][first : first + batch]
+            after = unasked[:at] + (left - len(visit),) + unasked[at + 1 :]
+            if after not in seen and (changed := after_visit(table, at + 1, visit)) is not None:
+                seen.add(after)
+                unvisited.append((after, changed))
+    return False
+
+
+def after_visit(table, feed, visit):
+    """The table after the feed's commands, if they are answered as was printed."""
+    table = table.copy()
+    return table if all(table.apply(feed, command) == printed for command, printed in visit) else None

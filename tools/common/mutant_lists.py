@@ -1,0 +1,71 @@
+"""The mutants that crates list in must-fail/mutants.md, each with the function in which the prover refuses it."""
+import re
+
+from .crates import CRATES
+from .rust_sources import Source
+
+FORM = re.compile(r"([\w-]+)\n\n```\nfile: (src/\S+\.rt)\n((?:old: .+\nnew:.*\n)+)"
+                  r"refused in: ([\w:]+?)(?:: ([\w-]+))?\n```\n+")
+
+
+class BadBody(Exception):
+    """The reason why a mutant can't be checked."""
+
+
+class Body:
+    """A mutant of a list: its crate, text and name; and if its form is valid, its file, its pairs of old and new, the
+    function that the prover refuses, as the prover names it, and optionally a goal of that function. In a pair `⏎`
+    denotes the end of a line."""
+
+    def __init__(self, crate, section):
+        self.crate, self.section, self.name = crate, section, section.partition("\n")[0]
+        self.form = FORM.fullmatch(section)
+        _, self.file, pairs, self.function, self.goal = self.form.groups() if self.form else ("", "", "", "", None)
+        self.pairs = [tuple(one.replace("⏎", "\n") for one in pair)
+                      for pair in re.findall(r"^old: (.+)\nnew: ?(.*)$", pairs, re.M)]
+
+    def changed(self, text):
+        """Returns the file's text after each pair was replaced, one after another."""
+        for old, new in self.pairs:
+            if text.count(old) != 1:
+                raise BadBody(f"an 'old:' text is in {self.file} {text.count(old)} times, and not once: {old}")
+            text = text.replace(old, new)
+        return text
+
+    def places(self, text):
+        """Returns the first line and the name of each function that it changes; the name is None for text outside
+        functions."""
+        found = set()
+        for old, new in self.pairs:
+            if text.count(old) == 1:
+                line = text[: text.index(old)].count("\n")
+                function = Source(None, text).function_at(line)
+                found.add((function.start, function.name) if function else (line, None))
+                text = text.replace(old, new)
+        return found
+
+    def fault(self, folder):
+        """Returns the reason why it can't be checked on the current crate, or None."""
+        if not self.form:
+            return "it isn't written as a body is"
+        if not (folder / self.file).exists():
+            return f"there is no file {self.file}"
+        text = (folder / self.file).read_text()
+        try:
+            self.changed(text)
+        except BadBody as fault:
+            return str(fault)
+        if {name for _, name in self.places(text)} != {self.function.rpartition("::")[2]}:
+            return f"it changes more than the text of {self.function}, or other text"
+        return None
+
+
+def listing_crates(crates=CRATES):
+    return sorted(file.parent.parent.name for file in crates.glob("*/must-fail/mutants.md"))
+
+
+def bodies_of(crate, crates=CRATES):
+    """Returns the mutants that a crate lists, in order."""
+    file = crates / crate / "must-fail/mutants.md"
+    return [Body(crate, section)
+            for section in re.split(r"^## ", file.read_text(), flags=re.M)[1:]] if file.exists() else []
