@@ -133,9 +133,8 @@ then the lowest F. Only one of --within, --covering and --exact may be given.
 
 --without F leaves out a feed: its file isn't read, and the output is that of a
 run in which this file is empty. The other feeds keep their numbers. --feed F
-leaves nothing out; it selects routes of the table, with --best of the best
-routes: a prefix whose best route is another feed's isn't printed. Here F is a
-number or a feed's name.
+prints the routes of feed F in the table of all feeds; with --best, those of
+them that are the best to their prefix. Here F is a number or a feed's name.
 
 With --count the number of these routes and of their prefixes is printed
 instead, then the number for each feed and for each prefix length that has any:
@@ -176,9 +175,9 @@ the line `add 10.0.0.0/8 50 192.0.2.2`:
 pub(crate) const DIFF_NOTES: &str = rejected_notes!(
     "\
 When all feeds have ended, each range of addresses for which the two tables give
-different answers has one line, in ascending order. If standard output is empty
-and the exit status is 0 or 2, both tables give the same answer for every
-address.
+different answers has one line, in ascending order. If no line is printed and
+the exit status is 0, or 2 (rejected input), both tables give the same answer
+for every address.
   FIRST-LAST OLDANSWER -> NEWANSWER
 An answer is the result of a look-up: `via HOP`, `discard` or `no route`; with
 --by route it is `PREFIX feed F pref P via HOP` or `no route`.
@@ -228,7 +227,8 @@ Marks:
   inside   the step won the root: its place is inside the critical section
   out      the step was the last one on the way out
 
-The last line is `inside p` and the place that is inside, or `inside none`.
+The last line is `inside pN`, where N is the place that is inside, or
+`inside none`.
 
 Exit status:
   0 done   5 out of memory (`yarib: fault P3`)   6 output not written

@@ -408,7 +408,7 @@ impl Parameter {
                 batch(alloc, help, DEFAULT_RUN_BATCH)
             }
             Parameter::UnusedBatch => {
-                let help = limits!(text "Accepted as by run, 1 to " most_at_once "; has no effect");
+                let help = limits!(text "No effect here (an option of run), 1 to " most_at_once);
                 batch(alloc, help, DEFAULT_QUERY_BATCH)
             }
             Parameter::Files => files(alloc),
