@@ -1,5 +1,5 @@
 /* The calls of yarib.h that take a handle. Each passes its arguments on to the proved call of the same name, and keeps apart the
- * calls that use a handle at the same time: any number of reading calls run side by side, and a change runs alone. A call that
+ * calls that use a handle at the same time: any number of reading calls run side by side, and a change runs by itself. A call that
  * would break this returns YARIB_BUSY and touches nothing else, so no call can lose or damage what a handle holds.
  *
  * A handle is one word: the pointer of the proved library. It is aligned, so its lowest bit is free: it says that a change is under
@@ -28,7 +28,7 @@
 #define READER ((uintptr_t)1 << 48)
 #define READERS (~(uintptr_t)0 << 48)
 
-/* The place of a thread, alone in its cache line: which handle a call of the thread reads. */
+/* The place of a thread, with a cache line of its own: the handle that a call of the thread reads. */
 struct place {
     const yarib *reading;
     int is_taken;
@@ -45,10 +45,10 @@ struct own {
 
 static struct place places[PLACES] __attribute__((aligned(64)));
 
-/* How many places are taken, and how many of the first ones ever were. */
+/* The number of places in use, and the number of the first places that were ever in use. */
 static int taken, used;
 
-/* The thread's place. `is_known` is 1 once it was asked for: not every thread gets one. */
+/* The thread's place. `is_known` is 1 after the thread has requested a place: not every thread gets one. */
 static __thread struct place *my_place;
 static __thread int is_known;
 
@@ -75,7 +75,7 @@ uint32_t proved_yarib_share(yarib *forwarding, yarib *other);
 uint32_t proved_yarib_follow(yarib *table);
 uint32_t proved_yarib_memory(yarib *table, size_t *bytes);
 
-/* Of the C library: calls the function when this thread ends. */
+/* A function of the C library: it calls the given function when this thread ends. */
 extern int __cxa_thread_atexit_impl(void (*call)(void *), void *argument, void *library) __attribute__((weak));
 extern void *__dso_handle __attribute__((visibility("hidden")));
 
@@ -154,7 +154,7 @@ static int is_read(const yarib *handle)
     struct place *mine = my_place;
     if (mine && mine->reading == handle) return 1;
     if (__atomic_load_n(&taken, __ATOMIC_SEQ_CST) == (mine != NULL)) return 0;
-    /* Where a fork has forgotten that this process asked for barriers, it asks again. */
+    /* After a fork the kernel has forgotten that this process registered for barriers, so it registers again. */
     if (!barrier(MEMBARRIER_CMD_PRIVATE_EXPEDITED)
         && !(barrier(MEMBARRIER_CMD_REGISTER_PRIVATE_EXPEDITED) && barrier(MEMBARRIER_CMD_PRIVATE_EXPEDITED))) return 1;
     for (int k = 0; k < __atomic_load_n(&used, __ATOMIC_SEQ_CST); k++) {

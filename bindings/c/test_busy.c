@@ -1,6 +1,6 @@
-/* Calls on a handle during another call on it. The library gets its memory of the functions below, which make these calls from
+/* Calls on a handle during another call on it. The library gets its memory from the functions below, which make these calls from
  * inside: so it is known which call is under way. Those that must not run return YARIB_BUSY and change nothing; reading calls run
- * beside reading calls. */
+ * during reading calls. */
 #include <stdbool.h>
 #include <stdio.h>
 #include <stdlib.h>
@@ -106,7 +106,7 @@ static void during_reading(void)
     changes_are_busy();
 }
 
-/* The same from inside a call that reads another handle, so that the thread's place is taken. */
+/* The same from inside a call that reads another handle, so that the thread's place is in use. */
 static void read_inside(void)
 {
     yarib_route route;
@@ -180,7 +180,7 @@ int main(void)
     inside = during_share;
     entered = 0;
     CHECK(yarib_share(&forwarding, &other) == YARIB_DONE && entered == 1);
-    /* A table that is freed, or made anew, is in use until then. */
+    /* A table that is freed or replaced by a new one is in use until then. */
     inside = during_change;
     entered = 0;
     CHECK(yarib_new(&table, 10, YARIB_PLAIN) == YARIB_DONE && entered == 1);

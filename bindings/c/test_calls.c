@@ -102,7 +102,7 @@ static void faults(void)
     yarib_free(&table);
 }
 
-/* What a table, one without a journal, and a forwarding table can't be asked. */
+/* The calls that a table, a table without a journal, and a forwarding table don't support. */
 static void kinds(void)
 {
     yarib table = YARIB_EMPTY, forwarding = YARIB_EMPTY, other = YARIB_EMPTY;
@@ -149,7 +149,7 @@ static yarib_command add(uint32_t feed, uint32_t base, uint8_t len, uint32_t pre
     return (yarib_command){.operation = YARIB_ADD, .feed = feed, .base = base, .len = len, .pref = pref, .hop = YARIB_VIA, .via = feed};
 }
 
-/* How many routes are asked for, and the first of them. */
+/* Returns the number of selected routes, and writes the first of them. */
 static size_t selected(yarib *table, uint32_t part, uint32_t base, uint8_t len, uint32_t feed, uint8_t best, yarib_route *first)
 {
     yarib_selection asked = {.part = part, .feed = feed, .base = base, .len = len, .only_best = best};
@@ -201,7 +201,7 @@ static int is_same(const yarib_route *one, const yarib_route *other)
         && one->via == other->via && one->hop == other->hop;
 }
 
-/* Whether a route stands before a place in the order of the table. */
+/* Returns true if a route comes before a position in the order of the table. */
 static int precedes(const yarib_route *route, const yarib_route *place)
 {
     if (route->base != place->base) return route->base < place->base;
@@ -209,7 +209,7 @@ static int precedes(const yarib_route *route, const yarib_route *place)
     return route->pref != place->pref ? route->pref < place->pref : route->feed < place->feed;
 }
 
-/* The page from a place on is the part of the whole list that doesn't stand before it, and what is behind the page stays. */
+/* The page from a position on is the part of the whole list that doesn't come before it, and what follows the page stays. */
 static void check_page(yarib *table, const yarib_route *listed, size_t count, const yarib_route *from, size_t room)
 {
     yarib_route page[40];
@@ -222,7 +222,7 @@ static void check_page(yarib *table, const yarib_route *listed, size_t count, co
     CHECK(is_marked(page + used, (40 - used) * sizeof *page));
 }
 
-/* Routes from a place on, of random tables: each size of page, and places that are and that are not those of a route. */
+/* Routes from a position on, of random tables: each size of page, and positions that are and that are not those of a route. */
 static void pages(void)
 {
     static const uint8_t lens[] = {0, 1, 2, 8, 23, 24, 25, 31, 32};
@@ -270,7 +270,7 @@ static void pages(void)
     }
 }
 
-/* A table beside which a forwarding table follows answers as one without, after each of many commands. */
+/* A table with a forwarding table that follows it answers as a table without one, after each of many commands. */
 static void followed(void)
 {
     yarib one = YARIB_EMPTY, other = YARIB_EMPTY;

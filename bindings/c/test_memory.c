@@ -1,6 +1,7 @@
-/* What yarib_memory tells is near what the C library's allocator gives. Beside 1.25 KiB for each handle, a table takes no less,
- * and no more than a quarter over it and 96 bytes for each further route to one prefix; a journal, which grows by doubling, at most
- * twice; a forwarding table no more than a hundredth over it. */
+/* The size that yarib_memory reports is near what the C library's allocator gives, which is never less. For a table the allocator
+ * gives at most this much more: 1.25 KiB for the handle, a quarter of the reported size, and 96 bytes for each further route to the
+ * same prefix. For a journal, which grows by doubling, it gives at most twice the reported size. For a forwarding table it gives at
+ * most a hundredth more. */
 #define _GNU_SOURCE
 #include <malloc.h>
 #include <stdio.h>
@@ -11,7 +12,7 @@
 
 #define CHECK(holds) ((holds) ? (void)0 : (fprintf(stderr, "%s:%d: %s\n", __FILE__, __LINE__, #holds), exit(1)))
 
-/* What was given and not freed, with what the allocator keeps beside it. */
+/* Returns the bytes that were given and not freed, with those that the allocator keeps for itself. */
 static size_t given(void)
 {
     struct mallinfo2 now = mallinfo2();
@@ -34,7 +35,7 @@ static uint32_t draw(void)
     return (uint32_t)(last >> 32);
 }
 
-/* A route of each of the feeds to so many prefixes, with the lengths of a router's table. */
+/* Adds a route of each of the feeds to each of `prefixes` prefixes, with the lengths of a router's table. */
 static void fill(yarib *table, uint32_t kind, uint32_t prefixes, uint32_t feeds)
 {
     static const uint8_t lens[] = {24, 24, 24, 24, 24, 24, 24, 24, 23, 22, 22, 21, 20, 19, 16, 12};
@@ -51,7 +52,7 @@ static void fill(yarib *table, uint32_t kind, uint32_t prefixes, uint32_t feeds)
     }
 }
 
-/* How many routes there are beside the best of each prefix. */
+/* Returns the number of routes that aren't the best of their prefix. */
 static size_t further(yarib *table)
 {
     const yarib_selection best = {.only_best = 1};
@@ -117,7 +118,7 @@ static void apart(void (*one)(uint32_t, uint32_t), uint32_t prefixes, uint32_t f
 
 int main(void)
 {
-    setvbuf(stdout, NULL, _IONBF, 0); /* so that printing takes no memory */
+    setvbuf(stdout, NULL, _IONBF, 0); /* so that printing doesn't allocate */
     apart(measure, 0, 1);
     for (uint32_t prefixes = 100; prefixes <= 1000000; prefixes *= 10) apart(measure, prefixes, 1);
     for (uint32_t feeds = 2; feeds <= 64; feeds *= 2) apart(measure, 5000, feeds);

@@ -1,4 +1,4 @@
-/* Calls that read a handle write nothing behind its pointer. The library gets the memory of its tables from one range, which is
+/* Calls that read a handle write nothing through its pointer. The library gets the memory of its tables from one range, which is
  * then made read-only: a write there ends this program by a signal. The one exception is yarib_share, which counts the handles of
  * a forwarding table atomically. */
 #define _GNU_SOURCE
@@ -87,7 +87,7 @@ static void fill(yarib *table, uint32_t kind)
     }
 }
 
-/* Asks what any handle answers. */
+/* Makes the queries that any handle answers. */
 static void look_up(const yarib *handle)
 {
     uint32_t asked[ASKED], hops[ASKED];
@@ -102,7 +102,7 @@ static void look_up(const yarib *handle)
     CHECK(yarib_memory(handle, &total) == YARIB_DONE);
 }
 
-/* Asks what a table answers. */
+/* Makes the queries that a table answers. */
 static void ask(const yarib *table, const yarib *other, bool is_journaled)
 {
     yarib_route routes[ROOM], from = {0};

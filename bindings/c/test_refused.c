@@ -1,4 +1,4 @@
-/* Each call for memory is refused in turn: the status says so, all is as it was, and the same call then succeeds. */
+/* Each allocation fails in turn: the status says so, all is as it was, and the same call then succeeds. */
 #include "refusing_heap.h"
 
 #include <stdio.h>
@@ -11,7 +11,7 @@ enum { ROUTES = 60 };
 
 static int refused;
 
-/* How many routes and entries there are, asked without memory. */
+/* Returns the numbers of routes and entries by calls that don't allocate. */
 static size_t sizes_of(yarib *table, uint32_t kind)
 {
     size_t routes, entries = 0;
@@ -39,7 +39,7 @@ static void fill(yarib *table, uint32_t kind)
     }
 }
 
-/* Asks what takes memory, and each again where it was refused. */
+/* Makes each query that allocates, and makes it again after a refusal. */
 static void ask(yarib *table)
 {
     yarib_route all[ROUTES] = {{0}};
@@ -65,7 +65,7 @@ static void ask(yarib *table)
     long left = refused_call;
     refused_call = 1;
     CHECK(yarib_routes_from(table, &first, all, ROUTES, &total) == YARIB_DONE && total == ROUTES && all[3].base == 1u << 24);
-    CHECK(refused_call == 1); /* it asked for none */
+    CHECK(refused_call == 1); /* it doesn't allocate */
     refused_call = left;
 }
 
@@ -115,8 +115,8 @@ static void ask_followed(yarib *table, uint32_t routes)
     }
 }
 
-/* A table with a forwarding table beside it, from that one's making on: a command that finds no memory for it is answered all the
- * same, and the next call makes it anew. */
+/* A table with a forwarding table that follows it, from the making of the forwarding table on: if memory runs out for it, the
+ * command is still answered, and the next call makes a new one. */
 static int refuse_followed(long number)
 {
     yarib table = YARIB_EMPTY;

@@ -1,8 +1,8 @@
-/* Answers the lines of a feed file, well formed and of one feed, and writes what `yarib run` writes of it:
+/* Answers the lines of a feed file, well formed and of one feed, and writes what `yarib run` writes of it.
  *
  *     test_report FILE LIMIT KIND
  *
- * The table at the end is asked in other ways too, which have to agree with it. */
+ * The final table is also queried in other ways, which have to agree with it. */
 #include <stdio.h>
 #include <stdlib.h>
 #include <string.h>
@@ -82,7 +82,7 @@ static int is_same(const yarib_route *one, const yarib_route *other)
            && one->via == other->via && one->hop == other->hop;
 }
 
-/* Every way to ask has the answer of the command `lookup`. */
+/* Every kind of query has the answer of the command `lookup`. */
 static void ask(const yarib_route *routes, size_t size)
 {
     uint32_t asked[ASKED];

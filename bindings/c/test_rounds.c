@@ -39,7 +39,7 @@ static void apply(yarib *table, uint32_t operation, struct prefix *prefix)
     prefix->is_in = operation != YARIB_WITHDRAW;
 }
 
-/* So many changes: each replaces the route of a prefix, withdraws it or adds it again. */
+/* Makes this number of changes: each replaces the route of a prefix, withdraws it or adds it again. */
 static void change(yarib *table, uint32_t count)
 {
     for (uint32_t k = 0; k < count; k++) {
@@ -49,7 +49,7 @@ static void change(yarib *table, uint32_t count)
     }
 }
 
-/* The answers at both ends of each prefix, and beside them, are those of a new forwarding table. Returns its memory. */
+/* The answers at both ends of each prefix, and next to them, are those of a new forwarding table. Returns its memory. */
 static size_t compare(yarib *table)
 {
     yarib fresh = YARIB_EMPTY;
