@@ -2,7 +2,7 @@
 //!
 //! ```
 //! let writer = FibWriter::new(alloc, Fib::new(alloc, &book)?, 2)?;
-//! let reader = writer.reader()?; // for another thread: `reader.enter()`, and then `look_up`
+//! let reader = writer.reader()?; // For another thread: `reader.enter()`, and then `look_up`.
 //! book.apply(1, cmd)?;
 //! let (writer, done) = writer.publish(&rt, alloc, Fib::new(alloc, &book)?);
 //! ```

@@ -1,11 +1,10 @@
 //! The differences of two routing tables: ranges of addresses that have different answers in them, with both answers.
-//! answers.
 //!
 //! ```
-//! let mut tables = Comparison::new(&old, &new, By::Hop);
+//! let mut tables = Comparison::new(&old, &new, CompareBy::Hop);
 //! let mut next = tables.first_difference(Addr(0));
 //! while let Some(difference) = next {
-//!     // each address from difference.first to difference.last goes another way
+//!     // The answers differ for each address from difference.first to difference.last.
 //!     next = tables.difference_after(difference.last);
 //! }
 //! ```

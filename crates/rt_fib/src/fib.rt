@@ -18,7 +18,7 @@ use std::marker::Model;
 use std::snapshot::Snapshot;
 
 /// Holds what a routing table answers each address, in memory of the allocator. Contracts see the routes of that table. Its memory is
-/// its own, so many threads may look up while the book changes. It takes 64 MiB, about 1 KiB for each 256 addresses of one entry that
+/// its own: many threads may look up while the book changes. It takes 64 MiB, about 1 KiB for each 256 addresses of one entry that
 /// have more than one answer, and 32 bytes for each answer.
 #[derive(Drop)]
 pub struct Fib<A: Allocator + Copy, B: Allocator + Copy = A> {
@@ -50,16 +50,16 @@ impl<A: Allocator + Copy, B: Allocator + Copy> fmt::Debug for Fib<A, B> {
 }
 
 impl<A: Allocator + Copy, B: Allocator + Copy> Fib<A, B> {
-    /// Makes one of what the book's table answers each address, in memory of the allocator. M1: `Refused` where that memory was
-    /// refused.
+    /// Makes a forwarding table with the answers of the book's table, in memory of the allocator. M1: `Refused` if the allocator has
+    /// no memory for it.
     pub fn new(alloc: A, book: &Book<B>) -> Result<Fib<A, B>, Refused>
         ensures { IfOk result (λ fib. fib ≡ table_of book.now) }
     {
         Fib::of(alloc, book.table())
     }
 
-    /// Makes one of what the table answers each address, whether or not a journal explains it, in memory of the allocator. M1:
-    /// `Refused` where that memory was refused.
+    /// Makes a forwarding table with the answers of the table, whether or not a journal explains it, in memory of the allocator. M1:
+    /// `Refused` if the allocator has no memory for it.
     pub fn of(alloc: A, table: &Table<B>) -> Result<Fib<A, B>, Refused>
         ensures { IfOk result (λ fib. fib ≡ table.now.routes) }
     {
@@ -69,8 +69,8 @@ impl<A: Allocator + Copy, B: Allocator + Copy> Fib<A, B> {
     }
 
     /// Copies it into memory of the allocator, while the book's table is the one that it answers by. The copy is one to publish,
-    /// while this one goes on following the book. It reads and writes as many bytes as it takes, and asks the book for nothing. M1: `Refused`
-    /// where that memory was refused.
+    /// while this one goes on following the book. It reads and writes the number of bytes that it takes, and doesn't read the book. M1: `Refused`
+    /// if the allocator has no memory for it.
     pub fn copy(&self, alloc: A, book: &Book<B>) -> Result<Fib<A, B>, Refused>
         requires { self.now ≡ table_of book.now }
         ensures { IfOk result (λ copy. copy ≡ self.now) }
@@ -80,7 +80,7 @@ impl<A: Allocator + Copy, B: Allocator + Copy> Fib<A, B> {
         })
     }
 
-    /// Looks up the address: returns the best route of the longest prefix that covers it, or `None` where no prefix
+    /// Looks up the address: returns the best route of the longest prefix that covers it, or `None` if no prefix
     /// covers it. It reads the address's entry, in some places a block's number, and the answer.
     pub fn look_up(&self, addr: Addr) -> Option<Route>
         ensures { result ≡ look_up addr self.now }
@@ -96,11 +96,11 @@ impl<A: Allocator + Copy, B: Allocator + Copy> Fib<A, B> {
         self.cells.look_up_each(addresses, answers);
     }
 
-    /// Renews the answers of the prefix's addresses, where the book's table answers all others as this one does. Then it answers by
-    /// the book's table. For a prefix of one route it reads and writes few places, for a prefix of length 8 about 65,536 entries.
+    /// Renews the answers of the prefix's addresses. The book's table must answer all other addresses as this one does. Then it answers
+    /// by the book's table. For a prefix of one route it reads and writes few places, for a prefix of length 8 about 65,536 entries.
     /// Each change also marks some of the entries and what they lead to. What no address leads to any more is used again once all
     /// entries were marked. If a round of marking saw so little in use that it may take over twice the memory of a new one, the
-    /// next change rebuilds it: so a table that shrank gives memory back. M1: `Refused` where memory was refused. Then it answers as
+    /// next change rebuilds it: so a table that shrank gives memory back. M1: `Refused` if memory ran out. Then it answers as
     /// before, has no more blocks and answers than before, and all that was free is free again: so trying again takes no more than the
     /// first time.
     pub fn renew(&mut self, book: &Book<B>, prefix: Prefix) -> Result<(), Refused>
@@ -137,9 +137,9 @@ impl<A: Allocator + Copy, B: Allocator + Copy> Fib<A, B> {
         Ok(())
     }
 
-    /// Follows the command that a book was answered last: by a `renew` of its prefix, after a purge by a rebuild, and after
-    /// a look-up or a dump by nothing. The law `commands_preserve_lookups_outside_prefix` says that each command of a book may be followed so. M1:
-    /// `Refused` where memory was refused, and then it answers as before.
+    /// Follows the last command that the book has answered: it renews the command's prefix, rebuilds itself after a purge, and does
+    /// nothing after a look-up or a dump. The law `commands_preserve_lookups_outside_prefix` says that each command of a book may be followed so. M1:
+    /// `Refused` if memory ran out, and then it answers as before.
     pub fn follow(&mut self, book: &Book<B>, cmd: &Cmd) -> Result<(), Refused>
         requires { KeepsOutside cmd.now self.old (table_of book.now) }
         ensures ok { OnOk result (self.new ≡ table_of book.now) }

@@ -1,5 +1,5 @@
 //! Filling the cells entry by entry, each from the piece of the table that its addresses lie in. A piece is a range of addresses with
-//! one answer, as far as the book's `answers` tell it.
+//! one answer, as far as the book's `answers` return it.
 ghost use Rattle.std.specs.Prelude.{◌≡◌, ◌↔◌, ℕ, IsTrue, ◌≤◌, ◌<◌, ◌+◌, ◌*◌, ◌-◌, ◌^◌, IfOk, OnOk, OnErr, length};
 ghost use Rattle.rt_fib.specs.inside.Pools.{places, filling, Fills, Has, IsBack, Keeps};
 ghost use Rattle.rt_fib.specs.inside.Entries.{AreCells, AreFrom, IsEntry};
@@ -15,7 +15,7 @@ use rt_rib::{LookupCursor, Refused, Route, Table};
 use std::alloc::Allocator;
 use std::snapshot::Snapshot;
 
-/// Holds the number of an answer, and the last address up to which it is known to be the answer.
+/// Holds the number of an answer, and the last address that is known to have this answer.
 #[derive(Clone, Copy)]
 pub(crate) struct Piece {
     pub(crate) number: u32,
@@ -67,7 +67,7 @@ pub(crate) fn is_again<A: Allocator + Copy>(
     true
 }
 
-/// Returns the number of the answer: one of these two, if it is that answer's, and else one that was free.
+/// Returns the number of the answer: one of these two, if it is that answer's, or else one that was free.
 fn number_of<A: Allocator + Copy>(
     pools: &mut Pools<A>,
     since: u32,
@@ -90,7 +90,7 @@ fn number_of<A: Allocator + Copy>(
     put(&mut pools.answers, since, found)
 }
 
-/// Returns the number that the entries lead the address to, or one that is no answer's.
+/// Returns the number that the entries lead the address to, or a number without an answer.
 fn number_before<A: Allocator + Copy>(entries: &[u32], pools: &Pools<A>, addr: Addr) -> u32 {
     let i = (addr.0 / 256) as usize;
     if i >= entries.len() {
@@ -128,7 +128,7 @@ fn piece_at<A: Allocator + Copy, B: Allocator + Copy>(
     Ok(Piece { number, last: to })
 }
 
-/// Returns the table's piece at the address: this one, where it reaches so far.
+/// Returns the table's piece at the address: this piece, if it reaches the address.
 fn piece_on<A: Allocator + Copy, B: Allocator + Copy>(
     table: &mut LookupCursor<'_, B>,
     entries: &[u32],
@@ -150,14 +150,14 @@ fn piece_on<A: Allocator + Copy, B: Allocator + Copy>(
     piece_at(table, entries, pools, since, piece.number, addr)
 }
 
-/// Holds what the 256 addresses of an entry are answered, and the piece that the last of them lies in.
+/// Holds the answers to the 256 addresses of an entry, and the piece that contains the last of them.
 #[derive(Clone, Copy)]
 pub(crate) struct Numbered {
     pub(crate) numbers: [u32; 256],
     pub(crate) piece: Piece,
 }
 
-/// Returns the numbers of what the table answers the 256 addresses from this one on.
+/// Returns the numbers of the table's answers to the 256 addresses from this one on.
 fn numbers_from<A: Allocator + Copy, B: Allocator + Copy>(
     table: &mut LookupCursor<'_, B>,
     entries: &[u32],
@@ -245,7 +245,7 @@ fn block_of<A: Allocator + Copy>(
     put(&mut pools.blocks, since, numbers)
 }
 
-/// Returns the block that the entry names, or a number that is no block's.
+/// Returns the block that the entry names, or a number without a block.
 fn block_before(entries: &[u32], i: u32) -> u32 {
     let i = i as usize;
     if i >= entries.len() {
@@ -333,8 +333,9 @@ fn span_entries<A: Allocator + Copy, B: Allocator + Copy>(
     Ok(entries)
 }
 
-/// Gets room for what two rounds may leave unused, so that no change has to copy a long list. A short list gets room for as much
-/// again as it has. No entries are due to be marked for what a new table has: else its first change would mark all of them.
+/// Gets room for the places that two rounds may leave unused, so that no change has to copy a long list. A short list gets room for
+/// as much again as it has. For the contents of a new table no entries are due to be marked: else its first change would mark all of
+/// them.
 fn reserve_waste<A: Allocator + Copy>(pools: &mut Pools<A>)
     ensures blocks { pools.new.blocks.values.items ≡ pools.old.blocks.values.items }
     ensures block_stamps { pools.new.blocks.stamps.items ≡ pools.old.blocks.stamps.items }
@@ -350,7 +351,7 @@ fn reserve_waste<A: Allocator + Copy>(pools: &mut Pools<A>)
     pools.answers.due = 0;
 }
 
-/// Returns the cells of what the table answers all addresses.
+/// Returns the cells with the table's answers to all addresses.
 pub(crate) fn all_cells<A: Allocator + Copy, B: Allocator + Copy>(
     alloc: A,
     table: &Table<B>,
@@ -379,7 +380,7 @@ pub(crate) fn all_cells<A: Allocator + Copy, B: Allocator + Copy>(
     })
 }
 
-/// Puts the fresh entries in the place of those from the first on.
+/// Replaces the entries from the first on by the fresh ones.
 fn put_entries(entries: &mut [u32], fresh: &[u32], first: usize)
     requires { first + length fresh.now ≤ length entries.old }
     ensures { ArePut entries.old entries.new fresh.now first (length fresh.now) }
@@ -389,7 +390,7 @@ fn put_entries(entries: &mut [u32], fresh: &[u32], first: usize)
     }
 }
 
-/// Counts the entries that named a block, where the fresh one in their place doesn't.
+/// Counts the entries that named a block and are replaced by a fresh entry that doesn't.
 fn blocks_gone(entries: &[u32], fresh: &[u32], first: usize) -> usize
     requires { first + length fresh.now ≤ length entries.now }
 {
@@ -402,8 +403,8 @@ fn blocks_gone(entries: &[u32], fresh: &[u32], first: usize) -> usize
     gone
 }
 
-/// Puts what the table answers the span's addresses into the cells. Blocks and answers are made before an entry changes. If memory
-/// is refused, they are taken back: no entry changed, and all places that were free are free again.
+/// Puts the table's answers to the span's addresses into the cells. Blocks and answers are made before an entry changes. If memory
+/// runs out, they are removed: no entry changed, and all places that were free are free again.
 pub(crate) fn renew_cells<A: Allocator + Copy, B: Allocator + Copy>(
     table: &mut LookupCursor<'_, B>,
     cells: &mut Cells<A, B>,

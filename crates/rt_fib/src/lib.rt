@@ -3,16 +3,16 @@
 //! ```
 //! let mut fib = Fib::new(alloc, &book)?;
 //! book.apply(1, cmd)?;
-//! fib.follow(&book, &cmd)?; // it answers as the book does again
+//! fib.follow(&book, &cmd)?; // It answers as the book does again.
 //! ```
 //!
 //! It is the table DIR-24-8 of Gupta, Lin and McKeown (*Routing Lookups in Hardware at Memory Access Speeds*, INFOCOM 1998): an
-//! entry for each first 24 bits of an address, 64 MiB of them. Where the 256 addresses of an entry have one answer, it is the
-//! number of that answer. Where they don't, it is the number of a block with 256 numbers, one for each of them. The answers are in a
+//! entry for each first 24 bits of an address, 64 MiB of them. If the 256 addresses of an entry have one answer, the entry is the
+//! number of that answer. Otherwise it is the number of a block with 256 numbers, one for each of them. The answers are in a
 //! list, so that each is a whole route (`src/cells.rt`).
 //!
 //! A change puts blocks and answers into places that are free (`src/pools.rt`). A place becomes free when no entry led to it during
-//! a whole round, in which all entries were marked, a few after each change (`src/marking.rt`).
+//! a whole round. A round marks all entries, a few after each change (`src/marking.rt`).
 //!
 //! Contracts see a [`Fib`] as the routing table that it answers by: [`Fib::look_up`] answers each address what a look-up of that
 //! table does (`look_up` in `rt_rib`'s `specs/LookUp.antt`). It is proved that no place is read which isn't there, so no test tries it.

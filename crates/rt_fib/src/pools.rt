@@ -222,7 +222,7 @@ fn clear_each(stamps: &mut [u32], taken: &[u32])
     }
 }
 
-/// Takes back what a refused renewal put: the free places that it took are free again, and the pool keeps only its first places.
+/// Undoes a refused renewal: the free places that it filled are free again, and the pool keeps only its first places.
 pub(crate) fn take_back<T: Copy, A: Allocator + Copy>(pool: &mut Pool<T, A>, count: usize)
     ensures { (since : ℕ) → (start : Filling T) → start.taken ≡ [] → Fills since start (filling pool.old)
         → count ≡ length start.places.values → IsBack since start.places (places pool.new) }

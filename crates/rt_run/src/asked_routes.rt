@@ -1,4 +1,4 @@
-//! Which routes of a finished table are printed.
+//! The routes of a finished table that are printed.
 ghost use Rattle.std.specs.Prelude.{◌≡◌, IfOk};
 ghost use Rattle.rt_rib.specs.Selection.{selected};
 ghost use Rattle.rt_run.specs.ChosenFeeds.{routes_of_selected};
@@ -7,10 +7,10 @@ use crate::chosen::is_selected;
 use rt_rib::{Refused, Route, Selection, Table};
 use std::alloc::Global;
 
-/// Which routes of a table are printed.
+/// Selects the routes of a table that are printed.
 #[derive(Clone, Copy, Debug)]
 pub struct AskedRoutes<'a> {
-    /// Which of the table's routes, whatever their feeds.
+    /// The selection among the table's routes, whatever their feeds.
     pub selection: Selection,
     /// The numbers of the feeds whose routes among these are printed; if there are none, those of every feed are.
     pub feeds: &'a [u32],

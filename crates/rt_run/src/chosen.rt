@@ -1,4 +1,4 @@
-//! Runs in which some feeds are left out. The other feeds keep their numbers.
+//! Runs without some of their feeds. The other feeds keep their numbers.
 ghost use Rattle.std.specs.Prelude.{◌≡◌, ◌≤◌, if◌then◌else◌, [], length};
 ghost use Rattle.rt_rib.specs.declared.limits.TheConstants.{MAX_FEEDS};
 ghost use Rattle.rt_run.specs.ChosenFeeds.{is_one_of, is_selected, is_left_out, texts_kept};
@@ -7,7 +7,7 @@ ghost use Rattle.rt_run.specs.LeftOut.{AreWithout};
 use crate::run_input::RunInput;
 use std::marker::Model;
 
-/// Which feeds take part in a run: those that are selected, except those that are left out.
+/// Selects the feeds that take part in a run: those that are selected, except those that are left out.
 #[derive(Clone, Copy, Debug)]
 pub struct FeedChoice<'a> {
     /// The numbers of the selected feeds; if there are none, every feed is selected.
@@ -46,8 +46,8 @@ fn is_one_of(feeds: &[u32], feed: u32) -> bool
     feeds.iter().any(|number| *number == feed)
 }
 
-/// The texts of a run's feeds, of which those of feeds that are left out count as empty: contracts see empty texts there,
-/// and the texts that were given aren't read.
+/// The texts of a run's feeds. A text of a feed that is left out counts as empty: contracts see an empty text there, and the
+/// given text isn't read.
 #[derive(Drop)]
 pub struct ChosenTexts<'a> {
     pub(crate) texts: &'a [Vec<u8>],

@@ -12,7 +12,7 @@
 //! - `laws` says what holds for every run and every interleaving of its threads.
 //!
 //! ```text
-//! // the reports of all feeds and then the table, and the exit status of the run
+//! // Writes the reports of all feeds and then the table, and returns the exit status of the run.
 //! let status = run_texts(&rt, alloc, texts.as_slice(), 65_536, 64, &mut out)?;
 //! ```
 //!

@@ -13,8 +13,8 @@ use crate::status::{BAD_COMMAND, BAD_NUMBER, BAD_SIZE, DONE, NO_MEMORY, WRONG_KI
 use rt_rib::{feed_ok, limit_ok};
 use std::alloc::Global;
 
-/// An empty table in which each feed may have so many routes, 1 to 1,000,000; with 1 for `journal` it keeps a journal, with 0
-/// none. What the handle held before is freed, but where the call does nothing.
+/// Makes an empty table. `limit` is the maximum number of routes of each feed, 1 to 1,000,000. If `journal` is 1 it keeps a journal,
+/// and if it is 0 it doesn't. What the handle held before is freed, unless the call does nothing.
 #[unsafe(no_mangle)]
 pub extern "C" fn yarib_new(alloc: Global, table: &mut Yarib, limit: u32, journal: u32) -> u32
     ensures done { result ≡ 0 → IsLimit limit × (journal ≤ 1) × Holds table.new (IsNew limit journal) }
@@ -43,7 +43,7 @@ pub extern "C" fn yarib_free(alloc: Global, table: &mut Yarib)
     drop(table.take(alloc));
 }
 
-/// Makes room for so many entries in the journal, where there is one.
+/// Makes room for this number of entries in the journal, if there is one.
 #[unsafe(no_mangle)]
 pub extern "C" fn yarib_reserve(alloc: Global, table: &mut Yarib, entries: usize) -> u32
     ensures done { result ≡ 0 → Goes table.old table.new (HasRoom entries) }
@@ -57,7 +57,7 @@ pub extern "C" fn yarib_reserve(alloc: Global, table: &mut Yarib, entries: usize
     })
 }
 
-/// Answers a command, and keeps command and reply in the journal, where there is one. A look-up or a dump changes no route.
+/// Answers a command, and keeps command and reply in the journal, if there is one. A look-up or a dump changes no route.
 #[unsafe(no_mangle)]
 pub extern "C" fn yarib_apply(
     alloc: Global,
@@ -104,8 +104,8 @@ fn apply(held: &mut Held, command: &YaribCommand, reply: &mut YaribReply) -> u32
     }
 }
 
-/// Answers the commands one after another. Each has its reply in its place, or, where it has none, the code 0 and the status
-/// that says why; those behind it are answered all the same. Both lists are as long.
+/// Answers the commands one after another. Each command has its reply at the same index. A command without a reply has the code 0
+/// there, and the status that says why; the commands after it are still answered. Both lists have the same length.
 #[unsafe(no_mangle)]
 pub extern "C" fn yarib_apply_each(
     alloc: Global,

@@ -5,8 +5,8 @@ use rt_cidr::{Addr, Prefix};
 use rt_rib::{Cmd, Entry, Hop, Reply};
 
 /// A command of a feed, 1 to 64. `operation` is 1 for an add, 2 replace, 3 withdraw, 4 look-up, 5 dump and 6 purge. `base` is
-/// the prefix's, or the address of a look-up, and `hop` is 1 for a router, whose address is `via`, and 2 where packets are to
-/// be discarded. What an operation doesn't speak of is not read.
+/// the prefix's, or the address of a look-up, and `hop` is 1 for a router, whose address is `via`, and 2 if packets are to
+/// be discarded. Members that an operation doesn't use aren't read.
 #[repr(C)]
 #[derive(Clone, Copy, PartialEq, Eq, Debug)]
 pub struct YaribCommand {
@@ -42,7 +42,7 @@ impl YaribCommand {
         }
     }
 
-    /// The command that these numbers stand for, if they stand for one.
+    /// Returns the command that these numbers denote, if they denote one.
     pub(crate) fn read(&self) -> Option<Cmd>
         ensures { MatchOption result ((cmd : Command) → ¬ IsCommand self.now cmd) (λ cmd. IsCommand self.now cmd) }
     {
@@ -69,7 +69,7 @@ impl YaribCommand {
         })
     }
 
-    /// The numbers of a feed's command. Those that it doesn't speak of are 0.
+    /// Returns the numbers of a feed's command. Those that the command doesn't use are 0.
     pub(crate) fn of(feed: u32, cmd: Cmd) -> YaribCommand
         ensures { result ≡ command_of feed cmd }
     {
@@ -155,7 +155,7 @@ impl YaribReply {
         YaribReply { code, count, route }
     }
 
-    /// What stands in the place of a reply where there is none, for this reason.
+    /// Returns the reply of a command that wasn't answered, with its status.
     pub(crate) fn unanswered(status: u32) -> YaribReply
         ensures { result ≡ unanswered status }
     {

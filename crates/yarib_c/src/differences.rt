@@ -1,4 +1,4 @@
-//! Where two tables answer otherwise.
+//! The addresses for which two tables give different answers.
 ghost use Rattle.std.specs.Prelude.{◌≡◌, ◌≢◌, ◌≤◌, ◌⊎◌, None};
 ghost use Rattle.yarib_c.specs.Kinds.{routes_in, IsForwarding};
 ghost use Rattle.yarib_c.specs.Calls.{held_in, Holds};
@@ -13,7 +13,8 @@ use rt_cidr::Addr;
 use rt_diff::{CompareBy, Comparison, TableAnswer};
 use std::alloc::Global;
 
-/// A range of addresses that two tables answer otherwise, and their answers. By hops each has a hop and no more.
+/// A range of addresses for which two tables give different answers, and the answers. If hops are compared, each answer has only a
+/// hop.
 #[repr(C)]
 #[derive(Clone, Copy, PartialEq, Eq, Debug)]
 pub struct YaribDifference {
@@ -37,8 +38,8 @@ impl YaribRoute {
     }
 }
 
-/// The first range from the address on that the two tables answer otherwise, by next hop where `by` is 0 and by whole route
-/// where it is 1. The handles are two.
+/// Writes the first range from the address on for which the two tables give different answers. They are compared by next hop if `by`
+/// is 0, and by whole route if it is 1. The two handles are different.
 #[unsafe(no_mangle)]
 pub extern "C" fn yarib_first_difference(
     alloc: Global,

@@ -1,5 +1,5 @@
-//! Forwarding tables: made of a table, asked like one, and held by as many handles as there are threads that ask; or beside a
-//! table, whose commands they follow.
+//! Forwarding tables. One is made from a table, is queried like a table, and is held by a handle for each thread that queries it.
+//! Another kind belongs to a table and follows the table's commands.
 ghost use Rattle.std.specs.Prelude.{◌≡◌, ◌≢◌, ◌⊎◌, None};
 ghost use Rattle.yarib_c.specs.Kinds.{routes_in, IsForwarding, IsFollowed, IsPlain, IsSame};
 ghost use Rattle.yarib_c.specs.Sizes.{TakesBytes};
@@ -12,7 +12,8 @@ use rt_fib::Fib;
 use std::alloc::Global;
 use std::sync::Arc;
 
-/// A forwarding table of what the table answers now. What its handle held before is freed, but where the call does nothing.
+/// Makes a forwarding table with the current answers of the table. What its handle held before is freed, unless the call does
+/// nothing.
 #[unsafe(no_mangle)]
 pub extern "C" fn yarib_forward(alloc: Global, table: &mut Yarib, forwarding: &mut Yarib) -> u32
     ensures done { result ≡ 0 → Holds table.old (λ held. Holds forwarding.new (Forwards (routes_in held))) }
@@ -47,8 +48,8 @@ fn forward(alloc: Global, held: &Held, forwarding: &mut Yarib) -> u32
     DONE
 }
 
-/// Another handle on the same forwarding table, for another thread. What it held before is freed, but where the call does
-/// nothing. The handles are two.
+/// Makes another handle on the same forwarding table, for another thread. What that handle held before is freed, unless the call
+/// does nothing. The two handles are different.
 #[unsafe(no_mangle)]
 pub extern "C" fn yarib_share(alloc: Global, forwarding: &mut Yarib, other: &mut Yarib) -> u32
     ensures done { result ≡ 0 → Holds forwarding.old (λ held. Holds other.new (Forwards (routes_in held))) }
@@ -80,8 +81,8 @@ fn share(alloc: Global, held: &Held, other: &mut Yarib) -> u32
     DONE
 }
 
-/// Makes a forwarding table beside a table that keeps no journal, where there is none yet: it follows each command from then on, and
-/// look-ups are by it. Where a command finds no memory for that, it goes again, and look-ups are by the table.
+/// Makes a forwarding table for a table that keeps no journal, if the table doesn't have one yet. It follows each command from then
+/// on, and look-ups are by it. If memory runs out while it follows a command, it is dropped, and look-ups are by the table.
 #[unsafe(no_mangle)]
 pub extern "C" fn yarib_follow(alloc: Global, table: &mut Yarib) -> u32
     ensures done { result ≡ 0 → Holds table.new IsFollowed }
@@ -99,8 +100,8 @@ pub extern "C" fn yarib_follow(alloc: Global, table: &mut Yarib) -> u32
     })
 }
 
-/// How many bytes a forwarding table takes, all its handles together; of a table about how many: those of its trie's nodes, of its
-/// journal's entries, and of a forwarding table beside it.
+/// Writes the number of bytes of a forwarding table, for all its handles together. For a table the number is approximate: the bytes
+/// of its trie's nodes, of its journal's entries, and of the forwarding table that follows it.
 #[unsafe(no_mangle)]
 pub extern "C" fn yarib_memory(alloc: Global, table: &mut Yarib, bytes: &mut usize) -> u32
     ensures done { result ≡ 0 → Holds table.old (λ held. TakesBytes held bytes.new) }

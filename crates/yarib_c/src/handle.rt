@@ -11,8 +11,8 @@ use std::marker::Model;
 use std::mem;
 use std::ptr::null_mut;
 
-/// The status of a call on what the handle holds, which it holds again afterwards, and `NOTHING` where it holds nothing. It is a
-/// macro since contracts don't tell what a closure leaves in the lists of its caller.
+/// Makes a call on the contents of the handle, which holds them again afterwards, and returns its status. If the handle holds nothing,
+/// returns `NOTHING`. It is a macro since contracts don't say what a closure leaves in the lists of its caller.
 macro_rules! with_held {
     ($handle:ident, $alloc:ident, $held:ident => $status:expr) => {
         match $handle.take($alloc) {
@@ -28,7 +28,7 @@ macro_rules! with_held {
 
 pub(crate) use with_held;
 
-/// What C keeps: a pointer that is null where the handle holds nothing. Contracts see what it holds.
+/// The handle that C keeps: a pointer, which is null if the handle holds nothing. Contracts see the contents.
 #[repr(C)]
 pub struct Yarib {
     at: *mut (),
@@ -74,7 +74,7 @@ impl Yarib {
         }
     }
 
-    /// A handle that holds this.
+    /// Returns a handle that holds this.
     pub(crate) fn of(held: Box<Held>) -> Yarib
         ensures { held_at result.at result.held ≡ Some held.value }
     {
@@ -90,7 +90,7 @@ impl Yarib {
         }
     }
 
-    /// What it holds, if anything. Nothing stays behind.
+    /// Returns the contents, if there are any, and leaves the handle empty.
     pub(crate) fn take(&mut self, alloc: Global) -> Option<Box<Held>>
         ensures left { held_at self.new.at self.new.held ≡ None }
         ensures taken { MatchOption result (held_at self.old.at self.old.held ≡ None)

@@ -1,4 +1,4 @@
-//! What a handle holds.
+//! The contents of a handle.
 ghost use Rattle.std.specs.Prelude.{◌≡◌, ◌<◌, ◌≤◌, IfSome, MatchOption, MatchResult, OnOk};
 ghost use Rattle.rt_rib.specs.Book.{IsLimit, IsFeed};
 ghost use Rattle.yarib_c.specs.Kinds.{routes_in, IsForwarding, IsNew, IsSame, HasRoom, Applied, NotApplied};
@@ -12,19 +12,19 @@ use rt_rib::{Book, Cmd, Refused, Reply, Table};
 use std::alloc::Global;
 use std::sync::Arc;
 
-/// What a handle holds.
+/// Holds the contents of a handle.
 #[derive(Drop)]
 pub enum Held {
-    /// A table that keeps no journal, and where that is asked for a forwarding table beside it.
+    /// A table that keeps no journal and, if a call has requested one, a forwarding table that follows it.
     Plain(PlainTable),
     /// A table that keeps a journal of all that it answered.
     Journaled(Book<Global>),
-    /// What a table answered each address when this was made. It changes no more, and several handles may hold it.
+    /// A forwarding table with the answers that a table gave when this was made. It doesn't change, and several handles may hold it.
     Forwarding(Arc<Fib<Global>>),
 }
 
 impl Held {
-    /// An empty table in which each feed may have so many routes: without a journal for 0, with one for 1.
+    /// Returns an empty table with this limit of routes for each feed: without a journal for 0, with one for 1.
     pub(crate) fn new(alloc: Global, limit: u32, journal: u32) -> Option<Held>
         requires { IsLimit limit }
         ensures { MatchOption result (1 < journal) (λ held. (journal ≤ 1) × IsNew limit journal held) }
@@ -50,7 +50,7 @@ impl Held {
         Held::Journaled(Book::new(alloc, limit))
     }
 
-    /// Its table, where it holds one that changes.
+    /// Returns its table, if it holds one that changes.
     pub(crate) fn table(&self) -> Option<&Table<Global>>
         ensures { MatchOption result (IsForwarding self.now) (λ table. IsTableOf self.now table.now) }
     {
@@ -61,7 +61,7 @@ impl Held {
         }
     }
 
-    /// Returns the forwarding table by which it answers, if there is one.
+    /// Returns the forwarding table that answers its look-ups, if there is one.
     pub(crate) fn forwarding(&self) -> Option<&Fib<Global>>
         ensures { IfSome result (λ fib. fib.now ≡ routes_in self.now) }
     {
@@ -72,7 +72,7 @@ impl Held {
         }
     }
 
-    /// Answers a command of the feed, where it holds a table that changes.
+    /// Answers a command of the feed, if it holds a table that changes.
     pub(crate) fn answer(&mut self, feed: u32, cmd: Cmd) -> Option<Result<Reply, Refused>>
         requires { IsFeed feed }
         ensures { MatchOption result (IsForwarding self.old × (self.new ≡ self.old)) (λ answered. MatchResult answered
@@ -85,7 +85,7 @@ impl Held {
         }
     }
 
-    /// Makes room for so many entries in the journal, where it keeps one. M1: `Refused` where memory was refused.
+    /// Makes room for this number of entries in the journal, if it keeps one. M1: `Refused` if memory ran out.
     pub(crate) fn reserve(&mut self, entries: usize) -> Result<(), Refused>
         ensures ok { OnOk result (HasRoom entries self.old self.new) }
         ensures same { IsSame self.old self.new }
@@ -96,7 +96,7 @@ impl Held {
         }
     }
 
-    /// About how many bytes it takes.
+    /// Returns about how many bytes it takes.
     pub(crate) fn bytes(&self) -> usize
         ensures { TakesBytes self.now result }
     {

@@ -1,4 +1,4 @@
-//! Look-ups for C: of one address, or of many, whose answers are put where C wants them.
+//! Look-ups for C: of a single address, or of many, whose answers are written into a list of the caller.
 ghost use Rattle.std.specs.Prelude.{◌≡◌, ℕ, ◌+◌, ◌<◌, ◌≤◌, length, map};
 ghost use Rattle.rt_trie.specs.Map.{address_at};
 ghost use Rattle.rt_rib.specs.LookUp.{look_up};
@@ -14,10 +14,10 @@ use rt_fib::Fib;
 use rt_rib::Route;
 use std::alloc::Global;
 
-/// How many addresses are asked at once.
+/// The number of addresses that are looked up together.
 const CHUNK: usize = 32;
 
-/// The answers to all addresses, in the place of what stood in their list.
+/// Writes the answers to all addresses over the previous contents of their list.
 pub(crate) fn answer_each(held: &Held, addresses: &[u32], answers: &mut [YaribRoute])
     requires { length answers.old ≡ length addresses.now }
     ensures { answers.new ≡ answers_in (routes_in held.now) addresses.now }
@@ -30,7 +30,7 @@ pub(crate) fn answer_each(held: &Held, addresses: &[u32], answers: &mut [YaribRo
     }
 }
 
-/// The answers to so many addresses from an index on.
+/// Writes the answers to `size` addresses from an index on.
 fn answer_chunk(
     held: &Held,
     addresses: &[u32],
@@ -54,7 +54,7 @@ fn answer_chunk(
     }
 }
 
-/// Copies so many addresses from an index on.
+/// Copies `size` addresses from an index on.
 fn copy_chunk(addresses: &[u32], asked: &mut [Addr], start: usize, size: usize)
     requires chunk { size ≤ length asked.old }
     requires within { start + size ≤ length addresses.now }
@@ -65,7 +65,7 @@ fn copy_chunk(addresses: &[u32], asked: &mut [Addr], start: usize, size: usize)
     }
 }
 
-/// Asks what the handle holds.
+/// Looks up the addresses in the contents of the handle.
 fn look_up(held: &Held, addresses: &[Addr], answers: &mut [Option<Route>])
     requires { length answers.old ≡ length addresses.now }
     ensures { answers.new ≡ map (λ addr. look_up addr (routes_in held.now)) addresses.now }
@@ -92,8 +92,8 @@ pub(crate) fn answer_one(held: &Held, addr: Addr) -> Option<Route>
     }
 }
 
-/// Writes for each address the router to which its answer leads, as `router_number` does. A forwarding table is asked for one
-/// address after another, any other table for a few dozen at once.
+/// Writes for each address the router of its answer, as `router_number` does. In a forwarding table the addresses are looked up one
+/// after another, in any other table a few dozen together.
 pub(crate) fn route_each(
     held: &Held,
     addresses: &[u32],
@@ -110,7 +110,7 @@ pub(crate) fn route_each(
     }
 }
 
-/// The same by a forwarding table.
+/// Does the same by a forwarding table.
 fn route_by(fib: &Fib<Global>, addresses: &[u32], no_route: u32, discard: u32, routers: &mut [u32])
     requires { length routers.old ≡ length addresses.now }
     ensures { routers.new ≡ routers_in no_route discard fib.now addresses.now }
@@ -120,7 +120,7 @@ fn route_by(fib: &Fib<Global>, addresses: &[u32], no_route: u32, discard: u32, r
     }
 }
 
-/// The same, a few dozen addresses at once.
+/// Does the same, a few dozen addresses together.
 fn route_chunks(held: &Held, addresses: &[u32], no_route: u32, discard: u32, routers: &mut [u32])
     requires { length routers.old ≡ length addresses.now }
     ensures { routers.new ≡ routers_in no_route discard (routes_in held.now) addresses.now }
@@ -133,7 +133,7 @@ fn route_chunks(held: &Held, addresses: &[u32], no_route: u32, discard: u32, rou
     }
 }
 
-/// The same for so many addresses from an index on.
+/// Does the same for `size` addresses from an index on.
 fn route_chunk(
     held: &Held,
     addresses: &[u32],

@@ -1,4 +1,4 @@
-//! A table that keeps no journal, and where that is asked for a forwarding table beside it.
+//! A table that keeps no journal and, if a call has requested one, a forwarding table that follows it.
 ghost use Rattle.std.specs.Prelude.{◌≡◌, ◌+◌, ◌≤◌, ◌^◌, true, false, [], length, map, IfOk, IfSome, OnOk, OnErr};
 ghost use Rattle.rt_rib.specs.declared.commands.Reply.TheVariants.{Added};
 ghost use Rattle.rt_rib.specs.Sequential.{reply_of};
@@ -16,7 +16,7 @@ use rt_rib::{Cmd, Refused, Reply, Route, Table};
 use std::alloc::Global;
 use std::marker::Model;
 
-/// A table that keeps no journal. A forwarding table beside it answers as it does: it follows each command.
+/// A table that keeps no journal. Its forwarding table, if it has one, answers as the table does: it follows each command.
 #[derive(Drop)]
 pub struct PlainTable {
     table: Table<Global>,
@@ -40,7 +40,7 @@ impl Model for PlainTable {
 }
 
 impl PlainTable {
-    /// An empty table in which each feed may have so many routes, with nothing beside it.
+    /// Returns an empty table without a forwarding table. `limit` is the maximum number of routes of each feed.
     pub(crate) fn new(alloc: Global, limit: u32) -> PlainTable
         requires { IsLimit limit }
         ensures { table_state result.table ≡ record { limit = limit; routes = [] } }
@@ -51,14 +51,14 @@ impl PlainTable {
         }
     }
 
-    /// The table.
+    /// Returns the table.
     pub(crate) fn table(&self) -> &Table<Global>
         ensures { result.now ≡ self.now.table }
     {
         &self.table
     }
 
-    /// Makes a forwarding table beside the table, if there is none. M1: `Refused` where memory was refused.
+    /// Makes a forwarding table that follows the table, if there isn't one yet. M1: `Refused` if memory ran out.
     pub(crate) fn follow(&mut self, alloc: Global) -> Result<(), Refused>
         ensures ok { OnOk result (self.new.is_followed ≡ true) }
         ensures table { self.new.table ≡ self.old.table }
@@ -69,8 +69,8 @@ impl PlainTable {
         Ok(())
     }
 
-    /// Answers a command of the feed. What is beside the table follows it; where memory for that is refused, it goes, and
-    /// look-ups are by the table.
+    /// Answers a command of the feed. The forwarding table, if there is one, follows the command. If memory runs out for that, the
+    /// forwarding table is dropped, and look-ups are by the table.
     pub(crate) fn apply(&mut self, feed: u32, cmd: Cmd) -> Result<Reply, Refused>
         requires { IsFeed feed }
         ensures ok { IfOk result (λ reply. Serves (table_state self.old.table) (table_state self.new.table) feed cmd reply) }
@@ -85,7 +85,7 @@ impl PlainTable {
         Ok(reply)
     }
 
-    /// For each address, in order, the best route of the longest prefix that covers it, as `Table::look_up` has them.
+    /// Writes for each address, in order, the best route of the longest prefix that covers it, as `Table::look_up` does.
     pub(crate) fn look_up(&self, addresses: &[Addr], answers: &mut [Option<Route>])
         requires { length answers.old ≡ length addresses.now }
         ensures { answers.new ≡ map (λ addr. look_up addr self.now.table.routes) addresses.now }
@@ -96,7 +96,7 @@ impl PlainTable {
         }
     }
 
-    /// Returns the forwarding table beside it, if there is one.
+    /// Returns the forwarding table that follows it, if there is one.
     pub(crate) fn beside(&self) -> Option<&Fib<Global>>
         ensures { IfSome result (λ fib. fib.now ≡ self.now.table.routes) }
     {
@@ -117,7 +117,7 @@ impl PlainTable {
         }
     }
 
-    /// About how many bytes it takes.
+    /// Returns about how many bytes it takes.
     pub(crate) fn bytes(&self) -> usize
         ensures alone { self.now.is_followed ≡ false → result ≡ bytes_of NODE_BYTES self.now.table.trie.nodes }
         ensures followed { self.now.is_followed ≡ true → bytes_of NODE_BYTES self.now.table.trie.nodes + 2 ^ 26 ≤ result }
@@ -130,8 +130,8 @@ impl PlainTable {
     }
 }
 
-/// What was beside a table, if anything, once it has followed the command that the table was answered, or nothing where memory was
-/// refused.
+/// Returns the forwarding table after it has followed the command that the table has answered. Returns nothing if there was no
+/// forwarding table, or if memory ran out.
 fn followed(beside: Option<Fib<Global>>, table: &Table<Global>, cmd: &Cmd) -> Option<Fib<Global>>
     requires { MayFollow cmd.now beside table.now.routes }
     ensures { IsBeside result table.now.routes }

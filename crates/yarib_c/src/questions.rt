@@ -1,4 +1,4 @@
-//! Calls that ask a table and change nothing in it.
+//! Calls that query a table and change nothing in it.
 ghost use Rattle.std.specs.Prelude.{◌≡◌, ◌≢◌, ◌⊎◌, None, Some, length};
 ghost use Rattle.rt_rib.specs.LookUp.{look_up, look_up_all};
 ghost use Rattle.yarib_c.specs.Kinds.{routes_in, journal_in, IsForwarding};
@@ -16,7 +16,7 @@ use crate::status::{BAD_SIZE, DONE, NO_MEMORY, WRONG_KIND};
 use rt_cidr::Addr;
 use std::alloc::Global;
 
-/// The best route of the longest prefix that covers each of the addresses. Both lists are as long.
+/// Writes the best route of the longest prefix that covers each of the addresses. Both lists have the same length.
 #[unsafe(no_mangle)]
 pub extern "C" fn yarib_look_up(
     alloc: Global,
@@ -61,7 +61,7 @@ pub extern "C" fn yarib_look_up_one(
 }
 
 /// Writes for each of the addresses the router of its best route, or `no_route`, or `discard` if its packets are discarded. Both
-/// lists are as long.
+/// lists have the same length.
 #[unsafe(no_mangle)]
 pub extern "C" fn yarib_hops(
     alloc: Global,
@@ -87,7 +87,7 @@ pub extern "C" fn yarib_hops(
     })
 }
 
-/// The routes whose prefix covers the address, the best first, from the index `skip` on, and how many there are in all.
+/// Writes the routes whose prefix covers the address, the best first, from the index `skip` on, and their total number.
 #[unsafe(no_mangle)]
 pub extern "C" fn yarib_look_up_all(
     alloc: Global,
@@ -131,7 +131,7 @@ fn show_covering(
     DONE
 }
 
-/// The routes in dump order, from the index `skip` on, and how many there are in all.
+/// Writes the routes in dump order, from the index `skip` on, and their total number.
 #[unsafe(no_mangle)]
 pub extern "C" fn yarib_routes(
     alloc: Global,
@@ -172,7 +172,7 @@ fn show_routes(
     DONE
 }
 
-/// How many routes there are.
+/// Writes the number of routes.
 #[unsafe(no_mangle)]
 pub extern "C" fn yarib_count(alloc: Global, table: &mut Yarib, total: &mut usize) -> u32
     ensures done { result ≡ 0 → Holds table.old (λ held. total.new ≡ length (routes_in held)) }
@@ -191,7 +191,7 @@ pub extern "C" fn yarib_count(alloc: Global, table: &mut Yarib, total: &mut usiz
     })
 }
 
-/// The entries of the journal from the index `skip` on, and how many there are in all.
+/// Writes the entries of the journal from the index `skip` on, and their total number.
 #[unsafe(no_mangle)]
 pub extern "C" fn yarib_journal(
     alloc: Global,

@@ -1,4 +1,4 @@
-//! Parts of a table: the routes that are asked for.
+//! Parts of a table: the selected routes.
 ghost use Rattle.std.specs.Prelude.{◌≡◌, ◌≢◌, ◌<◌, ◌≤◌, ◌⊎◌, ◌↔◌, IsTrue, None};
 ghost use Rattle.rt_cidr.specs.Cidr.{IsPrefix};
 ghost use Rattle.yarib_c.specs.Kinds.{routes_in, IsForwarding};
@@ -15,9 +15,9 @@ use rt_cidr::{Prefix, TextFault};
 use rt_rib::{PrefixFilter, Selection, feed_ok};
 use std::alloc::Global;
 
-/// Which routes are asked for. `part` is 0 for those to any prefix; with the prefix of `base` and `len` it is 1 for those to it and
-/// the longer ones in it, 2 for it and the shorter ones that it lies in, and 3 for it alone. `feed` is 0 for any feed, and with 1
-/// for `only_best` only the best route of each prefix is asked for.
+/// Selects routes. `part` is 0 for the routes to any prefix. The other values select by the prefix of `base` and `len`: 1 that prefix
+/// and the longer ones in it, 2 that prefix and the shorter ones that contain it, and 3 only that prefix. `feed` is 0 for any feed. If
+/// `only_best` is 1, only the best route of each prefix is selected.
 #[repr(C)]
 #[derive(Clone, Copy, PartialEq, Eq, Debug)]
 pub struct YaribSelection {
@@ -29,14 +29,14 @@ pub struct YaribSelection {
 }
 
 impl YaribSelection {
-    /// Whether a number stands for nothing.
+    /// Returns true if a number is out of its range.
     fn is_out_of_range(&self) -> bool
         ensures { IsTrue result ↔ IsOutOfRange self.now }
     {
         self.part > 3 || (self.feed != 0 && !feed_ok(self.feed)) || self.only_best > 1
     }
 
-    /// The part of the prefixes for which the numbers stand.
+    /// Returns the filter of prefixes that the numbers denote.
     fn read_part(&self) -> Result<PrefixFilter, TextFault>
         requires { self.now.part ≤ 3 }
         ensures { AnswersPart self.now result }
@@ -53,8 +53,8 @@ impl YaribSelection {
     }
 }
 
-/// The routes that are asked for, in dump order, from the index `skip` on, and how many there are in all. It takes memory for them
-/// alone.
+/// Writes the selected routes in dump order, from the index `skip` on, and their total number. It allocates only for the selected
+/// routes.
 #[unsafe(no_mangle)]
 pub extern "C" fn yarib_select(
     alloc: Global,

@@ -1,4 +1,4 @@
-//! What a call answers, as the header has it.
+//! The statuses of calls, with the numbers of the header.
 
 /// The call did what it is for.
 pub(crate) const DONE: u32 = 0;
@@ -9,16 +9,16 @@ pub(crate) const NOTHING: u32 = 1;
 /// A limit, a feed or a choice is out of its range.
 pub(crate) const BAD_NUMBER: u32 = 2;
 
-/// The numbers of a command stand for none.
+/// The numbers don't denote a command.
 pub(crate) const BAD_COMMAND: u32 = 3;
 
-/// Memory was refused (M1).
+/// Memory ran out (M1).
 pub(crate) const NO_MEMORY: u32 = 4;
 
-/// A list has no room for what is to be put there.
+/// A list has no room for the result.
 pub(crate) const BAD_SIZE: u32 = 5;
 
-/// There is no such thing from here on.
+/// Nothing was found from here on.
 pub(crate) const NONE_LEFT: u32 = 6;
 
 /// A text is not of the form (E3).
@@ -30,5 +30,5 @@ pub(crate) const BAD_LENGTH: u32 = 8;
 /// A bit past the length of a prefix is set (E5).
 pub(crate) const BAD_BITS: u32 = 9;
 
-/// What the handle holds can't be asked this.
+/// The contents of the handle don't support this call.
 pub(crate) const WRONG_KIND: u32 = 10;
