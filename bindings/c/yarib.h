@@ -24,11 +24,13 @@
  * a second yarib_free is harmless. Never copy a handle: both copies would own its contents. Passing a pointer to it is
  * fine. No call keeps a pointer to your arrays, strings or structs.
  *
- * Threads. A call that takes a handle as const yarib * reads it; any number of these may use a handle at the same time. All other
- * calls change it, and run by themselves: a change during any other call on the handle, and any call during a change, returns
- * YARIB_BUSY and does nothing. Nothing waits, and no call can damage what a handle holds. So call again later; or protect the handle
- * with a read-write lock of your own, and no call is ever busy. While it runs, a reading call may count itself in the handle, so
- * don't declare a handle const. After a fork, a handle that another thread was using stays busy in the child.
+ * Threads. A call that takes a handle as const yarib * reads it; any number of these may use a handle at the same time. Any other
+ * call changes it, and needs the handle for itself. If a change begins while any other call uses the handle, the change returns
+ * YARIB_BUSY and does nothing. If any call begins while a change uses the handle, that call returns YARIB_BUSY and does nothing. The
+ * call that was there first isn't affected; if two begin at the same time, both may return YARIB_BUSY. Nothing waits, and no call can
+ * damage what a handle holds. So call again later; or protect the handle with a read-write lock of your own, and no call is ever
+ * busy. While it runs, a reading call may count itself in the handle, so don't declare a handle const. After a fork, a handle that
+ * another thread was using stays busy in the child.
  *
  * Pointers must not be null, even for arrays without elements. No memory that a call writes may overlap other memory that is
  * passed to it. If a call takes two handles, they must be different. Define YARIB_CHECK to have these rules tested by
@@ -51,9 +53,9 @@ extern "C" {
 #define YARIB_VERSION_MINOR 2
 #define YARIB_VERSION "0.2"
 
-/* A handle to a table or to a forwarding table. C code must not read or write its contents. In this header a table is a routing
- * table, with or without a journal, and never a forwarding table. But if the errors of a call don't include YARIB_WRONG_KIND, its
- * parameter `table` may also be a handle to a forwarding table. */
+/* A handle to a table or to a forwarding table. C code must not read or write its contents. In this header the word table means a
+ * routing table, with or without a journal. A parameter named `table` may also be a handle to a forwarding table, if the Errors of
+ * the call don't list YARIB_WRONG_KIND. */
 typedef struct yarib {
     void *inside;
 } yarib;
@@ -204,7 +206,8 @@ typedef struct yarib_difference {
  * Errors: YARIB_BAD_NUMBER, YARIB_NO_MEMORY. */
 YARIB_STATUS yarib_new(yarib *table, uint32_t limit, uint32_t kind);
 
-/* Frees the contents of the handle, which is empty then. Returns YARIB_DONE or YARIB_BUSY. */
+/* Frees the contents of the handle, which is empty then. A handle that is empty already, even one that was never filled, stays empty.
+ * Returns YARIB_DONE or YARIB_BUSY. */
 enum yarib_status yarib_free(yarib *table);
 
 /* Executes a command, writes its reply, and appends both to the journal if there is one. For a table without a journal, only an
@@ -308,10 +311,11 @@ YARIB_STATUS yarib_share(const yarib *forwarding, yarib *other);
 YARIB_STATUS yarib_follow(yarib *table);
 
 /* Writes a size in bytes. For a forwarding table it is the memory of the forwarding table; each of its handles reports the whole
- * size. For a table it is an estimate: 48 for each node (at most two a prefix), 56 for each journal entry, and the size of an attached
- * forwarding table. The C library (glibc) allocates at least this much. For a table without a journal it allocates at most 1.25 times
- * as much, plus 1.25 KiB, plus 96 for each further route to the same prefix. For a table with a journal whose capacity was never
- * reserved, it allocates at most twice as much, plus the same amounts. Reserved capacity that no entry uses yet isn't counted.
+ * size. For a table it is an estimate: 48 for each node (at most two a prefix; glibc allocates 48 for most nodes and more for some),
+ * 56 for each journal entry, and the size of an attached forwarding table. glibc allocates at least this estimate. For a table
+ * without a journal, glibc allocates at most 1.25 times the estimate, plus 1.25 KiB, plus 96 for each further route to the same
+ * prefix. For a table with a journal, if yarib_reserve was never called, it allocates at most twice the estimate, plus the same
+ * 1.25 KiB, plus the same 96 for each further route. Reserved capacity that no entry uses yet isn't counted.
  * Errors: YARIB_NOTHING. */
 YARIB_STATUS yarib_memory(const yarib *table, size_t *bytes);
 
