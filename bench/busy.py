@@ -4,7 +4,7 @@ turn.
 
 Needs rustc. It starts twice as many busy processes as there are processors, in the ordinary scheduling class, and ends
 them by their ids. For each number of files and batch size, all three run in turn for the given number of rounds, with
-the given number of lines in all. Prints the median wall-clock time and CPU time in milliseconds, the minimum and the
+the given number of lines in all. Prints the median wall-clock time and processor time in milliseconds, the minimum and the
 maximum wall-clock time, and the ratios to one file and to the plain program. The last rows are of the quiet machine.
 """
 import os
@@ -41,7 +41,7 @@ def spread(times):
 
 
 def compare(cases, batch, rounds):
-    """Seconds of wall-clock and CPU time of each case and round: several files, one file, the plain program."""
+    """Seconds of wall-clock and processor time of each case and round: several files, one file, the plain program."""
     yarib, peer, several, one = cases
     words = [yarib, "run", "--batch", str(batch)]
     runs = [[*words, *several], [*words, *one], [peer, *one]]
@@ -83,7 +83,7 @@ def main():
             (folder / str(files)).mkdir()
             write(folder / str(files), lambda: deal(table, files))
         programs = (yarib, figures.built_peer(folder, "peer.rs"))
-        print("                      several files, wall clock   one file    plain     wall-clock ratios    CPU ratio")
+        print("                      several files, wall clock   one file    plain     wall-clock ratios    processor ratio")
         print("busy   files batch    median minimum maximum   median   median to one  to plain     to one")
         measured = [found for others in (2 * os.cpu_count(), 0)
                     for found in rows(folder, programs, others, rounds, len(table))]

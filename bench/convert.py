@@ -3,8 +3,8 @@
 
 Needs only python3. The inputs have the given number of prefixes with the lengths of a real table, and 100,000 different
 paths; each is read from a file in each round. With --peers there is a single input, a dump of 20 peers with the given
-number of routes each; for 1,000,000 it is a file of 2 GB. Prints for each script the minimum wall-clock time and CPU
-time (user and system), and the peak memory.
+number of routes each; for 1,000,000 it is a file of 2 GB. Prints for each script the minimum wall-clock time and
+processor time (user and system), and the peak memory.
 """
 import argparse
 import json
@@ -129,7 +129,7 @@ OF_PEERS = (("bgpdump-to-feeds", f"{PEERS} peers", lambda count: dumped(count, P
 
 
 def measure(words, path):
-    """Seconds of wall-clock and CPU time, and peak bytes of a converter that reads that file."""
+    """Seconds of wall-clock and processor time, and peak bytes of a converter that reads that file."""
     with open(path, "rb") as file:
         return passed(words, stdin=file, stdout=subprocess.DEVNULL)
 

@@ -4,7 +4,7 @@
 Needs rustc. The old table has the given number of prefixes, with lengths as in a full table of the Internet. The new
 one differs by the given number of changes: prefixes that are missing, new prefixes, and prefixes with another next hop.
 The loading time is that of two runs that look up one address, in the old files' table and in the new ones'. It prints
-the time that `diff` takes beyond these two runs, as a part of their time: wall-clock and CPU time, the minimum of five.
+the time that `diff` takes beyond these two runs, as a part of their time: wall-clock and processor time, the minimum of five.
 In turn with these runs a program in plain Rust does the same (bench/diff_peer.rs). If the system's python3 has py-radix
 (Debian's python3-radix), it is loaded with both tables and looks up each boundary.
 """
@@ -93,7 +93,7 @@ def tell_radix(old, new):
 
 
 def timed(words):
-    """The seconds of wall-clock and CPU time of a call, and how it ended."""
+    """The seconds of wall-clock and processor time of a call, and how it ended."""
     before, start = resource.getrusage(resource.RUSAGE_CHILDREN), time.monotonic()
     ended = subprocess.run(words, capture_output=True, text=True)
     clock, after = time.monotonic() - start, resource.getrusage(resource.RUSAGE_CHILDREN)

@@ -5,7 +5,7 @@ prefixes and addresses. DPDK's rte_lpm, py-radix and Net::Patricia are timed too
 Needs rt, gcc and rustc. The program bench/benches, bench/fib_peer.c, bench/fib_peer.rs and the others run in turn, in
 each round and for each number of prefixes (default: 500,000 and 1,000,000) of a real table's lengths. Each looks up a
 million addresses of two kinds: random ones, each in any of the prefixes, and local ones, in a thousand of these. A row
-has a call, and for each program the minimum of its times: nanoseconds of CPU time for one prefix or address; and
+has a call, and for each program the minimum of its times: nanoseconds of processor time for one prefix or address; and
 megabytes of memory. For `renew` it is the wall-clock time of one call, right after the book's own. `reader` is the
 wall-clock time of one of two threads that look up 256 addresses at once. It is measured without a writer, and with one
 that follows a thousand commands a second and publishes ten tables a second. Other libraries run only in the first

@@ -1,6 +1,6 @@
 /* A forwarding table in plain C with the same entries, blocks and answers as rt_fib. It is made from the prefixes of a
    file of 32-bit numbers and looks up the file's addresses. The file has the number of each, then base and length of
-   each prefix, then the addresses (bench/library.py writes it). The program prints names and nanoseconds of CPU time
+   each prefix, then the addresses (bench/library.py writes it). The program prints names and nanoseconds of processor time
    for all calls together, the bytes of the table, and the sum of the preferences that look-ups find. */
 #define _POSIX_C_SOURCE 200809L
 #include <stdint.h>

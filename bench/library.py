@@ -5,7 +5,7 @@ py-radix, Net::Patricia and DPDK's rte_lpm are timed too if they are installed.
 Needs rt, gcc, cargo and what bindings/build needs. All run in turn, for the given number of rounds (default: 3), over
 the given number of prefixes (500,000) of a real table's lengths, and look up addresses that each lie in one of them.
 The program bench/benches draws the same, and is left out if it doesn't time a forwarding table. A row has a call, and
-for each program the minimum nanoseconds of CPU time for one prefix or address. `apply_journaled` is of a table with a
+for each program the minimum nanoseconds of processor time for one prefix or address. `apply_journaled` is of a table with a
 journal, `forward` makes a forwarding table, and the number at the end of a look-up's name says how many addresses one
 call looks up.
 """

@@ -3,7 +3,7 @@
 
 Needs rt, gcc and pthreads. Each case runs the program bench/benches, bench/lock.c and the mutex one after another, in
 each round, with the given number of passages. For each case the time of a passage is printed, in nanoseconds, and its
-ratio to C: wall-clock time, and CPU time (user and system). It is the minimum for one thread, and the median for
+ratio to C: wall-clock time, and processor time (user and system). It is the minimum for one thread, and the median for
 several.
 """
 import pathlib
@@ -26,7 +26,7 @@ def build(folder):
 
 
 def timed(program, passages, levels, threads):
-    """Nanoseconds of wall-clock and CPU time for each passage."""
+    """Nanoseconds of wall-clock and processor time for each passage."""
     words = [*program, *map(str, (passages, levels, threads))]
     _, used, run = taken(words, stderr=subprocess.PIPE, text=True)
     row = run.stderr.read().split()
@@ -52,7 +52,7 @@ def main():
     rows = []
     with tempfile.TemporaryDirectory() as folder:
         programs = build(pathlib.Path(folder))
-        print("               wall clock                         CPU")
+        print("               wall clock                         processor time")
         print("levels threads     lock        C    mutex lock/C     lock        C    mutex lock/C")
         for levels, threads in ALONE + TOGETHER:
             clock, processors = times(rounds, passages, programs, levels, threads)

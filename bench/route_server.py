@@ -5,7 +5,7 @@ Needs rustc. Each of 1, 4, 16 and 64 files announces the same prefixes with its 
 withdraws a tenth and replaces a tenth of them; the last file removes all its routes with `purge`. Both programs run in
 turn in each round, on one processor, on two and on all, in batches of 256, and on all in single commands. With
 --batches they run on 20,000 prefixes, in batches of 1, 16 and 256 everywhere. Prints for each the minimum wall-clock
-time and CPU time (user and system) and the peak memory, with the ratios, and fails if the outputs differ: no answer
+time and processor time (user and system) and the peak memory, with the ratios, and fails if the outputs differ: no answer
 here depends on how the threads ran.
 """
 import os

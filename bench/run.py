@@ -4,7 +4,7 @@
 Needs rustc. Both programs run in turn in each round over each input; the big ones have the given number of prefixes
 with the lengths of a real table. With --sizes only one table that changes is run, at 10,000 to 1,000,000 prefixes. The
 plain program has one thread and reads the files in turn. Prints for each input the minimum wall-clock time, the minimum
-CPU time (user and system) and the peak memory of both, with the ratios. It fails if their outputs differ: for one file
+processor time (user and system) and the peak memory of both, with the ratios. It fails if their outputs differ: for one file
 the whole output is compared, for several the table, since their look-ups depend on how the threads ran.
 """
 import pathlib

@@ -3,7 +3,7 @@
 
 Needs rt. Each case runs the program bench/benches for the table and for the mutex one after the other, in each round,
 with the given number of commands in all. For each case the nanoseconds of a command are printed, wall-clock time and
-CPU time (user and system), and their ratios to the mutex. For one thread they are the minimum, since other work can
+processor time (user and system), and their ratios to the mutex. For one thread they are the minimum, since other work can
 only slow it down; for several they are the median, since single rounds differ much. The last rows are for two
 processors only.
 """
@@ -21,7 +21,7 @@ ON_TWO = [(threads, batch) for threads in (2, 64) for batch in (1, 256)]
 
 
 def timed(program, commands, is_table, threads, batch, processors):
-    """Nanoseconds of wall-clock and CPU time for each command."""
+    """Nanoseconds of wall-clock and processor time for each command."""
     words = [program, "shared"] + [str(number) for number in (commands, is_table, threads, batch)]
     how = {"stderr": subprocess.PIPE, "text": True, "preexec_fn": lambda: os.sched_setaffinity(0, processors)}
     _, used, run = taken(words, **how)
@@ -52,7 +52,7 @@ def main():
     program = checks.built_benches("shared", "20000")
     every = os.sched_getaffinity(0)
     two = set(sorted(every)[:2])
-    print("                            wall clock                CPU")
+    print("                            wall clock                processor time")
     print("processors threads batch     table    mutex  ratio     table    mutex  ratio")
     cases = [(*case, every) for case in CASES] + [(*case, two) for case in ON_TWO]
     figures.keep("shared", rounds, [compare(program, rounds, commands, *case) for case in cases])

@@ -1,12 +1,12 @@
 #!/usr/bin/env python3
-"""The tables of docs/PERFORMANCE.md, from the results that the benchmarks kept in bench/figures/.
+"""Makes the tables of docs/PERFORMANCE.md from the results that the benchmarks kept in bench/figures/.
 
   bench/tables.py --write   # writes them into the page, each between its two marks
-  bench/tables.py --check   # ends with status 1 if a table differs
+  bench/tables.py --check   # ends with status 1 if a table differs.
 
 A table is between `<!-- figures: NAME -->` and `<!-- end -->`, and bench/figures/NAME.json has the results of its
 benchmark. For a long table the page shows the rows at both ends and some between, the worst among them, and the ratios
-of CPU times. Results with nothing to compare with are listed below the table."""
+of processor times. Results with nothing to compare with are listed below the table."""
 import re
 import sys
 import textwrap
@@ -38,13 +38,13 @@ def program(row):
 
 
 def lock(row):
-    """The wall-clock times of the lock, C and the mutex, and the lock's ratios to C in wall-clock and CPU time."""
+    """The wall-clock times of the lock, C and the mutex, and the lock's ratios to C in wall-clock and processor time."""
     clock, processors = row["clock"], row["processors"]
     return [row["levels"], row["threads"], *map(number, clock), ratio(*clock[:2]), ratio(*processors[:2])]
 
 
 def shared(row):
-    """The wall-clock times of the table and the mutex, and the ratios of wall-clock and CPU times."""
+    """The wall-clock times of the table and the mutex, and the ratios of wall-clock and processor times."""
     cells = [row["on"], row["threads"], row["batch"], *map(number, row["clock"])]
     return cells + [ratio(*row["clock"]), ratio(*row["processors"])]
 

@@ -25,7 +25,7 @@ def taken(words, **how):
 
 
 def passed(words, **how):
-    """Seconds of wall-clock and CPU time, and peak bytes of one run, which has to end with status 0."""
+    """Seconds of wall-clock and processor time, and peak bytes of one run, which has to end with status 0."""
     seconds, usage, child = taken(words, stderr=subprocess.PIPE, **how)
     with child.stderr as said:
         if child.returncode != 0:
@@ -42,7 +42,7 @@ def measure(words, whole):
 
 
 def measured(runs):
-    """The minimum of each measurement of both programs: milliseconds of wall-clock and CPU time, and megabytes."""
+    """The minimum of each measurement of both programs: milliseconds of wall-clock and processor time, and megabytes."""
     measures = {}
     for title, field, scale in (("clock", 0, 1e3), ("processors", 1, 1e3), ("memory", 2, 1e-6)):
         measures[title] = [round(min(run[program][field] for run in runs) * scale, 1) for program in (0, 1)]

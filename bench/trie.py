@@ -3,7 +3,7 @@
 
 Needs rt and rustc. The program bench/benches and bench/trie_peer.rs run in turn, in each round and for each number of
 prefixes (default: 3,000, 30,000 and 500,000; a small number is run more often). The table has a row for each call, with
-the minimum of the times in nanoseconds and the ratio: wall-clock time, and CPU time for the user and the system.
+the minimum of the times in nanoseconds and the ratio: wall-clock time, and processor time for the user and the system.
 `together` is a look-up of 64 addresses at once, compared with the plain trie's look-up of a single one; `retain` is a
 walk that removes one of a thousand, for each prefix. Then it prints the trie's number of nodes, and how many bytes for
 each prefix the plain one allocated.

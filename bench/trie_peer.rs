@@ -212,7 +212,7 @@ impl Stopwatch {
     fn start() -> Stopwatch {
         Stopwatch { used: cpu(), start: Instant::now() }
     }
-    /// Nanoseconds of wall-clock and CPU time for each call.
+    /// Nanoseconds of wall-clock and processor time for each call.
     fn per_call(&self, calls: u32) -> (u128, u128) {
         let clock = self.start.elapsed().as_nanos();
         (clock / calls as u128, (cpu() - self.used) / calls as u128)
