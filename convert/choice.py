@@ -3,16 +3,16 @@
 The steps are those of RFC 4271, section 9.1.2.2, after the degree of preference of section 9.1.1; each decides if all
 steps before it are tied:
 
-1. the highest local preference
-2. the shortest AS path: a set counts as one AS, a confederation's segment as none (RFC 5065, section 5.3)
-3. the lowest origin: IGP, EGP, INCOMPLETE
-4. the lowest MED (a route without one has 0), only among routes from the same neighbouring AS
-5. EBGP before IBGP; a peer of the same confederation counts as internal (RFC 5065, section 5.3)
-6. the lowest cost of the path to the next hop
-7. the lowest BGP identifier of the speaker, or for a reflected route its ORIGINATOR_ID (RFC 4456, section 9)
-8. the shortest CLUSTER_LIST (RFC 4456, section 9)
-9. the lowest address of the peer
-10. the lowest number among several paths of one peer (RFC 7911 leaves this open)
+1. The highest local preference.
+2. The shortest AS path: a set counts as one AS, a confederation's segment as none (RFC 5065, section 5.3).
+3. The lowest origin: IGP, EGP, INCOMPLETE.
+4. The lowest MED (a route without one has 0), only among routes from the same neighbouring AS.
+5. EBGP before IBGP; a peer of the same confederation counts as internal (RFC 5065, section 5.3).
+6. The lowest cost of the path to the next hop.
+7. The lowest BGP identifier of the speaker, or for a reflected route its ORIGINATOR_ID (RFC 4456, section 9).
+8. The shortest CLUSTER_LIST (RFC 4456, section 9).
+9. The lowest address of the peer.
+10. The lowest number among several paths of one peer (RFC 7911 leaves this open).
 
 An attribute that the input doesn't show counts as equal for all routes, so that the next step decides.
 

@@ -32,7 +32,7 @@ class Waits(NamedTuple):
 
 
 class Ended(NamedTuple):
-    """The waits of each place that waited at all, in the order of the places, and nanoseconds of CPU time."""
+    """The waits of each place that waited at all, in the order of the places, and nanoseconds of processor time."""
 
     waits: list
     before_output: int

@@ -1,15 +1,15 @@
 #!/usr/bin/env python3
 """Runs of sizes at which a needless refusal would show: the whole output of each is compared with a plain model.
 
-tests/sizes.py [PROGRAM [CASE..]], or --list for the names of the cases. Linux, python3, 2 GB of memory.
+Usage: tests/sizes.py [PROGRAM [CASE..]], or --list for the names of the cases. It needs Linux, python3 and 2 GB of memory.
 
-No clause can say that an allocation succeeds if there is memory. So this tests:
+No clause can say that an allocation succeeds if there is memory. So the cases are:
 
-  - a million routes of one feed, and more than a million lines, entries and answers;
-  - each number of files from 1 to 64, with one route of each to the same prefix;
-  - feeds that each have different text;
-  - batches about the sizes at which lists grow;
-  - the highest numbers and the last address.
+1. A million routes of one feed, and more than a million lines, entries and answers.
+2. Each number of files from 1 to 64, with one route of each to the same prefix.
+3. Feeds that each have different text.
+4. Batches about the sizes at which lists grow.
+5. The highest numbers and the last address.
 
 `lookup` and `table` are called on each number of files, on 300,000 routes and with 100,000 addresses. `lookup` is also
 called with just fewer and just more addresses and routes than a forwarding table needs to answer. Each option that

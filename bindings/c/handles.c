@@ -1,5 +1,5 @@
 /* The calls of yarib.h that take a handle. Each passes its arguments on to the proved call of the same name, and keeps apart the
- * calls that use a handle at the same time: any number of reading calls run side by side, and a change runs by itself. A call that
+ * calls that use a handle at the same time. Any number of reading calls run side by side, and a change runs by itself. A call that
  * would break this returns YARIB_BUSY and touches nothing else, so no call can lose or damage what a handle holds.
  *
  * A handle is one word: the pointer of the proved library. It is aligned, so its lowest bit is free: it says that a change is under

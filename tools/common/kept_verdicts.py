@@ -2,11 +2,12 @@
 on which its verdict can depend.
 
 A function is proved from its own text, the contracts of what it calls, types, definitions and lemmas, never from the
-body of another function. So the name of an entry is a sum of: the toolchain; what decides in the scripts; the body; its
-file; all other sources of its crate and of those below without the bodies of functions; all of specs/; all files of
-lemmas; the proofs of the function itself, of closures, and of what these cite. For a function that calls itself, or
-whose proof cites the goals of another, it is a sum of all files of its crate. An entry that can't be read or written
-counts for nothing. Whoever can write to the folder is trusted, as with what `rt ci` keeps."""
+body of another function. So the name of an entry is a sum of the toolchain, the code of SCRIPTS, the mutant and its
+file. The sum also contains all other sources of its crate and of those below, without the bodies of functions. Further
+it contains all of specs/, all files of lemmas, and the proofs of the function itself, of closures, and of what these
+cite. For a function that calls itself, or whose proof cites the goals of another, it is a sum of all files of its
+crate. An entry that can't be read or written counts for nothing. Whoever can write to the folder is trusted, as with
+what `rt ci` keeps."""
 import ast
 import functools
 import hashlib

@@ -13,8 +13,8 @@ class BadBody(Exception):
 
 
 class Body:
-    """A mutant of a list: its crate, text and name; and if its form is valid, its file, its pairs of old and new, the
-    function that the prover refuses, as the prover names it, and optionally a goal of that function. In a pair `⏎`
+    """A mutant of a list: its crate, text and name. If its form is valid, it also has its file, its pairs of old and new,
+    the function that the prover refuses, as the prover names it, and optionally a goal of that function. In a pair `⏎`
     denotes the end of a line."""
 
     def __init__(self, crate, section):

@@ -7,7 +7,7 @@
 //! let (writer, done) = writer.publish(&rt, alloc, Fib::new(alloc, &book)?);
 //! ```
 //!
-//! It is built on the toolchain's `left_right`, and publishes whole tables. A reader that enters finds the last of the
+//! It is built on the toolchain's `left_right`. It publishes whole tables. A reader that enters finds the last of the
 //! tables published until then, and these begin with all that it has seen before (`specs/Readers.antt`). This follows
 //! from an invariant that the writer keeps with each step (`specs/inside/Published.antt`).
 #![tactic(auto)]

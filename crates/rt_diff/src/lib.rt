@@ -4,12 +4,12 @@
 //! let mut tables = Comparison::new(&old, &new, CompareBy::Hop);
 //! let mut next = tables.first_difference(Addr(0));
 //! while let Some(difference) = next {
-//!     // The answers differ for each address from difference.first to difference.last.
+//!     // The addresses from difference.first to difference.last have different answers. Continue after them.
 //!     next = tables.difference_after(difference.last);
 //! }
 //! ```
 //!
-//! Contracts see a book as the routes that its journal leaves, and an answer is the result of a look-up among them
+//! Contracts see a book as the routes that its journal leaves. An answer is the result of a look-up among them
 //! (`specs/Answers.antt`). If the two tables number their feeds differently, [`Comparison::renumber_new_feeds`] pairs them.
 //! These ranges are the only list of the tables' differences (`specs/Differences.antt`, [`laws`]). No call allocates.
 //! Each takes time in proportion to the tables' boundaries in what it visits, without a step for each address.

@@ -38,7 +38,7 @@ abbrev pub number_in : ℕ → List (List ℕ) → List ℕ → ℕ → ℕ
 number_in number [] name other = other
 number_in number (path ∷ paths) name other = if bytes_eq (feed_name path) name then number else number_in (suc number) paths name other
 
--- the number of a feed of a second set of files, given its own number and path: the number of the feed of its name in
--- the first set or, if none has this name, a number above all of these
+-- the number of a feed of a second set of files, given its own number and path. It is the number of the feed of its name
+-- in the first set. If none has this name, it is a number above all of these
 abbrev pub paired_number : List (List ℕ) → ℕ → List ℕ → ℕ
 paired_number paths feed path = number_in 1 paths (feed_name path) (length paths + feed)

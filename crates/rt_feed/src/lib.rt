@@ -14,9 +14,9 @@
 //! }
 //! ```
 //!
-//! `run_feed` executes a text's commands on a gate, in batches, and returns the report; `run_feeds` does this for
-//! several feeds, each on its own thread. A gate holds visits, the answers of each call; `TableGate` is the gate to the
-//! shared table, and its visits are uncut in the journal that its pass has seen.
+//! `run_feed` executes a text's commands on a gate, in batches. It returns the report. `run_feeds` does this for several
+//! feeds, each on its own thread. A gate holds visits, the answers of each call. `TableGate` is the gate to the shared
+//! table, and its visits are uncut in the journal that its pass has seen.
 //!
 //! Only tested: that feeds run at the same time, the kind of a writer's error, that the printed examples are what a
 //! person expects, and that the reader agrees with a second one on hostile lines.

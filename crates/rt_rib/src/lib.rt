@@ -4,9 +4,9 @@
 //! let mut book = Book::new(alloc, 100);
 //! let prefix = Prefix::parse(b"10.0.0.0/8")?;
 //! let hop = Hop::Via(Addr::parse(b"192.0.2.1")?);
-//! book.apply(1, Cmd::Add { prefix, pref: 10, hop })?; // Added
+//! book.apply(1, Cmd::Add { prefix, pref: 10, hop })?; // Added. The table has one route now.
 //! let addr = Addr::parse(b"10.1.2.3")?;
-//! book.apply(2, Cmd::Lookup { addr })?; // Found, with the route of feed 1
+//! book.apply(2, Cmd::Lookup { addr })?; // Found, with the route of feed 1.
 //! ```
 //!
 //! A contract sees a book as four things: the maximum number of routes of a feed, the journal of every answered
@@ -26,7 +26,7 @@
 //! a journal: it answers commands by the same `reply_of` and `table_after`. Contracts see its limit, its routes and
 //! their trie.
 //!
-//! There are queries that leave no entry in the journal:
+//! These queries leave no entry in the journal:
 //!
 //! - [`Book::look_up`] answers many addresses at once.
 //! - [`Book::look_up_all`] returns every route whose prefix covers an address, the best first.

@@ -25,9 +25,9 @@ impl<'a> Model for DiffOptions<'a> {
 }
 
 impl<'a> DiffOptions<'a> {
-    /// Returns these terms: the part of an answer that is compared; the numbers that identify the feeds of the new table, the
-    /// k-th for feed k (a feed beyond the list has its own number, as in `Comparison::renumber_new_feeds`); and the styles of both
-    /// sides, with labels by these numbers.
+    /// Returns these terms: the part of an answer that is compared, the numbers that identify the feeds of the new table, and the
+    /// styles of both sides, with labels by these numbers. The k-th number is for feed k. A feed beyond the list has its own
+    /// number, as in `Comparison::renumber_new_feeds`.
     pub fn new(by: CompareBy, numbers: &'a [u32], styles: &'a SideStyles<'a>) -> DiffOptions<'a>
         ensures { result ≡ record { by = by; numbers = numbers.now; styles = styles.now } }
     {

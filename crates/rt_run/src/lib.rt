@@ -1,19 +1,20 @@
-//! Runs of feed texts and their output: the reply to each command and the sorted table, or the result of a query.
+//! Runs of feed texts and their output. The output is the reply to each command and the sorted table, or the result of a
+//! query.
 //!
-//! - [`run_texts`] runs the texts of 1 to 64 feeds, each on its own thread, over one table behind the lock, and writes to a
-//!   writer. Its clause `text` is the theorem from bytes to bytes: the output is the text of a run.
+//! - [`run_texts`] runs the texts of 1 to 64 feeds over one table behind the lock. Each feed has its own thread, and the
+//!   output goes to a writer. Its clause `text` is the theorem from bytes to bytes: the output is the text of a run.
 //! - [`lookup_texts`], [`lookup_all_texts`], [`table_texts`] and [`count_texts`] execute the texts one after another and
 //!   store neither journal nor reports. They write the result of a query of the final table: the best route of each
 //!   address, all routes that cover it, the selected routes, or their number. They return a tally of the rejected input of
 //!   each text.
-//! - [`diff_texts`] executes two sets of texts this way, and writes the addresses for which their final tables differ.
+//! - [`diff_texts`] executes two sets of texts this way. It writes the addresses for which their final tables differ.
 //! - A [`ChosenTexts`] leaves some feeds out of a query or of a side of a comparison.
-//! - [`replay_text`] writes one line for each atomic step of a schedule of the lock.
+//! - [`replay_text`] writes the atomic steps of a schedule of the lock. Each step has one line.
 //! - `laws` says what holds for every run and every interleaving of its threads.
 //!
 //! ```text
-//! // Writes the reports of all feeds and then the table, and returns the exit status of the run.
 //! let status = run_texts(&rt, alloc, texts.as_slice(), 65_536, 64, &mut out)?;
+//! // `out` has the reports of all feeds and then the table, and `status` is the exit status of the run.
 //! ```
 //!
 //! Contracts see texts as lists of bytes, and of a writer its contents, if these are known. After an error of the writer a

@@ -57,10 +57,10 @@ pub fn lookup_texts<W: Write>(
 }
 
 /// Executes the texts one after another. Then writes to `w`, for each address in order, every route that covers it, the
-/// best first, in the given style: a line as `lookup_texts` writes it, and for each further route `ADDR also PREFIX feed F
-/// pref P via HOP REASON`; or one JSON object (`write_all_matches_styled`). The reason is the step at which the route lost to the
-/// first one: `shorter`, `preference` or `feed`. Its result and errors are those of `lookup_texts`; F3 also if there is no
-/// memory for all these routes, which are stored before the first is written.
+/// best first, in the given style. The best route has a line as `lookup_texts` writes it, and each further route a line
+/// `ADDR also PREFIX feed F pref P via HOP REASON`. In JSON an address has one object (`write_all_matches_styled`). The reason
+/// is the step at which the route lost to the first one: `shorter`, `preference` or `feed`. Its result and errors are those
+/// of `lookup_texts`; F3 also if there is no memory for all these routes, which are stored before the first is written.
 pub fn lookup_all_texts<W: Write>(
     alloc: Global,
     asked: &ChosenTexts<'_>,

@@ -5,7 +5,7 @@
 //! let mut hops = Trie::new(alloc);
 //! let _ = hops.insert(Prefix::parse(b"10.0.0.0/8")?, 1);
 //! let _ = hops.insert(Prefix::parse(b"10.1.0.0/16")?, 2);
-//! let (prefix, hop) = hops.longest(Addr::parse(b"10.1.2.3")?).ok_or("no route")?; // 10.1.0.0/16 and 2
+//! let (prefix, hop) = hops.longest(Addr::parse(b"10.1.2.3")?).ok_or("no route")?; // 10.1.0.0/16 and 2.
 //! ```
 //!
 //! A contract sees a trie as three things:

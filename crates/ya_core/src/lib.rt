@@ -1,5 +1,5 @@
 //! The core of the Yang-Anderson lock: the words of the arbitration tree, the steps of one process, and all processes
-//! together as a machine without threads. docs/LOCK.md describes the algorithm and the argument.
+//! together as a machine without threads. `docs/LOCK.md` describes the algorithm and the argument.
 //!
 //! - [`Shape`] numbers the words of a tree of 1 to 6 levels in one flat row. Contracts see its number of levels.
 //! - [`Walker`] is one process, whose caller makes the accesses. It requests one load or store at a time. Contracts see
@@ -12,9 +12,9 @@
 //! let shape = Shape::new(4)?;                    // 16 places, 109 words
 //! let mut walker = Walker::new(shape, 5);        // place 5, idle
 //! walker.begin_entry();
-//! walker.op()                                    // Store(5, 6): the word C of its side at level 1 := its identifier
+//! walker.op()                                    // Store(5, 6). The word C of its side at level 1 := its identifier.
 //! walker.done();
-//! walker.op()                                    // Store(32, 6): the word T of its node at level 1
+//! walker.op()                                    // Store(32, 6). The word T of its node at level 1 := its identifier.
 //! ```
 //!
 //! A running lock drives a walker over atomic words. Besides the contracts of this crate, its proofs may cite the

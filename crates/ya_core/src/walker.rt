@@ -38,8 +38,8 @@ pub enum Op {
 /// }
 /// ```
 ///
-/// Contracts see it as a `Walk`: its levels, place and process, whether its entry or exit was begun without an access
-/// yet, and its remote accesses.
+/// Contracts see a `Walk`. This has its levels, place and process, whether its entry or exit was begun without an
+/// access yet, and its remote accesses.
 #[derive(Clone, Copy, Debug)]
 pub struct Walker {
     shape: Shape,

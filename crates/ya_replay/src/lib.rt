@@ -1,6 +1,6 @@
 //! The text of a replay: the atomic steps of one schedule of the lock, one a line, and then the place that is inside.
 //!
-//! [`write_replay`] writes the steps that `ya_core::replay` returns, and [`inside_place`] returns the place that is
+//! The call [`write_replay`] writes the steps that `ya_core::replay` returns, and [`inside_place`] returns the place that is
 //! inside after them.
 //!
 //! ```
