@@ -1021,10 +1021,11 @@ def closed_outputs(yarib):
 ERASED = "\r" + " " * 32 + "\r"
 
 
-def on_terminal(words, told=None, go_on=lambda: None, out_too=False, is_short=False):
+def on_terminal(words, told=None, go_on=lambda: None, out_too=False, is_short=False, is_long=False):
     """Returns the status, standard output, and what a terminal as standard error receives besides the progress line;
     the terminal may be standard output too. If the run is held up, the line has to say `told` before `go_on` is called,
-    and may also say `OTHERS`. In a short run there may be a line only if the run took over a second."""
+    and may also say `OTHERS`. In a short run there may be a line only if the run took over a second, in a long one
+    only before its output."""
     began = time.monotonic()
     screen, terminal = pty.openpty()
     tty.setraw(terminal)
@@ -1040,7 +1041,7 @@ def on_terminal(words, told=None, go_on=lambda: None, out_too=False, is_short=Fa
     os.close(screen)
     child.wait(timeout=120)
     *lines, rest = sent.decode().split(ERASED)
-    is_told = told in lines if told else not lines or is_short and time.monotonic() - began > 1
+    is_told = told in lines if told else not lines or is_long or is_short and time.monotonic() - began > 1
     return child.returncode, out.decode(), rest if is_told and OTHERS.issuperset(lines) else f"{lines}, and then {rest}"
 
 
@@ -1133,7 +1134,7 @@ def progress_of_long_runs(yarib):
     pathlib.Path("long.feed").write_text(ROW * 100_000)
     added = "1:1 added\n" + "".join(f"1:{number} exists\n" for number in range(2, 100_001)) + table(route(1))
     expect("a long output", on_terminal([yarib, "run", "long.feed"], "yarib: writing"), (0, added, ""))
-    alone = on_terminal([yarib, "run", "long.feed"], go_on=unread, out_too=True)
+    alone = on_terminal([yarib, "run", "long.feed"], go_on=unread, out_too=True, is_long=True)
     expect("a long output on a terminal alone", alone, (0, "", added))
     picks = [5] * 20_000
     replay = [yarib, "replay", "--levels", "6", *map(str, picks)]
