@@ -3,6 +3,8 @@ package yarib
 import (
 	"errors"
 	"fmt"
+	"io"
+	"math"
 	"math/rand"
 	"net/netip"
 	"os"
@@ -10,6 +12,7 @@ import (
 	"strconv"
 	"strings"
 	"testing"
+	"testing/iotest"
 	"time"
 )
 
@@ -19,6 +22,27 @@ func same(t *testing.T, what string, found, wanted any) {
 	if one, other := fmt.Sprintf("%#v", found), fmt.Sprintf("%#v", wanted); one != other {
 		t.Fatalf("%s:\n%.400s\nand not\n%.400s", what, one, other)
 	}
+}
+
+// plainly returns the contents of an error, to be compared by same.
+func plainly(err error) any {
+	if failure, isCommand := err.(*CommandError); isCommand {
+		return *failure
+	}
+	return err
+}
+
+type result struct {
+	reply Reply
+	err   any
+}
+
+func resultsOf(outcomes []Outcome) []result {
+	found := []result{}
+	for _, one := range outcomes {
+		found = append(found, result{one.Reply, plainly(one.Err)})
+	}
+	return found
 }
 
 func must(t *testing.T, err error) {
@@ -143,7 +167,7 @@ func TestEveryCallAnswersAsTheModel(t *testing.T) {
 			}
 			commands = append(commands, command)
 			if command.Feed == 65 {
-				outcomes = append(outcomes, Outcome{Err: ErrNumber})
+				outcomes = append(outcomes, Outcome{Err: &CommandError{command, ErrNumber}})
 				continue
 			}
 			wanted := m.apply(command)
@@ -151,11 +175,15 @@ func TestEveryCallAnswersAsTheModel(t *testing.T) {
 			entries = append(entries, Entry{written(command), wanted})
 			reply, err := applied(plain, command)
 			same(t, "a reply", reply, wanted)
-			same(t, "an error", err, map[Code]error{Exists: ErrExists, Full: ErrFull, Missing: ErrMissing}[wanted.Code])
+			var reason error
+			if why := map[Code]error{Exists: ErrExists, Full: ErrFull, Missing: ErrMissing}[wanted.Code]; why != nil {
+				reason = &CommandError{written(command), why}
+			}
+			same(t, "an error", plainly(err), plainly(reason))
 		}
 		found, err := journaled.ApplyEach(commands)
 		must(t, err)
-		same(t, "outcomes", found, outcomes)
+		same(t, "outcomes", resultsOf(found), resultsOf(outcomes))
 		listed, err := journaled.Journal()
 		must(t, err)
 		same(t, "the journal", listed, entries)
@@ -242,7 +270,14 @@ func TestBothSidesOfEachDifference(t *testing.T) {
 			for _, sides := range [][2]int{{0, 1}, {1, 0}, {0, 0}} {
 				found, err := tables[sides[0]].Differences(tables[sides[1]], by)
 				must(t, err)
-				same(t, "differences", found, models[sides[0]].differences(models[sides[1]], by))
+				wanted := models[sides[0]].differences(models[sides[1]], by)
+				same(t, "differences", found, wanted)
+				count := 0
+				must(t, tables[sides[0]].WalkDifferences(tables[sides[1]], by, func(Difference) bool { count++; return count < 2 }))
+				if len(wanted) > 2 {
+					wanted = wanted[:2]
+				}
+				same(t, "where a walk ends", count, len(wanted))
 			}
 		}
 	}
@@ -269,6 +304,23 @@ func TestListsAtPageBoundaries(t *testing.T) {
 				return true
 			}))
 			same(t, "routes walked", walked, routes)
+			for _, stop := range []int{1, size / 2, size - 1, size} {
+				count := 0
+				must(t, one.Walk(Place{}, func(route Route) bool {
+					same(t, "a route walked", route, routes[count])
+					count++
+					return count < stop
+				}))
+				same(t, "where a walk ends", count, stop)
+			}
+			for _, most := range []int{size - 1, size, size + 1, math.MaxInt} {
+				page, err := one.RoutesFrom(Place{}, most)
+				must(t, err)
+				if most > size {
+					most = size
+				}
+				same(t, "a page", page, routes[:most])
+			}
 			listed, err := one.Journal()
 			must(t, err)
 			same(t, "entries", listed, entries)
@@ -320,9 +372,11 @@ func TestWhatIsRefused(t *testing.T) {
 			t.Fatal(what, err)
 		}
 	}
-	outcomes, err := one.ApplyEach([]Command{{Operation: Add, Feed: 1, Prefix: mapped}, {Operation: Dump, Feed: 1}, {Operation: 9, Feed: 1}})
+	commands := []Command{{Operation: Add, Feed: 1, Prefix: mapped}, {Operation: Dump, Feed: 1}, {Operation: 9, Feed: 1}}
+	outcomes, err := one.ApplyEach(commands)
 	must(t, err)
-	same(t, "outcomes", outcomes, []Outcome{{Err: ErrCommand}, {Reply: Reply{Code: Dumped}}, {Err: ErrCommand}})
+	same(t, "outcomes", resultsOf(outcomes), []result{{err: CommandError{commands[0], ErrCommand}},
+		{reply: Reply{Code: Dumped}}, {err: CommandError{commands[2], ErrCommand}}})
 	via := Via(netip.MustParseAddr("::ffff:192.0.2.1"))
 	same(t, "a mapped router", via, Via(netip.MustParseAddr("192.0.2.1")))
 	_, err = one.Put(1, ten, 5, via)
@@ -345,6 +399,250 @@ func TestWhatIsRefused(t *testing.T) {
 	must(t, err)
 	same(t, "what put left", []any{reply.Code, found}, []any{Replaced, []Route{{ten, 1, 6, Discard}}})
 	same(t, "words", fmt.Sprint(Add, Purge, Operation(9), Added, NotFound, Purged, Code(0), Discard), "add purge Operation(9) added no route purged Code(0) discard")
+	same(t, "more words", fmt.Sprint(All, Within, Covering, Exact, Part(4), ByHop, ByRoute, By(2)), "all within covering exact Part(4) by hop by route By(2)")
+}
+
+func TestWhatIsRefusedIsNamed(t *testing.T) {
+	one, ten := table(t, 1, false), netip.MustParsePrefix("10.0.0.0/8")
+	_, err := one.Add(1, ten, 7, Discard)
+	must(t, err)
+	refused := func(command Command) func() error {
+		return func() error { _, err := one.Apply(command); return err }
+	}
+	selected := func(asked Selection) func() error {
+		return func() error { _, err := one.Select(asked); return err }
+	}
+	parsed := func(text string) func() error {
+		return func() error { _, err := ParsePrefix(text); return err }
+	}
+	for _, faulty := range []struct {
+		call   func() error
+		reason error
+		text   string
+	}{
+		{func() error { _, err := New(0); return err }, ErrNumber, "yarib: a limit or a feed is out of range: limit 0, not 1 to 1000000"},
+		{func() error { _, err := one.Add(1, ten, 5, Discard); return err }, ErrExists, "yarib: feed 1: add 10.0.0.0/8 5 discard: the feed has a route to this prefix"},
+		{func() error {
+			_, err := one.Add(1, netip.MustParsePrefix("0.0.0.0/0"), 5, Via(addressOf(1)))
+			return err
+		}, ErrFull, "yarib: feed 1: add 0.0.0.0/0 5 0.0.0.1: the feed is at its limit"},
+		{func() error { _, err := one.Withdraw(2, ten); return err }, ErrMissing, "yarib: feed 2: withdraw 10.0.0.0/8: the feed has no route to this prefix"},
+		{func() error { _, err := one.Replace(2, ten, 3, Discard); return err }, ErrMissing, "yarib: feed 2: replace 10.0.0.0/8 3 discard: the feed has no route to this prefix"},
+		{refused(Command{Operation: Purge, Feed: 65}), ErrNumber, "yarib: feed 65: purge: the feed isn't 1 to 64"},
+		{refused(Command{Operation: 9, Feed: 1}), ErrCommand, "yarib: feed 1: Operation(9): the operation is unknown"},
+		{refused(Command{Operation: Lookup, Feed: 1, Address: netip.MustParseAddr("::1")}), ErrCommand, "yarib: feed 1: lookup ::1: the address isn't IPv4"},
+		{refused(Command{Operation: Withdraw, Feed: 1, Prefix: netip.MustParsePrefix("::/0")}), ErrCommand, "yarib: feed 1: withdraw ::/0: the prefix isn't IPv4"},
+		{refused(Command{Operation: Add, Feed: 1, Prefix: netip.MustParsePrefix("10.0.0.1/8")}), ErrCommand, "yarib: feed 1: add 10.0.0.1/8 0 discard: a bit past the prefix's length is set"},
+		{refused(Command{Operation: Add, Feed: 1, Prefix: ten, Hop: Via(netip.MustParseAddr("::1"))}), ErrCommand, "yarib: feed 1: add 10.0.0.0/8 0 ::1: the next hop isn't IPv4"},
+		{func() error { _, _, err := one.LookUp(netip.MustParseAddr("::1")); return err }, ErrCommand, "yarib: a prefix or an address isn't IPv4: ::1"},
+		{func() error { _, err := one.LookUpAll(netip.MustParseAddr("::1")); return err }, ErrCommand, "yarib: a prefix or an address isn't IPv4: ::1"},
+		{selected(Selection{Feed: 65}), ErrNumber, "yarib: a limit or a feed is out of range: all invalid Prefix of feed 65"},
+		{selected(Selection{Part: Exact, Prefix: netip.MustParsePrefix("::/0")}), ErrCommand, "yarib: a prefix or an address isn't IPv4: ::/0"},
+		{func() error {
+			_, err := one.RoutesFrom(Place{Prefix: netip.MustParsePrefix("10.0.0.1/8")}, 1)
+			return err
+		}, ErrBits, "yarib: a bit past the length is set: 10.0.0.1/8"},
+		{func() error { _, err := one.RoutesFrom(Place{}, -1); return err }, ErrNumber, "yarib: a limit or a feed is out of range: -1 routes"},
+		{func() error { _, err := one.Differences(table(t, 1, false), 2); return err }, ErrNumber, "yarib: a limit or a feed is out of range: By(2)"},
+		{parsed("10.0.0.0"), ErrText, "yarib: the text isn't a prefix: \"10.0.0.0\""},
+		{parsed("10.0.0.1/8"), ErrBits, "yarib: a bit past the length is set: \"10.0.0.1/8\""},
+		{func() error { _, err := one.Journal(); return err }, ErrKind, "yarib: the table doesn't support this call"},
+		{func() error { return one.Save(io.Discard, 0) }, ErrNumber, "yarib: a limit or a feed is out of range: feed 0, not 1 to 64"},
+		{func() error { _, err := NewSource(one, 64, 2); return err }, ErrNumber, "yarib: a limit or a feed is out of range: 2 feeds from feed 64 on, of 64"},
+	} {
+		err := faulty.call()
+		if !errors.Is(err, faulty.reason) {
+			t.Fatal(err)
+		}
+		same(t, "a text", err.Error(), faulty.text)
+	}
+}
+
+// lineOf returns a route as a line of a feed file.
+func lineOf(route Route) string {
+	return "add " + route.Prefix.String() + " " + strconv.Itoa(int(route.Pref)) + " " + route.Hop.String() + "\n"
+}
+
+func TestFilesHoldEveryRoute(t *testing.T) {
+	for seed := int64(0); seed < 8; seed++ {
+		draw := rand.New(rand.NewSource(seed))
+		one, m, other := table(t, 1000000, false), model{1000000, map[place]Route{}}, table(t, 1000000, false)
+		for k := 0; k < 200; k++ {
+			command := drawnCommand(draw)
+			m.apply(command)
+			_, err := one.Apply(command)
+			must(t, err)
+		}
+		for feed := uint32(1); feed <= 6; feed++ {
+			wanted, text := m.listed(func(route Route) bool { return route.Feed == feed }), strings.Builder{}
+			must(t, one.Save(&text, feed))
+			lines := "version 2\n"
+			for _, route := range wanted {
+				lines += lineOf(route)
+			}
+			same(t, "a file", text.String(), lines)
+			// The last line may lack its end, and the reader may return one byte at a time.
+			count, err := other.Load(iotest.OneByteReader(strings.NewReader(strings.TrimSuffix(lines, "\n"))), feed)
+			must(t, err)
+			same(t, "how many routes were loaded", count, len(wanted))
+		}
+		found, err := other.Routes()
+		must(t, err)
+		same(t, "routes loaded", found, m.listed(func(Route) bool { return true }))
+	}
+}
+
+func TestEveryFaultyLineIsNamed(t *testing.T) {
+	good, long := "add 10.0.0.0/8 1 192.0.2.1\n", strings.Repeat("#", 128)
+	for _, faulty := range []struct {
+		text   string
+		line   int
+		count  int
+		reason error
+	}{
+		{"", 0, 0, nil},
+		{good, 0, 1, nil},
+		{"\n# a comment\n\n" + good + long + "\n" + long, 0, 1, nil},
+		{good + long + "#\n", 2, 1, ErrLine},
+		{good + strings.Repeat("#", 9999), 2, 1, ErrLine},
+		{good + "version 2\n", 2, 1, ErrLine},
+		{"version 2\nadd 10.0.0.0/8 4294967295 discard\n" + good, 3, 1, ErrExists},
+		{"add 10.0.0.0/8 1 discard\n", 1, 0, ErrLine},
+		{"version 2\r\n", 1, 0, ErrLine},
+		{good + "add 11.0.0.0/8 1 192.0.2.1\r\n", 2, 1, ErrLine},
+		{good + "add  11.0.0.0/8 1 192.0.2.1\n", 2, 1, ErrLine},
+		{good + "replace 10.0.0.0/8 1 192.0.2.1\n", 2, 1, ErrLine},
+		{good + "add 11.0.0.0/8 1\n", 2, 1, ErrLine},
+		{good + "add 11.0.0.0/8 4294967296 192.0.2.1\n", 2, 1, ErrLine},
+		{good + "add 11.0.0.0/8 01 192.0.2.1\n", 2, 1, ErrLine},
+		{good + "add 11.0.0.0/8 +1 192.0.2.1\n", 2, 1, ErrLine},
+		{good + "add 11.0.0.0/8 1 192.0.2.01\n", 2, 1, ErrLine},
+		{good + "add 11.0.0.0/8 1 ::1\n", 2, 1, ErrLine},
+		{good + "add 11.0.0.1/8 1 192.0.2.1\n", 2, 1, ErrBits},
+		{good + "add 11.0.0.0/33 1 192.0.2.1\n", 2, 1, ErrLength},
+		{good + "add ::/0 1 192.0.2.1\n", 2, 1, ErrText},
+		{good + "\nadd 11.0.0.0/8 1 192.0.2.1\nadd 12.0.0.0/8 1 192.0.2.1\n", 4, 2, ErrFull},
+	} {
+		one := table(t, 2, false)
+		count, err := one.Load(strings.NewReader(faulty.text), 3)
+		held, also := one.Count()
+		must(t, also)
+		same(t, faulty.text, []int{count, held}, []int{faulty.count, faulty.count})
+		var failure *LineError
+		if faulty.line == 0 {
+			must(t, err)
+		} else if !errors.As(err, &failure) || failure.Line != faulty.line || !errors.Is(err, faulty.reason) {
+			t.Fatalf("%q: %v", faulty.text, err)
+		}
+	}
+	one, broken := table(t, 2, false), errors.New("broken")
+	if count, err := one.Load(io.MultiReader(strings.NewReader(good), iotest.ErrReader(broken)), 1); count != 1 || !errors.Is(err, broken) {
+		t.Fatal(count, err)
+	}
+	if err := one.Save(failing{broken}, 1); !errors.Is(err, broken) {
+		t.Fatal(err)
+	}
+	_, err := one.Load(strings.NewReader("add 11.0.0.0/8 x 192.0.2.1\n"), 1)
+	same(t, "a text", err.Error(), "yarib: line 1: not an add line of a feed file: \"add 11.0.0.0/8 x 192.0.2.1\"")
+}
+
+// failing is a writer that only returns an error.
+type failing struct{ err error }
+
+func (one failing) Write([]byte) (int, error) { return 0, one.err }
+
+// TestASourceIsOneFeedInEveryAnswer compares feeds 2 to 4, to which a source is dealt, with one feed 2 of the model.
+func TestASourceIsOneFeedInEveryAnswer(t *testing.T) {
+	for seed := int64(0); seed < 12; seed++ {
+		draw, used := rand.New(rand.NewSource(seed)), map[uint32]bool{}
+		one, m := table(t, 1000000, false), model{1000000, map[place]Route{}}
+		source, err := NewSource(one, 2, 3)
+		must(t, err)
+		for k := 0; k < 300; k++ {
+			command := drawnCommand(draw)
+			command.Feed = []uint32{1, 2, 2, 2, 5}[draw.Intn(5)]
+			wanted := m.apply(command)
+			if command.Feed != 2 {
+				_, err := one.Apply(command)
+				must(t, err)
+				continue
+			}
+			reply, err := Reply{}, error(nil)
+			switch command.Operation {
+			case Add:
+				reply, err = source.Add(command.Prefix, command.Pref, command.Hop)
+				if wanted.Code == Exists && draw.Intn(2) == 0 {
+					command.Operation = Replace
+					wanted = m.apply(command)
+					reply, err = source.Put(command.Prefix, command.Pref, command.Hop)
+				}
+			case Replace:
+				reply, err = source.Replace(command.Prefix, command.Pref, command.Hop)
+			case Withdraw:
+				reply, err = source.Withdraw(command.Prefix)
+			case Purge:
+				count, err := source.Purge()
+				must(t, err)
+				same(t, "a purge", Reply{Code: Purged, Count: uint32(count)}, wanted)
+				continue
+			default:
+				continue
+			}
+			same(t, "a reply", reply, wanted)
+			same(t, "whether nothing changed", err != nil, wanted.Code == Exists || wanted.Code == Missing)
+		}
+		asOne := func(route Route) Route {
+			if 2 <= route.Feed && route.Feed <= 4 {
+				used[route.Feed] = true
+				same(t, "the feed of a prefix", source.FeedOf(route.Prefix), route.Feed)
+				route.Feed = 2
+			}
+			return route
+		}
+		routes, err := one.Routes()
+		must(t, err)
+		for k := range routes {
+			routes[k] = asOne(routes[k])
+		}
+		same(t, "routes", routes, m.listed(func(Route) bool { return true }))
+		own, err := source.Routes()
+		must(t, err)
+		for k := range own {
+			own[k] = asOne(own[k])
+		}
+		same(t, "the source's routes", own, m.listed(func(route Route) bool { return route.Feed == 2 }))
+		for k := 0; k < 50; k++ {
+			asked := drawnPrefix(draw).Addr()
+			route, found, err := one.LookUp(asked)
+			must(t, err)
+			wanted, isThere := m.best(asked)
+			same(t, "a look-up", []any{asOne(route), found}, []any{wanted, isThere})
+		}
+		if len(own) > 20 && len(used) != 3 {
+			t.Fatal(used)
+		}
+	}
+}
+
+// The feeds of these prefixes are the same in each language's package.
+func TestWhereEveryPrefixOfASourceIs(t *testing.T) {
+	source, err := NewSource(table(t, 1, false), 1, 64)
+	must(t, err)
+	found := []uint32{}
+	for _, text := range []string{"0.0.0.0/0", "10.0.0.0/8", "10.1.0.0/16", "192.0.2.0/24", "255.255.255.255/32", "128.0.0.0/1"} {
+		found = append(found, source.FeedOf(netip.MustParsePrefix(text)))
+	}
+	same(t, "feeds", found, []uint32{1, 11, 38, 2, 11, 8})
+	same(t, "no feed", source.FeedOf(netip.Prefix{}), uint32(1))
+	for _, faulty := range [][2]uint32{{0, 1}, {1, 0}, {1, 65}, {65, 1}, {64, 2}, {2, 1<<32 - 1}} {
+		if _, err := NewSource(table(t, 1, false), faulty[0], faulty[1]); !errors.Is(err, ErrNumber) {
+			t.Fatal(faulty, err)
+		}
+	}
+	for _, right := range [][2]uint32{{1, 64}, {64, 1}, {63, 2}} {
+		_, err := NewSource(table(t, 1, false), right[0], right[1])
+		must(t, err)
+	}
 }
 
 func TestAZeroTableIsClosed(t *testing.T) {
@@ -353,6 +651,7 @@ func TestAZeroTableIsClosed(t *testing.T) {
 	zero.Close()
 	forwarding.Close()
 	other := table(t, 5, false)
+	same(t, "no answers", Answers{}.Len(), 0)
 	for what, call := range map[string]func() error{
 		"count":   func() error { _, err := zero.Count(); return err },
 		"apply":   func() error { _, err := zero.Apply(Command{Operation: Dump, Feed: 1}); return err },
@@ -365,6 +664,14 @@ func TestAZeroTableIsClosed(t *testing.T) {
 		"both":    func() error { _, err := zero.Differences(&zero, ByHop); return err },
 		"look up": func() error { _, _, err := forwarding.LookUp(netip.MustParseAddr("10.0.0.1")); return err },
 		"share":   func() error { _, err := forwarding.Share(); return err },
+		"each":    func() error { _, err := zero.LookUpEach([]uint32{1}); return err },
+		"page":    func() error { _, err := zero.RoutesFrom(Place{}, 1); return err },
+		"walk":    func() error { return zero.Walk(Place{}, func(Route) bool { return true }) },
+		"save":    func() error { return zero.Save(io.Discard, 1) },
+		"load":    func() error { _, err := zero.Load(strings.NewReader("add 0.0.0.0/0 1 0.0.0.0\n"), 1); return err },
+		"deal":    func() error { _, err := Source{}.Withdraw(netip.MustParsePrefix("0.0.0.0/0")); return err },
+		"purge":   func() error { _, err := Source{}.Purge(); return err },
+		"listed":  func() error { _, err := Source{}.Routes(); return err },
 	} {
 		if err := call(); !errors.Is(err, ErrClosed) {
 			t.Fatal(what, err)

@@ -1,3 +1,3 @@
-module yarib
+module bemlusag.example/yarib
 
 go 1.19

@@ -1,12 +1,10 @@
 // Package yarib provides IPv4 routing tables with proved answers.
 //
 // Feeds are 1 to 64. The lowest preference number is preferred; between equal preferences, the lowest feed. After an error the
-// table is unchanged. Goroutines may share a Table and a Forwarding: calls that only read run at the same time, and a change waits
-// until it is alone. Close frees memory at once; otherwise the garbage collector does.
+// table is unchanged, except after an error of Load. Goroutines may share a Table and a Forwarding: calls that only read run at the
+// same time, and a change waits until it is alone. Close frees memory at once; otherwise the garbage collector does.
 package yarib
 
-// #cgo CFLAGS: -I${SRCDIR}/../c
-// #cgo LDFLAGS: ${SRCDIR}/../out/libyarib.a
 // #include <stdlib.h>
 // #include <yarib.h>
 import "C"
@@ -16,12 +14,13 @@ import (
 	"fmt"
 	"net/netip"
 	"runtime"
+	"strings"
 	"sync"
 	"sync/atomic"
 	"unsafe"
 )
 
-// The reasons why a call did nothing.
+// The reasons why a call did nothing. A call's error may name the value that is wrong: test it with errors.Is.
 var (
 	ErrClosed  = errors.New("yarib: the table is closed")
 	ErrNumber  = errors.New("yarib: a limit or a feed is out of range")
@@ -36,6 +35,7 @@ var (
 	ErrFull    = errors.New("yarib: the feed is at its limit")
 	ErrMissing = errors.New("yarib: the feed has no route to this prefix")
 	ErrBusy    = errors.New("yarib: another call uses the table")
+	ErrLine    = errors.New("yarib: not an add line of a feed file")
 )
 
 func failed(status uint32) error {
@@ -62,6 +62,63 @@ func failed(status uint32) error {
 		return ErrBusy
 	}
 	return ErrNumber
+}
+
+// about adds the value that is wrong to an error, unless the error doesn't depend on a value.
+func about(err error, format string, values ...any) error {
+	switch err {
+	case nil, ErrClosed, ErrMemory, ErrKind, ErrBusy:
+		return err
+	}
+	return fmt.Errorf("%w: "+format, append([]any{err}, values...)...)
+}
+
+// CommandError is the error of a command that changed nothing. Its text names what is wrong.
+type CommandError struct {
+	Command Command
+	Err     error // the reason, such as ErrFull
+}
+
+func (failure *CommandError) Error() string {
+	reason := strings.TrimPrefix(failure.Err.Error(), "yarib: ")
+	if failure.Err == ErrNumber || failure.Err == ErrCommand {
+		reason = failure.Command.fault()
+	}
+	return fmt.Sprintf("yarib: %v: %s", failure.Command, reason)
+}
+
+// Unwrap returns the reason.
+func (failure *CommandError) Unwrap() error {
+	return failure.Err
+}
+
+// failed returns the error of a command for a reason, and nil if there is none.
+func (command Command) failed(err error) error {
+	if err == nil {
+		return nil
+	}
+	return &CommandError{command, err}
+}
+
+// fault describes what is wrong with a command that was refused, in the order in which the library tests it.
+func (command Command) fault() string {
+	_, _, isPrefix := numbersOf(command.Prefix)
+	router, isVia := command.Hop.Router()
+	switch {
+	case command.Feed < 1 || command.Feed > MaxFeed:
+		return fmt.Sprintf("the feed isn't 1 to %d", MaxFeed)
+	case command.Operation < Add || command.Operation > Purge:
+		return "the operation is unknown"
+	case command.Operation == Lookup:
+		return "the address isn't IPv4"
+	case !isPrefix:
+		return "the prefix isn't IPv4"
+	case command.Prefix != command.Prefix.Masked():
+		return "a bit past the prefix's length is set"
+	case isVia && !router.Is4():
+		return "the next hop isn't IPv4"
+	}
+	return "the command is invalid"
 }
 
 // The limits of a table: the largest feed, the largest number of routes of a feed, and the largest prefix length.
@@ -176,6 +233,20 @@ type Command struct {
 	Hop       Hop
 }
 
+// String returns the feed and the command as a line of a feed file.
+func (command Command) String() string {
+	line := fmt.Sprintf("feed %d: %v", command.Feed, command.Operation)
+	switch command.Operation {
+	case Add, Replace:
+		return fmt.Sprintf("%s %v %d %v", line, command.Prefix, command.Pref, command.Hop)
+	case Withdraw:
+		return fmt.Sprintf("%s %v", line, command.Prefix)
+	case Lookup:
+		return fmt.Sprintf("%s %v", line, command.Address)
+	}
+	return line
+}
+
 // numbers returns the command for C. A prefix or hop that isn't IPv4 becomes an invalid length or hop.
 func (command Command) numbers() C.yarib_command {
 	raw := C.yarib_command{operation: C.uint32_t(command.Operation), feed: C.uint32_t(command.Feed), pref: C.uint32_t(command.Pref)}
@@ -263,6 +334,15 @@ const (
 	Exact    Part = C.YARIB_EXACT    // the prefix alone
 )
 
+var parts = [...]string{"all", "within", "covering", "exact"}
+
+func (part Part) String() string {
+	if part > Exact {
+		return fmt.Sprintf("Part(%d)", uint32(part))
+	}
+	return parts[part]
+}
+
 // Selection selects routes: their prefixes, their feed (0 for all feeds) and, with OnlyBest, only the best route of each
 // prefix.
 type Selection struct {
@@ -328,7 +408,7 @@ func made(limit uint32, kind C.uint32_t) (*Table, error) {
 	if err := table.held.change(func() uint32 {
 		return uint32(C.yarib_new(&table.held.inside, C.uint32_t(limit), kind))
 	}); err != nil {
-		return nil, err
+		return nil, about(err, "limit %d, not 1 to %d", limit, MaxLimit)
 	}
 	return table, nil
 }
@@ -348,13 +428,13 @@ func (table *Table) Close() {
 	table.held.free()
 }
 
-// Apply executes a command and returns its reply.
+// Apply executes a command and returns its reply. A command that is refused is a CommandError.
 func (table *Table) Apply(command Command) (Reply, error) {
 	asked, raw := command.numbers(), C.yarib_reply{}
 	if err := table.held.change(func() uint32 {
 		return uint32(C.yarib_apply(&table.held.inside, &asked, &raw))
 	}); err != nil {
-		return Reply{}, err
+		return Reply{}, command.failed(err)
 	}
 	return replyOf(&raw), nil
 }
@@ -375,7 +455,7 @@ func (table *Table) ApplyEach(commands []Command) ([]Outcome, error) {
 	outcomes := make([]Outcome, len(commands))
 	for k := range outcomes {
 		if replies[k].code == C.YARIB_UNANSWERED {
-			outcomes[k].Err = failed(uint32(replies[k].count))
+			outcomes[k].Err = commands[k].failed(failed(uint32(replies[k].count)))
 		} else {
 			outcomes[k].Reply = replyOf(&replies[k])
 		}
@@ -383,41 +463,47 @@ func (table *Table) ApplyEach(commands []Command) ([]Outcome, error) {
 	return outcomes, nil
 }
 
-// done turns a reply that says that nothing changed into an error.
-func done(reply Reply, err error) (Reply, error) {
+// unchanged returns the error of a reply that says that nothing changed, and nil for other replies.
+func unchanged(code Code) error {
+	switch code {
+	case Exists:
+		return ErrExists
+	case Full:
+		return ErrFull
+	case Missing:
+		return ErrMissing
+	}
+	return nil
+}
+
+// done executes a command. A reply that says that nothing changed is an error too.
+func (table *Table) done(command Command) (Reply, error) {
+	reply, err := table.Apply(command)
 	if err != nil {
 		return reply, err
 	}
-	switch reply.Code {
-	case Exists:
-		return reply, ErrExists
-	case Full:
-		return reply, ErrFull
-	case Missing:
-		return reply, ErrMissing
-	}
-	return reply, nil
+	return reply, command.failed(unchanged(reply.Code))
 }
 
 // Add adds a route. It returns ErrExists or ErrFull if nothing changed.
 func (table *Table) Add(feed uint32, prefix netip.Prefix, pref uint32, hop Hop) (Reply, error) {
-	return done(table.Apply(Command{Operation: Add, Feed: feed, Prefix: prefix, Pref: pref, Hop: hop}))
+	return table.done(Command{Operation: Add, Feed: feed, Prefix: prefix, Pref: pref, Hop: hop})
 }
 
 // Replace changes preference and next hop of the feed's route. It returns ErrMissing if there is none.
 func (table *Table) Replace(feed uint32, prefix netip.Prefix, pref uint32, hop Hop) (Reply, error) {
-	return done(table.Apply(Command{Operation: Replace, Feed: feed, Prefix: prefix, Pref: pref, Hop: hop}))
+	return table.done(Command{Operation: Replace, Feed: feed, Prefix: prefix, Pref: pref, Hop: hop})
 }
 
 // Put adds a route, or changes the feed's route to this prefix. It returns ErrFull if nothing changed.
 func (table *Table) Put(feed uint32, prefix netip.Prefix, pref uint32, hop Hop) (Reply, error) {
 	for {
 		reply, err := table.Add(feed, prefix, pref, hop)
-		if err != ErrExists {
+		if !errors.Is(err, ErrExists) {
 			return reply, err
 		}
 		// Another goroutine may withdraw the route between the two commands.
-		if reply, err = table.Replace(feed, prefix, pref, hop); err != ErrMissing {
+		if reply, err = table.Replace(feed, prefix, pref, hop); !errors.Is(err, ErrMissing) {
 			return reply, err
 		}
 	}
@@ -425,7 +511,7 @@ func (table *Table) Put(feed uint32, prefix netip.Prefix, pref uint32, hop Hop) 
 
 // Withdraw removes the feed's route. It returns ErrMissing if there is none.
 func (table *Table) Withdraw(feed uint32, prefix netip.Prefix) (Reply, error) {
-	return done(table.Apply(Command{Operation: Withdraw, Feed: feed, Prefix: prefix}))
+	return table.done(Command{Operation: Withdraw, Feed: feed, Prefix: prefix})
 }
 
 // LookUpPrefix returns the best route of the longest prefix that contains this prefix, if there is one.
@@ -438,7 +524,7 @@ func (table *Table) LookUpPrefix(prefix netip.Prefix) (Route, bool, error) {
 }
 
 // Walk visits the routes in the order of Routes from a position on, page by page, until visit returns false. The table may change
-// meanwhile: a route is visited if it exists when its turn comes, and never twice.
+// meanwhile, also by visit: a route is visited if it exists when its page is read, and never twice.
 func (table *Table) Walk(from Place, visit func(Route) bool) error {
 	for {
 		page, err := table.RoutesFrom(from, pageSize)
@@ -463,7 +549,7 @@ const pageSize = 256
 func lookUp(held *handle, asked netip.Addr) (Route, bool, error) {
 	base, isRight := number(asked)
 	if !isRight {
-		return Route{}, false, ErrCommand
+		return Route{}, false, about(ErrCommand, "%v", asked)
 	}
 	raw := C.yarib_route{}
 	if err := held.read(func() uint32 { return uint32(C.yarib_look_up_one(&held.inside, base, &raw)) }); err != nil {
@@ -480,7 +566,7 @@ type Answers struct {
 
 // Len returns the number of answers.
 func (answers Answers) Len() int {
-	return len(answers.raw) - 1
+	return len(answers.raw)
 }
 
 // At returns the answer at an index: a route, if there is one.
@@ -489,14 +575,18 @@ func (answers Answers) At(k int) (Route, bool) {
 }
 
 func lookUpEach(held *handle, addresses []uint32) (Answers, error) {
+	// One more, so that there is a first one.
 	raw, size := make([]C.yarib_route, len(addresses)+1), C.size_t(len(addresses))
 	first := new(C.uint32_t)
 	if len(addresses) > 0 {
 		first = (*C.uint32_t)(&addresses[0])
 	}
-	return Answers{raw}, held.read(func() uint32 {
+	if err := held.read(func() uint32 {
 		return uint32(C.yarib_look_up(&held.inside, first, size, &raw[0], size))
-	})
+	}); err != nil {
+		return Answers{}, err
+	}
+	return Answers{raw[:len(addresses)]}, nil
 }
 
 // LookUp returns the best route of the longest prefix that covers the address, if there is one.
@@ -525,7 +615,7 @@ func (one *handle) whole(call func(room []C.yarib_route, total *C.size_t) uint32
 func (table *Table) LookUpAll(address netip.Addr) ([]Route, error) {
 	base, isRight := number(address)
 	if !isRight {
-		return nil, ErrCommand
+		return nil, about(ErrCommand, "%v", address)
 	}
 	return table.held.whole(func(room []C.yarib_route, total *C.size_t) uint32 {
 		return uint32(C.yarib_look_up_all(&table.held.inside, base, 0, &room[0], C.size_t(len(room)), total))
@@ -541,13 +631,14 @@ func (table *Table) Select(asked Selection) ([]Route, error) {
 	if asked.Part != All {
 		base, length, isRight := numbersOf(asked.Prefix)
 		if !isRight {
-			return nil, ErrCommand
+			return nil, about(ErrCommand, "%v", asked.Prefix)
 		}
 		raw.base, raw.len = base, length
 	}
-	return table.held.whole(func(room []C.yarib_route, total *C.size_t) uint32 {
+	found, err := table.held.whole(func(room []C.yarib_route, total *C.size_t) uint32 {
 		return uint32(C.yarib_select(&table.held.inside, &raw, 0, &room[0], C.size_t(len(room)), total))
 	})
+	return found, about(err, "%v %v of feed %d", asked.Part, asked.Prefix, asked.Feed)
 }
 
 // Routes returns all routes, sorted by base, length, preference and feed.
@@ -556,7 +647,7 @@ func (table *Table) Routes() ([]Route, error) {
 }
 
 // Place is a position in the order of a table's routes; there need not be such a route. Preference and feed 0 are before all
-// routes to the prefix.
+// routes to the prefix. The zero Place is before all routes.
 type Place struct {
 	Prefix netip.Prefix
 	Pref   uint32
@@ -572,15 +663,29 @@ func (route Route) Behind() Place {
 // allocates memory only for them.
 func (table *Table) RoutesFrom(from Place, most int) ([]Route, error) {
 	base, length, isRight := numbersOf(from.Prefix)
-	if !isRight || most < 0 {
-		return nil, ErrCommand
+	if from == (Place{}) {
+		base, length, isRight = 0, 0, true
+	}
+	if !isRight {
+		return nil, about(ErrCommand, "%v", from.Prefix)
+	}
+	if most < 0 {
+		return nil, about(ErrNumber, "%d routes", most)
 	}
 	raw := C.yarib_route{base: base, len: length, pref: C.uint32_t(from.Pref), feed: C.uint32_t(from.Feed)}
-	room, used := make([]C.yarib_route, most+1), C.size_t(0)
+	room, size, used := []C.yarib_route{}, C.size_t(0), C.size_t(0)
 	if err := table.held.read(func() uint32 {
-		return uint32(C.yarib_routes_from(&table.held.inside, &raw, &room[0], C.size_t(most), &used))
+		// No page has more routes than the table, which doesn't change during this call.
+		if status := C.yarib_count(&table.held.inside, &size); status != C.YARIB_DONE {
+			return uint32(status)
+		}
+		if C.size_t(most) < size {
+			size = C.size_t(most)
+		}
+		room = make([]C.yarib_route, size+1)
+		return uint32(C.yarib_routes_from(&table.held.inside, &raw, &room[0], size, &used))
 	}); err != nil {
-		return nil, err
+		return nil, about(err, "%v", from.Prefix)
 	}
 	return routesOf(room[:used]), nil
 }
@@ -645,6 +750,16 @@ const (
 	ByRoute By = 1 // by the whole route
 )
 
+func (by By) String() string {
+	switch by {
+	case ByHop:
+		return "by hop"
+	case ByRoute:
+		return "by route"
+	}
+	return fmt.Sprintf("By(%d)", uint32(by))
+}
+
 // Difference is a range of addresses for which two tables give different answers. Each answer says whether there is a route.
 type Difference struct {
 	First, Last    netip.Addr
@@ -670,9 +785,23 @@ func firstDifference(older, newer *handle, by By, from uint64, raw *C.yarib_diff
 
 // Differences returns the ranges for which this table and a newer one give different answers, in order.
 func (table *Table) Differences(newer *Table, by By) ([]Difference, error) {
-	found, raw := []Difference{}, C.yarib_difference{}
+	found := []Difference{}
+	err := table.WalkDifferences(newer, by, func(one Difference) bool {
+		found = append(found, one)
+		return true
+	})
+	if err != nil {
+		return nil, err
+	}
+	return found, nil
+}
+
+// WalkDifferences visits the ranges of Differences until visit returns false. The tables may change meanwhile: each range is that of
+// the moment when it is found.
+func (table *Table) WalkDifferences(newer *Table, by By, visit func(Difference) bool) error {
+	raw := C.yarib_difference{}
 	if table.held != nil && table.held == newer.held {
-		return found, nil
+		return nil
 	}
 	for from := uint64(0); from < 1<<32; from = uint64(raw.last) + 1 {
 		status := firstDifference(table.held, newer.held, by, from, &raw)
@@ -680,14 +809,16 @@ func (table *Table) Differences(newer *Table, by By) ([]Difference, error) {
 			break
 		}
 		if err := failed(status); err != nil {
-			return nil, err
+			return about(err, "%v", by)
 		}
 		one := Difference{First: address(raw.first), Last: address(raw.last)}
 		one.Old, one.HasOld = routeOf(&raw.before)
 		one.New, one.HasNew = routeOf(&raw.after)
-		found = append(found, one)
+		if !visit(one) {
+			return nil
+		}
 	}
-	return found, nil
+	return nil
 }
 
 // Follow attaches a forwarding table of 64 MiB or more, if none is attached. From then on every command updates it, and look-ups use
@@ -760,7 +891,17 @@ func ParsePrefix(text string) (netip.Prefix, error) {
 	bytes, read := C.CString(text), C.yarib_prefix{}
 	defer C.free(unsafe.Pointer(bytes))
 	if err := failed(uint32(C.yarib_prefix_parse(bytes, C.size_t(len(text)), &read))); err != nil {
-		return netip.Prefix{}, err
+		return netip.Prefix{}, about(err, "%q", text)
 	}
 	return netip.PrefixFrom(address(read.base), int(read.len)), nil
+}
+
+// parseAddress parses an address such as 10.0.0.1, without leading zeros.
+func parseAddress(text string) (netip.Addr, error) {
+	bytes, read := C.CString(text), C.uint32_t(0)
+	defer C.free(unsafe.Pointer(bytes))
+	if err := failed(uint32(C.yarib_address_parse(bytes, C.size_t(len(text)), &read))); err != nil {
+		return netip.Addr{}, about(err, "%q", text)
+	}
+	return address(read), nil
 }

@@ -5,7 +5,8 @@ import (
 	"fmt"
 	"log"
 	"net/netip"
-	"yarib"
+
+	"bemlusag.example/yarib"
 )
 
 func filled() *yarib.Table {

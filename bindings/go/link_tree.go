@@ -1,0 +1,9 @@
+//go:build !yarib_pkgconfig
+
+package yarib
+
+// This links the library that bindings/build leaves beside this directory.
+
+// #cgo CFLAGS: -I${SRCDIR}/../c
+// #cgo LDFLAGS: ${SRCDIR}/../out/libyarib.a
+import "C"
