@@ -1,4 +1,4 @@
-//! Tells cargo where libyarib.a lies: in the folder YARIB_LIB, or in bindings/out, where bindings/build puts it.
+//! Tells cargo where `libyarib.a` is: in the directory `YARIB_LIB`, or in `bindings/out`, where `bindings/build` puts it.
 use std::{env, path::PathBuf};
 
 fn main() {

@@ -20,15 +20,15 @@ fn filled() -> Result<Table, Error> {
 }
 
 fn main() -> Result<(), Error> {
-    let (mut before, mut after) = (filled()?, filled()?);
+    let (before, mut after) = (filled()?, filled()?);
     after.withdraw(2, "10.1.0.0/16".parse()?)?;
     let address = Ipv4Addr::new(10, 1, 2, 3);
-    for table in [&mut before, &mut after] {
+    for table in [&before, &after] {
         if let Some(route) = table.look_up(address)? {
             println!("{address}: {route}");
         }
     }
-    for range in before.differences(&mut after, By::Hop) {
+    for range in before.differences(&after, By::Hop) {
         let range = range?;
         println!("{} to {} goes another way", range.first, range.last);
     }

@@ -18,10 +18,16 @@
 #![deny(unsafe_code)]
 #![warn(missing_docs)]
 
+mod files;
 mod raw;
+mod source;
+
+pub use files::FileError;
+pub use source::Source;
 
 use std::cmp::Ordering;
 use std::fmt;
+use std::iter::FusedIterator;
 use std::net::Ipv4Addr;
 use std::str::FromStr;
 
@@ -56,6 +62,9 @@ pub enum Error {
     Size,
     /// The call needs a table with a journal, or one without.
     Kind,
+    /// Another call uses the table. This occurs only in a forked process, if another thread was using the table when the process
+    /// was forked.
+    Busy,
 }
 
 impl Error {
@@ -67,6 +76,7 @@ impl Error {
             8 => Error::Length,
             9 => Error::Bits,
             10 => Error::Kind,
+            11 => Error::Busy,
             _ => Error::Number,
         }
     }
@@ -85,6 +95,7 @@ impl fmt::Display for Error {
             Error::Bits => "a bit past the length is set",
             Error::Size => "two lists differ in length",
             Error::Kind => "the table doesn't support this call",
+            Error::Busy => "another call uses the table",
         })
     }
 }
@@ -117,23 +128,27 @@ impl Prefix {
     }
 
     /// Returns the first address that it covers.
+    #[must_use]
     pub fn base(&self) -> Ipv4Addr {
         self.base
     }
 
     /// Returns the number of leading bits that it fixes, 0 to 32.
+    #[must_use]
     #[allow(clippy::len_without_is_empty)]
     pub fn len(&self) -> u8 {
         self.len
     }
 
     /// Returns true if it covers this address.
+    #[must_use]
     pub fn contains(&self, address: Ipv4Addr) -> bool {
         let past = 32 - u32::from(self.len);
         u64::from(u32::from(self.base)) >> past == u64::from(u32::from(address)) >> past
     }
 
     /// Returns true if it covers every address of this prefix.
+    #[must_use]
     pub fn contains_prefix(&self, other: Prefix) -> bool {
         self.len <= other.len && self.contains(other.base)
     }
@@ -160,6 +175,12 @@ impl TryFrom<(Ipv4Addr, u8)> for Prefix {
 
     fn try_from((base, len): (Ipv4Addr, u8)) -> Result<Prefix> {
         Prefix::new(base, len)
+    }
+}
+
+impl From<Prefix> for (Ipv4Addr, u8) {
+    fn from(prefix: Prefix) -> (Ipv4Addr, u8) {
+        (prefix.base, prefix.len)
     }
 }
 
@@ -255,6 +276,7 @@ impl fmt::Display for Route {
 
 /// A command of a feed.
 #[derive(Clone, Copy, Debug, PartialEq, Eq, Hash)]
+#[non_exhaustive]
 pub enum Command {
     /// Inserts a route, unless the feed has one to this prefix or is at its limit.
     Add(Prefix, u32, Hop),
@@ -322,8 +344,23 @@ impl Command {
     }
 }
 
+/// Writes the command as a line of a feed file.
+impl fmt::Display for Command {
+    fn fmt(&self, f: &mut fmt::Formatter<'_>) -> fmt::Result {
+        match self {
+            Command::Add(prefix, pref, hop) => write!(f, "add {prefix} {pref} {hop}"),
+            Command::Replace(prefix, pref, hop) => write!(f, "replace {prefix} {pref} {hop}"),
+            Command::Withdraw(prefix) => write!(f, "withdraw {prefix}"),
+            Command::Lookup(address) => write!(f, "lookup {address}"),
+            Command::Dump => f.write_str("dump"),
+            Command::Purge => f.write_str("purge"),
+        }
+    }
+}
+
 /// The reply to a command.
 #[derive(Clone, Copy, Debug, PartialEq, Eq, Hash)]
+#[non_exhaustive]
 pub enum Reply {
     /// The route was inserted.
     Added,
@@ -409,6 +446,7 @@ impl Reply {
 
 /// An entry of the journal.
 #[derive(Clone, Copy, Debug, PartialEq, Eq, Hash)]
+#[non_exhaustive]
 pub struct Entry {
     /// The feed that executed it.
     pub feed: u32,
@@ -420,6 +458,7 @@ pub struct Entry {
 
 /// How the answers of two tables are compared.
 #[derive(Clone, Copy, Debug, PartialEq, Eq, Hash)]
+#[non_exhaustive]
 pub enum By {
     /// By next hop.
     Hop,
@@ -449,6 +488,7 @@ impl Answer {
 
 /// A range of addresses for which two tables give different answers.
 #[derive(Clone, Copy, Debug, PartialEq, Eq, Hash)]
+#[non_exhaustive]
 pub struct Difference {
     /// Its first address.
     pub first: Ipv4Addr,
@@ -462,6 +502,7 @@ pub struct Difference {
 
 /// The prefixes of a selection.
 #[derive(Clone, Copy, Debug, PartialEq, Eq, Hash)]
+#[non_exhaustive]
 pub enum Part {
     /// All.
     All,
@@ -486,6 +527,7 @@ pub struct Selection {
 
 impl Selection {
     /// Selects all routes to these prefixes.
+    #[must_use]
     pub fn of(part: Part) -> Selection {
         Selection {
             part,
@@ -521,11 +563,17 @@ pub struct Table(raw::Handle);
 impl Table {
     /// Returns an empty table in which each feed may have up to `limit` routes, 1 to 1,000,000. Its memory is bounded by its
     /// routes.
+    ///
+    /// # Errors
+    /// [`Error::Number`] if the limit is out of range, [`Error::Memory`].
     pub fn new(limit: u32) -> Result<Table> {
         raw::Handle::new(limit, 0).map(Table).map_err(Error::of)
     }
 
     /// Returns an empty table with a journal that keeps every answered command, 56 bytes each.
+    ///
+    /// # Errors
+    /// [`Error::Number`] if the limit is out of range, [`Error::Memory`].
     pub fn with_journal(limit: u32) -> Result<Table> {
         raw::Handle::new(limit, 1).map(Table).map_err(Error::of)
     }
@@ -533,13 +581,16 @@ impl Table {
     /// Executes a command of the feed and returns its reply.
     ///
     /// # Errors
-    /// [`Error::Number`] if the feed is out of range, [`Error::Memory`].
+    /// [`Error::Number`] if the feed is out of range, [`Error::Memory`], [`Error::Busy`].
     pub fn apply(&mut self, feed: u32, command: Command) -> Result<Reply> {
         let reply = self.0.apply(&command.numbers(feed)).map_err(Error::of)?;
         Reply::of(&reply)
     }
 
     /// Executes the commands in order and returns the outcome of each. A command that fails doesn't stop the others.
+    ///
+    /// # Errors
+    /// [`Error::Busy`]. The error of a command is its outcome, as [`Table::apply`] returns it.
     pub fn apply_each(&mut self, commands: &[(u32, Command)]) -> Result<Vec<Result<Reply>>> {
         let asked: Vec<raw::Command> = commands
             .iter()
@@ -589,7 +640,7 @@ impl Table {
     /// Returns the best route of the longest prefix that contains this prefix.
     ///
     /// # Errors
-    /// [`Error::Memory`].
+    /// [`Error::Memory`], [`Error::Busy`].
     pub fn look_up_prefix(&self, prefix: Prefix) -> Result<Option<Route>> {
         let asked = Selection {
             only_best: true,
@@ -599,28 +650,51 @@ impl Table {
     }
 
     /// Returns the best route of the longest prefix that covers the address.
+    ///
+    /// # Errors
+    /// [`Error::Busy`].
     pub fn look_up(&self, address: Ipv4Addr) -> Result<Option<Route>> {
         let found = self.0.look_up_one(u32::from(address)).map_err(Error::of)?;
         Ok(Route::of(&found))
     }
 
     /// Returns the answers for all these addresses, in less time than one call each.
+    ///
+    /// # Errors
+    /// [`Error::Busy`].
     pub fn look_up_each(&self, addresses: &[u32]) -> Result<Vec<Option<Route>>> {
         answers(&self.0, addresses)
     }
 
+    /// Returns the answers for all these addresses, as `look_up_each` does after copying them.
+    ///
+    /// # Errors
+    /// [`Error::Busy`].
+    pub fn look_up_addresses(&self, addresses: &[Ipv4Addr]) -> Result<Vec<Option<Route>>> {
+        answers(&self.0, &numbers(addresses))
+    }
+
     /// Returns all routes whose prefix covers the address, the best first.
+    ///
+    /// # Errors
+    /// [`Error::Memory`], [`Error::Busy`].
     pub fn look_up_all(&self, address: Ipv4Addr) -> Result<Vec<Route>> {
         let found = whole(64, |part| self.0.look_up_all(u32::from(address), part))?;
         Ok(found.iter().filter_map(Route::of).collect())
     }
 
     /// Returns the number of routes.
+    ///
+    /// # Errors
+    /// [`Error::Busy`].
     pub fn count(&self) -> Result<usize> {
         self.0.count().map_err(Error::of)
     }
 
     /// Returns all routes, sorted by base, length, preference and feed.
+    ///
+    /// # Errors
+    /// [`Error::Memory`], [`Error::Busy`].
     pub fn routes(&self) -> Result<Vec<Route>> {
         let size = self.count()?;
         let found = whole(size, |part| self.0.routes(part))?;
@@ -645,19 +719,28 @@ impl Table {
     }
 
     /// Returns the selected routes in the order of `routes`.
+    ///
+    /// # Errors
+    /// [`Error::Number`] if the feed is out of range, [`Error::Memory`], [`Error::Busy`].
     pub fn select(&self, asked: Selection) -> Result<Vec<Route>> {
         let asked = asked.numbers();
         let found = whole(64, |part| self.0.select(&asked, part))?;
         Ok(found.iter().filter_map(Route::of).collect())
     }
 
-    /// Returns the journal of a table that keeps one; `Error::Kind` otherwise.
+    /// Returns the journal of a table that keeps one.
+    ///
+    /// # Errors
+    /// [`Error::Kind`] if the table keeps none, [`Error::Busy`].
     pub fn journal(&self) -> Result<Vec<Entry>> {
         let found = whole(0, |part| self.0.journal(part))?;
         found.iter().map(entry).collect()
     }
 
     /// Reserves capacity for this many further journal entries, if there is a journal, so that they don't allocate later.
+    ///
+    /// # Errors
+    /// [`Error::Memory`], [`Error::Busy`].
     pub fn reserve(&mut self, entries: usize) -> Result<()> {
         self.0.reserve(entries).map_err(Error::of)
     }
@@ -674,18 +757,26 @@ impl Table {
     }
 
     /// Attaches a forwarding table of 64 MiB or more, if none is attached. From then on every command updates it, and look-ups use it.
-    /// If a command finds no memory for the update, the forwarding table is freed until this is called again. Returns `Error::Kind`
-    /// if the table keeps a journal.
+    /// If a command finds no memory for the update, the forwarding table is freed until this is called again.
+    ///
+    /// # Errors
+    /// [`Error::Kind`] if the table keeps a journal, [`Error::Memory`], [`Error::Busy`].
     pub fn follow(&mut self) -> Result<()> {
         self.0.follow().map_err(Error::of)
     }
 
     /// Returns an estimate of its size in bytes, including an attached forwarding table.
+    ///
+    /// # Errors
+    /// [`Error::Busy`].
     pub fn memory(&self) -> Result<usize> {
         self.0.memory().map_err(Error::of)
     }
 
     /// Returns a forwarding table with the current answers of this table.
+    ///
+    /// # Errors
+    /// [`Error::Memory`], [`Error::Busy`].
     pub fn forward(&self) -> Result<Forwarding> {
         self.0.forward().map(Forwarding).map_err(Error::of)
     }
@@ -697,6 +788,10 @@ fn entry(raw: &raw::Entry) -> Result<Entry> {
         command: Command::of(&raw.command),
         reply: Reply::of(&raw.reply)?,
     })
+}
+
+fn numbers(addresses: &[Ipv4Addr]) -> Vec<u32> {
+    addresses.iter().copied().map(u32::from).collect()
 }
 
 fn answers(handle: &raw::Handle, addresses: &[u32]) -> Result<Vec<Option<Route>>> {
@@ -725,6 +820,7 @@ const PAGE: usize = 256;
 
 /// The routes of a table from a position on.
 #[derive(Debug)]
+#[must_use = "an iterator reads nothing until it is used"]
 pub struct RoutesFrom<'a> {
     table: &'a Table,
     /// The position of the next page, if there is one.
@@ -768,8 +864,11 @@ impl Iterator for RoutesFrom<'_> {
     }
 }
 
+impl FusedIterator for RoutesFrom<'_> {}
+
 /// The ranges for which two tables give different answers.
 #[derive(Debug)]
+#[must_use = "an iterator reads nothing until it is used"]
 pub struct Differences<'a> {
     old: &'a Table,
     new: &'a Table,
@@ -802,28 +901,50 @@ impl Iterator for Differences<'_> {
     }
 }
 
+impl FusedIterator for Differences<'_> {}
+
 /// A table's answers at the time when this was created: 64 MiB, for look-ups with two or three memory reads.
 #[derive(Debug)]
 pub struct Forwarding(raw::Handle);
 
 impl Forwarding {
     /// Returns another handle to it, for another thread. The memory is freed with the last handle.
+    ///
+    /// # Errors
+    /// [`Error::Memory`], [`Error::Busy`].
     pub fn share(&self) -> Result<Forwarding> {
         self.0.share().map(Forwarding).map_err(Error::of)
     }
 
     /// Returns the best route of the longest prefix that covers the address.
+    ///
+    /// # Errors
+    /// [`Error::Busy`].
     pub fn look_up(&self, address: Ipv4Addr) -> Result<Option<Route>> {
         let found = self.0.look_up_one(u32::from(address)).map_err(Error::of)?;
         Ok(Route::of(&found))
     }
 
     /// Returns the answers for all these addresses.
+    ///
+    /// # Errors
+    /// [`Error::Busy`].
     pub fn look_up_each(&self, addresses: &[u32]) -> Result<Vec<Option<Route>>> {
         answers(&self.0, addresses)
     }
 
+    /// Returns the answers for all these addresses, as `look_up_each` does after copying them.
+    ///
+    /// # Errors
+    /// [`Error::Busy`].
+    pub fn look_up_addresses(&self, addresses: &[Ipv4Addr]) -> Result<Vec<Option<Route>>> {
+        answers(&self.0, &numbers(addresses))
+    }
+
     /// Returns its size in bytes, counted once for all its handles.
+    ///
+    /// # Errors
+    /// [`Error::Busy`].
     pub fn memory(&self) -> Result<usize> {
         self.0.memory().map_err(Error::of)
     }

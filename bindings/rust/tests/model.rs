@@ -1,12 +1,15 @@
 //! Random commands beside a model of the table in plain Rust, and what the crate adds to the library's calls.
+#![allow(clippy::cast_possible_truncation, clippy::too_many_lines)]
+
 use std::collections::{BTreeMap, BTreeSet};
+use std::fmt::Write;
 use std::net::Ipv4Addr;
 use std::sync::atomic::{AtomicBool, Ordering};
 use std::sync::RwLock;
 use std::thread;
 use yarib::{
-    Answer, By, Command, Error, Forwarding, Hop, Part, Prefix, Reply, Route, Selection, Table,
-    MAX_FEED,
+    Answer, By, Command, Error, FileError, Forwarding, Hop, Part, Prefix, Reply, Route, Selection,
+    Source, Table, MAX_FEED,
 };
 
 /// Numbers that look drawn, the same in each run.
@@ -116,6 +119,7 @@ impl Model {
                 self.routes.retain(|key, _| key.1 != feed);
                 Reply::Purged(own as u32)
             }
+            other => panic!("{other:?}"),
         }
     }
 
@@ -161,7 +165,7 @@ fn replies_and_routes_are_the_models() {
         assert_eq!(plain.count().unwrap(), model.routes.len());
         check_parts(&mut plain, &model, &mut draw);
         check_pages(&mut plain, &model, &mut draw);
-        assert_eq!(journaled.differences(&mut plain, By::Route).count(), 0);
+        assert_eq!(journaled.differences(&plain, By::Route).count(), 0);
         let addresses: Vec<u32> = (0..300)
             .map(|_| u32::from(draw.prefix().base()).wrapping_add(draw.below(2)))
             .collect();
@@ -170,6 +174,14 @@ fn replies_and_routes_are_the_models() {
             .map(|address| model.best(*address))
             .collect();
         assert_eq!(plain.look_up_each(&addresses).unwrap(), wanted);
+        let forms: Vec<Ipv4Addr> = addresses.iter().copied().map(Ipv4Addr::from).collect();
+        assert_eq!(plain.look_up_addresses(&forms).unwrap(), wanted);
+        assert_eq!(plain.look_up_addresses(&[]), Ok(Vec::new()));
+        if seed == 7 {
+            let forwarding = plain.forward().unwrap();
+            assert_eq!(forwarding.look_up_each(&addresses).unwrap(), wanted);
+            assert_eq!(forwarding.look_up_addresses(&forms).unwrap(), wanted);
+        }
         for (address, best) in addresses.iter().zip(&wanted).take(20) {
             let mut listed = model.listed();
             listed.retain(|route| route.prefix.contains(Ipv4Addr::from(*address)));
@@ -328,14 +340,14 @@ fn errors_leave_all_as_it_was() {
 
 #[test]
 fn differences_reach_the_last_address() {
-    let (mut old, mut new) = (Table::new(5).unwrap(), Table::new(5).unwrap());
+    let (old, mut new) = (Table::new(5).unwrap(), Table::new(5).unwrap());
     let hop = Hop::Via(Ipv4Addr::new(192, 0, 2, 1));
     new.add(1, "255.255.255.254/31".parse().unwrap(), 0, hop)
         .unwrap();
     new.add(2, "0.0.0.0/32".parse().unwrap(), 0, Hop::Discard)
         .unwrap();
     let found: Vec<_> = old
-        .differences(&mut new, By::Hop)
+        .differences(&new, By::Hop)
         .map(Result::unwrap)
         .map(|range| (u32::from(range.first), range.new))
         .collect();
@@ -357,13 +369,13 @@ fn threads_look_up_at_once() {
         table.add(1, prefix, k, Hop::Discard).unwrap();
     }
     is_send(&table);
-    let mut first = table.forward().unwrap();
+    let first = table.forward().unwrap();
     assert!(first.memory().unwrap() >= 1 << 26);
     table.apply(1, Command::Purge).unwrap();
     let others: Vec<Forwarding> = (0..8).map(|_| first.share().unwrap()).collect();
     drop(first);
-    let asked: Vec<u32> = (0..100_000).map(|k| k % 256 << 24 | k).collect();
-    let ask = |mut forwarding: Forwarding| {
+    let asked: Vec<u32> = (0..100_000).map(|k| ((k % 256) << 24) | k).collect();
+    let ask = |forwarding: Forwarding| {
         let found = forwarding.look_up_each(&asked).unwrap();
         found
             .iter()
@@ -396,7 +408,9 @@ fn threads_look_up_in_one_table() {
         is_sync(&table);
         let ask = || {
             (0..20_000u32).all(|k| {
-                let found = table.look_up(Ipv4Addr::from(k % 256 << 24 | k)).unwrap();
+                let found = table
+                    .look_up(Ipv4Addr::from(((k % 256) << 24) | k))
+                    .unwrap();
                 let all = table.look_up_all(Ipv4Addr::from(k << 24)).unwrap();
                 found.map(|route| route.pref) == Some(k % 256) && all.len() == 1
             }) && table.routes_from(all_addresses(), 0, 0).count() == 256
@@ -459,6 +473,7 @@ fn answer(model: &Model, by: By, address: u32) -> Answer {
         (None, _) => Answer::NoRoute,
         (Some(route), By::Hop) => Answer::Hop(route.hop),
         (Some(route), By::Route) => Answer::Route(route),
+        (_, other) => panic!("{other:?}"),
     }
 }
 
@@ -556,14 +571,14 @@ fn lists_at_page_boundaries() {
 fn all_matches_at_page_boundaries() {
     let (mut table, address) = (Table::new(99).unwrap(), Ipv4Addr::new(10, 0, 0, 0));
     let mut listed = Vec::new();
-    for len in 0..=8 {
+    for len in 0..=8_u8 {
         let prefix = Prefix::new(
             if len < 5 {
                 Ipv4Addr::UNSPECIFIED
             } else {
                 Ipv4Addr::from((10 << 24) >> (32 - len) << (32 - len))
             },
-            len as u8,
+            len,
         )
         .unwrap();
         for feed in 1..=MAX_FEED {
@@ -623,4 +638,279 @@ fn conventions_of_rust() {
         (Hop::Discard.to_string(), Hop::Via(router).to_string()),
         ("discard".to_string(), "192.0.2.1".to_string())
     );
+}
+
+#[test]
+fn commands_are_lines_of_a_feed_file() {
+    let (ten, router) = ("10.0.0.0/8".parse().unwrap(), Ipv4Addr::new(192, 0, 2, 1));
+    assert_eq!(<(Ipv4Addr, u8)>::from(ten), (Ipv4Addr::new(10, 0, 0, 0), 8));
+    for (command, line) in [
+        (
+            Command::Add(ten, 7, Hop::Discard),
+            "add 10.0.0.0/8 7 discard",
+        ),
+        (
+            Command::Replace(ten, 8, Hop::Via(router)),
+            "replace 10.0.0.0/8 8 192.0.2.1",
+        ),
+        (Command::Withdraw(ten), "withdraw 10.0.0.0/8"),
+        (Command::Lookup(router), "lookup 192.0.2.1"),
+        (Command::Dump, "dump"),
+        (Command::Purge, "purge"),
+    ] {
+        assert_eq!(command.to_string(), line);
+    }
+}
+
+/// Returns a model and a table after the same random commands.
+fn filled(seed: u64, feeds: u32) -> (Model, Table) {
+    let mut draw = Draw(seed);
+    let (mut model, mut table) = (
+        Model {
+            limit: 1_000_000,
+            routes: BTreeMap::new(),
+        },
+        Table::new(1_000_000).unwrap(),
+    );
+    for _ in 0..200 {
+        let (feed, command) = (1 + draw.below(feeds), draw.command());
+        assert_eq!(table.apply(feed, command), Ok(model.apply(feed, command)));
+    }
+    (model, table)
+}
+
+#[test]
+fn files_hold_every_route() {
+    for seed in 0..8 {
+        let (model, table) = filled(2000 + seed, 5);
+        let mut other = Table::new(1_000_000).unwrap();
+        for feed in 1..=6 {
+            let (mut wanted, mut count) = (String::from("version 2\n"), 0);
+            for one in model.listed().iter().filter(|one| one.feed == feed) {
+                let hop = match one.hop {
+                    Hop::Via(router) => router.to_string(),
+                    Hop::Discard => "discard".to_string(),
+                };
+                let (base, len) = (one.prefix.base(), one.prefix.len());
+                writeln!(wanted, "add {base}/{len} {} {hop}", one.pref).unwrap();
+                count += 1;
+            }
+            let mut text = Vec::new();
+            table.save(feed, &mut text).unwrap();
+            assert_eq!(String::from_utf8(text).unwrap(), wanted);
+            // The last line may lack its end.
+            assert_eq!(
+                other.load(feed, wanted.trim_end().as_bytes()).unwrap(),
+                count
+            );
+        }
+        assert_eq!(other.routes().unwrap(), model.listed());
+    }
+    let one = Table::new(5).unwrap();
+    for feed in [0, 65] {
+        let refused = one.save(feed, Vec::new());
+        assert!(matches!(refused, Err(FileError::Table(Error::Number))));
+    }
+    let full: &mut [u8] = &mut [0; 5];
+    assert!(matches!(one.save(1, full), Err(FileError::Io(_))));
+}
+
+#[test]
+fn faulty_lines_are_named() {
+    let (good, long) = ("add 10.0.0.0/8 1 192.0.2.1\n", "#".repeat(128));
+    let with = |line: &str| format!("{good}{line}");
+    let cases = [
+        (String::new(), 0, 0, None),
+        (with(""), 0, 1, None),
+        (format!("\n# \u{e9}\n\n{good}{long}\n{long}"), 0, 1, None),
+        (with(&format!("{long}#\n")), 2, 1, None),
+        (with(&"#".repeat(9999)), 2, 1, None),
+        (with("version 2\n"), 2, 1, None),
+        (
+            format!("version 2\nadd 10.0.0.0/8 4294967295 discard\n{good}"),
+            3,
+            1,
+            Some(Error::Exists),
+        ),
+        ("add 10.0.0.0/8 1 discard\n".to_string(), 1, 0, None),
+        ("version 2\r\n".to_string(), 1, 0, None),
+        (with("add 11.0.0.0/8 1 192.0.2.1\r\n"), 2, 1, None),
+        (with("add  11.0.0.0/8 1 192.0.2.1\n"), 2, 1, None),
+        (with("replace 10.0.0.0/8 1 192.0.2.1\n"), 2, 1, None),
+        (with("add 11.0.0.0/8 1\n"), 2, 1, None),
+        (with("add 11.0.0.0/8 4294967296 192.0.2.1\n"), 2, 1, None),
+        (with("add 11.0.0.0/8 01 192.0.2.1\n"), 2, 1, None),
+        (with("add 11.0.0.0/8 +1 192.0.2.1\n"), 2, 1, None),
+        (with("add 11.0.0.0/8 1 192.0.2.01\n"), 2, 1, None),
+        (with("add 11.0.0.0/8 1 ::1\n"), 2, 1, None),
+        (
+            with("add 11.0.0.1/8 1 192.0.2.1\n"),
+            2,
+            1,
+            Some(Error::Bits),
+        ),
+        (
+            with("add 11.0.0.0/33 1 192.0.2.1\n"),
+            2,
+            1,
+            Some(Error::Length),
+        ),
+        (with("add ::/0 1 192.0.2.1\n"), 2, 1, Some(Error::Text)),
+        (
+            with("\nadd 11.0.0.0/8 1 192.0.2.1\nadd 12.0.0.0/8 1 192.0.2.1\n"),
+            4,
+            2,
+            Some(Error::Full),
+        ),
+    ];
+    for (text, wanted, count, reason) in cases {
+        let mut table = Table::new(2).unwrap();
+        match table.load(3, text.as_bytes()) {
+            Ok(added) => assert_eq!((0, count, None), (wanted, added, reason), "{text}"),
+            Err(FileError::Line { line, text: found }) => {
+                assert_eq!((line, None), (wanted, reason), "{text}");
+                assert!(found.len() <= 129 && text.contains(&found));
+            }
+            Err(FileError::Route {
+                line,
+                text: found,
+                error,
+            }) => {
+                assert_eq!((line, Some(error)), (wanted, reason), "{text}");
+                assert!(text.contains(&found));
+            }
+            Err(other) => panic!("{other}"),
+        }
+        assert_eq!(table.count(), Ok(count), "{text}");
+    }
+    let mut table = Table::new(2).unwrap();
+    let said = |refused: Result<usize, FileError>| refused.unwrap_err().to_string();
+    assert_eq!(
+        said(table.load(1, &b"\nadd x"[..])),
+        "line 2: not an add line of a feed file: \"add x\""
+    );
+    assert_eq!(
+        said(table.load(1, &b"add 1.0.0.0/7 0 0.0.0.0"[..])),
+        "line 1: a bit past the length is set: \"add 1.0.0.0/7 0 0.0.0.0\""
+    );
+    assert!(matches!(
+        table.load(1, &b"add \xff 1 2"[..]),
+        Err(FileError::Line { line: 1, .. })
+    ));
+}
+
+/// The feeds 2 to 4 of a table, to which a source is dealt, answer as one feed 2 of the model.
+#[test]
+fn a_source_is_one_feed() {
+    let mut used = BTreeSet::new();
+    for seed in 0..12 {
+        let (mut draw, source) = (Draw(3000 + seed), Source::new(2, 3).unwrap());
+        let mut model = Model {
+            limit: 1_000_000,
+            routes: BTreeMap::new(),
+        };
+        let mut table = Table::new(1_000_000).unwrap();
+        for _ in 0..300 {
+            let feed = [1, 2, 2, 2, 5][draw.below(5) as usize];
+            let command = draw.command();
+            let is_put = draw.below(2) == 1;
+            let found = match command {
+                _ if feed != 2 => table.apply(feed, command),
+                Command::Add(prefix, pref, hop)
+                    if is_put && model.routes.contains_key(&(prefix, 2)) =>
+                {
+                    let wanted = model.apply(2, Command::Replace(prefix, pref, hop));
+                    assert_eq!(source.put(&mut table, prefix, pref, hop), Ok(wanted));
+                    continue;
+                }
+                Command::Add(prefix, pref, hop) => source.add(&mut table, prefix, pref, hop),
+                Command::Replace(prefix, pref, hop) => {
+                    source.replace(&mut table, prefix, pref, hop)
+                }
+                Command::Withdraw(prefix) => source.withdraw(&mut table, prefix),
+                Command::Purge => source.purge(&mut table).map(Reply::Purged),
+                _ => continue,
+            };
+            let wanted = match model.apply(feed, command) {
+                Reply::Exists if feed == 2 => Err(Error::Exists),
+                Reply::Missing if feed == 2 => Err(Error::Missing),
+                Reply::Found(route) => Ok(Reply::Found(route)),
+                other => Ok(other),
+            };
+            match (command, found) {
+                (Command::Lookup(_), Ok(Reply::Found(route))) => {
+                    assert_eq!(Ok(Reply::Found(as_one(route))), wanted);
+                }
+                _ => assert_eq!(found, wanted),
+            }
+        }
+        let routes = table.routes().unwrap();
+        for one in &routes {
+            if (2..=4).contains(&one.feed) {
+                assert_eq!(source.feed_of(one.prefix), one.feed);
+                used.insert(one.feed);
+            }
+        }
+        let listed: Vec<Route> = routes.into_iter().map(as_one).collect();
+        assert_eq!(listed, model.listed());
+        let own: Vec<Route> = source
+            .routes(&table)
+            .unwrap()
+            .into_iter()
+            .map(as_one)
+            .collect();
+        let mut wanted = model.listed();
+        wanted.retain(|one| one.feed == 2);
+        assert_eq!(own, wanted);
+        for _ in 0..50 {
+            let address = draw.prefix().base();
+            let found = table.look_up(address).unwrap().map(as_one);
+            assert_eq!(found, model.best(u32::from(address)));
+        }
+    }
+    assert_eq!(used.len(), 3);
+}
+
+fn as_one(route: Route) -> Route {
+    let feed = if (2..=4).contains(&route.feed) {
+        2
+    } else {
+        route.feed
+    };
+    Route { feed, ..route }
+}
+
+/// The feeds of these prefixes are the same in each language's package.
+#[test]
+fn feeds_of_a_source() {
+    let source = Source::new(1, 64).unwrap();
+    let found: Vec<u32> = [
+        "0.0.0.0/0",
+        "10.0.0.0/8",
+        "10.1.0.0/16",
+        "192.0.2.0/24",
+        "255.255.255.255/32",
+        "128.0.0.0/1",
+    ]
+    .iter()
+    .map(|text| source.feed_of(text.parse().unwrap()))
+    .collect();
+    assert_eq!(found, [1, 11, 38, 2, 11, 8]);
+    for (first, feeds) in [(0, 1), (1, 0), (1, 65), (65, 1), (64, 2), (2, u32::MAX)] {
+        assert_eq!(Source::new(first, feeds), Err(Error::Number));
+    }
+    for (first, feeds) in [(1, 64), (64, 1), (63, 2)] {
+        assert!(Source::new(first, feeds).is_ok());
+    }
+    let (mut table, source) = (Table::new(1).unwrap(), Source::new(7, 1).unwrap());
+    let (zero, one) = (all_addresses(), "128.0.0.0/1".parse().unwrap());
+    assert_eq!(
+        source.put(&mut table, zero, 0, Hop::Discard),
+        Ok(Reply::Added)
+    );
+    assert_eq!(
+        source.add(&mut table, one, 0, Hop::Discard),
+        Err(Error::Full)
+    );
+    assert_eq!(table.look_up(zero.base()).unwrap().unwrap().feed, 7);
 }
