@@ -14,10 +14,9 @@ import subprocess
 import sys
 import tempfile
 
-import figures
-import checks
-from inputs import changing_table, deal, write
-from timed import measure
+from common import checks, figures
+from common.inputs import changing_table, deal, write
+from common.timed import measure
 
 FILES = (2, 4, 16, 64)
 BATCHES = (1, 256)

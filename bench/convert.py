@@ -13,10 +13,10 @@ import random
 import subprocess
 import tempfile
 
-import figures
-from inputs import real_prefixes, write_apart
-from table_model import dotted
-from timed import passed
+from common import figures
+from common.inputs import real_prefixes, write_apart
+from common.table_model import dotted
+from common.timed import passed
 
 PEERS = 20
 PATHS = 100_000

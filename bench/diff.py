@@ -15,9 +15,8 @@ import subprocess
 import tempfile
 import time
 
-import figures
-import checks
-from table_model import dotted
+from common import checks, figures
+from common.table_model import dotted
 
 # The number of prefixes of this length among a hundred.
 LENGTHS = [24] * 60 + [23] * 9 + [22] * 11 + [21] * 4 + [20] * 5 + [19] * 3 + [18] * 2 + [17] + [16] * 3 + [14, 12]

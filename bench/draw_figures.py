@@ -9,7 +9,7 @@ import html
 import statistics
 import sys
 
-import figures
+from common import figures
 
 FOLDER = figures.TOP / "docs/pictures"
 INK, QUIET, BLUE, GREEN, ORANGE = "#222", "#777", "#1f5fa8", "#1a7f37", "#b3541e"

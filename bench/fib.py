@@ -16,8 +16,7 @@ import subprocess
 import sys
 import tempfile
 
-import figures
-import checks
+from common import checks, figures
 from others import built_lpm, drawn, has_patricia, patricia_rows, printed, radix_rows, write_input
 
 ASKED = 1 << 20

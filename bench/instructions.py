@@ -11,9 +11,8 @@ import re
 import subprocess
 import tempfile
 
-import figures
-import checks
-from inputs import one_prefix, real_table
+from common import checks, figures
+from common.inputs import one_prefix, real_table
 
 # The first pattern found in a function's name determines its part.
 PARTS = [

@@ -10,14 +10,15 @@ journal, `forward` makes a forwarding table, and the number at the end of a look
 call looks up.
 """
 import array
+import importlib.machinery
+import importlib.util
 import os
 import pathlib
 import subprocess
 import sys
 import tempfile
 
-import figures
-import checks
+from common import checks, figures
 from others import built_lpm, drawn, each, has_patricia, patricia_rows, printed, radix_rows, write_input
 
 ASKED = 1 << 17
@@ -25,6 +26,15 @@ BINDINGS = checks.TOP / "bindings"
 WHO = ("Rattle", "C", "Rust", "Python", "py-radix", "Net::Patricia", "rte_lpm")
 CALLS = ("apply", "apply_each", "apply_journaled", "look_up_1", "look_up_text", "look_up_256", "look_up_4096",
          "look_up_array", "forward", "forwarding_1", "forwarding_256", "forwarding_4096", "forwarding_array")
+
+
+def python_library():
+    """Returns the package of bindings/python, which doesn't have to be installed. Its modules name it, so Python has to
+    know it before it is executed."""
+    found = importlib.machinery.PathFinder.find_spec("yarib", [str(BINDINGS / "python")])
+    yarib = sys.modules["yarib"] = importlib.util.module_from_spec(found)
+    found.loader.exec_module(yarib)
+    return yarib
 
 
 def python_rows(yarib, pairs, asked):
@@ -72,7 +82,7 @@ def built(folder):
 
 def measured(folder, programs, benches, pairs, asked):
     """The rows of one round, by program and call."""
-    import yarib
+    yarib = python_library()
     found = {(who, name): value for who, words in programs.items() for name, value in printed(words)}
     if benches:
         found |= {("Rattle", name): value for name, value in rattle_rows(benches, len(pairs))}

@@ -12,9 +12,8 @@ import subprocess
 import sys
 import tempfile
 
-import figures
-import checks
-from timed import taken
+from common import checks, figures
+from common.timed import taken
 
 ALONE = [(levels, 1) for levels in range(1, 7)]
 TOGETHER = [(1, 2), *((levels, threads) for levels in range(2, 7) for threads in (2, 4)), (6, 16), (6, 64)]

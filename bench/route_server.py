@@ -14,11 +14,10 @@ import random
 import sys
 import tempfile
 
-import figures
-import checks
-from inputs import add, count_lines, real_prefixes, write
-from table_model import dotted
-from timed import measure, measured, shown
+from common import checks, figures
+from common.inputs import add, count_lines, real_prefixes, write
+from common.table_model import dotted
+from common.timed import measure, measured, shown
 
 FILES = (1, 4, 16, 64)
 

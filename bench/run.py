@@ -11,10 +11,9 @@ import pathlib
 import sys
 import tempfile
 
-import figures
-import checks
-from inputs import changing_table, count_lines, deal, one_prefix, real_table, write
-from timed import measure, measured, shown
+from common import checks, figures
+from common.inputs import changing_table, count_lines, deal, one_prefix, real_table, write
+from common.timed import measure, measured, shown
 
 SIZES = (10_000, 30_000, 100_000, 300_000, 1_000_000)
 

@@ -12,9 +12,8 @@ import statistics
 import subprocess
 import sys
 
-import figures
-import checks
-from timed import taken
+from common import checks, figures
+from common.timed import taken
 
 CASES = [(threads, batch) for threads in (1, 4, 16, 64) for batch in (1, 16, 256)]
 ON_TWO = [(threads, batch) for threads in (2, 64) for batch in (1, 256)]

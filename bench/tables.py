@@ -11,7 +11,7 @@ import re
 import sys
 import textwrap
 
-import figures
+from common import figures
 from common.crates import TOP
 
 PAGE = TOP / "docs/PERFORMANCE.md"

@@ -13,8 +13,7 @@ import subprocess
 import sys
 import tempfile
 
-import figures
-import checks
+from common import checks, figures
 
 
 def timed(program, prefixes):

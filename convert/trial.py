@@ -13,16 +13,6 @@ import argparse, codecs, json, shutil
 HERE = pathlib.Path(__file__).resolve().parent
 SAMPLES = HERE / "samples"
 
-# Runs a converter with other constants of feeds.py.
-WITH_CONSTANTS = """
-import runpy, sys
-_, folder, constants, *sys.argv = sys.argv
-sys.path.insert(0, folder)
-import feeds
-exec(constants, vars(feeds))
-runpy.run_path(sys.argv[0], run_name="__main__")
-"""
-
 
 class Failed(Exception):
     """A test failed; the text says how."""
@@ -31,7 +21,7 @@ class Failed(Exception):
 def words(command, constants=""):
     """The command of a converter's call, which may change constants of feeds.py."""
     name, *options = command.split()
-    return [*([sys.executable, "-c", WITH_CONSTANTS, HERE, constants] if constants else []), HERE / name, *options]
+    return [*([sys.executable, HERE / "with_constants.py", constants] if constants else []), HERE / name, *options]
 
 
 def run(command, data, *more, constants="", **settings):
@@ -62,7 +52,6 @@ def run_in_child(words, constants):
     sys.argv = words
     try:
         if constants:
-            sys.path.insert(0, str(HERE))
             exec(constants, vars(importlib.import_module("feeds")))
         runpy.run_path(words[0], run_name="__main__")
     except SystemExit as ended:

@@ -13,8 +13,8 @@ import pathlib
 import struct
 import tempfile
 
-from checks import chosen, compiled, end, expect, run, run_each
-from table_model import dotted
+from common.checks import chosen, compiled, end, expect, run, run_each
+from common.table_model import dotted
 
 # The number of further requests that a text of twice the length may make: for its bytes, the reports, the batch and the
 # journal.

@@ -12,7 +12,7 @@ import signal
 import subprocess
 import time
 
-from checks import TOP, chosen, end, expect, run, run_each
+from common.checks import TOP, chosen, end, expect, run, run_each
 
 RIGHT = """\
 #![tactic(auto)]
@@ -35,7 +35,8 @@ class Repository:
 
     def __init__(self):
         self.top = pathlib.Path.cwd() / "repository"
-        shutil.copytree(TOP / "tools", self.top / "tools", ignore=shutil.ignore_patterns("__pycache__"))
+        for folder in ("tools", "common"):
+            shutil.copytree(TOP / folder, self.top / folder, ignore=shutil.ignore_patterns("__pycache__"))
         (self.top / "crates.txt").write_text("one staticlib:\n")
         self.source, self.log = self.top / "crates/one/src/lib.rt", self.top / "out/build/one.log"
         self.source.parent.mkdir(parents=True)

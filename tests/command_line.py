@@ -3,7 +3,7 @@
 
 tests/command_line.py [PROGRAM [CASE..]], or --list for the names of the cases. Linux, python3.
 
-The program's own outputs are compared whole, to the byte; calls that need no preparation are in tests/calls.py. A
+The program's own outputs are compared whole, to the byte; calls that need no preparation are in common/calls.py. A
 message of the library that parses the command line only has to be an error that names the argument. The help pages are
 compared with tests/help. A replay is compared with a model of the tree, written from docs/FORMATS.md. Another feed that
 takes turns with the first one observes the number of commands in a batch: its `dump`s change only where a batch of each
@@ -25,10 +25,10 @@ import textwrap
 import time
 import tty
 
-import calls
-from checks import TOP, Program, chosen, close_all, compare, end, expect, is_unproved, run_each
+from common import calls
+from common.checks import TOP, Program, chosen, close_all, compare, end, expect, is_unproved, run_each
+from common.table_model import E1, E3, E8, Table, differences_text, dotted
 from schedules import in_turns, loaded
-from table_model import E1, E3, E8, Table, differences_text, dotted
 from texts import ROW, ROW_OUT
 
 CANNOT_WRITE = (6, "", "yarib: cannot write\n")

@@ -17,8 +17,8 @@ import subprocess
 import tempfile
 from typing import NamedTuple
 
-from checks import chosen, compiled, end, expect, run, run_each
-from table_model import dotted
+from common.checks import chosen, compiled, end, expect, run, run_each
+from common.table_model import dotted
 
 WORDS = 1000
 

@@ -16,9 +16,9 @@ import resource
 import signal
 import subprocess
 
-from checks import LAUNCHED, chosen, close_all, end, expect, run, run_each
+from common.checks import LAUNCHED, chosen, close_all, end, expect, run, run_each
+from common.table_model import run_text
 from refusing import Wrong, answered_addresses, check_shown, refuse_each, refuser, run_refused
-from table_model import run_text
 from texts import AGAIN, FORWARDED, ROW, ROW_OUT, many_routes, own_text, written
 
 # Little memory

@@ -15,12 +15,11 @@ import random
 import subprocess
 import tempfile
 
-import checks
-import figures
-from inputs import real_prefixes, write_apart
-from table_model import dotted
+from common import checks, figures
+from common.inputs import real_prefixes, write_apart
+from common.table_model import dotted
+from common.timed import taken
 from texts import AGAIN
-from timed import taken
 
 ROWS = []
 CONVERTER = figures.TOP / "convert/bgpdump-to-feeds"

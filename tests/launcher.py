@@ -18,8 +18,8 @@ import subprocess
 import tempfile
 import time
 
-from checks import TOP, chosen, compiled, end, expect, library_stub, run, run_case, text_of
 from common.built import LOGIC
+from common.checks import TOP, chosen, compiled, end, expect, library_stub, run, run_case, text_of
 from common.crates import all_crates, below
 from common.prover import kit
 
@@ -79,9 +79,9 @@ class Copy:
                 path = self.top / "crates" / crate / file
                 path.parent.mkdir(parents=True)
                 path.write_text("//\n")
-        common = [f"tools/common/{name}.py" for name in ("built", "building", "crates", "prover")]
-        for name in ("yarib", "crates.txt", "tools/build", *common, "bindings/build", "bindings/c/yarib.map",
-                     "bindings/c/yarib.h", "bindings/c/handles.c"):
+        common = [f"common/{name}.py" for name in ("built", "building", "crates", "prover")]
+        for name in ("yarib", "crates.txt", "tools/build", "tools/common.py", *common, "bindings/build",
+                     "bindings/c/yarib.map", "bindings/c/yarib.h", "bindings/c/handles.c"):
             (self.top / name).parent.mkdir(parents=True, exist_ok=True)
             shutil.copy(TOP / name, self.top / name)
         for path in self.top.rglob("*"):
@@ -260,8 +260,7 @@ def refused_files(top):
     """The file that no crate's check reads, by the toolchain's own check, with which `rt ci` begins; None if there is
     no such file. It is the check of this machine's toolchain, over that tree."""
     asked = f"""
-import os, sys
-sys.path.insert(0, {str(kit() / "bin")!r})
+import os
 import rtlib
 os.chdir({str(top)!r})
 crates = rtlib.crates_below(os.getcwd())
@@ -269,7 +268,7 @@ for name in sorted(os.listdir()):
     if os.path.isdir(name) and name != ".git":
         rtlib.stop_on_unread(f"{{os.getcwd()}}/{{name}}", crates)
 """
-    status, out, err = run(["python3", "-c", asked])
+    status, out, err = run(["python3", "-c", asked], env=os.environ | {"PYTHONPATH": str(kit() / "bin")})
     named = re.search(rf"no check reads {re.escape(str(top))}/(\S+):", out + err)
     return named[1] if named else None if status == 0 else f"status {status}: {out}{err}"
 

@@ -14,7 +14,7 @@ same commands have led to the same table.
 The judge is for texts whose lines are valid or have the fault E1, and for runs with ample memory: it doesn't accept a
 refusal as an answer.
 """
-from table_model import Table, table_text
+from common.table_model import Table, table_text
 
 TAKES = {"add": 3, "replace": 3, "withdraw": 1, "lookup": 1, "dump": 0}
 

@@ -12,7 +12,7 @@ import subprocess
 import sys
 import tempfile
 
-from checks import TOP
+from common.checks import TOP
 from common.mutant_lists import bodies_of
 from common.rust_sources import Source
 
@@ -57,8 +57,8 @@ def listed(name, old, new, function):
 
 # Prints what is kept of two bodies of a crate, and keeps that the first was refused.
 KEEPS = """
-from common.mutant_lists import bodies_of
 from common.kept_verdicts import Kept
+from common.mutant_lists import bodies_of
 kept, (one, other, *_) = Kept("rt_cidr"), bodies_of("rt_cidr")
 print(kept.said_of(one), kept.said_of(other))
 kept.keep(one, "kept")
@@ -105,10 +105,11 @@ def wrongly_kept():
     depends on."""
     with tempfile.TemporaryDirectory(prefix="kept-") as room:
         top, wrong = pathlib.Path(room) / "top", []
-        shutil.copytree(TOP / "tools", top / "tools")
+        for folder in ("tools", "common"):
+            shutil.copytree(TOP / folder, top / folder)
         shutil.copytree(TOP / "crates/rt_cidr", top / "crates/rt_cidr", ignore=shutil.ignore_patterns("out"))
         shutil.copy(TOP / "crates.txt", top)
-        how = {"cwd": top, "env": os.environ | {"XDG_CACHE_HOME": room, "PYTHONPATH": "tools"}}
+        how = {"cwd": top, "env": os.environ | {"XDG_CACHE_HOME": room}}
         call = lambda: subprocess.run([sys.executable, "-c", KEEPS], **how, stdout=subprocess.PIPE,
                                       text=True).stdout.strip()
         if (call(), call()) != ("None None", "kept None"):

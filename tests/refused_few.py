@@ -12,7 +12,7 @@ import itertools
 import pathlib
 import tempfile
 
-import checks
+from common import checks
 from refused_growth import Called, Case, SIX_COMMANDS, check_run, check_same
 from refusing import Wrong, refuse_each, refuser
 from texts import own_text, written

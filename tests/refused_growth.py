@@ -16,9 +16,9 @@ import pathlib
 import re
 import tempfile
 
-import checks
+from common import checks
+from common.table_model import Table, dotted, run_text
 from refusing import Wrong, agree, check_shown, refuse_each, refuser
-from table_model import Table, dotted, run_text
 from texts import own_text, written
 
 

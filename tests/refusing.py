@@ -4,7 +4,7 @@ import itertools
 import os
 import re
 
-from checks import compiled, run
+from common.checks import compiled, run
 
 # The end of a run, and whether one of its requests was refused.
 Ending = collections.namedtuple("Ending", "status out err refused")

@@ -3,7 +3,7 @@
 
 tests/rows.py [PROGRAM [CASE..]], or --list for the names of the cases. Linux, python3.
 
-Worked runs and replays are in tests/worked.py. Hostile lines are read by a plain reader, written from docs/FORMATS.md.
+Worked runs and replays are in common/worked.py. Hostile lines are read by a plain reader, written from docs/FORMATS.md.
 If the plain reader accepts a line as a command, other lines are put around it, and their answers show everything that
 the program read in that line. Runs of random feeds on threads are judged by tests/linearizability.py: some order of the feeds'
 batches has to explain each.
@@ -17,11 +17,11 @@ import sys
 import time
 from typing import NamedTuple
 
+from common.checks import chosen, compare, end, expect, is_unproved, run_each
+from common.table_model import E1, E3, E8, Table, dotted, run_text, table_text
+from common.worked import REPLAYS, SIX, WORKED, report
 import linearizability
-from checks import chosen, compare, end, expect, is_unproved, run_each
 from schedules import in_turns
-from table_model import E1, E3, E8, Table, dotted, run_text, table_text
-from worked import REPLAYS, SIX, WORKED, report
 
 
 def run_texts(yarib, texts, words=()):

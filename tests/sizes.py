@@ -23,8 +23,8 @@ import os
 import pathlib
 import subprocess
 
-from checks import LAUNCHED, chosen, compare, end, expect, run_each
-from table_model import all_answers_text, answers_text, dotted, ran, run_text, told_text
+from common.checks import LAUNCHED, chosen, compare, end, expect, run_each
+from common.table_model import all_answers_text, answers_text, dotted, ran, run_text, told_text
 from texts import FORWARDED, many_routes
 
 MOST = 1_000_000

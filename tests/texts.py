@@ -1,7 +1,7 @@
 """Texts of feeds that several scripts run, and their outputs."""
 import pathlib
 
-from table_model import dotted
+from common.table_model import dotted
 
 ROW = "add 10.0.0.0/8 100 192.0.2.1\n"
 ROW_OUT = "1:1 added\ntable 1\n10.0.0.0/8 feed 1 pref 100 via 192.0.2.1\n"

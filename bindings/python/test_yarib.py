@@ -1,6 +1,6 @@
 """What Python's binding does beside the library's own calls: its types, exceptions, buffers and threads.
 
-    PYTHONPATH=tests YARIB_LIBRARY=bindings/out/libyarib.so.0 python3 bindings/python/test_yarib.py
+    PYTHONPATH=. YARIB_LIBRARY=bindings/out/libyarib.so.0 python3 bindings/python/test_yarib.py
 """
 import array
 import gc
@@ -9,7 +9,7 @@ import random
 import threading
 import unittest
 
-import table_model
+from common import table_model
 import yarib
 
 NETWORK, ADDRESS = ipaddress.IPv4Network, ipaddress.IPv4Address

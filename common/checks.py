@@ -12,9 +12,8 @@ import tempfile
 import threading
 import traceback
 
-sys.path.append(str(pathlib.Path(__file__).resolve().parents[1] / "tools"))
-from common.crates import TOP, cache
-from common.workspaces import lay_out, renew
+from .crates import TOP, cache
+from .workspaces import lay_out, renew
 
 # The setting that the launchers make before the program starts, as in ./yarib's own line: one arena of large pages.
 LAUNCHED = {"GLIBC_TUNABLES": re.search(r'^export GLIBC_TUNABLES="(.*?)\$', (TOP / "yarib").read_text(), re.M)[1]}

@@ -7,7 +7,7 @@ has to be one of these calls (tools/check).
 import collections
 import pathlib
 
-from table_model import E3
+from .table_model import E3
 
 EXAMPLES = pathlib.Path(__file__).resolve().parent.parent / "examples"
 

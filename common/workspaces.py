@@ -3,9 +3,8 @@ them. `rt ci` accepts no second crates.txt in the repository."""
 import os
 import shutil
 
+from .built import PARTS
 from .crates import CRATES, TOP, below, needs
-
-PARTS = ("src", "specs", "proofs")
 
 
 def lay_out(room, crates, lines):

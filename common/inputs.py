@@ -5,7 +5,7 @@ import random
 import subprocess
 import sys
 
-from table_model import dotted
+from .table_model import dotted
 
 
 def one_prefix(count):

@@ -19,7 +19,7 @@ from .crates import CRATES, TOP, below, cache, heads
 from .prover import kit
 from .rust_sources import Source
 
-SCRIPTS = ("tools/mutants", "tools/common/mutant_lists.py", "tools/common/prover.py")
+SCRIPTS = ("tools/mutants", "common/mutant_lists.py", "common/prover.py")
 CITED = re.compile(r"\bproofs\.([\w.+']+)")
 
 

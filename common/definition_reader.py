@@ -206,7 +206,7 @@ def resolved(module, name):
             named = parts[-1]
         found = rust_type(declared[1], named)
         if not found:
-            sys.exit(f"tools/common/definition_reader.py: no type {named} in {declared[1]}")
+            sys.exit(f"common/definition_reader.py: no type {named} in {declared[1]}")
         yield found
         return
     ours = spec_module(module)
@@ -224,7 +224,7 @@ def resolved(module, name):
     if name in used:
         yield from resolved(*used[name])
         return
-    sys.exit(f"tools/common/definition_reader.py: no {name} in {module}")
+    sys.exit(f"common/definition_reader.py: no {name} in {module}")
 
 
 def words_of(text, local, used):

@@ -17,10 +17,9 @@ import subprocess
 import sys
 import time
 
-sys.path.append(str(pathlib.Path(__file__).resolve().parents[1] / "tools"))
-from common.crates import TOP
 # The module that tests the program knows how it is built and how the launchers start it.
-import checks
+from . import checks
+from .crates import TOP
 
 FOLDER = TOP / "bench" / "figures"
 # How tables and figures name the memory settings of a measurement. None is for counts, and if only one thread

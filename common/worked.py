@@ -1,7 +1,7 @@
 """Worked runs, line by line, and whole replays: what the program writes for each."""
 from typing import NamedTuple
 
-from table_model import table_text
+from .table_model import table_text
 
 
 class Worked(NamedTuple):

@@ -3,7 +3,7 @@ import functools
 import os
 import pathlib
 
-TOP = pathlib.Path(__file__).resolve().parents[2]
+TOP = pathlib.Path(__file__).resolve().parents[1]
 CRATES = TOP / "crates"
 
 

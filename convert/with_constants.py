@@ -1,0 +1,10 @@
+"""Runs a converter with other constants of feeds.py, for the tests: with_constants.py CONSTANTS CONVERTER [WORD..]"""
+import runpy
+import sys
+
+# The converter's messages have its own name, which the next import reads.
+_, constants, *sys.argv = sys.argv
+import feeds
+
+exec(constants, vars(feeds))
+runpy.run_path(sys.argv[0], run_name="__main__")
