@@ -2,6 +2,7 @@
 import re
 
 from .crates import CRATES
+from .mutant_lists import Body
 
 LISTS = "*/must-fail/definitions.md"
 FORM = re.compile(r"([\w-]+)\n\n```\nfile: (specs/\S+)\n((?:old: .+\nnew:.*\n)+)refused by: (\S+)\n```\n+")
@@ -16,6 +17,9 @@ class Change:
         self.form = FORM.fullmatch(section)
         _, self.file, pairs, self.example = self.form.groups() if self.form else ("", "", "", "")
         self.pairs = re.findall(r"^old: (.+)\nnew: ?(.*)$", pairs, re.M)
+
+    # A change replaces its pairs as a listed mutant does.
+    changed = Body.changed
 
 
 def listing_crates():
