@@ -13,7 +13,7 @@
  *
  * bindings/build renames the proved calls to proved_yarib_.., and hides them. */
 #define _DEFAULT_SOURCE
-#include "yarib.h"
+#include "layer.h"
 
 #include <linux/membarrier.h>
 #include <stdlib.h>
@@ -28,52 +28,16 @@
 #define READER ((uintptr_t)1 << 48)
 #define READERS (~(uintptr_t)0 << 48)
 
-/* The place of a thread, with a cache line of its own: the handle that a call of the thread reads. */
-struct place {
-    const yarib *reading;
-    int is_taken;
-    char apart[64 - sizeof(void *) - sizeof(int)];
-};
-
 /* A copy of a handle, and the place of the call that reads it, if it has one. */
 struct own {
     yarib handle;
     struct place *place;
 };
 
-#define PLACES 256
-
-static struct place places[PLACES] __attribute__((aligned(64)));
-
-/* The number of places in use, and the number of the first places that were ever in use. */
-static int taken, used;
-
-/* The thread's place. `is_known` is 1 after the thread has requested a place: not every thread gets one. */
-static __thread struct place *my_place;
-static __thread int is_known;
-
-uint32_t proved_yarib_new(yarib *table, uint32_t limit, uint32_t kind);
-void proved_yarib_free(yarib *table);
-uint32_t proved_yarib_apply(yarib *table, const yarib_command *command, yarib_reply *reply);
-uint32_t proved_yarib_apply_each(yarib *table, const yarib_command *commands, size_t size, yarib_reply *replies, size_t room);
-uint32_t proved_yarib_reserve(yarib *table, size_t entries);
-uint32_t proved_yarib_look_up(yarib *table, const uint32_t *addresses, size_t size, yarib_route *answers, size_t room);
-uint32_t proved_yarib_look_up_one(yarib *table, uint32_t address, yarib_route *answer);
-uint32_t proved_yarib_hops(yarib *table, const uint32_t *addresses, size_t size, uint32_t no_route, uint32_t discard, uint32_t *hops,
-    size_t room);
-uint32_t proved_yarib_look_up_all(yarib *table, uint32_t address, size_t skip, yarib_route *routes, size_t room, size_t *total);
-uint32_t proved_yarib_routes(yarib *table, size_t skip, yarib_route *routes, size_t room, size_t *total);
-uint32_t proved_yarib_routes_from(yarib *table, const yarib_route *from, yarib_route *routes, size_t room, size_t *used);
-uint32_t proved_yarib_select(yarib *table, const yarib_selection *asked, size_t skip, yarib_route *routes, size_t room,
-    size_t *total);
-uint32_t proved_yarib_count(yarib *table, size_t *total);
-uint32_t proved_yarib_journal(yarib *table, size_t skip, yarib_entry *entries, size_t room, size_t *total);
-uint32_t proved_yarib_first_difference(yarib *old_table, yarib *new_table, uint32_t by, uint32_t from,
-    yarib_difference *difference);
-uint32_t proved_yarib_forward(yarib *table, yarib *forwarding);
-uint32_t proved_yarib_share(yarib *forwarding, yarib *other);
-uint32_t proved_yarib_follow(yarib *table);
-uint32_t proved_yarib_memory(yarib *table, size_t *bytes);
+struct place places[PLACES] __attribute__((aligned(64)));
+int taken, used;
+__thread struct place *my_place;
+__thread int is_known;
 
 /* A function of the C library: it calls the given function when this thread ends. */
 extern int __cxa_thread_atexit_impl(void (*call)(void *), void *argument, void *library) __attribute__((weak));
@@ -84,6 +48,13 @@ static int barrier(int command)
     return syscall(SYS_membarrier, command, 0, 0) == 0;
 }
 
+int barrier_everywhere(void)
+{
+    /* After a fork the kernel has forgotten that this process registered for barriers, so it registers again. */
+    return barrier(MEMBARRIER_CMD_PRIVATE_EXPEDITED)
+        || (barrier(MEMBARRIER_CMD_REGISTER_PRIVATE_EXPEDITED) && barrier(MEMBARRIER_CMD_PRIVATE_EXPEDITED));
+}
+
 static void leave_place(void *argument)
 {
     struct place *place = argument;
@@ -92,8 +63,7 @@ static void leave_place(void *argument)
     __atomic_fetch_sub(&taken, 1, __ATOMIC_SEQ_CST);
 }
 
-/* Takes a place for this thread until it ends, if there is one and the kernel has the barrier. */
-static void take_place(void)
+void take_place(void)
 {
     is_known = 1;
     if (!__cxa_thread_atexit_impl || !barrier(MEMBARRIER_CMD_REGISTER_PRIVATE_EXPEDITED)) return;
@@ -154,9 +124,7 @@ static int is_read(const yarib *handle)
     struct place *mine = my_place;
     if (mine && mine->reading == handle) return 1;
     if (__atomic_load_n(&taken, __ATOMIC_SEQ_CST) == (mine != NULL)) return 0;
-    /* After a fork the kernel has forgotten that this process registered for barriers, so it registers again. */
-    if (!barrier(MEMBARRIER_CMD_PRIVATE_EXPEDITED)
-        && !(barrier(MEMBARRIER_CMD_REGISTER_PRIVATE_EXPEDITED) && barrier(MEMBARRIER_CMD_PRIVATE_EXPEDITED))) return 1;
+    if (!barrier_everywhere()) return 1;
     for (int k = 0; k < __atomic_load_n(&used, __ATOMIC_SEQ_CST); k++) {
         if (__atomic_load_n(&places[k].reading, __ATOMIC_ACQUIRE) == handle) return 1;
     }

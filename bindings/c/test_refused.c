@@ -163,7 +163,107 @@ static int refuse_forwarding(long number, uint32_t kind)
     return refused_call == 0;
 }
 
-int main(void)
+/* Checks that both calls that read the concurrent table find the routes of the first `routes` bytes, but the withdrawn one. */
+static void ask_concurrent(const yarib_concurrent *table, uint32_t routes, uint32_t withdrawn)
+{
+    yarib_route answer;
+    size_t total;
+    CHECK(yarib_concurrent_count(table, &total) == YARIB_DONE && total == routes - (withdrawn < routes));
+    for (uint32_t k = 0; k < 24; k++) {
+        CHECK(yarib_concurrent_look_up_one(table, k << 24 | 5, &answer) == YARIB_DONE);
+        CHECK(k < routes && k != withdrawn ? answer.base == k << 24 && answer.pref == k : answer.hop == YARIB_NO_ROUTE);
+    }
+}
+
+/* Executes a command in a concurrent table until memory is found. After each refusal readers have what they had. Returns 1 if it is a
+ * command that doesn't allocate, which was refused because the other side lacks an add. */
+static int apply_concurrent(yarib_concurrent *table, yarib_command command, uint32_t routes, uint32_t withdrawn)
+{
+    yarib_reply reply = {.code = 99};
+    uint32_t status;
+    int is_late = 0;
+    while ((status = yarib_concurrent_apply(table, &command, &reply)) != YARIB_DONE) {
+        CHECK(status == YARIB_NO_MEMORY && reply.code == 99);
+        ask_concurrent(table, routes, withdrawn);
+        refused++;
+        is_late |= command.operation != YARIB_ADD;
+    }
+    CHECK(reply.code == (command.operation == YARIB_ADD ? YARIB_ADDED : YARIB_WITHDRAWN));
+    return is_late;
+}
+
+/* A concurrent table from its making on: a change that is refused isn't made. One that is refused in the second side alone is kept, and
+ * made there before the next change. */
+static int refuse_concurrent(long number, int is_attached, int *late)
+{
+    yarib_concurrent table = YARIB_CONCURRENT_EMPTY;
+    yarib_command batch[4];
+    yarib_reply replies[4];
+    const uint32_t first = is_attached ? 5 : 20, all = first + 4, none = 99;
+    uint32_t status;
+    size_t bytes;
+    refused_call = is_attached ? 0 : number;
+    while ((status = yarib_concurrent_new(&table, 100)) != YARIB_DONE) {
+        CHECK(status == YARIB_NO_MEMORY && table.inside == NULL);
+        refused++;
+    }
+    if (is_attached) refused_call = number;
+    while (is_attached && (status = yarib_concurrent_fib_attach(&table)) != YARIB_DONE) {
+        CHECK(status == YARIB_NO_MEMORY && yarib_concurrent_memory(&table, &bytes) == YARIB_DONE);
+        ask_concurrent(&table, 0, none);
+        refused++;
+    }
+    for (uint32_t k = 0; k < first; k++) {
+        yarib_command command = {.operation = YARIB_ADD, .feed = 1, .base = k << 24, .len = k % 3 ? 8 : 25, .pref = k,
+                                 .hop = YARIB_VIA, .via = k};
+        apply_concurrent(&table, command, k, none);
+        ask_concurrent(&table, k + 1, none);
+        command.operation = YARIB_WITHDRAW;
+        *late += apply_concurrent(&table, command, k + 1, none);
+        ask_concurrent(&table, k + 1, k);
+        command.operation = YARIB_ADD;
+        apply_concurrent(&table, command, k + 1, k);
+        ask_concurrent(&table, k + 1, none);
+    }
+    /* Of a batch those commands are published that found memory. */
+    for (uint32_t k = 0; k < 4; k++) batch[k] = (yarib_command){.operation = YARIB_ADD, .feed = 1, .base = (first + k) << 24, .len = 8,
+                                                                .pref = first + k, .hop = YARIB_VIA, .via = k};
+    while ((status = yarib_concurrent_apply_each(&table, batch, 4, replies, 4)) != YARIB_DONE) {
+        CHECK(status == YARIB_NO_MEMORY);
+        ask_concurrent(&table, first, none);
+        refused++;
+    }
+    for (uint32_t k = 0; k < 4; k++) {
+        if (replies[k].code == YARIB_ADDED) continue;
+        CHECK(replies[k].code == YARIB_UNANSWERED && replies[k].count == YARIB_NO_MEMORY);
+        ask_concurrent(&table, all, first + k);
+        refused++;
+        apply_concurrent(&table, batch[k], all, first + k);
+    }
+    ask_concurrent(&table, all, none);
+    /* Two more changes show the other side. */
+    batch[0].operation = YARIB_WITHDRAW;
+    *late += apply_concurrent(&table, batch[0], all, none);
+    ask_concurrent(&table, all, first);
+    batch[0].operation = YARIB_ADD;
+    apply_concurrent(&table, batch[0], all, first);
+    ask_concurrent(&table, all, none);
+    long left = refused_call;
+    refused_call = 0;
+    if (is_attached) {
+        CHECK(yarib_concurrent_fib_attach(&table) == YARIB_DONE);
+        for (uint32_t k = 0; k < 2; k++) {
+            CHECK(yarib_concurrent_memory(&table, &bytes) == YARIB_DONE && bytes >= (size_t)2 << 26);
+            batch[0].operation = k ? YARIB_ADD : YARIB_WITHDRAW;
+            apply_concurrent(&table, batch[0], all, k ? first : none);
+        }
+        ask_concurrent(&table, all, none);
+    }
+    CHECK(yarib_concurrent_free(&table) == YARIB_DONE && table.inside == NULL);
+    return left == 0;
+}
+
+static void refuse_plain(void)
 {
     for (uint32_t kind = YARIB_PLAIN; kind <= YARIB_JOURNALED; kind++) {
         long number = 1;
@@ -176,6 +276,19 @@ int main(void)
     long number = 1;
     while (refuse_followed(number)) number++;
     CHECK(number > 10);
+}
+
+/* With an argument, only concurrent tables are tried. */
+int main(int count, char **words)
+{
+    (void)words;
+    if (count == 1) refuse_plain();
+    for (int is_attached = 0; is_attached < 2; is_attached++) {
+        long number = 1;
+        int late = 0;
+        while (refuse_concurrent(number, is_attached, &late)) number++;
+        CHECK(number > (is_attached ? 30 : 80) && late >= (is_attached ? 4 : 10));
+    }
     printf("refused %d\n", refused);
     return 0;
 }

@@ -31,6 +31,8 @@
  * damage what a handle holds. So call again later; or protect the handle with a read-write lock of your own, and no call is ever
  * busy. While it runs, a reading call may count itself in the handle, so don't declare a handle const. After a fork, a handle that
  * another thread was using stays busy in the child.
+ * Only a concurrent table (yarib_concurrent_new) is different: its readers are never busy and never wait, and a change of it may wait
+ * for readers. It takes twice the memory.
  *
  * Pointers must not be null, even for arrays without elements. No memory that a call writes may overlap other memory that is
  * passed to it. If a call takes two handles, they must be different. Define YARIB_CHECK to have these rules tested by
@@ -320,6 +322,76 @@ YARIB_STATUS yarib_follow(yarib *table);
  * Errors: YARIB_NOTHING. */
 YARIB_STATUS yarib_memory(const yarib *table, size_t *bytes);
 
+/* A concurrent table: one thread changes it while any number of threads read it. It has no journal.
+ *
+ * A reading call never waits, never returns YARIB_BUSY, and gets one published table: all answers and routes that the call
+ * writes come from the table before a change or after it, whatever runs meanwhile. yarib_concurrent_apply publishes the table after
+ * its command, yarib_concurrent_apply_each the table after all its commands at once. A change is published when the call
+ * returns: reading calls that begin later see it.
+ *
+ * A change runs by itself: during another change, or during yarib_concurrent_new or yarib_concurrent_free, it returns YARIB_BUSY. It
+ * waits for reading calls that began before the previous publication and still run, and for those of threads beyond 256.
+ *
+ * It takes twice the memory of a table, since it holds two: readers use one while a change is made in the other. It also holds the
+ * commands of the last change, 24 bytes each. If a change returns YARIB_NO_MEMORY, it is not made, and readers have the
+ * published table. This may happen to every change, also to a withdrawal, as long as no memory is found for the previous one
+ * in the second table.
+ *
+ * Initialize a handle with YARIB_CONCURRENT_EMPTY, never copy it, and don't declare it const. It must exist as long as a call may use it.
+ * In the child of a fork, don't use a handle that another thread was using. */
+typedef struct yarib_concurrent {
+    void *inside;
+} yarib_concurrent;
+
+#ifdef __cplusplus
+#define YARIB_CONCURRENT_EMPTY (yarib_concurrent())
+#else
+#define YARIB_CONCURRENT_EMPTY ((yarib_concurrent){NULL})
+#endif
+
+/* Creates an empty table that allows each feed up to `limit` routes. If it succeeds, the handle's previous contents are freed, as by
+ * yarib_concurrent_free.
+ * Errors: YARIB_BAD_NUMBER, YARIB_NO_MEMORY. */
+YARIB_STATUS yarib_concurrent_new(yarib_concurrent *table, uint32_t limit);
+
+/* Frees the contents of the handle, which is empty then: reading calls that begin later return YARIB_NOTHING. Any thread may call it at
+ * any time. It waits for the reading calls that run. Returns YARIB_DONE, or YARIB_BUSY during a change. */
+enum yarib_status yarib_concurrent_free(yarib_concurrent *table);
+
+/* Executes a command, writes its reply, and publishes the table.
+ * Errors: YARIB_NOTHING, YARIB_NO_MEMORY (for the previous change), YARIB_BAD_NUMBER (the feed), YARIB_BAD_COMMAND, YARIB_NO_MEMORY. */
+YARIB_STATUS yarib_concurrent_apply(yarib_concurrent *table, const yarib_command *command, yarib_reply *reply);
+
+/* Executes the commands in order, as yarib_apply_each does, and then publishes the table once. If commands fail, the table after all
+ * others is published.
+ * Errors: YARIB_BAD_SIZE (the sizes differ), YARIB_NOTHING, YARIB_NO_MEMORY (for the previous change, or to keep the commands). */
+YARIB_STATUS yarib_concurrent_apply_each(yarib_concurrent *table, const yarib_command *commands, size_t size,
+    yarib_reply *replies, size_t room);
+
+/* Attaches a forwarding table to each of the two tables, 128 MiB or more together, as yarib_fib_attach does. It waits for the reading
+ * calls that run. If it returns YARIB_NO_MEMORY, one of the two may have a forwarding table. If a later change finds no memory to
+ * update one of them, that one is freed, and look-ups in its table are slower until this is called again; the answers stay right.
+ * Errors: YARIB_NOTHING, YARIB_NO_MEMORY. */
+YARIB_STATUS yarib_concurrent_fib_attach(yarib_concurrent *table);
+
+/* The reading calls. Each does what the call without `concurrent` in its name does to a table, and has its errors except YARIB_BUSY and
+ * YARIB_WRONG_KIND. To read all routes of one published table, read them in one call: pages come from the tables that are published
+ * when their calls run. yarib_concurrent_memory counts both tables, the second one as large as the published one. */
+YARIB_STATUS yarib_concurrent_look_up(const yarib_concurrent *table, const uint32_t *addresses, size_t size, yarib_route *answers,
+    size_t room);
+YARIB_STATUS yarib_concurrent_look_up_one(const yarib_concurrent *table, uint32_t address, yarib_route *answer);
+YARIB_STATUS yarib_concurrent_hops(const yarib_concurrent *table, const uint32_t *addresses, size_t size, uint32_t no_route,
+    uint32_t discard, uint32_t *hops, size_t room);
+YARIB_STATUS yarib_concurrent_look_up_all(const yarib_concurrent *table, uint32_t address, size_t skip, yarib_route *routes,
+    size_t room, size_t *total);
+YARIB_STATUS yarib_concurrent_routes(const yarib_concurrent *table, size_t skip, yarib_route *routes, size_t room, size_t *total);
+YARIB_STATUS yarib_concurrent_routes_from(const yarib_concurrent *table, const yarib_route *from, yarib_route *routes, size_t room,
+    size_t *used);
+YARIB_STATUS yarib_concurrent_select(const yarib_concurrent *table, const yarib_selection *asked, size_t skip, yarib_route *routes,
+    size_t room, size_t *total);
+YARIB_STATUS yarib_concurrent_count(const yarib_concurrent *table, size_t *total);
+YARIB_STATUS yarib_concurrent_memory(const yarib_concurrent *table, size_t *bytes);
+
 /* Parses a prefix such as 10.0.0.0/8, without leading zeros and without a bit set past the length. The text needs no terminating null.
  * Errors: YARIB_BAD_TEXT, YARIB_BAD_LENGTH, YARIB_BAD_BITS. */
 YARIB_STATUS yarib_prefix_parse(const char *text, size_t size, yarib_prefix *prefix);
@@ -497,6 +569,119 @@ static inline YARIB_STATUS yarib_memory_checked(const yarib *table, size_t *byte
     return yarib_memory(table, bytes);
 }
 #define yarib_memory yarib_memory_checked
+
+static inline YARIB_STATUS yarib_concurrent_new_checked(yarib_concurrent *table, uint32_t limit)
+{
+    assert(table != NULL);
+    return yarib_concurrent_new(table, limit);
+}
+#define yarib_concurrent_new yarib_concurrent_new_checked
+
+static inline enum yarib_status yarib_concurrent_free_checked(yarib_concurrent *table)
+{
+    assert(table != NULL);
+    return yarib_concurrent_free(table);
+}
+#define yarib_concurrent_free yarib_concurrent_free_checked
+
+static inline YARIB_STATUS yarib_concurrent_apply_checked(yarib_concurrent *table, const yarib_command *command,
+    yarib_reply *reply)
+{
+    assert(table != NULL && command != NULL && reply != NULL);
+    assert(yarib_are_apart(command, sizeof *command, reply, sizeof *reply));
+    return yarib_concurrent_apply(table, command, reply);
+}
+#define yarib_concurrent_apply yarib_concurrent_apply_checked
+
+static inline YARIB_STATUS yarib_concurrent_apply_each_checked(yarib_concurrent *table, const yarib_command *commands,
+    size_t size, yarib_reply *replies, size_t room)
+{
+    assert(table != NULL && commands != NULL && replies != NULL);
+    assert(yarib_are_apart(commands, size * sizeof *commands, replies, room * sizeof *replies));
+    return yarib_concurrent_apply_each(table, commands, size, replies, room);
+}
+#define yarib_concurrent_apply_each yarib_concurrent_apply_each_checked
+
+static inline YARIB_STATUS yarib_concurrent_fib_attach_checked(yarib_concurrent *table)
+{
+    assert(table != NULL);
+    return yarib_concurrent_fib_attach(table);
+}
+#define yarib_concurrent_fib_attach yarib_concurrent_fib_attach_checked
+
+static inline YARIB_STATUS yarib_concurrent_look_up_checked(const yarib_concurrent *table, const uint32_t *addresses,
+    size_t size, yarib_route *answers, size_t room)
+{
+    assert(table != NULL && addresses != NULL && answers != NULL);
+    assert(yarib_are_apart(addresses, size * sizeof *addresses, answers, room * sizeof *answers));
+    return yarib_concurrent_look_up(table, addresses, size, answers, room);
+}
+#define yarib_concurrent_look_up yarib_concurrent_look_up_checked
+
+static inline YARIB_STATUS yarib_concurrent_look_up_one_checked(const yarib_concurrent *table, uint32_t address,
+    yarib_route *answer)
+{
+    assert(table != NULL && answer != NULL);
+    return yarib_concurrent_look_up_one(table, address, answer);
+}
+#define yarib_concurrent_look_up_one yarib_concurrent_look_up_one_checked
+
+static inline YARIB_STATUS yarib_concurrent_hops_checked(const yarib_concurrent *table, const uint32_t *addresses,
+    size_t size, uint32_t no_route, uint32_t discard, uint32_t *hops, size_t room)
+{
+    assert(table != NULL && addresses != NULL && hops != NULL);
+    assert(yarib_are_apart(addresses, size * sizeof *addresses, hops, room * sizeof *hops));
+    return yarib_concurrent_hops(table, addresses, size, no_route, discard, hops, room);
+}
+#define yarib_concurrent_hops yarib_concurrent_hops_checked
+
+static inline YARIB_STATUS yarib_concurrent_look_up_all_checked(const yarib_concurrent *table, uint32_t address, size_t skip,
+    yarib_route *routes, size_t room, size_t *total)
+{
+    assert(table != NULL && routes != NULL && total != NULL);
+    return yarib_concurrent_look_up_all(table, address, skip, routes, room, total);
+}
+#define yarib_concurrent_look_up_all yarib_concurrent_look_up_all_checked
+
+static inline YARIB_STATUS yarib_concurrent_routes_checked(const yarib_concurrent *table, size_t skip, yarib_route *routes,
+    size_t room, size_t *total)
+{
+    assert(table != NULL && routes != NULL && total != NULL);
+    return yarib_concurrent_routes(table, skip, routes, room, total);
+}
+#define yarib_concurrent_routes yarib_concurrent_routes_checked
+
+static inline YARIB_STATUS yarib_concurrent_routes_from_checked(const yarib_concurrent *table, const yarib_route *from,
+    yarib_route *routes, size_t room, size_t *used)
+{
+    assert(table != NULL && from != NULL && routes != NULL && used != NULL);
+    assert(yarib_are_apart(from, sizeof *from, routes, room * sizeof *routes));
+    return yarib_concurrent_routes_from(table, from, routes, room, used);
+}
+#define yarib_concurrent_routes_from yarib_concurrent_routes_from_checked
+
+static inline YARIB_STATUS yarib_concurrent_select_checked(const yarib_concurrent *table, const yarib_selection *asked,
+    size_t skip, yarib_route *routes, size_t room, size_t *total)
+{
+    assert(table != NULL && asked != NULL && routes != NULL && total != NULL);
+    assert(yarib_are_apart(asked, sizeof *asked, routes, room * sizeof *routes));
+    return yarib_concurrent_select(table, asked, skip, routes, room, total);
+}
+#define yarib_concurrent_select yarib_concurrent_select_checked
+
+static inline YARIB_STATUS yarib_concurrent_count_checked(const yarib_concurrent *table, size_t *total)
+{
+    assert(table != NULL && total != NULL);
+    return yarib_concurrent_count(table, total);
+}
+#define yarib_concurrent_count yarib_concurrent_count_checked
+
+static inline YARIB_STATUS yarib_concurrent_memory_checked(const yarib_concurrent *table, size_t *bytes)
+{
+    assert(table != NULL && bytes != NULL);
+    return yarib_concurrent_memory(table, bytes);
+}
+#define yarib_concurrent_memory yarib_concurrent_memory_checked
 
 static inline YARIB_STATUS yarib_prefix_parse_checked(const char *text, size_t size, yarib_prefix *prefix)
 {

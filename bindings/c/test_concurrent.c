@@ -1,0 +1,422 @@
+/* Concurrent tables, call by call. The library gets its memory from the functions below, which make other calls from inside a call
+ * or hold a reading call where it is: so it is known which calls run at the same time. */
+#define _POSIX_C_SOURCE 200809L
+#include <pthread.h>
+#include <semaphore.h>
+#include <stdatomic.h>
+#include <stdbool.h>
+#include <stdio.h>
+#include <stdlib.h>
+#include <string.h>
+#include <time.h>
+#include <unistd.h>
+#include <yarib.h>
+
+#define CHECK(holds) ((holds) ? (void)0 : (fprintf(stderr, "%s:%d: %s\n", __FILE__, __LINE__, #holds), _exit(1)))
+
+enum { ROOM = 600, LIMIT = 100 };
+
+struct tried {
+    bool ok;
+    void *block;
+};
+
+static yarib_concurrent table = YARIB_CONCURRENT_EMPTY;
+
+/* The same routes as the published table, by a table of its own. */
+static yarib model = YARIB_EMPTY;
+
+/* What this thread does during its next call for memory. */
+static __thread void (*inside)(void);
+static int entered;
+
+static void meet(void)
+{
+    void (*call)(void) = inside;
+    inside = NULL;
+    if (call) call();
+}
+
+struct tried rattle_alloc(size_t size, size_t alignment)
+{
+    (void)alignment;
+    meet();
+    return (struct tried){true, malloc(size ? size : 1)};
+}
+
+struct tried rattle_realloc(void *block, size_t kept, size_t size, size_t alignment)
+{
+    (void)kept;
+    (void)alignment;
+    meet();
+    return (struct tried){true, realloc(block, size ? size : 1)};
+}
+
+void rattle_dealloc(void *block)
+{
+    free(block);
+}
+
+static yarib_command command(uint32_t operation, uint32_t feed, uint32_t base, uint8_t len, uint32_t via)
+{
+    return (yarib_command){.operation = operation, .feed = feed, .base = base, .len = len, .pref = via % 4, .hop = YARIB_VIA, .via = via};
+}
+
+static yarib_command add(uint32_t byte, uint32_t via)
+{
+    return command(YARIB_ADD, 1, byte << 24, 8, via);
+}
+
+/* Each reading call gives what it gives of the model. */
+static void compare(void)
+{
+    static __thread yarib_route found[ROOM], expected[ROOM];
+    static __thread uint32_t asked[ROOM], hops[ROOM], others[ROOM];
+    const yarib_selection within = {.part = YARIB_WITHIN, .base = 10u << 24, .len = 8};
+    const yarib_route from = {.base = 9u << 24, .len = 8};
+    yarib_route one;
+    size_t total, right;
+    for (uint32_t k = 0; k < ROOM; k++) asked[k] = k << 23 | 5;
+    memset(found, 0, sizeof found);
+    memset(expected, 0, sizeof expected);
+    CHECK(yarib_concurrent_routes(&table, 0, found, ROOM, &total) == YARIB_DONE);
+    CHECK(yarib_routes(&model, 0, expected, ROOM, &right) == YARIB_DONE && total == right);
+    CHECK(memcmp(found, expected, sizeof found) == 0);
+    CHECK(yarib_concurrent_count(&table, &total) == YARIB_DONE && total == right);
+    CHECK(yarib_concurrent_routes_from(&table, &from, found, ROOM, &total) == YARIB_DONE);
+    CHECK(yarib_routes_from(&model, &from, expected, ROOM, &right) == YARIB_DONE && total == right);
+    CHECK(memcmp(found, expected, sizeof found) == 0);
+    CHECK(yarib_concurrent_select(&table, &within, 1, found, ROOM, &total) == YARIB_DONE);
+    CHECK(yarib_select(&model, &within, 1, expected, ROOM, &right) == YARIB_DONE && total == right);
+    CHECK(memcmp(found, expected, sizeof found) == 0);
+    CHECK(yarib_concurrent_look_up_all(&table, 10u << 24, 0, found, ROOM, &total) == YARIB_DONE);
+    CHECK(yarib_look_up_all(&model, 10u << 24, 0, expected, ROOM, &right) == YARIB_DONE && total == right);
+    CHECK(memcmp(found, expected, sizeof found) == 0);
+    CHECK(yarib_concurrent_look_up(&table, asked, ROOM, found, ROOM) == YARIB_DONE);
+    CHECK(yarib_look_up(&model, asked, ROOM, expected, ROOM) == YARIB_DONE && memcmp(found, expected, sizeof found) == 0);
+    CHECK(yarib_concurrent_hops(&table, asked, ROOM, 1, 2, hops, ROOM) == YARIB_DONE);
+    CHECK(yarib_hops(&model, asked, ROOM, 1, 2, others, ROOM) == YARIB_DONE && memcmp(hops, others, sizeof hops) == 0);
+    CHECK(yarib_concurrent_look_up_one(&table, 10u << 24, &one) == YARIB_DONE);
+    CHECK(yarib_look_up_one(&model, 10u << 24, expected) == YARIB_DONE && memcmp(&one, expected, sizeof one) == 0);
+    CHECK(yarib_concurrent_memory(&table, &total) == YARIB_DONE && yarib_memory(&model, &right) == YARIB_DONE);
+    CHECK(total == 2 * right);
+}
+
+static void change_model(const yarib_command *one, yarib_reply *reply)
+{
+    CHECK(yarib_apply(&model, one, reply) == YARIB_DONE);
+}
+
+/* Executes a command in both, with the same reply. */
+static void change(yarib_command one)
+{
+    yarib_reply reply, right;
+    memset(&reply, 0, sizeof reply);
+    memset(&right, 0, sizeof right);
+    CHECK(yarib_concurrent_apply(&table, &one, &reply) == YARIB_DONE);
+    change_model(&one, &right);
+    CHECK(memcmp(&reply, &right, sizeof reply) == 0);
+}
+
+/* Both sides are as the model, which an add and its withdrawal show. */
+static void compare_both(void)
+{
+    for (int k = 0; k < 3; k++) {
+        compare();
+        change(command(k % 2 ? YARIB_WITHDRAW : YARIB_ADD, 7, 77u << 24, 9, 7));
+    }
+    change(command(YARIB_WITHDRAW, 7, 77u << 24, 9, 7));
+    compare();
+}
+
+static void begin(void)
+{
+    CHECK(yarib_concurrent_new(&table, LIMIT) == YARIB_DONE && yarib_new(&model, LIMIT, YARIB_PLAIN) == YARIB_DONE);
+    for (uint32_t k = 0; k < 20; k++) change(add(k, k));
+    compare();
+}
+
+/* Any change, and any end of the table, is busy. */
+static void changes_are_busy(void)
+{
+    const yarib_command one = add(200, 1);
+    yarib_reply reply = {.code = 99};
+    CHECK(yarib_concurrent_apply(&table, &one, &reply) == YARIB_BUSY && yarib_concurrent_fib_attach(&table) == YARIB_BUSY);
+    CHECK(yarib_concurrent_apply_each(&table, &one, 1, &reply, 1) == YARIB_BUSY && reply.code == 99);
+    CHECK(yarib_concurrent_apply_each(&table, &one, 1, &reply, 0) == YARIB_BUSY);
+    CHECK(yarib_concurrent_new(&table, 5) == YARIB_BUSY && yarib_concurrent_free(&table) == YARIB_BUSY);
+    entered++;
+}
+
+/* During a change readers have the table before it. */
+static void during_change(void)
+{
+    changes_are_busy();
+    compare();
+    changes_are_busy();
+}
+
+static void change_meets_readers(void)
+{
+    const yarib_command batch[] = {add(100, 1), add(5, 9), add(101, 2), command(YARIB_WITHDRAW, 1, 3u << 24, 8, 0), {.feed = 1},
+        command(YARIB_REPLACE, 1, 4u << 24, 8, 77), command(YARIB_LOOKUP, 1, 101u << 24, 0, 0), command(YARIB_PURGE, 2, 0, 0, 0)};
+    yarib_reply replies[8], right[8];
+    yarib_command one = add(60, 60);
+    memset(replies, 0, sizeof replies);
+    memset(right, 0, sizeof right);
+    begin();
+    inside = during_change;
+    CHECK(yarib_concurrent_apply(&table, &one, replies) == YARIB_DONE && entered == 2);
+    change_model(&one, right);
+    compare();
+    inside = during_change;
+    CHECK(yarib_concurrent_apply_each(&table, batch, 8, replies, 8) == YARIB_DONE && entered == 4);
+    CHECK(yarib_apply_each(&model, batch, 8, right, 8) == YARIB_DONE && memcmp(replies, right, sizeof right) == 0);
+    CHECK(right[1].code == YARIB_EXISTS && right[4].count == YARIB_BAD_COMMAND && right[6].route.via == 2);
+    compare_both();
+    /* The first call for memory is the other side's, which lacks an add. */
+    change(add(102, 1));
+    inside = during_change;
+    CHECK(yarib_concurrent_apply_each(&table, batch, 8, replies, 8) == YARIB_DONE && entered == 6);
+    CHECK(yarib_apply_each(&model, batch, 8, right, 8) == YARIB_DONE);
+    compare_both();
+    inside = during_change;
+    CHECK(yarib_concurrent_fib_attach(&table) == YARIB_DONE && yarib_fib_attach(&model) == YARIB_DONE && entered == 8);
+    for (int k = 0; k < 3; k++) {
+        size_t bytes;
+        CHECK(yarib_concurrent_memory(&table, &bytes) == YARIB_DONE && bytes >= (size_t)2 << 26);
+        change(add(103 + (uint32_t)k, 1));
+    }
+    entered = 0;
+}
+
+static void change_once(void)
+{
+    change(add(50, 50));
+    compare();
+    changes_are_busy();
+    compare();
+}
+
+/* A change during a reading call of the same thread is published. The next one would wait for that call, and is busy. */
+static void reader_meets_changes(void)
+{
+    static yarib_route found[ROOM], expected[ROOM];
+    size_t total, right;
+    begin();
+    CHECK(yarib_routes(&model, 0, expected, ROOM, &right) == YARIB_DONE);
+    inside = change_once;
+    CHECK(yarib_concurrent_routes(&table, 0, found, ROOM, &total) == YARIB_DONE && total == right && entered == 1);
+    CHECK(memcmp(found, expected, sizeof found) == 0);
+    compare_both();
+    entered = 0;
+}
+
+/* Every command from any state leaves both sides as the model. */
+static void change_at_random(void)
+{
+    uint64_t state = 5;
+    begin();
+    for (int k = 0; k < 3000; k++) {
+        yarib_command batch[9];
+        yarib_reply replies[9], right[9];
+        size_t size = (size_t)k % 9;
+        memset(replies, 0, sizeof replies);
+        memset(right, 0, sizeof right);
+        for (size_t j = 0; j < size; j++) {
+            state = state * 6364136223846793005u + 1442695040888963407u;
+            uint32_t drawn = (uint32_t)(state >> 33), operation = drawn % 64 == 0 ? YARIB_PURGE : 1 + drawn % 5;
+            batch[j] = command(operation, 1 + drawn / 64 % 2, (drawn / 512 % 40) << 24, 8, drawn / 20000);
+        }
+        if (k % 100 == 0) batch[0].feed = 65;
+        CHECK(yarib_concurrent_apply_each(&table, batch, size, replies, size) == YARIB_DONE);
+        CHECK(yarib_apply_each(&model, batch, size, right, size) == YARIB_DONE);
+        CHECK(memcmp(replies, right, size * sizeof *replies) == 0);
+        compare();
+    }
+    compare_both();
+}
+
+/* The commands of a large batch are kept, and given back. */
+static void change_many(void)
+{
+    enum { MANY = 5000 };
+    static yarib_command batch[MANY];
+    static yarib_reply replies[MANY];
+    size_t total;
+    CHECK(yarib_concurrent_new(&table, MANY) == YARIB_DONE && yarib_new(&model, MANY, YARIB_PLAIN) == YARIB_DONE);
+    for (uint32_t k = 0; k < MANY; k++) batch[k] = command(YARIB_ADD, 1, k << 16, 16, k);
+    for (int k = 0; k < 2; k++) {
+        CHECK(yarib_concurrent_apply_each(&table, batch, MANY, replies, MANY) == YARIB_DONE);
+        CHECK(yarib_apply_each(&model, batch, MANY, replies, MANY) == YARIB_DONE);
+        compare();
+        change(command(YARIB_PURGE, 1, 0, 0, 0));
+        CHECK(yarib_concurrent_count(&table, &total) == YARIB_DONE && total == (size_t)k);
+        change(command(YARIB_ADD, 2, 0, 0, 1));
+        compare_both();
+    }
+}
+
+static sem_t is_inside, may_leave;
+static atomic_int is_over, is_held;
+static yarib other = YARIB_EMPTY;
+static bool is_counted;
+
+static void stop(void)
+{
+    CHECK(sem_post(&is_inside) == 0 && sem_wait(&may_leave) == 0);
+}
+
+static yarib_route held_routes[ROOM];
+static size_t held_total;
+
+static void read_held(void)
+{
+    inside = stop;
+    CHECK(yarib_concurrent_routes(&table, 0, held_routes, ROOM, &held_total) == YARIB_DONE);
+}
+
+/* A reading call that stops where it is: with a place, or inside another call of its thread, so that it is counted. */
+static void *reader(void *unused)
+{
+    yarib_route route;
+    size_t total;
+    inside = read_held;
+    if (is_counted) CHECK(yarib_routes(&other, 0, &route, 1, &total) == YARIB_DONE);
+    else read_held();
+    return unused;
+}
+
+/* The ways to end a table or to change it that wait for the reader. */
+static enum { CHANGE, BATCH, FREE, NEW, ATTACH, WAYS } way;
+
+/* While the reader is held, nothing may be allocated for its side, the second one that gets a forwarding table. */
+static void check_side(void)
+{
+    size_t bytes;
+    CHECK(yarib_concurrent_memory(&table, &bytes) != YARIB_DONE || bytes < (size_t)2 << 26 || !atomic_load(&is_held));
+    inside = check_side;
+}
+
+static void *writer(void *unused)
+{
+    yarib_command one = add(71, 71);
+    yarib_reply reply;
+    if (way == ATTACH) inside = check_side;
+    if (way == CHANGE) CHECK(yarib_concurrent_apply(&table, &one, &reply) == YARIB_DONE);
+    if (way == BATCH) CHECK(yarib_concurrent_apply_each(&table, &one, 1, &reply, 1) == YARIB_DONE);
+    if (way == FREE) CHECK(yarib_concurrent_free(&table) == YARIB_DONE);
+    if (way == NEW) CHECK(yarib_concurrent_new(&table, LIMIT) == YARIB_DONE);
+    if (way == ATTACH) CHECK(yarib_concurrent_fib_attach(&table) == YARIB_DONE);
+    atomic_store(&is_over, 1);
+    return unused;
+}
+
+/* While a reader is held, the first change is published, and what needs the reader's side waits. Other readers don't. */
+static void reader_is_held(void)
+{
+    const struct timespec moment = {.tv_nsec = 30000000};
+    static yarib_route expected[ROOM];
+    const yarib_command first = add(70, 70), one = add(71, 71);
+    yarib_reply reply;
+    pthread_t threads[2];
+    size_t right, total;
+    begin();
+    /* A change waits also for a counted reader that began after the previous publication: so let no publication be unfinished. */
+    if (is_counted) change(command(YARIB_DUMP, 1, 0, 0, 0));
+    CHECK(yarib_routes(&model, 0, expected, ROOM, &right) == YARIB_DONE);
+    CHECK(pthread_create(&threads[0], NULL, reader, NULL) == 0 && sem_wait(&is_inside) == 0);
+    if (way == CHANGE) change(add(70, 70));
+    if (way == BATCH) {
+        CHECK(yarib_concurrent_apply_each(&table, &first, 1, &reply, 1) == YARIB_DONE);
+        change_model(&first, &reply);
+    }
+    compare();
+    atomic_store(&is_over, 0);
+    atomic_store(&is_held, 1);
+    CHECK(pthread_create(&threads[1], NULL, writer, NULL) == 0);
+    /* The lowest bit of the handle says that the change is under way. */
+    while (((uintptr_t)__atomic_load_n(&table.inside, __ATOMIC_SEQ_CST) & 1) == 0) CHECK(!atomic_load(&is_over));
+    while (way == ATTACH && (yarib_concurrent_memory(&table, &total) != YARIB_DONE || total < (size_t)2 << 26)) nanosleep(&moment, NULL);
+    nanosleep(&moment, NULL);
+    CHECK(!atomic_load(&is_over));
+    if (way == FREE) CHECK(yarib_concurrent_count(&table, &total) == YARIB_NOTHING);
+    else if (way == NEW) CHECK(yarib_concurrent_count(&table, &total) == YARIB_DONE && total == 0);
+    else if (way == ATTACH) CHECK(yarib_concurrent_count(&table, &total) == YARIB_DONE && total == right);
+    else compare();
+    CHECK(yarib_concurrent_apply(&table, &one, &reply) == YARIB_BUSY && yarib_concurrent_free(&table) == YARIB_BUSY);
+    atomic_store(&is_held, 0);
+    CHECK(sem_post(&may_leave) == 0 && pthread_join(threads[0], NULL) == 0 && pthread_join(threads[1], NULL) == 0);
+    CHECK(atomic_load(&is_over) && held_total == right && memcmp(held_routes, expected, sizeof expected) == 0);
+    if (way == CHANGE || way == BATCH) {
+        change_model(&one, &reply);
+        compare_both();
+    }
+}
+
+/* An empty handle, and arguments that are invalid. */
+static void statuses(void)
+{
+    yarib_concurrent empty = YARIB_CONCURRENT_EMPTY;
+    const yarib_selection all = {.part = YARIB_ALL}, no_part = {.part = 9}, no_len = {.part = YARIB_EXACT, .len = 33};
+    const yarib_route start = {0}, no_place = {.len = 33}, no_bits = {.base = 1, .len = 8};
+    const yarib_command one = add(1, 1);
+    yarib_command fault = one;
+    yarib_reply reply = {.code = 99};
+    yarib_route route = {.via = 99};
+    uint32_t address = 1, hop = 99;
+    size_t total = 99;
+    CHECK(yarib_concurrent_apply(&empty, &one, &reply) == YARIB_NOTHING && yarib_concurrent_fib_attach(&empty) == YARIB_NOTHING);
+    CHECK(yarib_concurrent_apply_each(&empty, &one, 1, &reply, 0) == YARIB_BAD_SIZE);
+    CHECK(yarib_concurrent_apply_each(&empty, &one, 1, &reply, 1) == YARIB_NOTHING && reply.code == 99);
+    CHECK(yarib_concurrent_look_up(&empty, &address, 1, &route, 0) == YARIB_BAD_SIZE);
+    CHECK(yarib_concurrent_look_up(&empty, &address, 1, &route, 1) == YARIB_NOTHING);
+    CHECK(yarib_concurrent_look_up_one(&empty, 1, &route) == YARIB_NOTHING);
+    CHECK(yarib_concurrent_hops(&empty, &address, 1, 0, 1, &hop, 0) == YARIB_BAD_SIZE);
+    CHECK(yarib_concurrent_hops(&empty, &address, 1, 0, 1, &hop, 1) == YARIB_NOTHING && hop == 99);
+    CHECK(yarib_concurrent_look_up_all(&empty, 1, 0, &route, 1, &total) == YARIB_NOTHING);
+    CHECK(yarib_concurrent_routes(&empty, 0, &route, 1, &total) == YARIB_NOTHING);
+    CHECK(yarib_concurrent_routes_from(&empty, &start, &route, 1, &total) == YARIB_NOTHING);
+    CHECK(yarib_concurrent_select(&empty, &all, 0, &route, 1, &total) == YARIB_NOTHING && route.via == 99);
+    CHECK(yarib_concurrent_count(&empty, &total) == YARIB_NOTHING && yarib_concurrent_memory(&empty, &total) == YARIB_NOTHING);
+    CHECK(total == 99 && yarib_concurrent_free(&empty) == YARIB_DONE);
+    CHECK(yarib_concurrent_new(&empty, 0) == YARIB_BAD_NUMBER && yarib_concurrent_new(&empty, 1000001) == YARIB_BAD_NUMBER);
+    CHECK(empty.inside == NULL);
+    begin();
+    CHECK(yarib_concurrent_new(&table, 0) == YARIB_BAD_NUMBER);
+    fault.feed = 65;
+    CHECK(yarib_concurrent_apply(&table, &fault, &reply) == YARIB_BAD_NUMBER);
+    fault = one;
+    fault.hop = 0;
+    CHECK(yarib_concurrent_apply(&table, &fault, &reply) == YARIB_BAD_COMMAND && reply.code == 99);
+    CHECK(yarib_concurrent_apply_each(&table, &one, 1, &reply, 0) == YARIB_BAD_SIZE);
+    CHECK(yarib_concurrent_look_up(&table, &address, 1, &route, 0) == YARIB_BAD_SIZE);
+    CHECK(yarib_concurrent_hops(&table, &address, 1, 0, 1, &hop, 0) == YARIB_BAD_SIZE);
+    CHECK(yarib_concurrent_select(&table, &no_part, 0, &route, 1, &total) == YARIB_BAD_NUMBER);
+    CHECK(yarib_concurrent_select(&table, &no_len, 0, &route, 1, &total) == YARIB_BAD_LENGTH);
+    CHECK(yarib_concurrent_routes_from(&table, &no_place, &route, 1, &total) == YARIB_BAD_LENGTH);
+    CHECK(yarib_concurrent_routes_from(&table, &no_bits, &route, 1, &total) == YARIB_BAD_BITS && route.via == 99);
+    compare_both();
+}
+
+int main(void)
+{
+    yarib_command one = add(1, 1);
+    yarib_reply reply;
+    alarm(60);
+    CHECK(sem_init(&is_inside, 0, 0) == 0 && sem_init(&may_leave, 0, 0) == 0);
+    CHECK(yarib_new(&other, 1, YARIB_PLAIN) == YARIB_DONE && yarib_apply(&other, &one, &reply) == YARIB_DONE);
+    statuses();
+    change_meets_readers();
+    reader_meets_changes();
+    change_at_random();
+    change_many();
+    for (int k = 0; k < 2 * WAYS; k++) {
+        way = k % WAYS;
+        is_counted = k >= WAYS;
+        reader_is_held();
+    }
+    CHECK(yarib_concurrent_free(&table) == YARIB_DONE && table.inside == NULL && yarib_concurrent_free(&table) == YARIB_DONE);
+    CHECK(yarib_free(&model) == YARIB_DONE && yarib_free(&other) == YARIB_DONE);
+    return 0;
+}
