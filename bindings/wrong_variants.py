@@ -76,6 +76,9 @@ PYTHON = {
                                      "mixed = threading.get_ident() + id(prefix) & 0xFFFFFFFF"),
     "a source uses one feed": (TABLES, "return self.feeds[mixed * len(self.feeds) >> 32]", "return self.feeds[0]"),
     "close leaves a forwarding table open": (TABLES, "        self.close()\n", "        pass\n"),
+    "one of two tables is counted": (TABLES, '        """Returns an estimate of the size of both tables in bytes, including attached forwarding tables."""\n',
+                                     "        return bytes_of(self._at, self._held) // 2\n"),
+    "a concurrent table isn't followed": (TABLES, "self._change(self._freed.yarib_follow, self._at)", "len(self)"),
     "a replace is an add": (TABLES, 'feed, "replace", pref, via)', 'feed, "add", pref, via)'),
 }
 

@@ -291,6 +291,21 @@ class Calls(Limited):
             if seed % 2:
                 self.assert_same(table.journal(), model.entries)
 
+    def test_each_call_of_a_concurrent_table_answers_as_the_model(self):
+        for seed in range(20, 24):
+            draw, limit = Drawn(seed), (3, 1_000_000)[seed % 2]
+            model, table = Model(limit), yarib.ConcurrentTable(limit)
+            if seed % 4 == 2:
+                table.follow()
+            for k in range(100):
+                if k % 10 == 9:
+                    commands = [(draw.feed(), *self.drawn_command(draw)) for _ in range(9)]
+                    wanted = [model.apply(*command) for command in commands]
+                    self.assert_same(table.apply_each([(feed, *self.given_command(draw, *words)) for feed, *words in commands]), wanted)
+                self.change(table, model, draw)
+                self.compare(table, model, draw)
+            self.compare_lists(table, model, draw)
+
     def test_many_commands_in_one_call(self):
         for seed in range(6):
             draw = Drawn(100 + seed)

@@ -3,6 +3,7 @@
     PYTHONPATH=. YARIB_LIBRARY=bindings/out/libyarib.so.0 python3 bindings/python/test_yarib.py
 """
 import array
+import copy
 import gc
 import ipaddress
 import random
@@ -305,8 +306,9 @@ class Threads(unittest.TestCase):
 
     def test_they_meet_without_the_global_lock(self):
         """Every call lets other threads run, as all do in a Python that has no such lock."""
-        tables = yarib._tables
-        kept, tables.held = tables.held, tables.freed
+        handle, freed = yarib._tables.Handle, yarib._tables.freed
+        kept = handle._held, handle._changing
+        handle._held = handle._changing = freed
         try:
             for is_followed in (False, True):
                 table = self.made()
@@ -314,7 +316,52 @@ class Threads(unittest.TestCase):
                     table.follow()
                 self.meet(table)
         finally:
-            tables.held = kept
+            handle._held, handle._changing = kept
+
+    def test_they_read_one_published_table(self):
+        """All answers of a call are from one published table, the last one or a later one, and no reader waits or fails."""
+        table, asked, faults, ended = yarib.ConcurrentTable(), [k << 24 | 5 for k in range(64)], [], threading.Event()
+        published = [0]
+
+        def publish(k):
+            name = "replace" if k else "add"
+            table.apply_each([(1, name, (j << 24, 8), 0, k) for j in range(64)])
+            published[0] = k
+
+        def read():
+            try:
+                while not ended.is_set():
+                    least = published[0]
+                    for found in (table.look_up_each(asked), table.routes(), table.within("0.0.0.0/2"), [table.look_up("9.0.0.1")]):
+                        seen = {one.via for one in found}
+                        if len(seen) != 1 or min(seen) < least or len(found) not in (1, 64) or len(table) != 64:
+                            faults.append((least, seen))
+            except BaseException as fault:
+                faults.append(fault)
+
+        publish(0)
+        table.follow()
+        readers = [threading.Thread(target=read) for _ in range(4)]
+        for thread in readers:
+            thread.start()
+        for k in range(1, self.CHANGES + 1):
+            publish(k)
+        ended.set()
+        for thread in readers:
+            thread.join()
+        self.assertEqual((faults, table.look_up("9.0.0.1").via), ([], self.CHANGES))
+        self.assertGreaterEqual(table.memory(), 2 << 26)
+        table.close()
+        self.assertRaises(yarib.Refused, len, table)
+
+    def test_a_concurrent_table_is_no_table(self):
+        with yarib.ConcurrentTable(3) as table:
+            self.assertEqual(repr(table), "<yarib.ConcurrentTable of 0 routes>")
+            self.assertRaises(TypeError, yarib.Forwarding, table)
+            self.assertRaises(TypeError, list, yarib.Table().differences(table))
+            self.assertRaises(TypeError, copy.copy, table)
+            self.assertRaises(yarib.Invalid, yarib.ConcurrentTable, 0)
+        self.assertEqual(repr(table), "<yarib.ConcurrentTable: the table is closed>")
 
     def test_a_close_waits(self):
         table, faults = self.made(), []

@@ -16,16 +16,17 @@ these the table is unchanged.
 
 Several threads may use a Table or a Forwarding, also in a Python without a global lock. Calls that only read run at the
 same time; a change waits until it is alone. Long calls (look_up_each, apply_each, follow, forward) let other threads run.
+One thread may change a ConcurrentTable while others read it without waiting.
 """
 from ._library import MAX_FEED, MAX_LENGTH, MAX_LIMIT, STATUS, VERSION, Error, Invalid, OutOfMemory, Refused
 from ._tables import (
-    Answers, Difference, Entry, Exists, Forwarding, Full, Missing, Outcome, Route, Source, Table,
+    Answers, ConcurrentTable, Difference, Entry, Exists, Forwarding, Full, Missing, Outcome, Route, Source, Table,
     prefix_of, address_of,
 )
 
 __version__ = VERSION
 __all__ = [
-    "Answers", "Difference", "Entry", "Error", "Exists", "Forwarding", "Full", "Invalid", "MAX_FEED", "MAX_LENGTH",
-    "MAX_LIMIT", "Missing", "OutOfMemory", "Outcome", "Refused", "Route", "STATUS", "Source", "Table", "address_of",
-    "prefix_of",
+    "Answers", "ConcurrentTable", "Difference", "Entry", "Error", "Exists", "Forwarding", "Full", "Invalid", "MAX_FEED",
+    "MAX_LENGTH", "MAX_LIMIT", "Missing", "OutOfMemory", "Outcome", "Refused", "Route", "STATUS", "Source", "Table",
+    "address_of", "prefix_of",
 ]

@@ -78,11 +78,16 @@ CALLS: Dict[str, Tuple[Any, ...]] = {
     "yarib_share": (POINTER, POINTER),
     "yarib_follow": (POINTER,),
     "yarib_memory": (POINTER, POINTER),
+    "yarib_concurrent_new": (POINTER, NUMBER),
     "yarib_prefix_parse": (ctypes.c_char_p, SIZE, POINTER),
     "yarib_prefix_print": (POINTER, POINTER, SIZE, POINTER),
     "yarib_address_parse": (ctypes.c_char_p, SIZE, POINTER),
     "yarib_address_print": (NUMBER, POINTER, SIZE, POINTER),
 }
+# The calls for a concurrent table that are declared as those for a table.
+CONCURRENT = ("free", "apply", "apply_each", "look_up", "look_up_one", "look_up_all", "routes", "routes_from", "select", "count",
+              "follow", "memory")
+CALLS.update({"yarib_concurrent_" + (name if name != "follow" else "fib_attach"): CALLS["yarib_" + name] for name in CONCURRENT})
 
 
 def file_of_library() -> str:
@@ -105,6 +110,16 @@ def load(kind: Callable[[str], Any]) -> Any:
 # `held` keeps Python's global lock, if there is one, and is for short calls; `freed` lets other threads run meanwhile.
 # Neither needs that lock: the library returns BUSY from a call that can't run beside another one on its handle.
 held, freed = load(ctypes.PyDLL), load(ctypes.CDLL)
+
+class Concurrent:
+    """The calls of a library for concurrent tables, by the names of the calls for tables."""
+
+    def __init__(self, library: Any) -> None:
+        for name in CONCURRENT:
+            setattr(self, "yarib_" + name, getattr(library, "yarib_concurrent_" + (name if name != "follow" else "fib_attach")))
+
+
+concurrent_held, concurrent_freed = Concurrent(held), Concurrent(freed)
 
 # So long, in seconds, a thread waits before it makes a busy call again.
 PAUSE = 0.00005

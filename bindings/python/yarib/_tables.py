@@ -11,7 +11,7 @@ import threading
 from typing import Any, Callable, Dict, Iterable, Iterator, List, NamedTuple, NoReturn, Optional, Sequence, Tuple, Union
 
 from . import _library as c
-from ._library import Error, Invalid, check, done, freed, held, status_of
+from ._library import Error, Invalid, check, concurrent_freed, concurrent_held, done, freed, held, status_of
 
 PAGE, ENTRIES = 256, 4096
 NETWORK, ADDRESS = ipaddress.IPv4Network, ipaddress.IPv4Address
@@ -216,27 +216,32 @@ def addresses_of(addresses: Any) -> Tuple[Any, int]:
     return (kind.from_buffer_copy(view) if view.readonly else kind.from_buffer(view)), len(view)
 
 
-def ask(handle: Any, addresses: Any) -> Answers:
+def ask(handle: Any, addresses: Any, calls: Any = freed) -> Answers:
     block, size = addresses_of(addresses)
     answers = Answers(size)
-    done(freed.yarib_look_up, handle, block, size, answers.raw if size else (c.RawRoute * 1)(), size)
+    done(calls.yarib_look_up, handle, block, size, answers.raw if size else (c.RawRoute * 1)(), size)
     return answers
 
 
-def ask_one(handle: Any, address: Address) -> Optional[Route]:
+def ask_one(handle: Any, address: Address, calls: Any = held) -> Optional[Route]:
     found = c.RawRoute()
-    done(held.yarib_look_up_one, handle, address_of(address), ctypes.byref(found))
+    done(calls.yarib_look_up_one, handle, address_of(address), ctypes.byref(found))
     return route_of(found)
 
 
-def bytes_of(handle: Any) -> int:
+def bytes_of(handle: Any, calls: Any = held) -> int:
     found = ctypes.c_size_t()
-    done(held.yarib_memory, handle, ctypes.byref(found))
+    done(calls.yarib_memory, handle, ctypes.byref(found))
     return found.value
 
 
 class Handle:
     """A handle of the C library, freed with this object."""
+
+    # The library's calls for such a handle: short calls that read, long calls, and changes.
+    _held: Any = held
+    _freed: Any = freed
+    _changing: Any = held
 
     def __init__(self) -> None:
         self._handle = ctypes.c_void_p()
@@ -253,47 +258,24 @@ class Handle:
 
     def close(self) -> None:
         """Frees the handle's contents, once no other thread's call uses them. Closing twice is harmless."""
-        self._change(freed.yarib_free, self._at)
+        self._change(self._freed.yarib_free, self._at)
 
     def __del__(self) -> None:
         if hasattr(self, "_at"):
-            held.yarib_free(self._at)
+            self._held.yarib_free(self._at)
 
     def __exit__(self, *_: object) -> None:
         self.close()
 
 
-class Table(Handle):
-    """A routing table in which each feed may have `limit` routes, 1 to 1,000,000. With `journal` it keeps every
-    answered command, 56 bytes each."""
-
-    def __init__(self, limit: int = c.MAX_LIMIT, journal: bool = False) -> None:
-        super().__init__()
-        self._limit, self._journal = number(limit, "a limit"), bool(journal)
-        check(status_of(held.yarib_new, self._at, self._limit, int(self._journal)), limit)
-
-    def __enter__(self) -> Table:
-        return self
-
-    def __repr__(self) -> str:
-        try:
-            return f"<yarib.Table of {len(self)} routes>"
-        except Error as error:
-            return f"<yarib.Table: {error}>"
-
-    def __reduce__(self) -> Tuple[Any, ...]:
-        """Copies and pickles a table by its routes, or by its journal if it keeps one. The copy isn't followed."""
-        if self._journal:
-            commands = [entry.command for entry in self.journal()]
-        else:
-            commands = [(one.feed, "add", one[:2], one.pref, one.via) for one in self.routes()]
-        return restored, (self._limit, self._journal, commands)
+class Routes(Handle):
+    """What a Table and a ConcurrentTable have in common."""
 
     def apply(self, feed: int, name: str, *words: Any) -> Outcome:
         """Executes a command of the feed and returns its outcome: add or replace with prefix, preference and via, withdraw
         with prefix, lookup with address, dump or purge."""
         raw, reply = command_of(feed, name, *words), c.RawReply()
-        self._change(held.yarib_apply, self._at, ctypes.byref(raw), ctypes.byref(reply))
+        self._change(self._changing.yarib_apply, self._at, ctypes.byref(raw), ctypes.byref(reply))
         return outcome_of(reply)
 
     def apply_each(self, commands: Iterable[Sequence[Any]]) -> List[Outcome]:
@@ -302,7 +284,7 @@ class Table(Handle):
         if not raw:
             return []
         block, replies = (c.RawCommand * len(raw))(*raw), (c.RawReply * len(raw))()
-        self._change(freed.yarib_apply_each, self._at, block, len(raw), replies, len(raw))
+        self._change(self._freed.yarib_apply_each, self._at, block, len(raw), replies, len(raw))
         return [outcome_of(reply) for reply in replies]
 
     def _put(self, prefix: Prefix, feed: int, name: str, *words: Any) -> None:
@@ -340,19 +322,19 @@ class Table(Handle):
 
     def look_up(self, address: Address) -> Optional[Route]:
         """Returns the best route of the longest prefix that covers the address, or None."""
-        return ask_one(self._at, address)
+        return ask_one(self._at, address, self._held)
 
     def look_up_each(self, addresses: Any) -> Answers:
         """Looks up all these addresses and returns the Answers. They are any iterable, or a buffer of 32-bit numbers. Other
         threads run meanwhile."""
         with self._turn:
             pass
-        return ask(self._at, addresses)
+        return ask(self._at, addresses, self._freed)
 
     def look_up_all(self, address: Address) -> List[Route]:
         """Returns all routes whose prefix covers the address, the best first."""
         address = address_of(address)
-        found = self._pages(c.RawRoute, 64, lambda *place: held.yarib_look_up_all(self._at, address, *place))
+        found = self._pages(c.RawRoute, 64, lambda *place: self._held.yarib_look_up_all(self._at, address, *place))
         return routes_of(found)
 
     def _pages(self, kind: Any, size: int, call: Callable[..., int]) -> Any:
@@ -367,7 +349,7 @@ class Table(Handle):
 
     def __len__(self) -> int:
         total = ctypes.c_size_t()
-        done(held.yarib_count, self._at, ctypes.byref(total))
+        done(self._held.yarib_count, self._at, ctypes.byref(total))
         return total.value
 
     def routes(self, feed: Optional[int] = None, best: bool = False) -> List[Route]:
@@ -375,7 +357,7 @@ class Table(Handle):
         best of each prefix; with a feed, only those best routes that belong to the feed."""
         if feed is not None or best:
             return self._select(c.ALL, (0, 0), feed, best)
-        found = self._pages(c.RawRoute, len(self) + 1, lambda *place: held.yarib_routes(self._at, *place))
+        found = self._pages(c.RawRoute, len(self) + 1, lambda *place: self._held.yarib_routes(self._at, *place))
         return routes_of(found)
 
     def exact(self, prefix: Prefix, feed: Optional[int] = None, best: bool = False) -> List[Route]:
@@ -395,7 +377,7 @@ class Table(Handle):
             c.fail(c.BAD_NUMBER, feed)
         base, length = prefix
         asked = c.RawSelection(part, number(feed or 0, "a feed"), base, length, int(bool(best)))
-        found = self._pages(c.RawRoute, 64, lambda *place: held.yarib_select(self._at, ctypes.byref(asked), *place))
+        found = self._pages(c.RawRoute, 64, lambda *place: self._held.yarib_select(self._at, ctypes.byref(asked), *place))
         return routes_of(found)
 
     def routes_from(self, prefix: Prefix, pref: int = 0, feed: int = 0) -> Iterator[Route]:
@@ -409,7 +391,7 @@ class Table(Handle):
         used = ctypes.c_size_t(PAGE)
         while used.value == PAGE:
             page = (c.RawRoute * PAGE)()
-            done(held.yarib_routes_from, self._at, ctypes.byref(place), page, PAGE, ctypes.byref(used))
+            done(self._held.yarib_routes_from, self._at, ctypes.byref(place), page, PAGE, ctypes.byref(used))
             yield from routes_of(page[:used.value])
             place = c.RawRoute.from_buffer_copy(page[PAGE - 1])
             place.feed += 1
@@ -476,6 +458,33 @@ class Table(Handle):
         except ValueError:
             raise Invalid(f"yarib: {place}: not an add line: {line!r}") from None
 
+
+class Table(Routes):
+    """A routing table in which each feed may have `limit` routes, 1 to 1,000,000. With `journal` it keeps every
+    answered command, 56 bytes each."""
+
+    def __init__(self, limit: int = c.MAX_LIMIT, journal: bool = False) -> None:
+        super().__init__()
+        self._limit, self._journal = number(limit, "a limit"), bool(journal)
+        check(status_of(held.yarib_new, self._at, self._limit, int(self._journal)), limit)
+
+    def __enter__(self) -> Table:
+        return self
+
+    def __repr__(self) -> str:
+        try:
+            return f"<yarib.Table of {len(self)} routes>"
+        except Error as error:
+            return f"<yarib.Table: {error}>"
+
+    def __reduce__(self) -> Tuple[Any, ...]:
+        """Copies and pickles a table by its routes, or by its journal if it keeps one. The copy isn't followed."""
+        if self._journal:
+            commands = [entry.command for entry in self.journal()]
+        else:
+            commands = [(one.feed, "add", one[:2], one.pref, one.via) for one in self.routes()]
+        return restored, (self._limit, self._journal, commands)
+
     def journal(self) -> List[Entry]:
         """Returns each answered command with its outcome. Raises Refused if the table keeps no journal."""
         raws = self._pages(c.RawEntry, ENTRIES, lambda *place: held.yarib_journal(self._at, *place))
@@ -487,6 +496,8 @@ class Table(Handle):
 
     def differences(self, other: Table, by: str = "hop") -> Iterator[Difference]:
         """Iterates over the ranges for which this table and another give different answers, by "hop" or by "route"."""
+        if not isinstance(other, Table):
+            raise TypeError(f"yarib: not a Table: {other!r}")
         if other is self:
             return
         if by not in ("hop", "route"):
@@ -513,7 +524,44 @@ class Table(Handle):
 
     def memory(self) -> int:
         """Returns an estimate of its size in bytes, including an attached forwarding table."""
-        return bytes_of(self._at)
+        return bytes_of(self._at, self._held)
+
+
+class ConcurrentTable(Routes):
+    """A routing table that one thread changes while others read it. A reading call never waits for a change, and returns what
+    one published table holds. apply_each publishes its commands at once. It takes twice the memory of a Table."""
+
+    _held: Any = concurrent_held
+    _freed: Any = concurrent_freed
+    _changing: Any = concurrent_freed
+
+    def __init__(self, limit: int = c.MAX_LIMIT) -> None:
+        super().__init__()
+        check(status_of(held.yarib_concurrent_new, self._at, number(limit, "a limit")), limit)
+
+    def __enter__(self) -> ConcurrentTable:
+        return self
+
+    def __repr__(self) -> str:
+        try:
+            return f"<yarib.ConcurrentTable of {len(self)} routes>"
+        except Error as error:
+            return f"<yarib.ConcurrentTable: {error}>"
+
+    def __reduce__(self) -> NoReturn:
+        raise TypeError("yarib: a concurrent table can't be copied or pickled")
+
+    def look_up_each(self, addresses: Any) -> Answers:
+        """Looks up all these addresses in one published table and returns the Answers, as Table.look_up_each does."""
+        return ask(self._at, addresses, self._freed)
+
+    def follow(self) -> None:
+        """Attaches a forwarding table of 64 MiB or more to each of its two tables, as Table.follow does."""
+        self._change(self._freed.yarib_follow, self._at)
+
+    def memory(self) -> int:
+        """Returns an estimate of the size of both tables in bytes, including attached forwarding tables."""
+        return bytes_of(self._at, self._held)
 
 
 def is_prefix(key: object) -> bool:
@@ -539,6 +587,8 @@ class Forwarding(Handle):
 
     def __init__(self, table: Table) -> None:
         super().__init__()
+        if not isinstance(table, Table):
+            raise TypeError(f"yarib: not a Table: {table!r}")
         done(freed.yarib_forward, table._at, self._at)
 
     def __enter__(self) -> Forwarding:
@@ -572,7 +622,7 @@ class Source:
     source were one feed. With n feeds, n times the limit is reached only approximately: Full is raised as soon as the
     feed of the prefix is at its limit."""
 
-    def __init__(self, table: Table, first: int = 1, feeds: int = 2) -> None:
+    def __init__(self, table: Routes, first: int = 1, feeds: int = 2) -> None:
         if not 1 <= number(first, "a feed") <= c.MAX_FEED + 1 - number(feeds, "a number of feeds") <= c.MAX_FEED:
             raise Invalid(f"yarib: feeds {first} to {first + feeds - 1} are not consecutive feeds of a table")
         self.table, self.feeds = table, range(first, first + feeds)
