@@ -1,11 +1,13 @@
 -- Examples by which the definitions of this crate are tested, each under a line with the definition's name.
-use Rattle.std.proofs.Common.{◌≡◌, ◌+◌, ◌^◌, true, false, [], ◌∷◌, refl, arith}
+use Rattle.std.proofs.Common.{◌≡◌, ◌+◌, ◌^◌, true, false, [], ◌∷◌, inl, inr, refl, arith}
 use Rattle.std.specs.Prelude.{None, Some}
 use Rattle.rt_cidr.specs.declared.prefixes.Prefix.{Prefix}
 use Rattle.rt_rib.specs.declared.routes.Hop.{Hop}
 use Rattle.rt_rib.specs.declared.routes.Hop.TheVariants.{Via, Discard}
 use Rattle.rt_rib.specs.declared.routes.Route.{Route}
 use Rattle.rt_diff.specs.declared.table_answers.CompareBy.TheVariants as by
+use Rattle.yarib_c.specs.declared.status.TheConstants as status
+use Rattle.yarib_c.specs.Statuses.{IsOneOf}
 use Rattle.yarib_c.specs.Forms.{no_route, route_as, router_of, router_as, put_of}
 use Rattle.yarib_c.specs.Lists.{PutsRoutes}
 use Rattle.yarib_c.specs.Sizes.{bytes_of}
@@ -21,6 +23,19 @@ router = Via (record { 0 = 3221225985 })
 
 abbrev one_route : Route
 one_route = record { prefix = ten_8; feed = 1; pref = 10; hop = router }
+
+-- IsOneOf
+statuses_that_are_listed : IsOneOf (0 ∷ 1 ∷ 4 ∷ []) 0 × IsOneOf (0 ∷ 1 ∷ 4 ∷ []) 4
+statuses_that_are_listed = (inl refl, inr (inr refl))
+
+no_status_is_one_of_none : IsOneOf [] 0 → ⊥
+no_status_is_one_of_none h = h
+
+-- the numbers that the header gives the statuses
+statuses_of_the_header : (status.DONE ≡ 0) × (status.NOTHING ≡ 1) × (status.BAD_NUMBER ≡ 2) × (status.BAD_COMMAND ≡ 3)
+    × (status.NO_MEMORY ≡ 4) × (status.BAD_SIZE ≡ 5) × (status.NONE_LEFT ≡ 6) × (status.BAD_TEXT ≡ 7)
+    × (status.BAD_LENGTH ≡ 8) × (status.BAD_BITS ≡ 9) × (status.WRONG_KIND ≡ 10)
+statuses_of_the_header = (refl, refl, refl, refl, refl, refl, refl, refl, refl, refl, refl)
 
 -- bytes_of
 bytes_of_a_few_and_of_too_many : (bytes_of 48 3 ≡ 144) × (bytes_of 1 (2 ^ 40 + 5) ≡ 2 ^ 40)

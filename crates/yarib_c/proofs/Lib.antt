@@ -1,6 +1,6 @@
 pub mod AnsweredCommands
 pub mod AsBox
-pub mod Beside
+pub mod AttachedFib
 pub mod Crossing
 mod Examples
 pub mod FilledLists

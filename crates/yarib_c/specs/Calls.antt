@@ -11,51 +11,52 @@ use Rattle.yarib_c.specs.declared.handle.Yarib.{Yarib}
 use Rattle.yarib_c.specs.declared.routes.YaribRoute.{YaribRoute}
 use Rattle.yarib_c.specs.declared.commands.YaribCommand.{YaribCommand}
 use Rattle.yarib_c.specs.declared.commands.YaribReply.{YaribReply}
+use Rattle.yarib_c.specs.declared.status.TheConstants.{BAD_NUMBER, BAD_COMMAND, NO_MEMORY, WRONG_KIND}
 use Rattle.yarib_c.specs.Handle.{held_at}
 use Rattle.yarib_c.specs.Kinds.{routes_in, IsForwarding, IsSame, Applied, NotApplied}
 use Rattle.yarib_c.specs.Forms.{IsCommand, reply_as, answer_as, router_as, unanswered}
 
--- what the handle holds
+-- what the handle holds, or nothing
 abbrev pub held_in : Yarib → Option Held
 held_in y = held_at y.at y.held
 
--- something is held, and it has this property
-abbrev pub IsOf : Option Held → (Held → Type 0) → Type 0
-IsOf None Is = ⊥
-IsOf (Some held) Is = Is held
+-- some contents are held, and they have this property
+abbrev pub SomeHeld : Option Held → (Held → Type 0) → Type 0
+SomeHeld None Is = ⊥
+SomeHeld (Some held) Is = Is held
 
--- the handle holds something, and it has this property
-abbrev pub Holds : Yarib → (Held → Type 0) → Type 0
-Holds y Is = IsOf (held_in y) Is
+-- the handle holds something, which has this property
+abbrev pub HandleHolds : Yarib → (Held → Type 0) → Type 0
+HandleHolds y Is = SomeHeld (held_in y) Is
 
--- something was held and something is held, and the two are in this relation
-pub record GoesOn (old new : Option Held) (Is : Held → Held → Type 0) : Type 0 where
+-- a transition from held contents to held contents, which are in this relation
+pub record HeldTransition (old new : Option Held) (Is : Held → Held → Type 0) : Type 0 where
   pub before : Held
   pub after : Held
   pub old_is : old ≡ Some before
   pub new_is : new ≡ Some after
   pub is : Is before after
 
--- the handle held something and holds something, and the two are in this relation
-abbrev pub Goes : Yarib → Yarib → (Held → Held → Type 0) → Type 0
-Goes old new Is = GoesOn (held_in old) (held_in new) Is
+-- a transition of the handle: from what it held to what it holds, which are in this relation
+abbrev pub Transition : Yarib → Yarib → (Held → Held → Type 0) → Type 0
+Transition old new Is = HeldTransition (held_in old) (held_in new) Is
 
--- what was held is still held, with its limit, routes and journal; if nothing was held, nothing is
-abbrev pub StaysSame : Option Held → Option Held → Type 0
-StaysSame None new = new ≡ None
-StaysSame (Some old) new = IsOf new (λ held. IsSame old held)
+-- the same is held, with its limit, routes and journal; or nothing was held, and nothing is
+abbrev pub SameHeld : Option Held → Option Held → Type 0
+SameHeld None new = new ≡ None
+SameHeld (Some old) new = SomeHeld new (λ held. IsSame old held)
 
 -- the handle still holds what it held, with its limit, routes and journal
 abbrev pub IsKept : Yarib → Yarib → Type 0
-IsKept old new = StaysSame (held_in old) (held_in new)
+IsKept old new = SameHeld (held_in old) (held_in new)
 
--- a forwarding table that answers from these routes
-pub record Forwards (routes : List Route) (held : Held) : Type 0 where
+-- it is a forwarding table, and answers from these routes
+pub record IsFibWithRoutes (routes : List Route) (held : Held) : Type 0 where
   pub kind : IsForwarding held
   pub answers : routes_in held ≡ routes
 
--- the numbers denote a command of a feed, and this is its answer
-pub record Answers (old new : Held) (c : YaribCommand) (r : YaribReply) : Type 0 where
+-- the command was answered: its numbers denote a command of a feed, which was applied and has this reply
+pub record CommandAnswered (old new : Held) (c : YaribCommand) (r : YaribReply) : Type 0 where
   pub cmd : Cmd
   pub reply : Reply
   pub is_command : IsCommand c cmd
@@ -63,8 +64,8 @@ pub record Answers (old new : Held) (c : YaribCommand) (r : YaribReply) : Type 0
   pub applied : Applied old new c.feed cmd reply
   pub answered : r ≡ reply_as reply
 
--- the numbers denote a command of a feed, which failed because memory ran out
-pub record Refused (old new : Held) (c : YaribCommand) : Type 0 where
+-- the command was refused: its numbers denote a command of a feed, which failed because memory ran out
+pub record CommandRefused (old new : Held) (c : YaribCommand) : Type 0 where
   pub cmd : Cmd
   pub is_command : IsCommand c cmd
   pub is_feed : IsFeed c.feed
@@ -74,8 +75,8 @@ pub record Refused (old new : Held) (c : YaribCommand) : Type 0 where
 -- command, memory ran out, or the table can't change
 abbrev pub IsReason : ℕ → Held → Held → YaribCommand → Type 0
 IsReason status old new c =
-    ((status ≡ 2) × ¬ IsFeed c.feed) ⊎ (((status ≡ 3) × ((cmd : Cmd) → ¬ IsCommand c cmd))
-    ⊎ (((status ≡ 4) × Refused old new c) ⊎ ((status ≡ 10) × IsForwarding old)))
+    ((status ≡ BAD_NUMBER) × ¬ IsFeed c.feed) ⊎ (((status ≡ BAD_COMMAND) × ((cmd : Cmd) → ¬ IsCommand c cmd))
+    ⊎ (((status ≡ NO_MEMORY) × CommandRefused old new c) ⊎ ((status ≡ WRONG_KIND) × IsForwarding old)))
 
 -- a command has no answer, for the reason that the status gives, and nothing has changed
 pub record IsUnanswered (old new : Held) (c : YaribCommand) (r : YaribReply) : Type 0 where
@@ -86,7 +87,7 @@ pub record IsUnanswered (old new : Held) (c : YaribCommand) (r : YaribReply) : T
 
 -- the outcome of a command: its reply, or the reason why it has none
 abbrev pub HasOutcome : Held → Held → YaribCommand → YaribReply → Type 0
-HasOutcome old new c r = Answers old new c r ⊎ IsUnanswered old new c r
+HasOutcome old new c r = CommandAnswered old new c r ⊎ IsUnanswered old new c r
 
 -- the outcome of each command, one after another
 abbrev pub HaveOutcomes : Held → Held → List YaribCommand → List YaribReply → Type 0

@@ -51,20 +51,20 @@ abbrev pub router_as : ℕ → ℕ → Option Route → ℕ
 router_as none discard None = none
 router_as none discard (Some r) = router_of discard r.hop
 
--- the command's numbers denote the next hop
+-- the command has this next hop: its numbers denote it
 abbrev pub IsHop : YaribCommand → Hop → Type 0
 IsHop c (Via a) = (c.hop ≡ 1) × (a.0 ≡ c.via)
 IsHop c Discard = c.hop ≡ 2
 
--- the command's numbers denote the prefix
-abbrev pub IsAt : YaribCommand → Prefix → Type 0
-IsAt c p = (p.base ≡ c.base) × (p.len ≡ c.len)
+-- the command has this prefix: its numbers denote it
+abbrev pub HasPrefix : YaribCommand → Prefix → Type 0
+HasPrefix c p = (p.base ≡ c.base) × (p.len ≡ c.len)
 
 -- the numbers denote the command
 abbrev pub IsCommand : YaribCommand → Cmd → Type 0
-IsCommand c (Add prefix pref hop) = (c.operation ≡ 1) × IsAt c prefix × (pref ≡ c.pref) × IsHop c hop
-IsCommand c (Replace prefix pref hop) = (c.operation ≡ 2) × IsAt c prefix × (pref ≡ c.pref) × IsHop c hop
-IsCommand c (Withdraw prefix) = (c.operation ≡ 3) × IsAt c prefix
+IsCommand c (Add prefix pref hop) = (c.operation ≡ 1) × HasPrefix c prefix × (pref ≡ c.pref) × IsHop c hop
+IsCommand c (Replace prefix pref hop) = (c.operation ≡ 2) × HasPrefix c prefix × (pref ≡ c.pref) × IsHop c hop
+IsCommand c (Withdraw prefix) = (c.operation ≡ 3) × HasPrefix c prefix
 IsCommand c (Lookup addr) = (c.operation ≡ 4) × (addr.0 ≡ c.base)
 IsCommand c Dump = c.operation ≡ 5
 IsCommand c Purge = c.operation ≡ 6

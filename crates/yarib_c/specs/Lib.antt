@@ -1,3 +1,4 @@
+pub mod Statuses
 pub mod Handle
 pub mod Plain
 pub mod Kinds

@@ -10,18 +10,18 @@ use Rattle.yarib_c.specs.Forms.{route_as, entry_as}
 
 -- `total` is the length of the whole list, and `shown` has its elements from index `skip` on, in this form, as far as
 -- both lists reach
-pub record Shows {X Y : Type 0} (form : X → Y) (all : List X) (skip : ℕ) (shown : List Y) (total : ℕ) : Type 0 where
+pub record ShowsPart {X Y : Type 0} (form : X → Y) (all : List X) (skip : ℕ) (shown : List Y) (total : ℕ) : Type 0 where
   pub counted : total ≡ length all
   pub each : (j : ℕ) → j < length shown → skip + j < length all → slice_get shown j ≡ option_map form (slice_get all (skip + j))
 
 -- the same for routes
 abbrev pub ShowsRoutes : List Route → ℕ → List YaribRoute → ℕ → Type 0
-ShowsRoutes all skip shown total = Shows route_as all skip shown total
+ShowsRoutes all skip shown total = ShowsPart route_as all skip shown total
 
 -- there is a journal, and its entries are shown in this way
 abbrev pub ShowsJournal : Option (List Entry) → ℕ → List YaribEntry → ℕ → Type 0
 ShowsJournal None skip shown total = ⊥
-ShowsJournal (Some journal) skip shown total = Shows entry_as journal skip shown total
+ShowsJournal (Some journal) skip shown total = ShowsPart entry_as journal skip shown total
 
 -- the numbers denote the route's position in dump order
 pub record IsPlace (c : YaribRoute) (r : Route) : Type 0 where

@@ -15,16 +15,16 @@ use Rattle.yarib_c.specs.Lists.{ShowsRoutes}
 abbrev pub IsOutOfRange : YaribSelection → Type 0
 IsOutOfRange c = (3 < c.part) ⊎ (((c.feed ≢ 0) × ¬ IsFeed c.feed) ⊎ (1 < c.only_best))
 
--- the numbers denote the prefix
-abbrev pub IsTo : YaribSelection → Prefix → Type 0
-IsTo c p = (p.base ≡ c.base) × (p.len ≡ c.len)
+-- the selection is by this prefix: its numbers denote it
+abbrev pub SelectsPrefix : YaribSelection → Prefix → Type 0
+SelectsPrefix c p = (p.base ≡ c.base) × (p.len ≡ c.len)
 
 -- the numbers denote the part of the prefixes
 abbrev pub IsPart : YaribSelection → PrefixFilter → Type 0
 IsPart c All = c.part ≡ 0
-IsPart c (Within p) = (c.part ≡ 1) × IsTo c p
-IsPart c (Covering p) = (c.part ≡ 2) × IsTo c p
-IsPart c (Exact p) = (c.part ≡ 3) × IsTo c p
+IsPart c (Within p) = (c.part ≡ 1) × SelectsPrefix c p
+IsPart c (Covering p) = (c.part ≡ 2) × SelectsPrefix c p
+IsPart c (Exact p) = (c.part ≡ 3) × SelectsPrefix c p
 
 -- the feed whose routes are selected, or any feed for 0
 abbrev pub feed_asked : ℕ → Option ℕ

@@ -1,5 +1,5 @@
 -- Definitions that no public clause uses: those of private contracts, of invariants and of proofs.
-pub mod Beside
+pub mod AttachedFib
 pub mod Parts
 pub mod Places
 pub mod Owned

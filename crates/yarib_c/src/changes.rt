@@ -1,10 +1,12 @@
 //! Calls that make, change and free a table.
-ghost use Rattle.std.specs.Prelude.{◌≡◌, ◌≢◌, ◌≤◌, ◌<◌, ◌⊎◌, None, length};
+ghost use Rattle.std.specs.Prelude.{◌≡◌, ◌≢◌, ◌≤◌, ◌<◌, ◌⊎◌, None, length, [], ◌∷◌};
 ghost use Rattle.rt_rib.specs.Book.{IsLimit, IsFeed};
 ghost use Rattle.rt_rib.specs.declared.commands.Cmd.{Cmd as Command};
 ghost use Rattle.yarib_c.specs.Kinds.{IsForwarding, IsNew, IsSame, HasRoom};
 ghost use Rattle.yarib_c.specs.Forms.{IsCommand};
-ghost use Rattle.yarib_c.specs.Calls.{held_in, Holds, Goes, IsKept, Answers, Refused, HasOutcome, HaveOutcomes};
+ghost use Rattle.yarib_c.specs.Calls.{held_in, HandleHolds, Transition, IsKept, CommandAnswered, CommandRefused, HasOutcome, HaveOutcomes};
+ghost use Rattle.yarib_c.specs.Statuses.{IsOneOf};
+ghost use Rattle.yarib_c.specs.declared.status.TheConstants.{DONE, NOTHING, BAD_NUMBER, BAD_COMMAND, NO_MEMORY, BAD_SIZE, WRONG_KIND};
 
 use crate::commands::{YaribCommand, YaribReply};
 use crate::handle::{Yarib, with_held};
@@ -17,10 +19,10 @@ use std::alloc::Global;
 /// and if it is 0 it doesn't. What the handle held before is freed, unless the call does nothing.
 #[unsafe(no_mangle)]
 pub extern "C" fn yarib_new(alloc: Global, table: &mut Yarib, limit: u32, journal: u32) -> u32
-    ensures done { result ≡ 0 → IsLimit limit × (journal ≤ 1) × Holds table.new (IsNew limit journal) }
-    ensures number { result ≡ 2 → (¬ IsLimit limit) ⊎ (1 < journal) }
-    ensures kept { result ≢ 0 → held_in table.new ≡ held_in table.old }
-    ensures known { (result ≡ 0) ⊎ ((result ≡ 2) ⊎ (result ≡ 4)) }
+    ensures done { result ≡ DONE → IsLimit limit × (journal ≤ 1) × HandleHolds table.new (IsNew limit journal) }
+    ensures number { result ≡ BAD_NUMBER → (¬ IsLimit limit) ⊎ (1 < journal) }
+    ensures kept { result ≢ DONE → held_in table.new ≡ held_in table.old }
+    ensures known { IsOneOf (DONE ∷ BAD_NUMBER ∷ NO_MEMORY ∷ []) result }
 {
     if !limit_ok(limit) {
         return BAD_NUMBER;
@@ -46,10 +48,10 @@ pub extern "C" fn yarib_free(alloc: Global, table: &mut Yarib)
 /// Makes room for this number of entries in the journal, if there is one.
 #[unsafe(no_mangle)]
 pub extern "C" fn yarib_reserve(alloc: Global, table: &mut Yarib, entries: usize) -> u32
-    ensures done { result ≡ 0 → Goes table.old table.new (HasRoom entries) }
-    ensures absent { result ≡ 1 → held_in table.old ≡ None }
+    ensures done { result ≡ DONE → Transition table.old table.new (HasRoom entries) }
+    ensures absent { result ≡ NOTHING → held_in table.old ≡ None }
     ensures kept { IsKept table.old table.new }
-    ensures known { (result ≡ 0) ⊎ ((result ≡ 1) ⊎ (result ≡ 4)) }
+    ensures known { IsOneOf (DONE ∷ NOTHING ∷ NO_MEMORY ∷ []) result }
 {
     with_held!(table, alloc, held => match held.reserve(entries) {
         Ok(()) => DONE,
@@ -65,28 +67,28 @@ pub extern "C" fn yarib_apply(
     command: &YaribCommand,
     reply: &mut YaribReply,
 ) -> u32
-    ensures done { result ≡ 0 → Goes table.old table.new (λ old new. Answers old new command.now reply.new) }
-    ensures refused { result ≡ 4 → Goes table.old table.new (λ old new. Refused old new command.now) }
-    ensures kept { result ≢ 0 → IsKept table.old table.new }
-    ensures silent { result ≢ 0 → reply.new ≡ reply.old }
-    ensures absent { result ≡ 1 → held_in table.old ≡ None }
-    ensures number { result ≡ 2 → ¬ IsFeed command.now.feed }
-    ensures command { result ≡ 3 → (cmd : Command) → ¬ IsCommand command.now cmd }
-    ensures kind { result ≡ 10 → Holds table.old IsForwarding }
-    ensures known { (result ≡ 0) ⊎ ((result ≡ 1) ⊎ ((result ≡ 2) ⊎ ((result ≡ 3) ⊎ ((result ≡ 4) ⊎ (result ≡ 10))))) }
+    ensures done { result ≡ DONE → Transition table.old table.new (λ old new. CommandAnswered old new command.now reply.new) }
+    ensures refused { result ≡ NO_MEMORY → Transition table.old table.new (λ old new. CommandRefused old new command.now) }
+    ensures kept { result ≢ DONE → IsKept table.old table.new }
+    ensures silent { result ≢ DONE → reply.new ≡ reply.old }
+    ensures absent { result ≡ NOTHING → held_in table.old ≡ None }
+    ensures number { result ≡ BAD_NUMBER → ¬ IsFeed command.now.feed }
+    ensures command { result ≡ BAD_COMMAND → (cmd : Command) → ¬ IsCommand command.now cmd }
+    ensures kind { result ≡ WRONG_KIND → HandleHolds table.old IsForwarding }
+    ensures known { IsOneOf (DONE ∷ NOTHING ∷ BAD_NUMBER ∷ BAD_COMMAND ∷ NO_MEMORY ∷ WRONG_KIND ∷ []) result }
 {
     with_held!(table, alloc, held => apply(&mut held, command, reply))
 }
 
 fn apply(held: &mut Held, command: &YaribCommand, reply: &mut YaribReply) -> u32
-    ensures done { result ≡ 0 → Answers held.old held.new command.now reply.new }
-    ensures refused { result ≡ 4 → Refused held.old held.new command.now }
-    ensures kept { result ≢ 0 → IsSame held.old held.new }
-    ensures silent { result ≢ 0 → reply.new ≡ reply.old }
-    ensures number { result ≡ 2 → ¬ IsFeed command.now.feed }
-    ensures command { result ≡ 3 → (cmd : Command) → ¬ IsCommand command.now cmd }
-    ensures kind { result ≡ 10 → IsForwarding held.old }
-    ensures known { (result ≡ 0) ⊎ ((result ≡ 2) ⊎ ((result ≡ 3) ⊎ ((result ≡ 4) ⊎ (result ≡ 10)))) }
+    ensures done { result ≡ DONE → CommandAnswered held.old held.new command.now reply.new }
+    ensures refused { result ≡ NO_MEMORY → CommandRefused held.old held.new command.now }
+    ensures kept { result ≢ DONE → IsSame held.old held.new }
+    ensures silent { result ≢ DONE → reply.new ≡ reply.old }
+    ensures number { result ≡ BAD_NUMBER → ¬ IsFeed command.now.feed }
+    ensures command { result ≡ BAD_COMMAND → (cmd : Command) → ¬ IsCommand command.now cmd }
+    ensures kind { result ≡ WRONG_KIND → IsForwarding held.old }
+    ensures known { IsOneOf (DONE ∷ BAD_NUMBER ∷ BAD_COMMAND ∷ NO_MEMORY ∷ WRONG_KIND ∷ []) result }
 {
     if !feed_ok(command.feed) {
         return BAD_NUMBER;
@@ -113,12 +115,12 @@ pub extern "C" fn yarib_apply_each(
     commands: &[YaribCommand],
     replies: &mut [YaribReply],
 ) -> u32
-    ensures done { result ≡ 0 → Goes table.old table.new (λ old new. HaveOutcomes old new commands.now replies.new) }
-    ensures kept { result ≢ 0 → held_in table.new ≡ held_in table.old }
-    ensures silent { result ≢ 0 → replies.new ≡ replies.old }
-    ensures absent { result ≡ 1 → held_in table.old ≡ None }
-    ensures size { result ≡ 5 → length replies.old ≢ length commands.now }
-    ensures known { (result ≡ 0) ⊎ ((result ≡ 1) ⊎ (result ≡ 5)) }
+    ensures done { result ≡ DONE → Transition table.old table.new (λ old new. HaveOutcomes old new commands.now replies.new) }
+    ensures kept { result ≢ DONE → held_in table.new ≡ held_in table.old }
+    ensures silent { result ≢ DONE → replies.new ≡ replies.old }
+    ensures absent { result ≡ NOTHING → held_in table.old ≡ None }
+    ensures size { result ≡ BAD_SIZE → length replies.old ≢ length commands.now }
+    ensures known { IsOneOf (DONE ∷ NOTHING ∷ BAD_SIZE ∷ []) result }
 {
     if replies.len() != commands.len() {
         return BAD_SIZE;

@@ -24,10 +24,10 @@ impl YaribCommand {
     ghost use Rattle.rt_rib.specs.declared.commands.Cmd.{Cmd as Command};
     ghost use Rattle.rt_rib.specs.declared.routes.Hop.{Hop as NextHop};
     ghost use Rattle.rt_cidr.specs.Cidr.{IsPrefix};
-    ghost use Rattle.yarib_c.specs.Forms.{IsCommand, IsAt, IsHop, command_of, put_of};
+    ghost use Rattle.yarib_c.specs.Forms.{IsCommand, HasPrefix, IsHop, command_of, put_of};
 
     fn prefix(&self) -> Option<Prefix>
-        ensures { MatchOption result (¬ IsPrefix self.now.base self.now.len) (λ prefix. IsAt self.now prefix) }
+        ensures { MatchOption result (¬ IsPrefix self.now.base self.now.len) (λ prefix. HasPrefix self.now prefix) }
     {
         Prefix::new(self.base, self.len).ok()
     }

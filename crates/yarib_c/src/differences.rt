@@ -1,8 +1,10 @@
 //! The addresses for which two tables give different answers.
-ghost use Rattle.std.specs.Prelude.{◌≡◌, ◌≢◌, ◌≤◌, ◌⊎◌, None};
+ghost use Rattle.std.specs.Prelude.{◌≡◌, ◌≢◌, ◌≤◌, ◌⊎◌, None, [], ◌∷◌};
 ghost use Rattle.yarib_c.specs.Kinds.{routes_in, IsForwarding};
-ghost use Rattle.yarib_c.specs.Calls.{held_in, Holds};
+ghost use Rattle.yarib_c.specs.Calls.{held_in, HandleHolds};
 ghost use Rattle.yarib_c.specs.Differences.{TellsDifference, IsAlikeFrom};
+ghost use Rattle.yarib_c.specs.Statuses.{IsOneOf};
+ghost use Rattle.yarib_c.specs.declared.status.TheConstants.{DONE, NOTHING, BAD_NUMBER, NONE_LEFT, WRONG_KIND};
 
 use crate::handle::{Yarib, with_held};
 use crate::held::Held;
@@ -49,15 +51,15 @@ pub extern "C" fn yarib_first_difference(
     from: u32,
     difference: &mut YaribDifference,
 ) -> u32
-    ensures done { result ≡ 0 → Holds old.old (λ b. Holds new.old (λ c. TellsDifference by (routes_in b) (routes_in c) from difference.new)) }
-    ensures alike { result ≡ 6 → Holds old.old (λ b. Holds new.old (λ c. IsAlikeFrom by (routes_in b) (routes_in c) from)) }
-    ensures absent { result ≡ 1 → (held_in old.old ≡ None) ⊎ (held_in new.old ≡ None) }
-    ensures number { result ≡ 2 → 2 ≤ by }
-    ensures kind { result ≡ 10 → Holds old.old IsForwarding ⊎ Holds new.old IsForwarding }
-    ensures silent { result ≢ 0 → difference.new ≡ difference.old }
+    ensures done { result ≡ DONE → HandleHolds old.old (λ b. HandleHolds new.old (λ c. TellsDifference by (routes_in b) (routes_in c) from difference.new)) }
+    ensures alike { result ≡ NONE_LEFT → HandleHolds old.old (λ b. HandleHolds new.old (λ c. IsAlikeFrom by (routes_in b) (routes_in c) from)) }
+    ensures absent { result ≡ NOTHING → (held_in old.old ≡ None) ⊎ (held_in new.old ≡ None) }
+    ensures number { result ≡ BAD_NUMBER → 2 ≤ by }
+    ensures kind { result ≡ WRONG_KIND → HandleHolds old.old IsForwarding ⊎ HandleHolds new.old IsForwarding }
+    ensures silent { result ≢ DONE → difference.new ≡ difference.old }
     ensures old { held_in old.new ≡ held_in old.old }
     ensures new { held_in new.new ≡ held_in new.old }
-    ensures known { (result ≡ 0) ⊎ ((result ≡ 1) ⊎ ((result ≡ 2) ⊎ ((result ≡ 6) ⊎ (result ≡ 10)))) }
+    ensures known { IsOneOf (DONE ∷ NOTHING ∷ BAD_NUMBER ∷ NONE_LEFT ∷ WRONG_KIND ∷ []) result }
 {
     with_held!(old, alloc, old_held => with_held!(new, alloc, new_held => {
         compare(&old_held, &new_held, by, from, difference)
@@ -65,12 +67,12 @@ pub extern "C" fn yarib_first_difference(
 }
 
 fn compare(old: &Held, new: &Held, by: u32, from: u32, difference: &mut YaribDifference) -> u32
-    ensures done { result ≡ 0 → TellsDifference by (routes_in old.now) (routes_in new.now) from difference.new }
-    ensures alike { result ≡ 6 → IsAlikeFrom by (routes_in old.now) (routes_in new.now) from }
-    ensures number { result ≡ 2 → 2 ≤ by }
-    ensures kind { result ≡ 10 → IsForwarding old.now ⊎ IsForwarding new.now }
-    ensures silent { result ≢ 0 → difference.new ≡ difference.old }
-    ensures known { (result ≡ 0) ⊎ ((result ≡ 2) ⊎ ((result ≡ 6) ⊎ (result ≡ 10))) }
+    ensures done { result ≡ DONE → TellsDifference by (routes_in old.now) (routes_in new.now) from difference.new }
+    ensures alike { result ≡ NONE_LEFT → IsAlikeFrom by (routes_in old.now) (routes_in new.now) from }
+    ensures number { result ≡ BAD_NUMBER → 2 ≤ by }
+    ensures kind { result ≡ WRONG_KIND → IsForwarding old.now ⊎ IsForwarding new.now }
+    ensures silent { result ≢ DONE → difference.new ≡ difference.old }
+    ensures known { IsOneOf (DONE ∷ BAD_NUMBER ∷ NONE_LEFT ∷ WRONG_KIND ∷ []) result }
 {
     let by = match by {
         0 => CompareBy::Hop,

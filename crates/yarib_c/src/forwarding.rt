@@ -1,9 +1,11 @@
 //! Forwarding tables. One is made from a table, is queried like a table, and is held by a handle for each thread that queries it.
 //! Another kind belongs to a table and follows the table's commands.
-ghost use Rattle.std.specs.Prelude.{◌≡◌, ◌≢◌, ◌⊎◌, None};
+ghost use Rattle.std.specs.Prelude.{◌≡◌, ◌≢◌, None, [], ◌∷◌};
 ghost use Rattle.yarib_c.specs.Kinds.{routes_in, IsForwarding, IsFollowed, IsPlain, IsSame};
 ghost use Rattle.yarib_c.specs.Sizes.{TakesBytes};
-ghost use Rattle.yarib_c.specs.Calls.{held_in, Holds, Forwards, IsKept};
+ghost use Rattle.yarib_c.specs.Calls.{held_in, HandleHolds, IsFibWithRoutes, IsKept};
+ghost use Rattle.yarib_c.specs.Statuses.{IsOneOf};
+ghost use Rattle.yarib_c.specs.declared.status.TheConstants.{DONE, NOTHING, NO_MEMORY, WRONG_KIND};
 
 use crate::handle::{Yarib, with_held};
 use crate::held::Held;
@@ -16,21 +18,21 @@ use std::sync::Arc;
 /// nothing.
 #[unsafe(no_mangle)]
 pub extern "C" fn yarib_forward(alloc: Global, table: &mut Yarib, forwarding: &mut Yarib) -> u32
-    ensures done { result ≡ 0 → Holds table.old (λ held. Holds forwarding.new (Forwards (routes_in held))) }
-    ensures kept { result ≢ 0 → held_in forwarding.new ≡ held_in forwarding.old }
+    ensures done { result ≡ DONE → HandleHolds table.old (λ held. HandleHolds forwarding.new (IsFibWithRoutes (routes_in held))) }
+    ensures kept { result ≢ DONE → held_in forwarding.new ≡ held_in forwarding.old }
     ensures same { held_in table.new ≡ held_in table.old }
-    ensures absent { result ≡ 1 → held_in table.old ≡ None }
-    ensures kind { result ≡ 10 → Holds table.old IsForwarding }
-    ensures known { (result ≡ 0) ⊎ ((result ≡ 1) ⊎ ((result ≡ 4) ⊎ (result ≡ 10))) }
+    ensures absent { result ≡ NOTHING → held_in table.old ≡ None }
+    ensures kind { result ≡ WRONG_KIND → HandleHolds table.old IsForwarding }
+    ensures known { IsOneOf (DONE ∷ NOTHING ∷ NO_MEMORY ∷ WRONG_KIND ∷ []) result }
 {
     with_held!(table, alloc, held => forward(alloc, &held, forwarding))
 }
 
 fn forward(alloc: Global, held: &Held, forwarding: &mut Yarib) -> u32
-    ensures done { result ≡ 0 → Holds forwarding.new (Forwards (routes_in held.now)) }
-    ensures kept { result ≢ 0 → held_in forwarding.new ≡ held_in forwarding.old }
-    ensures kind { result ≡ 10 → IsForwarding held.now }
-    ensures known { (result ≡ 0) ⊎ ((result ≡ 4) ⊎ (result ≡ 10)) }
+    ensures done { result ≡ DONE → HandleHolds forwarding.new (IsFibWithRoutes (routes_in held.now)) }
+    ensures kept { result ≢ DONE → held_in forwarding.new ≡ held_in forwarding.old }
+    ensures kind { result ≡ WRONG_KIND → IsForwarding held.now }
+    ensures known { IsOneOf (DONE ∷ NO_MEMORY ∷ WRONG_KIND ∷ []) result }
 {
     let Some(table) = held.table() else {
         return WRONG_KIND;
@@ -52,21 +54,21 @@ fn forward(alloc: Global, held: &Held, forwarding: &mut Yarib) -> u32
 /// does nothing. The two handles are different.
 #[unsafe(no_mangle)]
 pub extern "C" fn yarib_share(alloc: Global, forwarding: &mut Yarib, other: &mut Yarib) -> u32
-    ensures done { result ≡ 0 → Holds forwarding.old (λ held. Holds other.new (Forwards (routes_in held))) }
-    ensures kept { result ≢ 0 → held_in other.new ≡ held_in other.old }
+    ensures done { result ≡ DONE → HandleHolds forwarding.old (λ held. HandleHolds other.new (IsFibWithRoutes (routes_in held))) }
+    ensures kept { result ≢ DONE → held_in other.new ≡ held_in other.old }
     ensures same { held_in forwarding.new ≡ held_in forwarding.old }
-    ensures absent { result ≡ 1 → held_in forwarding.old ≡ None }
-    ensures kind { result ≡ 10 → Holds forwarding.old (λ held. ¬ IsForwarding held) }
-    ensures known { (result ≡ 0) ⊎ ((result ≡ 1) ⊎ ((result ≡ 4) ⊎ (result ≡ 10))) }
+    ensures absent { result ≡ NOTHING → held_in forwarding.old ≡ None }
+    ensures kind { result ≡ WRONG_KIND → HandleHolds forwarding.old (λ held. ¬ IsForwarding held) }
+    ensures known { IsOneOf (DONE ∷ NOTHING ∷ NO_MEMORY ∷ WRONG_KIND ∷ []) result }
 {
     with_held!(forwarding, alloc, held => share(alloc, &held, other))
 }
 
 fn share(alloc: Global, held: &Held, other: &mut Yarib) -> u32
-    ensures done { result ≡ 0 → Holds other.new (Forwards (routes_in held.now)) }
-    ensures kept { result ≢ 0 → held_in other.new ≡ held_in other.old }
-    ensures kind { result ≡ 10 → ¬ IsForwarding held.now }
-    ensures known { (result ≡ 0) ⊎ ((result ≡ 4) ⊎ (result ≡ 10)) }
+    ensures done { result ≡ DONE → HandleHolds other.new (IsFibWithRoutes (routes_in held.now)) }
+    ensures kept { result ≢ DONE → held_in other.new ≡ held_in other.old }
+    ensures kind { result ≡ WRONG_KIND → ¬ IsForwarding held.now }
+    ensures known { IsOneOf (DONE ∷ NO_MEMORY ∷ WRONG_KIND ∷ []) result }
 {
     let Held::Forwarding(fib) = held else {
         return WRONG_KIND;
@@ -85,11 +87,11 @@ fn share(alloc: Global, held: &Held, other: &mut Yarib) -> u32
 /// on, and look-ups are by it. If memory runs out while it follows a command, it is dropped, and look-ups are by the table.
 #[unsafe(no_mangle)]
 pub extern "C" fn yarib_follow(alloc: Global, table: &mut Yarib) -> u32
-    ensures done { result ≡ 0 → Holds table.new IsFollowed }
+    ensures done { result ≡ DONE → HandleHolds table.new IsFollowed }
     ensures kept { IsKept table.old table.new }
-    ensures absent { result ≡ 1 → held_in table.old ≡ None }
-    ensures kind { result ≡ 10 → Holds table.old (λ held. ¬ IsPlain held) }
-    ensures known { (result ≡ 0) ⊎ ((result ≡ 1) ⊎ ((result ≡ 4) ⊎ (result ≡ 10))) }
+    ensures absent { result ≡ NOTHING → held_in table.old ≡ None }
+    ensures kind { result ≡ WRONG_KIND → HandleHolds table.old (λ held. ¬ IsPlain held) }
+    ensures known { IsOneOf (DONE ∷ NOTHING ∷ NO_MEMORY ∷ WRONG_KIND ∷ []) result }
 {
     with_held!(table, alloc, held => match &mut *held {
         Held::Plain(plain) => match plain.follow(alloc) {
@@ -104,11 +106,11 @@ pub extern "C" fn yarib_follow(alloc: Global, table: &mut Yarib) -> u32
 /// of its trie's nodes, of its journal's entries, and of the forwarding table that follows it.
 #[unsafe(no_mangle)]
 pub extern "C" fn yarib_memory(alloc: Global, table: &mut Yarib, bytes: &mut usize) -> u32
-    ensures done { result ≡ 0 → Holds table.old (λ held. TakesBytes held bytes.new) }
+    ensures done { result ≡ DONE → HandleHolds table.old (λ held. TakesBytes held bytes.new) }
     ensures same { held_in table.new ≡ held_in table.old }
-    ensures absent { result ≡ 1 → held_in table.old ≡ None }
-    ensures silent { result ≢ 0 → bytes.new ≡ bytes.old }
-    ensures known { (result ≡ 0) ⊎ (result ≡ 1) }
+    ensures absent { result ≡ NOTHING → held_in table.old ≡ None }
+    ensures silent { result ≢ DONE → bytes.new ≡ bytes.old }
+    ensures known { IsOneOf (DONE ∷ NOTHING ∷ []) result }
 {
     with_held!(table, alloc, held => {
         *bytes = held.bytes();

@@ -1,9 +1,11 @@
 //! A table page by page: as many of its routes as there is room for, from a place on.
-ghost use Rattle.std.specs.Prelude.{◌≡◌, ◌≢◌, ◌<◌, ◌≤◌, ◌⊎◌, None};
+ghost use Rattle.std.specs.Prelude.{◌≡◌, ◌≢◌, ◌<◌, ◌≤◌, None, [], ◌∷◌};
 ghost use Rattle.rt_cidr.specs.Cidr.{IsPrefix};
 ghost use Rattle.yarib_c.specs.Kinds.{routes_in, IsForwarding};
-ghost use Rattle.yarib_c.specs.Calls.{held_in, Holds};
+ghost use Rattle.yarib_c.specs.Calls.{held_in, HandleHolds};
 ghost use Rattle.yarib_c.specs.Lists.{PutsRoutes, ShowsFrom};
+ghost use Rattle.yarib_c.specs.Statuses.{IsOneOf};
+ghost use Rattle.yarib_c.specs.declared.status.TheConstants.{DONE, NOTHING, BAD_LENGTH, BAD_BITS, WRONG_KIND};
 
 use crate::handle::{Yarib, with_held};
 use crate::held::Held;
@@ -24,25 +26,25 @@ pub extern "C" fn yarib_routes_from(
     routes: &mut [YaribRoute],
     used: &mut usize,
 ) -> u32
-    ensures done { result ≡ 0 → Holds table.old (λ held. ShowsFrom from.now (routes_in held) routes.old routes.new used.new) }
+    ensures done { result ≡ DONE → HandleHolds table.old (λ held. ShowsFrom from.now (routes_in held) routes.old routes.new used.new) }
     ensures same { held_in table.new ≡ held_in table.old }
-    ensures absent { result ≡ 1 → held_in table.old ≡ None }
-    ensures length { result ≡ 8 → 32 < from.now.len }
-    ensures bits { result ≡ 9 → (from.now.len ≤ 32) × ¬ IsPrefix from.now.base from.now.len }
-    ensures kind { result ≡ 10 → Holds table.old IsForwarding }
-    ensures silent { result ≢ 0 → (routes.new ≡ routes.old) × (used.new ≡ used.old) }
-    ensures known { (result ≡ 0) ⊎ ((result ≡ 1) ⊎ ((8 ≤ result) × (result ≤ 10))) }
+    ensures absent { result ≡ NOTHING → held_in table.old ≡ None }
+    ensures length { result ≡ BAD_LENGTH → 32 < from.now.len }
+    ensures bits { result ≡ BAD_BITS → (from.now.len ≤ 32) × ¬ IsPrefix from.now.base from.now.len }
+    ensures kind { result ≡ WRONG_KIND → HandleHolds table.old IsForwarding }
+    ensures silent { result ≢ DONE → (routes.new ≡ routes.old) × (used.new ≡ used.old) }
+    ensures known { IsOneOf (DONE ∷ NOTHING ∷ BAD_LENGTH ∷ BAD_BITS ∷ WRONG_KIND ∷ []) result }
 {
     with_held!(table, alloc, held => show_from(&held, from, routes, used))
 }
 
 fn show_from(held: &Held, from: &YaribRoute, routes: &mut [YaribRoute], used: &mut usize) -> u32
-    ensures done { result ≡ 0 → ShowsFrom from.now (routes_in held.now) routes.old routes.new used.new }
-    ensures length { result ≡ 8 → 32 < from.now.len }
-    ensures bits { result ≡ 9 → (from.now.len ≤ 32) × ¬ IsPrefix from.now.base from.now.len }
-    ensures kind { result ≡ 10 → IsForwarding held.now }
-    ensures silent { result ≢ 0 → (routes.new ≡ routes.old) × (used.new ≡ used.old) }
-    ensures known { (result ≡ 0) ⊎ ((8 ≤ result) × (result ≤ 10)) }
+    ensures done { result ≡ DONE → ShowsFrom from.now (routes_in held.now) routes.old routes.new used.new }
+    ensures length { result ≡ BAD_LENGTH → 32 < from.now.len }
+    ensures bits { result ≡ BAD_BITS → (from.now.len ≤ 32) × ¬ IsPrefix from.now.base from.now.len }
+    ensures kind { result ≡ WRONG_KIND → IsForwarding held.now }
+    ensures silent { result ≢ DONE → (routes.new ≡ routes.old) × (used.new ≡ used.old) }
+    ensures known { IsOneOf (DONE ∷ BAD_LENGTH ∷ BAD_BITS ∷ WRONG_KIND ∷ []) result }
 {
     let prefix = match Prefix::new(from.base, from.len) {
         Ok(prefix) => prefix,

@@ -6,7 +6,7 @@ ghost use Rattle.rt_rib.specs.LookUp.{look_up};
 ghost use Rattle.rt_rib.specs.Book.{IsLimit, IsFeed, table_state, Serves};
 ghost use Rattle.yarib_c.specs.Sizes.{bytes_of};
 ghost use Rattle.yarib_c.specs.declared.sizes.TheConstants.{NODE_BYTES};
-ghost use Rattle.yarib_c.specs.inside.Beside.{IsBeside, MayFollow};
+ghost use Rattle.yarib_c.specs.inside.AttachedFib.{FibHasRoutes, FibMayFollow};
 
 use crate::sizes::node_bytes;
 use rt_cidr::Addr;
@@ -28,7 +28,7 @@ impl Model for PlainTable {
     ghost use Rattle.std.specs.Prelude.{is_some};
     ghost use Rattle.rt_trie.specs.inside.TreeCode.{tree_code};
     ghost use Rattle.yarib_c.specs.Plain.{PlainContents};
-    ghost use Rattle.yarib_c.specs.inside.Beside.{IsBeside};
+    ghost use Rattle.yarib_c.specs.inside.AttachedFib.{FibHasRoutes};
 
     ghost Value = { PlainContents };
 
@@ -36,7 +36,7 @@ impl Model for PlainTable {
 
     ghost view = { λ p. record { table = p.table; is_followed = is_some p.beside } };
 
-    ghost invariant = { λ p. IsBeside p.beside p.table.routes };
+    ghost invariant = { λ p. FibHasRoutes p.beside p.table.routes };
 }
 
 impl PlainTable {
@@ -133,8 +133,8 @@ impl PlainTable {
 /// Returns the forwarding table after it has followed the command that the table has answered. Returns nothing if there was no
 /// forwarding table, or if memory ran out.
 fn followed(beside: Option<Fib<Global>>, table: &Table<Global>, cmd: &Cmd) -> Option<Fib<Global>>
-    requires { MayFollow cmd.now beside table.now.routes }
-    ensures { IsBeside result table.now.routes }
+    requires { FibMayFollow cmd.now beside table.now.routes }
+    ensures { FibHasRoutes result table.now.routes }
 {
     let mut fib = beside?;
     match fib.follow_to(table, cmd) {

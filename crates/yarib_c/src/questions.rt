@@ -1,10 +1,12 @@
 //! Calls that query a table and change nothing in it.
-ghost use Rattle.std.specs.Prelude.{◌≡◌, ◌≢◌, ◌⊎◌, None, Some, length};
+ghost use Rattle.std.specs.Prelude.{◌≡◌, ◌≢◌, None, Some, length, [], ◌∷◌};
 ghost use Rattle.rt_rib.specs.LookUp.{look_up, look_up_all};
 ghost use Rattle.yarib_c.specs.Kinds.{routes_in, journal_in, IsForwarding};
 ghost use Rattle.yarib_c.specs.Forms.{answer_as};
-ghost use Rattle.yarib_c.specs.Calls.{held_in, Holds, addr, answers_in, routers_in};
+ghost use Rattle.yarib_c.specs.Calls.{held_in, HandleHolds, addr, answers_in, routers_in};
 ghost use Rattle.yarib_c.specs.Lists.{ShowsRoutes, ShowsJournal};
+ghost use Rattle.yarib_c.specs.Statuses.{IsOneOf};
+ghost use Rattle.yarib_c.specs.declared.status.TheConstants.{DONE, NOTHING, NO_MEMORY, BAD_SIZE, WRONG_KIND};
 
 use crate::commands::YaribEntry;
 use crate::handle::{Yarib, with_held};
@@ -24,12 +26,12 @@ pub extern "C" fn yarib_look_up(
     addresses: &[u32],
     answers: &mut [YaribRoute],
 ) -> u32
-    ensures done { result ≡ 0 → Holds table.old (λ held. answers.new ≡ answers_in (routes_in held) addresses.now) }
-    ensures silent { result ≢ 0 → answers.new ≡ answers.old }
+    ensures done { result ≡ DONE → HandleHolds table.old (λ held. answers.new ≡ answers_in (routes_in held) addresses.now) }
+    ensures silent { result ≢ DONE → answers.new ≡ answers.old }
     ensures same { held_in table.new ≡ held_in table.old }
-    ensures absent { result ≡ 1 → held_in table.old ≡ None }
-    ensures size { result ≡ 5 → length answers.old ≢ length addresses.now }
-    ensures known { (result ≡ 0) ⊎ ((result ≡ 1) ⊎ (result ≡ 5)) }
+    ensures absent { result ≡ NOTHING → held_in table.old ≡ None }
+    ensures size { result ≡ BAD_SIZE → length answers.old ≢ length addresses.now }
+    ensures known { IsOneOf (DONE ∷ NOTHING ∷ BAD_SIZE ∷ []) result }
 {
     if answers.len() != addresses.len() {
         return BAD_SIZE;
@@ -48,11 +50,11 @@ pub extern "C" fn yarib_look_up_one(
     address: u32,
     answer: &mut YaribRoute,
 ) -> u32
-    ensures done { result ≡ 0 → Holds table.old (λ held. answer.new ≡ answer_as (look_up (addr address) (routes_in held))) }
-    ensures silent { result ≢ 0 → answer.new ≡ answer.old }
+    ensures done { result ≡ DONE → HandleHolds table.old (λ held. answer.new ≡ answer_as (look_up (addr address) (routes_in held))) }
+    ensures silent { result ≢ DONE → answer.new ≡ answer.old }
     ensures same { held_in table.new ≡ held_in table.old }
-    ensures absent { result ≡ 1 → held_in table.old ≡ None }
-    ensures known { (result ≡ 0) ⊎ (result ≡ 1) }
+    ensures absent { result ≡ NOTHING → held_in table.old ≡ None }
+    ensures known { IsOneOf (DONE ∷ NOTHING ∷ []) result }
 {
     with_held!(table, alloc, held => {
         *answer = YaribRoute::answer(answer_one(&held, Addr(address)));
@@ -71,12 +73,12 @@ pub extern "C" fn yarib_hops(
     discard: u32,
     hops: &mut [u32],
 ) -> u32
-    ensures done { result ≡ 0 → Holds table.old (λ held. hops.new ≡ routers_in no_route discard (routes_in held) addresses.now) }
-    ensures silent { result ≢ 0 → hops.new ≡ hops.old }
+    ensures done { result ≡ DONE → HandleHolds table.old (λ held. hops.new ≡ routers_in no_route discard (routes_in held) addresses.now) }
+    ensures silent { result ≢ DONE → hops.new ≡ hops.old }
     ensures same { held_in table.new ≡ held_in table.old }
-    ensures absent { result ≡ 1 → held_in table.old ≡ None }
-    ensures size { result ≡ 5 → length hops.old ≢ length addresses.now }
-    ensures known { (result ≡ 0) ⊎ ((result ≡ 1) ⊎ (result ≡ 5)) }
+    ensures absent { result ≡ NOTHING → held_in table.old ≡ None }
+    ensures size { result ≡ BAD_SIZE → length hops.old ≢ length addresses.now }
+    ensures known { IsOneOf (DONE ∷ NOTHING ∷ BAD_SIZE ∷ []) result }
 {
     if hops.len() != addresses.len() {
         return BAD_SIZE;
@@ -97,13 +99,13 @@ pub extern "C" fn yarib_look_up_all(
     routes: &mut [YaribRoute],
     total: &mut usize,
 ) -> u32
-    ensures done { result ≡ 0 → Holds table.old
+    ensures done { result ≡ DONE → HandleHolds table.old
         (λ held. ShowsRoutes (look_up_all (addr address) (routes_in held)) skip routes.new total.new) }
     ensures same { held_in table.new ≡ held_in table.old }
-    ensures absent { result ≡ 1 → held_in table.old ≡ None }
-    ensures kind { result ≡ 10 → Holds table.old IsForwarding }
-    ensures silent { result ≢ 0 → (routes.new ≡ routes.old) × (total.new ≡ total.old) }
-    ensures known { (result ≡ 0) ⊎ ((result ≡ 1) ⊎ ((result ≡ 4) ⊎ (result ≡ 10))) }
+    ensures absent { result ≡ NOTHING → held_in table.old ≡ None }
+    ensures kind { result ≡ WRONG_KIND → HandleHolds table.old IsForwarding }
+    ensures silent { result ≢ DONE → (routes.new ≡ routes.old) × (total.new ≡ total.old) }
+    ensures known { IsOneOf (DONE ∷ NOTHING ∷ NO_MEMORY ∷ WRONG_KIND ∷ []) result }
 {
     with_held!(table, alloc, held => show_covering(alloc, &held, address, skip, routes, total))
 }
@@ -116,10 +118,10 @@ fn show_covering(
     routes: &mut [YaribRoute],
     total: &mut usize,
 ) -> u32
-    ensures done { result ≡ 0 → ShowsRoutes (look_up_all (addr address) (routes_in held.now)) skip routes.new total.new }
-    ensures kind { result ≡ 10 → IsForwarding held.now }
-    ensures silent { result ≢ 0 → (routes.new ≡ routes.old) × (total.new ≡ total.old) }
-    ensures known { (result ≡ 0) ⊎ ((result ≡ 4) ⊎ (result ≡ 10)) }
+    ensures done { result ≡ DONE → ShowsRoutes (look_up_all (addr address) (routes_in held.now)) skip routes.new total.new }
+    ensures kind { result ≡ WRONG_KIND → IsForwarding held.now }
+    ensures silent { result ≢ DONE → (routes.new ≡ routes.old) × (total.new ≡ total.old) }
+    ensures known { IsOneOf (DONE ∷ NO_MEMORY ∷ WRONG_KIND ∷ []) result }
 {
     let Some(table) = held.table() else {
         return WRONG_KIND;
@@ -140,12 +142,12 @@ pub extern "C" fn yarib_routes(
     routes: &mut [YaribRoute],
     total: &mut usize,
 ) -> u32
-    ensures done { result ≡ 0 → Holds table.old (λ held. ShowsRoutes (routes_in held) skip routes.new total.new) }
+    ensures done { result ≡ DONE → HandleHolds table.old (λ held. ShowsRoutes (routes_in held) skip routes.new total.new) }
     ensures same { held_in table.new ≡ held_in table.old }
-    ensures absent { result ≡ 1 → held_in table.old ≡ None }
-    ensures kind { result ≡ 10 → Holds table.old IsForwarding }
-    ensures silent { result ≢ 0 → (routes.new ≡ routes.old) × (total.new ≡ total.old) }
-    ensures known { (result ≡ 0) ⊎ ((result ≡ 1) ⊎ ((result ≡ 4) ⊎ (result ≡ 10))) }
+    ensures absent { result ≡ NOTHING → held_in table.old ≡ None }
+    ensures kind { result ≡ WRONG_KIND → HandleHolds table.old IsForwarding }
+    ensures silent { result ≢ DONE → (routes.new ≡ routes.old) × (total.new ≡ total.old) }
+    ensures known { IsOneOf (DONE ∷ NOTHING ∷ NO_MEMORY ∷ WRONG_KIND ∷ []) result }
 {
     with_held!(table, alloc, held => show_routes(alloc, &held, skip, routes, total))
 }
@@ -157,10 +159,10 @@ fn show_routes(
     routes: &mut [YaribRoute],
     total: &mut usize,
 ) -> u32
-    ensures done { result ≡ 0 → ShowsRoutes (routes_in held.now) skip routes.new total.new }
-    ensures kind { result ≡ 10 → IsForwarding held.now }
-    ensures silent { result ≢ 0 → (routes.new ≡ routes.old) × (total.new ≡ total.old) }
-    ensures known { (result ≡ 0) ⊎ ((result ≡ 4) ⊎ (result ≡ 10)) }
+    ensures done { result ≡ DONE → ShowsRoutes (routes_in held.now) skip routes.new total.new }
+    ensures kind { result ≡ WRONG_KIND → IsForwarding held.now }
+    ensures silent { result ≢ DONE → (routes.new ≡ routes.old) × (total.new ≡ total.old) }
+    ensures known { IsOneOf (DONE ∷ NO_MEMORY ∷ WRONG_KIND ∷ []) result }
 {
     let Some(table) = held.table() else {
         return WRONG_KIND;
@@ -175,12 +177,12 @@ fn show_routes(
 /// Writes the number of routes.
 #[unsafe(no_mangle)]
 pub extern "C" fn yarib_count(alloc: Global, table: &mut Yarib, total: &mut usize) -> u32
-    ensures done { result ≡ 0 → Holds table.old (λ held. total.new ≡ length (routes_in held)) }
+    ensures done { result ≡ DONE → HandleHolds table.old (λ held. total.new ≡ length (routes_in held)) }
     ensures same { held_in table.new ≡ held_in table.old }
-    ensures absent { result ≡ 1 → held_in table.old ≡ None }
-    ensures kind { result ≡ 10 → Holds table.old IsForwarding }
-    ensures silent { result ≢ 0 → total.new ≡ total.old }
-    ensures known { (result ≡ 0) ⊎ ((result ≡ 1) ⊎ (result ≡ 10)) }
+    ensures absent { result ≡ NOTHING → held_in table.old ≡ None }
+    ensures kind { result ≡ WRONG_KIND → HandleHolds table.old IsForwarding }
+    ensures silent { result ≢ DONE → total.new ≡ total.old }
+    ensures known { IsOneOf (DONE ∷ NOTHING ∷ WRONG_KIND ∷ []) result }
 {
     with_held!(table, alloc, held => match held.table() {
         None => WRONG_KIND,
@@ -200,12 +202,12 @@ pub extern "C" fn yarib_journal(
     entries: &mut [YaribEntry],
     total: &mut usize,
 ) -> u32
-    ensures done { result ≡ 0 → Holds table.old (λ held. ShowsJournal (journal_in held) skip entries.new total.new) }
+    ensures done { result ≡ DONE → HandleHolds table.old (λ held. ShowsJournal (journal_in held) skip entries.new total.new) }
     ensures same { held_in table.new ≡ held_in table.old }
-    ensures absent { result ≡ 1 → held_in table.old ≡ None }
-    ensures kind { result ≡ 10 → Holds table.old (λ held. journal_in held ≡ None) }
-    ensures silent { result ≢ 0 → (entries.new ≡ entries.old) × (total.new ≡ total.old) }
-    ensures known { (result ≡ 0) ⊎ ((result ≡ 1) ⊎ (result ≡ 10)) }
+    ensures absent { result ≡ NOTHING → held_in table.old ≡ None }
+    ensures kind { result ≡ WRONG_KIND → HandleHolds table.old (λ held. journal_in held ≡ None) }
+    ensures silent { result ≢ DONE → (entries.new ≡ entries.old) × (total.new ≡ total.old) }
+    ensures known { IsOneOf (DONE ∷ NOTHING ∷ WRONG_KIND ∷ []) result }
 {
     with_held!(table, alloc, held => match &*held {
         Held::Journaled(book) => {

@@ -1,10 +1,12 @@
 //! Parts of a table: the selected routes.
-ghost use Rattle.std.specs.Prelude.{◌≡◌, ◌≢◌, ◌<◌, ◌≤◌, ◌⊎◌, ◌↔◌, IsTrue, None};
+ghost use Rattle.std.specs.Prelude.{◌≡◌, ◌≢◌, ◌<◌, ◌≤◌, ◌↔◌, IsTrue, None, [], ◌∷◌};
 ghost use Rattle.rt_cidr.specs.Cidr.{IsPrefix};
 ghost use Rattle.yarib_c.specs.Kinds.{routes_in, IsForwarding};
-ghost use Rattle.yarib_c.specs.Calls.{held_in, Holds};
+ghost use Rattle.yarib_c.specs.Calls.{held_in, HandleHolds};
 ghost use Rattle.yarib_c.specs.Selections.{IsOutOfRange, ShowsSelected};
-ghost use Rattle.yarib_c.specs.inside.Parts.{AnswersPart};
+ghost use Rattle.yarib_c.specs.inside.Parts.{PartReading};
+ghost use Rattle.yarib_c.specs.Statuses.{IsOneOf};
+ghost use Rattle.yarib_c.specs.declared.status.TheConstants.{DONE, NOTHING, BAD_NUMBER, NO_MEMORY, BAD_LENGTH, BAD_BITS, WRONG_KIND};
 
 use crate::handle::{Yarib, with_held};
 use crate::held::Held;
@@ -39,7 +41,7 @@ impl YaribSelection {
     /// Returns the filter of prefixes that the numbers denote.
     fn read_part(&self) -> Result<PrefixFilter, TextFault>
         requires { self.now.part ≤ 3 }
-        ensures { AnswersPart self.now result }
+        ensures { PartReading self.now result }
     {
         if self.part == 0 {
             return Ok(PrefixFilter::All);
@@ -64,15 +66,15 @@ pub extern "C" fn yarib_select(
     routes: &mut [YaribRoute],
     total: &mut usize,
 ) -> u32
-    ensures done { result ≡ 0 → Holds table.old (λ held. ShowsSelected asked.now (routes_in held) skip routes.new total.new) }
+    ensures done { result ≡ DONE → HandleHolds table.old (λ held. ShowsSelected asked.now (routes_in held) skip routes.new total.new) }
     ensures same { held_in table.new ≡ held_in table.old }
-    ensures absent { result ≡ 1 → held_in table.old ≡ None }
-    ensures number { result ≡ 2 → IsOutOfRange asked.now }
-    ensures length { result ≡ 8 → 32 < asked.now.len }
-    ensures bits { result ≡ 9 → (asked.now.len ≤ 32) × ¬ IsPrefix asked.now.base asked.now.len }
-    ensures kind { result ≡ 10 → Holds table.old IsForwarding }
-    ensures silent { result ≢ 0 → (routes.new ≡ routes.old) × (total.new ≡ total.old) }
-    ensures known { (result ≡ 0) ⊎ ((result ≡ 1) ⊎ ((result ≡ 2) ⊎ ((result ≡ 4) ⊎ ((8 ≤ result) × (result ≤ 10))))) }
+    ensures absent { result ≡ NOTHING → held_in table.old ≡ None }
+    ensures number { result ≡ BAD_NUMBER → IsOutOfRange asked.now }
+    ensures length { result ≡ BAD_LENGTH → 32 < asked.now.len }
+    ensures bits { result ≡ BAD_BITS → (asked.now.len ≤ 32) × ¬ IsPrefix asked.now.base asked.now.len }
+    ensures kind { result ≡ WRONG_KIND → HandleHolds table.old IsForwarding }
+    ensures silent { result ≢ DONE → (routes.new ≡ routes.old) × (total.new ≡ total.old) }
+    ensures known { IsOneOf (DONE ∷ NOTHING ∷ BAD_NUMBER ∷ NO_MEMORY ∷ BAD_LENGTH ∷ BAD_BITS ∷ WRONG_KIND ∷ []) result }
 {
     with_held!(table, alloc, held => show_selected(alloc, &held, asked, skip, routes, total))
 }
@@ -85,13 +87,13 @@ fn show_selected(
     routes: &mut [YaribRoute],
     total: &mut usize,
 ) -> u32
-    ensures done { result ≡ 0 → ShowsSelected asked.now (routes_in held.now) skip routes.new total.new }
-    ensures number { result ≡ 2 → IsOutOfRange asked.now }
-    ensures length { result ≡ 8 → 32 < asked.now.len }
-    ensures bits { result ≡ 9 → (asked.now.len ≤ 32) × ¬ IsPrefix asked.now.base asked.now.len }
-    ensures kind { result ≡ 10 → IsForwarding held.now }
-    ensures silent { result ≢ 0 → (routes.new ≡ routes.old) × (total.new ≡ total.old) }
-    ensures known { (result ≡ 0) ⊎ ((result ≡ 2) ⊎ ((result ≡ 4) ⊎ ((8 ≤ result) × (result ≤ 10)))) }
+    ensures done { result ≡ DONE → ShowsSelected asked.now (routes_in held.now) skip routes.new total.new }
+    ensures number { result ≡ BAD_NUMBER → IsOutOfRange asked.now }
+    ensures length { result ≡ BAD_LENGTH → 32 < asked.now.len }
+    ensures bits { result ≡ BAD_BITS → (asked.now.len ≤ 32) × ¬ IsPrefix asked.now.base asked.now.len }
+    ensures kind { result ≡ WRONG_KIND → IsForwarding held.now }
+    ensures silent { result ≢ DONE → (routes.new ≡ routes.old) × (total.new ≡ total.old) }
+    ensures known { IsOneOf (DONE ∷ BAD_NUMBER ∷ NO_MEMORY ∷ BAD_LENGTH ∷ BAD_BITS ∷ WRONG_KIND ∷ []) result }
 {
     if asked.is_out_of_range() {
         return BAD_NUMBER;

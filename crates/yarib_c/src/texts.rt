@@ -1,8 +1,10 @@
 //! Prefixes and addresses as texts.
-ghost use Rattle.std.specs.Prelude.{◌≡◌, ◌≢◌, ◌⊎◌, ℕ, ◌<◌, ◌≤◌, length, take};
+ghost use Rattle.std.specs.Prelude.{◌≡◌, ◌≢◌, ℕ, ◌<◌, ◌≤◌, length, take, [], ◌∷◌};
 ghost use Rattle.rt_cidr.specs.Cidr.{IsPrefix};
 ghost use Rattle.rt_cidr.specs.Text.{IsPrefixText, IsAddressText, prefix_text, address_text};
 ghost use Rattle.yarib_c.specs.Calls.{PutsText};
+ghost use Rattle.yarib_c.specs.Statuses.{IsOneOf};
+ghost use Rattle.yarib_c.specs.declared.status.TheConstants.{DONE, BAD_SIZE, BAD_TEXT, BAD_LENGTH, BAD_BITS};
 
 use crate::status::{BAD_BITS, BAD_LENGTH, BAD_SIZE, BAD_TEXT, DONE};
 use rt_cidr::{Addr, Prefix, ShortText, TextFault};
@@ -18,12 +20,12 @@ pub struct YaribPrefix {
 /// Reads a prefix.
 #[unsafe(no_mangle)]
 pub extern "C" fn yarib_prefix_parse(text: &[u8], prefix: &mut YaribPrefix) -> u32
-    ensures done { result ≡ 0 → IsPrefix prefix.new.base prefix.new.len × IsPrefixText text.now prefix.new.base prefix.new.len }
-    ensures text { result ≡ 7 → (base len : ℕ) → ¬ IsPrefixText text.now base len }
-    ensures length { result ≡ 8 → (base len : ℕ) × IsPrefixText text.now base len × (32 < len) }
-    ensures bits { result ≡ 9 → (base len : ℕ) × IsPrefixText text.now base len × (len ≤ 32) × ¬ IsPrefix base len }
-    ensures silent { result ≢ 0 → prefix.new ≡ prefix.old }
-    ensures known { (result ≡ 0) ⊎ ((7 ≤ result) × (result ≤ 9)) }
+    ensures done { result ≡ DONE → IsPrefix prefix.new.base prefix.new.len × IsPrefixText text.now prefix.new.base prefix.new.len }
+    ensures text { result ≡ BAD_TEXT → (base len : ℕ) → ¬ IsPrefixText text.now base len }
+    ensures length { result ≡ BAD_LENGTH → (base len : ℕ) × IsPrefixText text.now base len × (32 < len) }
+    ensures bits { result ≡ BAD_BITS → (base len : ℕ) × IsPrefixText text.now base len × (len ≤ 32) × ¬ IsPrefix base len }
+    ensures silent { result ≢ DONE → prefix.new ≡ prefix.old }
+    ensures known { IsOneOf (DONE ∷ BAD_TEXT ∷ BAD_LENGTH ∷ BAD_BITS ∷ []) result }
 {
     match Prefix::parse(text) {
         Ok(read) => {
@@ -43,12 +45,12 @@ pub extern "C" fn yarib_prefix_parse(text: &[u8], prefix: &mut YaribPrefix) -> u
 #[tactic(auto, using(crate::proofs::TextLengths::lengths))]
 #[unsafe(no_mangle)]
 pub extern "C" fn yarib_prefix_print(prefix: &YaribPrefix, text: &mut [u8], used: &mut usize) -> u32
-    ensures done { result ≡ 0 → IsPrefix prefix.now.base prefix.now.len × PutsText (prefix_text prefix.now.base prefix.now.len) text.new used.new }
-    ensures size { result ≡ 5 → length text.old < length (prefix_text prefix.now.base prefix.now.len) }
-    ensures length { result ≡ 8 → 32 < prefix.now.len }
-    ensures bits { result ≡ 9 → (prefix.now.len ≤ 32) × ¬ IsPrefix prefix.now.base prefix.now.len }
-    ensures silent { result ≢ 0 → (text.new ≡ text.old) × (used.new ≡ used.old) }
-    ensures known { (result ≡ 0) ⊎ ((result ≡ 5) ⊎ ((result ≡ 8) ⊎ (result ≡ 9))) }
+    ensures done { result ≡ DONE → IsPrefix prefix.now.base prefix.now.len × PutsText (prefix_text prefix.now.base prefix.now.len) text.new used.new }
+    ensures size { result ≡ BAD_SIZE → length text.old < length (prefix_text prefix.now.base prefix.now.len) }
+    ensures length { result ≡ BAD_LENGTH → 32 < prefix.now.len }
+    ensures bits { result ≡ BAD_BITS → (prefix.now.len ≤ 32) × ¬ IsPrefix prefix.now.base prefix.now.len }
+    ensures silent { result ≢ DONE → (text.new ≡ text.old) × (used.new ≡ used.old) }
+    ensures known { IsOneOf (DONE ∷ BAD_SIZE ∷ BAD_LENGTH ∷ BAD_BITS ∷ []) result }
 {
     let printed = match Prefix::new(prefix.base, prefix.len) {
         Ok(printed) => printed,
@@ -63,10 +65,10 @@ pub extern "C" fn yarib_prefix_print(prefix: &YaribPrefix, text: &mut [u8], used
 /// Reads an address.
 #[unsafe(no_mangle)]
 pub extern "C" fn yarib_address_parse(text: &[u8], address: &mut u32) -> u32
-    ensures done { result ≡ 0 → IsAddressText text.now address.new }
-    ensures text { result ≡ 7 → (a : ℕ) → ¬ IsAddressText text.now a }
-    ensures silent { result ≢ 0 → address.new ≡ address.old }
-    ensures known { (result ≡ 0) ⊎ (result ≡ 7) }
+    ensures done { result ≡ DONE → IsAddressText text.now address.new }
+    ensures text { result ≡ BAD_TEXT → (a : ℕ) → ¬ IsAddressText text.now a }
+    ensures silent { result ≢ DONE → address.new ≡ address.old }
+    ensures known { IsOneOf (DONE ∷ BAD_TEXT ∷ []) result }
 {
     match Addr::parse(text) {
         Ok(read) => {
@@ -81,10 +83,10 @@ pub extern "C" fn yarib_address_parse(text: &[u8], address: &mut u32) -> u32
 #[tactic(auto, using(crate::proofs::TextLengths::lengths))]
 #[unsafe(no_mangle)]
 pub extern "C" fn yarib_address_print(address: u32, text: &mut [u8], used: &mut usize) -> u32
-    ensures done { result ≡ 0 → PutsText (address_text address) text.new used.new }
-    ensures size { result ≡ 5 → length text.old < length (address_text address) }
-    ensures silent { result ≢ 0 → (text.new ≡ text.old) × (used.new ≡ used.old) }
-    ensures known { (result ≡ 0) ⊎ (result ≡ 5) }
+    ensures done { result ≡ DONE → PutsText (address_text address) text.new used.new }
+    ensures size { result ≡ BAD_SIZE → length text.old < length (address_text address) }
+    ensures silent { result ≢ DONE → (text.new ≡ text.old) × (used.new ≡ used.old) }
+    ensures known { IsOneOf (DONE ∷ BAD_SIZE ∷ []) result }
 {
     let mut short = ShortText::new();
     Addr(address).prepend_to(&mut short);
@@ -93,10 +95,10 @@ pub extern "C" fn yarib_address_print(address: u32, text: &mut [u8], used: &mut 
 
 /// Puts the bytes at the front of the text, where it has room for them.
 fn put_text(bytes: &[u8], text: &mut [u8], used: &mut usize) -> u32
-    ensures done { result ≡ 0 → PutsText bytes.now text.new used.new }
-    ensures size { result ≡ 5 → length text.old < length bytes.now }
-    ensures silent { result ≢ 0 → (text.new ≡ text.old) × (used.new ≡ used.old) }
-    ensures known { (result ≡ 0) ⊎ (result ≡ 5) }
+    ensures done { result ≡ DONE → PutsText bytes.now text.new used.new }
+    ensures size { result ≡ BAD_SIZE → length text.old < length bytes.now }
+    ensures silent { result ≢ DONE → (text.new ≡ text.old) × (used.new ≡ used.old) }
+    ensures known { IsOneOf (DONE ∷ BAD_SIZE ∷ []) result }
 {
     if text.len() < bytes.len() {
         return BAD_SIZE;

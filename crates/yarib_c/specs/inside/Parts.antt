@@ -7,9 +7,9 @@ use Rattle.rt_rib.specs.declared.selection.PrefixFilter.{PrefixFilter}
 use Rattle.yarib_c.specs.declared.selections.YaribSelection.{YaribSelection}
 use Rattle.yarib_c.specs.Selections.{IsPart}
 
--- the part that the numbers denote, or why they denote none
-abbrev pub AnswersPart : YaribSelection → Result PrefixFilter TextFault → Type 0
-AnswersPart c (Ok part) = IsPart c part
-AnswersPart c (Err Text) = ⊥
-AnswersPart c (Err Length) = 32 < c.len
-AnswersPart c (Err Bits) = (c.len ≤ 32) × ¬ IsPrefix c.base c.len
+-- what reading the numbers gives: the part that they denote, or why they denote none
+abbrev pub PartReading : YaribSelection → Result PrefixFilter TextFault → Type 0
+PartReading c (Ok part) = IsPart c part
+PartReading c (Err Text) = ⊥
+PartReading c (Err Length) = 32 < c.len
+PartReading c (Err Bits) = (c.len ≤ 32) × ¬ IsPrefix c.base c.len

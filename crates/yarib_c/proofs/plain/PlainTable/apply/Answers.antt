@@ -1,5 +1,5 @@
 use Rattle.rt_rib.specs.Book.{table_state}
-use Rattle.yarib_c.proofs.Beside.{may_follow}
+use Rattle.yarib_c.proofs.AttachedFib.{may_follow}
 use Rattle.yarib_c.proofs.plain.PlainTable.apply.Goals as goal
 
 pub followed-requires : goal.followed-requires

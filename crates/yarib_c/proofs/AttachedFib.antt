@@ -3,8 +3,8 @@ use Rattle.std.proofs.Common.{List, Option, Some, None, subst, sym}
 use Rattle.rt_rib.specs.declared.routes.Route.{Route}
 use Rattle.rt_rib.specs.declared.commands.Cmd.{Cmd}
 use Rattle.rt_fib.specs.Laws.{KeepsOutside}
-use Rattle.yarib_c.specs.inside.Beside.{IsBeside, MayFollow}
+use Rattle.yarib_c.specs.inside.AttachedFib.{FibHasRoutes, FibMayFollow}
 
-pub may_follow : (cmd : Cmd) (beside : Option (List Route)) (old new : List Route) → IsBeside beside old → KeepsOutside cmd old new → MayFollow cmd beside new
+pub may_follow : (cmd : Cmd) (beside : Option (List Route)) (old new : List Route) → FibHasRoutes beside old → KeepsOutside cmd old new → FibMayFollow cmd beside new
 may_follow cmd None old new is keeps = tt
 may_follow cmd (Some fib) old new is keeps = subst (λ (routes : List Route). KeepsOutside cmd routes new) (sym is) keeps
