@@ -635,6 +635,10 @@ class Conventions(Limited):
         for first, feeds in ((0, 2), (64, 2), (1, 0), (1, 65), (63, 3)):
             self.assertRaises(ValueError, yarib.Source, table, first, feeds)
         self.assertEqual(yarib.Source(table, 1, 64).feeds, range(1, 65))
+        # The feeds of these prefixes are the same in each language's package.
+        prefixes = ("0.0.0.0/0", "10.0.0.0/8", "10.1.0.0/16", "192.0.2.0/24", "255.255.255.255/32", "128.0.0.0/1")
+        feeds = list(map(yarib.Source(table, 1, 64).feed_of, prefixes))
+        self.assertEqual(feeds, [1, 11, 38, 2, 11, 8])
 
     def test_a_source_spreads_its_prefixes(self):
         """Prefixes of every length, one after another, come near equal numbers for each feed; a full feed is an error."""

@@ -65,7 +65,7 @@ class Outcome(NamedTuple):
     """The outcome of a command: "added", "exists", "full", "replaced", "withdrawn", "missing", "found", "no route",
     "dumped", "purged", or "unanswered" with the status as the reason."""
     said: str
-    count: int
+    count: int  # type: ignore[assignment]
     route: Optional[Route]
     status: Optional[str]
 
@@ -407,14 +407,20 @@ class Routes(Handle):
 
     def __getitem__(self, key: Union[Address, Prefix]) -> Route:
         """Returns the best route to exactly this prefix, or the answer to a look-up of this address. Raises Missing."""
-        if (route := self.get(key)) is None:
+        if (route := self._get(key)) is None:
             raise Missing(f"no route to {key}")
         return route
 
+    def _get(self, key: Union[Address, Prefix]) -> Optional[Route]:
+        if is_prefix(key):
+            routes = self.exact(key, best=True)  # type: ignore[arg-type]
+            return routes[0] if routes else None
+        return self.look_up(key)  # type: ignore[arg-type]
+
     def get(self, key: Union[Address, Prefix], default: Any = None) -> Any:
         """Returns what `table[key]` returns, or the default if there is no such route."""
-        found = self.exact(key, best=True) if is_prefix(key) else [self.look_up(key)]  # type: ignore[arg-type]
-        return default if found in ([], [None]) else found[0]
+        found = self._get(key)
+        return default if found is None else found
 
     def __delitem__(self, prefix: Prefix) -> None:
         """Removes the routes of all feeds to this prefix. Raises Missing if there is none."""
