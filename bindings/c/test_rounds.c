@@ -1,7 +1,9 @@
 /* A followed table uses the memory again that its changes leave unused. No clause limits this memory. The table here has a block for
  * each of 40,000 host routes, so a round of marking takes about 13,000 changes of them: after 130,000 changes the memory stays the
  * same during all that follow, to a fiftieth. A rebuild in between would change it. The forwarding table then answers as a new one
- * does, and takes at most twice its memory; and an empty table gives memory back. It prints the sizes. */
+ * does, and takes at most twice its memory. A purge of few routes, or of none, doesn't rebuild it either, while a purge of many routes
+ * does. An empty table gives memory back. It prints the sizes. */
+#include <stdbool.h>
 #include <stdio.h>
 #include <stdlib.h>
 #include <string.h>
@@ -9,7 +11,7 @@
 
 #define CHECK(holds) ((holds) ? (void)0 : (fprintf(stderr, "%s:%d: %s\n", __FILE__, __LINE__, #holds), exit(1)))
 
-enum { PREFIXES = 60000, HOSTS = 40000, FIRST = 130000, MORE = 390000, STEP = 1000 };
+enum { PREFIXES = 60000, HOSTS = 40000, FIRST = 130000, MORE = 390000, STEP = 1000, FEW = 500, MANY = 20000 };
 
 static struct prefix {
     uint32_t base;
@@ -30,12 +32,18 @@ static size_t told(yarib *table)
     return bytes;
 }
 
-static void apply(yarib *table, uint32_t operation, struct prefix *prefix)
+static yarib_reply apply_by(yarib *table, uint32_t feed, uint32_t operation, const struct prefix *prefix)
 {
-    yarib_command command = {.operation = operation, .feed = 1, .base = prefix->base, .len = prefix->len, .hop = YARIB_VIA,
-                             .via = draw()};
+    yarib_command command = {.operation = operation, .feed = feed, .base = prefix->base, .len = prefix->len, .pref = feed == 1,
+                             .hop = YARIB_VIA, .via = draw()};
     yarib_reply reply;
     CHECK(yarib_apply(table, &command, &reply) == YARIB_DONE);
+    return reply;
+}
+
+static void apply(yarib *table, uint32_t operation, struct prefix *prefix)
+{
+    apply_by(table, 1, operation, prefix);
     prefix->is_in = operation != YARIB_WITHDRAW;
 }
 
@@ -68,6 +76,21 @@ static size_t compare(yarib *table)
     return bytes;
 }
 
+/* Adds best routes of feed 2 to this many of the prefixes, and purges them. Only a rebuild returns memory. */
+static void purge(yarib *table, uint32_t count, bool is_rebuilt)
+{
+    size_t before = told(table), added = 0;
+    for (uint32_t k = 0; k < count; k++)
+        added += apply_by(table, 2, YARIB_ADD, &prefixes[k * (PREFIXES / count)]).code == YARIB_ADDED;
+    const struct prefix none = {0};
+    yarib_reply reply = apply_by(table, 2, YARIB_PURGE, &none);
+    CHECK(reply.code == YARIB_PURGED && reply.count == added);
+    size_t after = told(table);
+    if (is_rebuilt != (after < before)) fprintf(stderr, "before a purge of %u routes %zu, after it %zu\n", count, before, after);
+    CHECK(is_rebuilt == (after < before) && after > 64 << 20);
+    compare(table);
+}
+
 int main(void)
 {
     yarib table = YARIB_EMPTY;
@@ -91,6 +114,9 @@ int main(void)
     fresh = compare(&table);
     printf("after %d changes and more %zu, a new one %zu\n", FIRST, first, fresh);
     CHECK(first <= 2 * fresh);
+    purge(&table, 0, false);
+    purge(&table, FEW, false);
+    purge(&table, MANY, true);
     for (uint32_t k = 0; k < PREFIXES; k++) apply(&table, YARIB_WITHDRAW, &prefixes[k]);
     for (uint32_t k = 0; k < 20000; k++) apply(&table, k % 2 ? YARIB_WITHDRAW : YARIB_ADD, &prefixes[0]);
     size_t empty = told(&table);

@@ -301,10 +301,10 @@ YARIB_STATUS yarib_fib_clone(const yarib *forwarding, yarib *other);
 
 /* Builds a forwarding table and attaches it to `table`, a table without a journal; does nothing if one is attached. From then on
  * every command updates it, and look-ups use it. A command takes a little more time: a change of a prefix of length 8 about
- * a millisecond, of a shorter one longer. A purge rebuilds the forwarding table, which takes as long as yarib_fib_new; so does, rarely,
- * another change, if the table has become much smaller. If a command finds no memory for the update, the command is still answered, the
- * forwarding table is freed (no status says so, but yarib_memory is lower by its size), and look-ups use the table until this is called
- * again.
+ * a millisecond, of a shorter one longer. A purge takes as long as withdrawing each route, or as a rebuild of the forwarding table
+ * if that is faster. Another change rebuilds it too, rarely, if the table has become much smaller. If a command finds no memory for
+ * the update, the command is still answered, the forwarding table is freed (no status says so, but yarib_memory is lower by its
+ * size), and look-ups use the table until this is called again.
  * Errors: YARIB_NOTHING, YARIB_WRONG_KIND (the handle doesn't hold a table without a journal), YARIB_NO_MEMORY. */
 YARIB_STATUS yarib_fib_attach(yarib *table);
 

@@ -4,5 +4,6 @@ pub mod Reading
 pub mod Renewing
 pub mod Marks
 pub mod Outside
+pub mod Withdrawing
 pub mod Crossing
 pub mod Promised

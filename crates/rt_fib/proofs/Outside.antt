@@ -21,11 +21,11 @@ use Rattle.rt_fib.specs.Laws.{KeepsOutside}
 not_both : {b : Bool} → b ≡ false → b ≡ true → ⊥
 not_both is_false is_true = let e : false ≡ true = sym is_false ∙ is_true in cc
 
-either : (b : Bool) → (b ≡ true) ⊎ (b ≡ false)
+pub either : (b : Bool) → (b ≡ true) ⊎ (b ≡ false)
 either true = inl refl
 either false = inr refl
 
-first_part : (a b : Bool) → (a && b) ≡ true → a ≡ true
+pub first_part : (a b : Bool) → (a && b) ≡ true → a ≡ true
 first_part true b h = refl
 first_part false b h = h
 

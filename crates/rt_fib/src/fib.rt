@@ -1,6 +1,7 @@
 //! The forwarding table, as its callers see it.
-ghost use Rattle.std.specs.Prelude.{◌≡◌, ◌≤◌, ◌^◌, IfOk, OnOk, OnErr, length, map};
-ghost use Rattle.rt_rib.specs.Book.{table_of};
+ghost use Rattle.std.specs.Prelude.{◌≡◌, ◌≤◌, ◌^◌, IfOk, IfSome, OnOk, OnErr, length, map};
+ghost use Rattle.rt_rib.specs.declared.commands.Cmd.TheVariants.{Purge};
+ghost use Rattle.rt_rib.specs.Book.{table_of, table_state, IsFeed, Serves};
 ghost use Rattle.rt_rib.specs.LookUp.{look_up};
 ghost use Rattle.rt_fib.specs.Tables.{PreservesLookupsOutside};
 ghost use Rattle.rt_fib.specs.Laws.{KeepsOutside};
@@ -9,9 +10,10 @@ use crate::cells::{ANSWER_BYTES, BLOCK_BYTES, Cells};
 use crate::filling::{all_cells, renew_cells};
 use crate::marking::keep_pace;
 use crate::pools::bytes_reserved;
+use crate::purging::{prefixes_to_withdraw, purge_rest, withdraw_each};
 use crate::spans::span_of;
 use rt_cidr::{Addr, Prefix};
-use rt_rib::{Book, Cmd, Refused, Route, Table};
+use rt_rib::{Book, Cmd, Refused, Reply, Route, Table};
 use std::alloc::Allocator;
 use std::fmt;
 use std::marker::Model;
@@ -127,13 +129,17 @@ impl<A: Allocator + Copy, B: Allocator + Copy> Fib<A, B> {
         Ok(())
     }
 
+    /// Returns the allocator of its memory.
+    fn allocator(&self) -> A {
+        *self.cells.entries.allocator()
+    }
+
     /// Puts a new one in its place.
     fn build_anew(&mut self, table: &Table<B>) -> Result<(), Refused>
         ensures ok { OnOk result (self.new ≡ table.now.routes) }
         ensures err { OnErr result (self.new ≡ self.old) }
     {
-        let alloc = *self.cells.entries.allocator();
-        *self = Fib::of(alloc, table)?;
+        *self = Fib::of(self.allocator(), table)?;
         Ok(())
     }
 
@@ -162,6 +168,28 @@ impl<A: Allocator + Copy, B: Allocator + Copy> Fib<A, B> {
             Cmd::Lookup { .. } => Ok(()),
             Cmd::Dump => Ok(()),
             Cmd::Purge => self.build_anew(table),
+        }
+    }
+
+    /// Purges the feed's routes from the table whose answers it gives, and follows. Returns the reply of the purge, and the forwarding
+    /// table. If the feed has no routes, this changes nothing. If it has few, they are withdrawn one by one, and the answers to each
+    /// prefix's addresses renewed. If it has many, or they cover many addresses, the forwarding table is rebuilt. If memory runs out, the
+    /// purge is executed all the same, and the forwarding table is dropped: the result is `None`.
+    pub fn purge(self, table: &mut Table<B>, feed: u32) -> (Reply, Option<Fib<A, B>>)
+        requires feed { IsFeed feed }
+        requires same { self ≡ table.old.routes }
+        ensures served { Serves (table_state table.old) (table_state table.new) feed Purge result.0 }
+        ensures followed { IfSome result.1 (λ fib. fib ≡ table.new.routes) }
+    {
+        let mut fib = self;
+        let count = table.count(feed);
+        let prefixes = prefixes_to_withdraw(fib.allocator(), table, feed, count);
+        match withdraw_each(&mut fib, table, feed, &prefixes) {
+            Ok(()) => (Reply::Purged(count), purge_rest(fib, table, feed)),
+            Err(_) => {
+                table.purge(feed);
+                (Reply::Purged(count), None)
+            }
         }
     }
 

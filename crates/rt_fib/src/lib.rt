@@ -27,6 +27,7 @@ mod filling;
 pub mod laws;
 mod marking;
 mod pools;
+mod purging;
 mod spans;
 
 pub use fib::Fib;

@@ -4,7 +4,7 @@ ghost use Rattle.rt_rib.specs.declared.commands.Cmd.TheVariants.{Add, Replace, W
 ghost use Rattle.rt_rib.specs.declared.commands.Reply.TheVariants.{Added};
 ghost use Rattle.rt_rib.specs.Sequential.{reply_of};
 ghost use Rattle.rt_rib.specs.Places.{from_place};
-ghost use Rattle.rt_rib.specs.Table.{IsTable};
+ghost use Rattle.rt_rib.specs.Table.{count_of, IsTable};
 ghost use Rattle.rt_rib.specs.LookUp.{look_up, look_up_all};
 ghost use Rattle.rt_rib.specs.Book.{IsLimit, IsFeed, table_state, Serves, HoldsRoutes};
 ghost use Rattle.rt_rib.specs.Maps.{routes_of, IsMap};
@@ -92,6 +92,14 @@ impl<A: Allocator + Copy> Table<A> {
         ensures { result ≡ length self.now.routes }
     {
         total(&self.counts)
+    }
+
+    /// Returns the number of the feed's routes.
+    pub fn count(&self, feed: u32) -> u32
+        requires { IsFeed feed }
+        ensures { result ≡ count_of feed self.now.routes }
+    {
+        self.counts[(feed - 1) as usize]
     }
 
     /// Returns true if there is no route.
@@ -255,8 +263,8 @@ impl<A: Allocator + Copy> Table<A> {
         Reply::Withdrawn
     }
 
-    /// Removes all of the feed's routes.
-    fn purge(&mut self, feed: u32) -> Reply
+    /// Executes the feed's purge: removes all of its routes. Doesn't allocate.
+    pub fn purge(&mut self, feed: u32) -> Reply
         requires { IsFeed feed }
         ensures { Serves (table_state self.old) (table_state self.new) feed Purge result }
     {

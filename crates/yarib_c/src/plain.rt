@@ -1,5 +1,6 @@
 //! A table that keeps no journal and, if a call has requested one, a forwarding table that follows it.
 ghost use Rattle.std.specs.Prelude.{◌≡◌, ◌+◌, ◌≤◌, ◌^◌, true, false, [], length, map, IfOk, IfSome, OnOk, OnErr};
+ghost use Rattle.rt_rib.specs.declared.commands.Cmd.TheVariants.{Purge};
 ghost use Rattle.rt_rib.specs.declared.commands.Reply.TheVariants.{Added};
 ghost use Rattle.rt_rib.specs.Sequential.{reply_of};
 ghost use Rattle.rt_rib.specs.LookUp.{look_up};
@@ -77,12 +78,35 @@ impl PlainTable {
         ensures err { OnErr result (self.new ≡ self.old) }
         ensures wanted { OnErr result (reply_of self.old.table.limit self.old.table.routes feed cmd ≡ Added) }
     {
+        match cmd {
+            Cmd::Purge => Ok(self.purge(feed)),
+            _ => self.change(feed, cmd),
+        }
+    }
+
+    /// Executes any command of the feed, after which a purge rebuilds the forwarding table.
+    fn change(&mut self, feed: u32, cmd: Cmd) -> Result<Reply, Refused>
+        requires { IsFeed feed }
+        ensures ok { IfOk result (λ reply. Serves (table_state self.old.table) (table_state self.new.table) feed cmd reply) }
+        ensures err { OnErr result (self.new ≡ self.old) }
+        ensures wanted { OnErr result (reply_of self.old.table.limit self.old.table.routes feed cmd ≡ Added) }
+    {
         self.table.holds();
         let reply = self.table.apply(feed, cmd)?;
         self.table.holds();
         tables_preserve_lookups_outside_prefix();
         self.beside = followed(self.beside.take(), &self.table, &cmd);
         Ok(reply)
+    }
+
+    /// Executes a purge of the feed.
+    fn purge(&mut self, feed: u32) -> Reply
+        requires { IsFeed feed }
+        ensures { Serves (table_state self.old.table) (table_state self.new.table) feed Purge result }
+    {
+        let (reply, beside) = purged(self.beside.take(), &mut self.table, feed);
+        self.beside = beside;
+        reply
     }
 
     /// Writes for each address, in order, the best route of the longest prefix that covers it, as `Table::look_up` does.
@@ -140,5 +164,22 @@ fn followed(beside: Option<Fib<Global>>, table: &Table<Global>, cmd: &Cmd) -> Op
     match fib.follow_to(table, cmd) {
         Ok(()) => Some(fib),
         Err(_) => None,
+    }
+}
+
+/// Executes a purge of the feed. Returns the reply, and the forwarding table that follows it, if there was one and memory sufficed.
+fn purged(
+    beside: Option<Fib<Global>>,
+    table: &mut Table<Global>,
+    feed: u32,
+) -> (Reply, Option<Fib<Global>>)
+    requires feed { IsFeed feed }
+    requires beside { FibHasRoutes beside table.old.routes }
+    ensures served { Serves (table_state table.old) (table_state table.new) feed Purge result.0 }
+    ensures beside { FibHasRoutes result.1 table.new.routes }
+{
+    match beside {
+        None => (table.purge(feed), None),
+        Some(fib) => fib.purge(table, feed),
     }
 }

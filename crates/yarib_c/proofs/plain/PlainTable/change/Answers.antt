@@ -1,6 +1,6 @@
 use Rattle.rt_rib.specs.Book.{table_state}
 use Rattle.yarib_c.proofs.AttachedFib.{may_follow}
-use Rattle.yarib_c.proofs.plain.PlainTable.apply.Goals as goal
+use Rattle.yarib_c.proofs.plain.PlainTable.change.Goals as goal
 
 pub followed-requires : goal.followed-requires
 followed-requires c =

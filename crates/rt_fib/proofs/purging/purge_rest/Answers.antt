@@ -1,0 +1,27 @@
+use Rattle.std.proofs.Common.{ap, sym, ◌∙◌}
+use Rattle.rt_rib.specs.Book.{TableState, table_state}
+use Rattle.rt_fib.proofs.Withdrawing.{none_purged, purged_limit, purged_routes}
+use Rattle.rt_fib.proofs.purging.purge_rest.Goals as goal
+
+pub returns-then-rest-eq0-clause-limit : goal.returns-then-rest-eq0-clause-limit
+returns-then-rest-eq0-clause-limit g c = purged_limit (table_state c.args.table.now) (table_state c.purge.new.self) c.args.feed _ c.purge.ensures
+
+pub returns-then-rest-eq0-clause-routes : goal.returns-then-rest-eq0-clause-routes
+returns-then-rest-eq0-clause-routes g c = purged_routes (table_state c.args.table.now) (table_state c.purge.new.self) c.args.feed _ c.purge.ensures
+
+pub returns-then-rest-eq0-clause-followed : goal.returns-then-rest-eq0-clause-followed
+returns-then-rest-eq0-clause-followed g c =
+    let routes = purged_routes (table_state c.args.table.now) (table_state c.purge.new.self) c.args.feed _ c.purge.ensures in
+    c.requires.same ∙ sym (routes ∙ none_purged c.args.feed c.args.table.now.routes (sym c.count-rest.ensures ∙ c.if-rest-eq0.true))
+
+pub returns-in-Ok-clause-limit : goal.returns-in-Ok-clause-limit
+returns-in-Ok-clause-limit g c = purged_limit (table_state c.args.table.now) (table_state c.purge.new.self) c.args.feed _ c.purge.ensures
+
+pub returns-in-Ok-clause-routes : goal.returns-in-Ok-clause-routes
+returns-in-Ok-clause-routes g c = purged_routes (table_state c.args.table.now) (table_state c.purge.new.self) c.args.feed _ c.purge.ensures
+
+pub returns-in-Err-clause-limit : goal.returns-in-Err-clause-limit
+returns-in-Err-clause-limit g c = purged_limit (table_state c.args.table.now) (table_state c.purge.new.self) c.args.feed _ c.purge.ensures
+
+pub returns-in-Err-clause-routes : goal.returns-in-Err-clause-routes
+returns-in-Err-clause-routes g c = purged_routes (table_state c.args.table.now) (table_state c.purge.new.self) c.args.feed _ c.purge.ensures

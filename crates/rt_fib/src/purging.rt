@@ -1,0 +1,144 @@
+//! Purges a feed's routes from a table that a forwarding table follows. After a purge, nothing says which routes it removed, so only a
+//! rebuild follows it. Therefore few routes are withdrawn one by one before the purge, each followed by a renewal of its prefix. The
+//! purge then removes nothing.
+ghost use Rattle.std.specs.Prelude.{◌≡◌, IfSome, OnOk};
+ghost use Rattle.rt_rib.specs.Table.{purge};
+ghost use Rattle.rt_rib.specs.Book.{IsFeed};
+
+use crate::fib::Fib;
+use crate::laws::tables_preserve_lookups_outside_prefix;
+use crate::spans::span_of;
+use rt_cidr::Prefix;
+use rt_rib::{Cmd, Hop, Refused, Route, Table};
+use std::alloc::Allocator;
+
+/// Says how many entries the withdrawn prefixes may have in total: a quarter of all entries.
+const MOST_ENTRIES: usize = 1 << 22;
+
+/// Returns true if `count` renewals of a few entries take less time than a rebuild from `routes` routes.
+fn are_few(count: u32, routes: u32) -> bool {
+    count <= (routes / 16).saturating_add(1 << 13)
+}
+
+/// Returns the prefixes of the feed's routes, `count` of them. Visits nothing after the last one.
+fn prefixes_of<A: Allocator + Copy, B: Allocator + Copy>(
+    alloc: A,
+    table: &Table<B>,
+    feed: u32,
+    count: usize,
+) -> Result<Vec<Prefix, A>, Refused> {
+    let mut prefixes = Vec::with_capacity(alloc, count)?;
+    let Ok(all) = Prefix::new(0, 0) else {
+        return Ok(prefixes);
+    };
+    let first = Route {
+        prefix: all,
+        feed: 0,
+        pref: 0,
+        hop: Hop::Discard,
+    };
+    for route in table.routes_from(&first) {
+        if route.feed == feed {
+            prefixes.push(route.prefix)?;
+        }
+        if prefixes.len() >= count {
+            return Ok(prefixes);
+        }
+    }
+    Ok(prefixes)
+}
+
+/// Returns the total number of the prefixes' entries.
+fn entries_of(prefixes: &[Prefix]) -> usize {
+    let mut entries = 0usize;
+    for prefix in prefixes {
+        let span = span_of(prefix);
+        entries = entries.saturating_add(span.end.saturating_sub(span.first) as usize);
+    }
+    entries
+}
+
+/// Returns the prefixes of the feed's routes, `count` of them, or none if a rebuild takes less time than their renewals or memory runs
+/// out. No clause mentions them: the purge removes each route that isn't withdrawn.
+pub(crate) fn prefixes_to_withdraw<A: Allocator + Copy, B: Allocator + Copy>(
+    alloc: A,
+    table: &Table<B>,
+    feed: u32,
+    count: u32,
+) -> Vec<Prefix, A> {
+    if count == 0 || !are_few(count, table.len()) {
+        return Vec::new(alloc);
+    }
+    let Ok(prefixes) = prefixes_of(alloc, table, feed, count as usize) else {
+        return Vec::new(alloc);
+    };
+    if entries_of(&prefixes) > MOST_ENTRIES {
+        return Vec::new(alloc);
+    }
+    prefixes
+}
+
+/// Withdraws the feed's route to the prefix from the table, and follows. Error M1 (`Refused`) if memory runs out.
+fn withdraw<A: Allocator + Copy, B: Allocator + Copy>(
+    fib: &mut Fib<A, B>,
+    table: &mut Table<B>,
+    feed: u32,
+    prefix: Prefix,
+) -> Result<(), Refused>
+    requires feed { IsFeed feed }
+    requires same { fib.old ≡ table.old.routes }
+    ensures followed { OnOk result (fib.new ≡ table.new.routes) }
+    ensures limit { table.new.limit ≡ table.old.limit }
+    ensures rest { purge feed table.new.routes ≡ purge feed table.old.routes }
+{
+    let cmd = Cmd::Withdraw { prefix };
+    tables_preserve_lookups_outside_prefix();
+    table.holds();
+    table.apply(feed, cmd)?;
+    table.holds();
+    fib.follow_to(table, &cmd)
+}
+
+/// Withdraws the feed's routes to the prefixes from the table, and follows. Error M1 (`Refused`) if memory runs out.
+pub(crate) fn withdraw_each<A: Allocator + Copy, B: Allocator + Copy>(
+    fib: &mut Fib<A, B>,
+    table: &mut Table<B>,
+    feed: u32,
+    prefixes: &[Prefix],
+) -> Result<(), Refused>
+    requires feed { IsFeed feed }
+    requires same { fib.old ≡ table.old.routes }
+    ensures followed { OnOk result (fib.new ≡ table.new.routes) }
+    ensures limit { table.new.limit ≡ table.old.limit }
+    ensures rest { purge feed table.new.routes ≡ purge feed table.old.routes }
+{
+    'each: for k in 0..prefixes.len() {
+        withdraw(fib, table, feed, prefixes[k])?;
+    }
+    Ok(())
+}
+
+/// Purges the feed's remaining routes from the table, and follows. If there are none, all answers stay. Returns `None` if memory runs
+/// out.
+pub(crate) fn purge_rest<A: Allocator + Copy, B: Allocator + Copy>(
+    fib: Fib<A, B>,
+    table: &mut Table<B>,
+    feed: u32,
+) -> Option<Fib<A, B>>
+    requires feed { IsFeed feed }
+    requires same { fib ≡ table.old.routes }
+    ensures limit { table.new.limit ≡ table.old.limit }
+    ensures routes { table.new.routes ≡ purge feed table.old.routes }
+    ensures followed { IfSome result (λ fib. fib ≡ table.new.routes) }
+{
+    let mut fib = fib;
+    let rest = table.count(feed);
+    table.purge(feed);
+    if rest == 0 {
+        return Some(fib);
+    }
+    match fib.follow_to(table, &Cmd::Purge) {
+        Ok(()) => Some(fib),
+        Err(_) => None,
+    }
+}
