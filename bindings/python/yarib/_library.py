@@ -126,7 +126,7 @@ PAUSE = 0.00005
 
 
 class Error(Exception):
-    """The base class of this package's errors. After each of them the table is unchanged."""
+    """The base class of this package's errors. After each of them the table is unchanged, except after one of `load`."""
 
 
 class Invalid(Error, ValueError):

@@ -1,5 +1,5 @@
 //! Filling the cells entry by entry, each from the piece of the table that its addresses lie in. A piece is a range of addresses with
-//! one answer, as far as the book's `answers` return it.
+//! one answer, as far as the table's lookup cursor returns it.
 ghost use Rattle.std.specs.Prelude.{◌≡◌, ◌↔◌, ℕ, IsTrue, ◌≤◌, ◌<◌, ◌+◌, ◌*◌, ◌-◌, ◌^◌, IfOk, OnOk, OnErr, length};
 ghost use Rattle.rt_fib.specs.inside.Pools.{places, filling, Fills, Has, IsBack, Keeps};
 ghost use Rattle.rt_fib.specs.inside.Entries.{AreCells, AreFrom, IsEntry};

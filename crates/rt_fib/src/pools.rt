@@ -151,7 +151,7 @@ fn put_at<T: Copy, A: Allocator + Copy>(
 }
 
 /// Puts the value at the end of the list, at a place that is in use in the next round too.
-fn append_passes<T: Copy, A: Allocator + Copy>(
+fn append_value<T: Copy, A: Allocator + Copy>(
     pool: &mut Pool<T, A>,
     since: u32,
     value: T,
@@ -189,7 +189,7 @@ pub(crate) fn put<T: Copy, A: Allocator + Copy>(
             put_at(pool, since, n, value)?;
             Ok(n)
         }
-        None => append_passes(pool, since, value),
+        None => append_value(pool, since, value),
     }
 }
 

@@ -30,7 +30,7 @@
 //!
 //! - [`Book::look_up`] answers many addresses at once.
 //! - [`Book::look_up_all`] returns every route whose prefix covers an address, the best first.
-//! - [`Book::answers`] answers successive addresses, each with how far its answer holds.
+//! - [`Book::lookup_cursor`] answers successive addresses, each with how far its answer holds.
 //!
 //! The book, which knows that the routes are the journal's, passes such a look-up to the map (`src/lookups.rt`), where a
 //! prefix's first offer is its best one. The map passes it to the trie, whose type keeps it lawful.

@@ -17,8 +17,7 @@ pub(crate) enum ProgramError<'a> {
     Usage(String),
     /// `clap` accepted arguments that `command_line` doesn't expect.
     Unknown,
-    /// There are more files than a run accepts. None of them was read; for the new files of `diff`, the old files may have
-    /// been.
+    /// There are more files than a run accepts, or than one side of `diff` accepts. No file was read.
     TooMany,
     /// No address was given.
     NoAddresses,

@@ -15,13 +15,13 @@ put_first number fault faulty new none put (one ∷ others) is =
     let clash = sym some ∙ none in cc
 
 -- else the first is still the first
-append_passes : (number : ℕ) (fault : LineFault) (faulty new : FaultyLines) → is_some faulty.first ≡ true
+put_later : (number : ℕ) (fault : LineFault) (faulty new : FaultyLines) → is_some faulty.first ≡ true
     → new ≡ record { count = faulty.count + 1; first = faulty.first }
     → (faults : List (ℕ × LineFault)) → faulty ≡ faulty_lines faults → new ≡ faulty_lines (faults ++ (number, fault) ∷ [])
-append_passes number fault faulty new some put [] is =
+put_later number fault faulty new some put [] is =
     let none : is_some faulty.first ≡ false = ap (λ (f : FaultyLines). is_some f.first) is in
     let clash = sym some ∙ none in cc
-append_passes number fault faulty new some put (one ∷ others) is =
+put_later number fault faulty new some put (one ∷ others) is =
     let lines : ℕ → FaultyLines = λ n. record { count = n; first = Some one } in
     let count : length (one ∷ others) + 1 ≡ length (one ∷ (others ++ (number, fault) ∷ [])) =
     omega (arith, length-append others ((number, fault) ∷ [])) in
@@ -31,4 +31,4 @@ pub returns-then-is_none : goal.returns-then-is_none
 returns-then-is_none c = put_first c.args.number c.args.fault c.args.self.now _ (c.if-is_none.ensures {u = tt}) refl
 
 pub returns-else-is_none : goal.returns-else-is_none
-returns-else-is_none c = append_passes c.args.number c.args.fault c.args.self.now _ (c.if-is_none.ensures {u = tt}) refl
+returns-else-is_none c = put_later c.args.number c.args.fault c.args.self.now _ (c.if-is_none.ensures {u = tt}) refl
