@@ -329,8 +329,9 @@ YARIB_STATUS yarib_memory(const yarib *table, size_t *bytes);
  * its command, yarib_concurrent_apply_each the table after all its commands at once. A change is published when the call
  * returns: reading calls that begin later see it.
  *
- * A change runs by itself: during another change, or during yarib_concurrent_new or yarib_concurrent_free, it returns YARIB_BUSY. It
- * waits for reading calls that began before the previous publication and still run, and for those of threads beyond 256.
+ * Only one change runs at a time: during another change, or during yarib_concurrent_new or yarib_concurrent_free, it returns
+ * YARIB_BUSY. A change waits for each reading call that began before the previous publication and still runs. While over 256
+ * threads that have called this library exist, it also waits for every reading call under way in the threads after the 256th.
  *
  * It takes twice the memory of a table, since it holds two: readers use one while a change is made in the other. It also holds the
  * commands of the last change, 24 bytes each. If a change returns YARIB_NO_MEMORY, it is not made, and readers have the
