@@ -324,8 +324,8 @@ YARIB_STATUS yarib_memory(const yarib *table, size_t *bytes);
 
 /* A concurrent table: one thread changes it while any number of threads read it. It has no journal.
  *
- * A reading call never waits, never returns YARIB_BUSY, and gets one published table: all answers and routes that the call
- * writes come from the table before a change or after it, whatever runs meanwhile. yarib_concurrent_apply publishes the table after
+ * A reading call never waits, never returns YARIB_BUSY, and gets one published table. Whatever runs meanwhile, all answers and
+ * routes that the call writes come from the table before a change or after it. yarib_concurrent_apply publishes the table after
  * its command, yarib_concurrent_apply_each the table after all its commands at once. A change is published when the call
  * returns: reading calls that begin later see it.
  *
