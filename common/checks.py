@@ -13,7 +13,7 @@ import threading
 import traceback
 
 from .crates import TOP, cache
-from .workspaces import lay_out, renew
+from .workspaces import add, lay_out
 
 # The setting that the launchers make before the program starts, as in ./yarib's own line: one arena of large pages.
 LAUNCHED = {"GLIBC_TUNABLES": re.search(r'^export GLIBC_TUNABLES="(.*?)\$', (TOP / "yarib").read_text(), re.M)[1]}
@@ -122,11 +122,11 @@ def built_benches(*words):
     """The program of bench/benches, in a workspace outside the repository, which is proved and built first and run with
     these words."""
     room = cache("benches-" + hashlib.sha256(str(TOP).encode()).hexdigest()[:12])
-    line = (TOP / "bench/benches/crates.txt.in").read_text().strip()
-    lay_out(room, line.partition(":")[2].split(), [line])
+    lines = (TOP / "bench/benches/crates.txt.in").read_text().splitlines()
+    lay_out(room, [word for line in lines for word in line.partition(":")[2].split()], lines)
+    for folder in ("bench/benches", "tests/libraries/recording_gate"):
+        add(room, TOP / folder)
     crate = room / "crates/benches"
-    for part in ("src", "proofs"):
-        renew(TOP / "bench/benches" / part, crate / part, ".in")
     ended = subprocess.run(["rt", "run", "--", *words], cwd=crate, capture_output=True, text=True)
     if ended.returncode != 0 or not (crate / "out/benches").exists():
         sys.exit(f"{sys.argv[0]}: bench/benches was not built\n" + ended.stdout[-2000:] + ended.stderr[-2000:])

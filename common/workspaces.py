@@ -7,16 +7,24 @@ from .built import PARTS
 from .crates import CRATES, TOP, below, needs
 
 
-def lay_out(room, crates, lines):
-    """Copies these crates and their dependencies into the directory, with a crates.txt of their lines and the given ones."""
+def lay_out(room, crates, lines, with_libraries=True):
+    """Copies these crates and their dependencies into the directory, optionally with their built libraries, and a crates.txt
+    of their lines and the given ones."""
     used = below(crates)
     for crate in used:
         for part in PARTS:
             renew(CRATES / crate / part, room / "crates" / crate / part)
-        link_library(CRATES / crate / "out/rlib", room / "crates" / crate / "out/rlib")
+        if with_libraries:
+            link_library(CRATES / crate / "out/rlib", room / "crates" / crate / "out/rlib")
     known = [f"{crate}: {' '.join(rest)}" for crate, rest in needs().items() if crate in used]
     (room / "crates.txt").write_text("\n".join([*known, *lines, ""]))
     shutil.copy(TOP / "HANDLES", room)
+
+
+def add(room, folder):
+    """Copies a further crate into the workspace, from a directory whose files have the suffix `.in`."""
+    for part in PARTS:
+        renew(folder / part, room / "crates" / folder.name / part, ".in")
 
 
 def files_of(folder, suffix=""):
