@@ -3,18 +3,19 @@
 -- only raise.
 use Rattle.std.proofs.Common.{◌≡◌, ◌≢◌, ℕ, zero, suc, ◌+◌, ◌<◌, ◌≤◌, inl, inr, List, [], ◌∷◌, ◌++◌, ◌∙◌, refl, sym, ap, subst, arith, None, Some, replicate, set}
 use Rattle.std.specs.Prelude as std
-use Rattle.std.specs.Prelude.{IsTrue, ◌-◌, true, false}
+use Rattle.std.specs.Prelude.{IsTrue, ◌-◌, Bool, true, false, nat_lt, if◌then◌else◌}
 use mathlib.Core.Option.{Option, none, some, some-injective, some-ne-none}
 use lib.ListN.{get_elem?}
 use Rattle.atomic_table.specs.Table.{State, Me}
 use Rattle.ya_core.specs.declared.word.Word.{Word}
 use Rattle.ya_core.specs.declared.word.Word.TheVariants.{C, P}
-use Rattle.ya_core.specs.declared.process.EntryPoint.TheVariants.{E1, E2, E3, E4, E8}
-use Rattle.ya_core.specs.declared.process.ExitPoint.TheVariants.{X1}
+use Rattle.ya_core.specs.declared.process.EntryPoint.TheVariants.{E1, E2, E3, E4, E7, E8}
+use Rattle.ya_core.specs.declared.process.ExitPoint.TheVariants.{X1, X3}
 use Rattle.ya_core.specs.declared.process.Process.{Process}
 use Rattle.ya_core.specs.declared.process.Process.TheVariants.{Idle, Entering, Inside, Leaving}
 use Rattle.ya_core.specs.ArbitrationTree.{node_of, side_of, number_of, count_of_words}
 use Rattle.ya_core.specs.Soundness.{IsSoundState, claims, phase_of}
+use Rattle.ya_core.specs.WalkerModel.{walk}
 use Rattle.ya_core.proofs.Promised.{opens}
 use Rattle.ya_lock.specs.declared.rule.View.{View}
 use Rattle.ya_lock.specs.declared.rule.View.TheVariants.{Unused, Making, Filling, HandingOut, Seated, Joining, Spent}
@@ -26,11 +27,10 @@ use Rattle.ya_lock.specs.Lock.{LockId, IdlePass, OpenGuard, new_pass, guard_of, 
 use Rattle.ya_lock.specs.GuardLends.{guard_with_value}
 use Rattle.ya_lock.specs.DueStep.{IsReady, process_after, MovesValue, TakesStep, EachMayStep}
 use Rattle.ya_lock.specs.StepEffects.{BeginsMaking}
+use Rattle.ya_lock.specs.inside.Lock.{HasStoredFor}
 use Rattle.ya_lock.specs.StepKinds.{HasSlot, IsContent, LeavesProcesses, IsGift}
 use Rattle.ya_lock.proofs.DueSteps.{each_may_step}
 use Rattle.ya_lock.proofs.WordsInRow.{words_zero, words_behind}
-use Rattle.ya_lock.specs.Lock.{LockId, IdlePass, OpenGuard, guard_of, pass_of, new_pass}
-use Rattle.ya_lock.specs.GuardLends.{guard_with_value}
 
 -- index_of
 the_last_word_of_one_level : index_of 1 (P 1 1) ≡ 32
@@ -443,6 +443,17 @@ not_two_of_the_core h =
     let second = h.2 1 0 Inside 7 (Seated 0 Inside 7 0, refl, (refl, refl, refl)) in
     let both : Idle ≡ Inside = sym first ∙ second in cc
 
+-- an exchange of the root's word alone leads to no such state
+not_inside_without_its_claim : ¬ ShowsCore one_inside 1
+not_inside_without_its_claim (processes, sound, shown, idle) =
+    let inside : processes 0 ≡ Inside = shown 0 0 Inside 7 (Seated 0 Inside 7 3, refl, (refl, refl, refl)) in
+    let own : Word = C 1 (node_of 1 0) (side_of 1 0) in
+    let claim : words_in 1 one_inside.words own ≡ 1 =
+    (sound.sound 1 (omega arith) (omega arith)).claimed 0
+    (subst (λ process. IsTrue (claims (phase_of 1 1 process))) (sym inside) refl) in
+    let nil = words_behind 1 (making_index 1) (replicate 41 0) 1 (omega arith) ∙ words_zero 1 41 in
+    let zero : words_in 1 one_inside.words own ≡ 0 = ap (λ (words : Word → ℕ). words own) nil in omega (arith, claim, zero)
+
 -- a word C names place 1, and no seat has the process of place 1
 abbrev claimed : State (std.Option ℕ) (View ℕ)
 claimed = record { words = replicate 8 0 ++ 2 ∷ replicate 32 0; homes = some (Some 7) ∷ []; views = Seated 0 Idle 7 0 ∷ [] }
@@ -773,3 +784,27 @@ not_where_one_comes_inside h =
 -- IsGift
 not_where_there_was_content : (s t : State (std.Option ℕ) (View ℕ)) → IsContent s 7 → ¬ IsGift 1 s t 8
 not_where_there_was_content s t content gift = gift.1 7 content
+
+-- behind the last store of a level no store is due there
+no_store_behind : (level : ℕ) (upper : Bool) → ◌≡◌ {A = Process} (Leaving 1 (X3 0)) (if upper then Leaving (level - 1) X1 else Idle) → ⊥
+no_store_behind level true is = cc
+no_store_behind level false is = cc
+
+no_wake_behind : (level : ℕ) (upper : Bool) → ◌≡◌ {A = Process} (Entering 1 (E7 0)) (if upper then Leaving (level - 1) X1 else Idle) → ⊥
+no_wake_behind level true is = cc
+no_wake_behind level false is = cc
+
+-- HasStoredFor
+after_the_store_that_wakes : HasStoredFor 1 0 (walk 1 1 (Entering 1 E8) false 5)
+after_the_store_that_wakes = (1, 0, inl refl)
+
+after_the_store_that_lets_in : HasStoredFor 1 0 (walk 1 1 Idle false 9)
+after_the_store_that_lets_in = (1, 0, inr refl)
+
+not_before_the_store_that_wakes : ¬ HasStoredFor 1 0 (walk 1 1 (Entering 1 (E7 0)) false 4)
+not_before_the_store_that_wakes (level, found, inl is) = let past : Entering 1 (E7 0) ≡ Entering level E8 = is in cc
+not_before_the_store_that_wakes (level, found, inr is) = no_wake_behind level (nat_lt 1 level) is
+
+not_before_the_store_that_lets_in : ¬ HasStoredFor 1 0 (walk 1 1 (Leaving 1 (X3 0)) false 8)
+not_before_the_store_that_lets_in (level, found, inl is) = let past : Leaving 1 (X3 0) ≡ Entering level E8 = is in cc
+not_before_the_store_that_lets_in (level, found, inr is) = no_store_behind level (nat_lt 1 level) is

@@ -42,8 +42,6 @@ mod pass;
 mod passage;
 mod rule;
 mod step_effects;
-#[cfg(test)]
-mod tests;
 mod throttle;
 mod tree_lock;
 
