@@ -55,9 +55,14 @@ class Body:
             self.changed(text)
         except BadBody as fault:
             return str(fault)
-        if {name for _, name in self.places(text)} != {self.function.rpartition("::")[2]}:
-            return f"it changes more than the text of {self.function}, or other text"
+        changed = {name for _, name in self.places(text)}
+        if changed not in ({self.function.rpartition("::")[2]}, {None}):
+            return f"it changes more than the text of {self.function}, or of one type"
         return None
+
+    def is_of_type(self, text):
+        """Returns true if it changes text outside functions, so that other functions are refused as well."""
+        return {name for _, name in self.places(text)} == {None}
 
 
 def listing_crates(crates=CRATES):
