@@ -5,4 +5,3 @@ pub mod Passes
 pub mod UncutVisits
 pub mod RunJournals
 pub mod TwoPasses
-pub mod PassesForTests

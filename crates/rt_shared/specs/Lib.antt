@@ -4,4 +4,3 @@ pub mod Laws
 pub mod Headline
 pub mod Moments
 pub mod inside
-pub mod tests

@@ -1,2 +1,0 @@
--- Definitions that only the contracts of tests use.
-pub mod Testing
