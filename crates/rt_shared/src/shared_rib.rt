@@ -2,6 +2,7 @@
 ghost use Rattle.std.specs.Prelude.{◌≡◌, ℕ, ◌+◌, ◌^◌, ◌<◌, ◌≤◌, [], ◌∷◌, ◌++◌, length, IfOk, OnErr, IsOk, OnOk, All, vec_len, vec_capacity};
 ghost use Rattle.rt_rib.specs.declared.limits.TheConstants.{MAX_FEEDS};
 ghost use Rattle.rt_rib.specs.Book.{IsLimit};
+ghost use Rattle.ya_core.specs.ArbitrationTree.{HasShape};
 ghost use Rattle.rt_rib.specs.Sequential.{table_of_journal, IsLawfulJournal};
 ghost use Rattle.rt_shared.specs.Visits.{Since, CommitsBatch, MakesVisitWith};
 ghost use Rattle.rt_shared.specs.Table.{ArePassesOf, Settles, feed_of};
@@ -15,6 +16,9 @@ use std::fmt;
 use std::marker::Model;
 use std::sync::Wait;
 use ya_lock::{Pass, TreeLock};
+
+/// The tree with the most levels has a place for each feed.
+const _: () = prove!(rt_rib::MAX_FEEDS == ya_core::MAX_PLACES);
 
 /// The right of one feed to change one shared table. Contracts see its table, its feed, and the journal as the pass has
 /// last seen it.
@@ -78,9 +82,9 @@ impl fmt::Debug for FeedPass {
     }
 }
 
-/// A routing table with its journal, which 2 to the power of L feeds change, each by its own pass. L is 1 to 6. A
-/// thread that uses it holds a reference to it and a pass. Contracts see its identity, the maximum number of routes of
-/// a feed, and the number of feeds.
+/// A routing table with its journal, which 2 to the power of L feeds change, each by its own pass. L is 1 to
+/// `ya_core::MAX_LEVELS`. A thread that uses it holds a reference to it and a pass. Contracts see its identity, the
+/// maximum number of routes of a feed, and the number of feeds.
 #[derive(Drop)]
 pub struct SharedRib<const L: u32> {
     lock: TreeLock<Lent, L>,
@@ -100,7 +104,7 @@ impl<const L: u32> SharedRib<L> {
     /// Returns a table without routes, in which each feed may have up to `limit` routes, and the pass of each feed in
     /// order. M1: `Refused` if memory runs out.
     pub fn new(alloc: Global, limit: u32) -> Result<(SharedRib<L>, Vec<FeedPass>), Refused>
-        requires levels { (1 ≤ L) × (L ≤ 6) }
+        requires levels { HasShape L }
         requires limit { IsLimit limit }
         ensures table { IfOk result (λ made. (made.0.limit ≡ limit) × (made.0.feeds ≡ 2 ^ L)) }
         ensures passes { IfOk result (λ made. ArePassesOf made.0 made.1.items) }
@@ -120,7 +124,7 @@ impl<const L: u32> SharedRib<L> {
 
     /// Returns the number of feeds.
     fn feeds() -> u32
-        requires { (1 ≤ L) × (L ≤ 6) }
+        requires { HasShape L }
         ensures value { result ≡ 2 ^ L }
         ensures most { result ≤ MAX_FEEDS }
     {

@@ -3,6 +3,7 @@ use Rattle.std.proofs.Common.{◌≡◌, ℕ, ◌+◌, ◌-◌, ◌*◌, ◌^◌
 use Rattle.std.proofs.Math.Pow.{pow_mono}
 use Rattle.std.proofs.Math.Nat.{mul-le-mul_right}
 use Rattle.std.proofs.lemmas.Nat.{pow_pos, pow-add}
+use Rattle.ya_core.specs.declared.limits.TheConstants.{MAX_LEVELS, MAX_PLACES}
 use Rattle.ya_core.specs.declared.word.Word.{Word}
 use Rattle.ya_core.specs.declared.word.Word.TheVariants.{C, T, P}
 use Rattle.ya_core.specs.ArbitrationTree.{IsWord, nodes_below, number_of, count_of_words}
@@ -15,9 +16,9 @@ double k = omega (arith, pow-add 2 k 1)
 pub room : (levels level : ℕ) → 1 ≤ level → level ≤ levels → 2 ^ (levels - level + 1) ≤ 2 ^ levels
 room levels level least most = pow_mono (omega arith)
 
--- a tree of at most six levels has at most 64 places
-pub at_most_64 : (levels : ℕ) → levels ≤ 6 → 2 ^ levels ≤ 64
-at_most_64 levels most = pow_mono {j = 6} most
+-- a tree has at most MAX_PLACES places
+pub few_places : (levels : ℕ) → levels ≤ MAX_LEVELS → 2 ^ levels ≤ MAX_PLACES
+few_places levels most = pow_mono {j = MAX_LEVELS} most
 
 -- the rows of words P of the levels up to this one end before the last
 rows_end : (levels level n : ℕ) → 1 ≤ level → level ≤ levels → (level - 1) * n + n ≤ levels * n

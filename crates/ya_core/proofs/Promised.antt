@@ -1,8 +1,8 @@
 -- The promises of this crate to a running lock, besides the contracts of its functions: lemmas that the proofs of
 -- another crate may cite. No other file of this folder is part of the promise.
 
--- different words of a tree have different numbers below the number of words; a tree has at most 64 places
-pub use Rattle.ya_core.proofs.Numbers.{same_number, number_within, at_most_64}
+-- different words of a tree have different numbers below the number of words; a tree has at most MAX_PLACES places
+pub use Rattle.ya_core.proofs.Numbers.{same_number, number_within, few_places}
 -- the test of a word is true exactly for the tree's words
 pub use Rattle.ya_core.proofs.NamedWords.{is_word_true, word_is}
 -- the due access of a walker that requests a load or a store, and its word is one of the tree

@@ -1,12 +1,13 @@
 -- The arbitration tree (Yang and Anderson 1995): the node and side of each place at each level, and the numbers of the
 -- words in one flat row.
 use Rattle.std.specs.Prelude.{◌≡◌, ◌≢◌, ℕ, ◌+◌, ◌-◌, ◌*◌, ◌/◌, ◌%◌, ◌^◌, ◌<◌, ◌≤◌}
+use Rattle.ya_core.specs.declared.limits.TheConstants.{MAX_LEVELS}
 use Rattle.ya_core.specs.declared.word.Word.{Word}
 use Rattle.ya_core.specs.declared.word.Word.TheVariants.{C, T, P}
 
--- a tree has 1 to 6 levels
+-- a tree has 1 to MAX_LEVELS levels
 abbrev pub HasShape : ℕ → Type 0
-HasShape levels = (1 ≤ levels) × (levels ≤ 6)
+HasShape levels = (1 ≤ levels) × (levels ≤ MAX_LEVELS)
 
 -- the node of a place at a level; level 1 holds the leaves
 unfoldable pub node_of : ℕ → ℕ → ℕ

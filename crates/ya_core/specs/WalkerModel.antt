@@ -1,6 +1,7 @@
 -- One process whose caller performs its accesses: the due access, the values that it may find, and the next process.
 use Rattle.std.specs.Prelude.{◌≡◌, ℕ, ◌+◌, ◌-◌, ◌*◌, ◌^◌, ◌<◌, ◌≤◌, ◌==◌, Bool, true, false, if◌then◌else◌, IsTrue, ◌⊎◌}
 use Rattle.std.specs.Prelude.{Option, Some, None, List, [], ◌∷◌}
+use Rattle.ya_core.specs.declared.limits.TheConstants.{MAX_LEVELS}
 use Rattle.ya_core.specs.declared.word.Word.{Word}
 use Rattle.ya_core.specs.declared.word.Word.TheVariants.{C, T, P}
 use Rattle.ya_core.specs.declared.word.Access.{Access}
@@ -159,7 +160,7 @@ AdvancesOrSpins old new =
 -- the invariant of a walk
 pub record IsWalk (w : Walk) : Type 0 where
   pub least : 1 ≤ w.levels
-  pub most : w.levels ≤ 6
+  pub most : w.levels ≤ MAX_LEVELS
   pub in_tree : w.place < 2 ^ w.levels
   pub proper : IsProper w.levels w.place w.process
   pub counted : w.remote ≤ most_remote w

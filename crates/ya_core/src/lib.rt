@@ -1,7 +1,8 @@
 //! The core of the Yang-Anderson lock: the words of the arbitration tree, the steps of one process, and all processes
 //! together as a machine without threads. `docs/LOCK.md` describes the algorithm and the argument.
 //!
-//! - [`Shape`] numbers the words of a tree of 1 to 6 levels in one flat row. Contracts see its number of levels.
+//! - [`Shape`] numbers the words of a tree of 1 to [`MAX_LEVELS`] levels in one flat row. Contracts see its number of
+//!   levels.
 //! - [`Walker`] is one process, whose caller makes the accesses. It requests one load or store at a time. Contracts see
 //!   its place, its process and its remote accesses.
 //! - [`Machine`] is all processes with their words; [`replay`] lets them step in a given schedule. Contracts see words
@@ -25,6 +26,7 @@
 #![tactic(auto)]
 
 pub mod laws;
+mod limits;
 mod machine;
 mod process;
 mod schedule;
@@ -33,6 +35,7 @@ mod step;
 mod walker;
 mod word;
 
+pub use limits::{MAX_LEVELS, MAX_PLACES};
 pub use machine::{Machine, NoMemory};
 pub use process::{EntryPoint, ExitPoint, Process};
 pub use schedule::{ReplayFault, replay};

@@ -1,5 +1,6 @@
 //! The state of one process, its due access, and its next state.
 ghost use Rattle.std.specs.Prelude.{◌≡◌, ◌+◌, ◌-◌, ◌^◌, ◌<◌, ◌≤◌};
+ghost use Rattle.ya_core.specs.declared.limits.TheConstants.{MAX_LEVELS, MAX_PLACES};
 ghost use Rattle.ya_core.specs.ArbitrationTree.{node_of, side_of};
 ghost use Rattle.ya_core.specs.Steps.{entry_access, exit_access, entry_next, exit_next, after_entry, after_exit};
 ghost use Rattle.ya_core.specs.Steps.{access_of, next_of};
@@ -62,7 +63,7 @@ impl Process {
     #[inline(always)]
     pub(crate) fn access(self, levels: u32, place: usize) -> Access
         requires least { 1 ≤ levels }
-        requires most { levels ≤ 6 }
+        requires most { levels ≤ MAX_LEVELS }
         requires room { place < 2 ^ levels }
         requires proper { IsProper levels place self }
         ensures { result ≡ access_of levels place self }
@@ -79,7 +80,7 @@ impl Process {
     #[inline(always)]
     pub(crate) fn next(self, levels: u32, place: usize, value: u64) -> Process
         requires least { 1 ≤ levels }
-        requires most { levels ≤ 6 }
+        requires most { levels ≤ MAX_LEVELS }
         requires room { place < 2 ^ levels }
         requires proper { IsProper levels place self }
         ensures { result ≡ next_of levels place self value }
@@ -96,7 +97,7 @@ impl Process {
 /// Returns the identifier that the words use for the place. The identifier 0 is nil.
 #[inline(always)]
 fn identifier_of(place: usize) -> u64
-    requires { place < 64 }
+    requires { place < MAX_PLACES }
     ensures { result ≡ place + 1 }
 {
     place as u64 + 1
@@ -115,7 +116,7 @@ fn identified_place(identifier: u64) -> usize
 #[inline(always)]
 fn own_claim(level: u32, place: usize) -> Word
     requires least { 1 ≤ level }
-    requires most { level ≤ 6 }
+    requires most { level ≤ MAX_LEVELS }
     ensures { result ≡ Word.C level (node_of level place) (side_of level place) }
 {
     Word::C(level, place >> level, (place >> (level - 1)) % 2)
@@ -126,7 +127,7 @@ fn own_claim(level: u32, place: usize) -> Word
 #[inline(always)]
 fn rival_claim(level: u32, place: usize) -> Word
     requires least { 1 ≤ level }
-    requires most { level ≤ 6 }
+    requires most { level ≤ MAX_LEVELS }
     ensures { result ≡ Word.C level (node_of level place) (1 - side_of level place) }
 {
     Word::C(level, place >> level, 1 - (place >> (level - 1)) % 2)
@@ -136,7 +137,7 @@ fn rival_claim(level: u32, place: usize) -> Word
 #[tactic(auto, unfolding(crate::specs::ArbitrationTree::node_of, crate::specs::ArbitrationTree::side_of))]
 #[inline(always)]
 fn turn(level: u32, place: usize) -> Word
-    requires most { level ≤ 6 }
+    requires most { level ≤ MAX_LEVELS }
     ensures { result ≡ Word.T level (node_of level place) }
 {
     Word::T(level, place >> level)
@@ -146,8 +147,8 @@ fn turn(level: u32, place: usize) -> Word
 #[inline(always)]
 fn entry_access(level: u32, place: usize, point: EntryPoint) -> Access
     requires least { 1 ≤ level }
-    requires most { level ≤ 6 }
-    requires room { place < 64 }
+    requires most { level ≤ MAX_LEVELS }
+    requires room { place < MAX_PLACES }
     ensures { result ≡ entry_access level place point }
 {
     let identifier = identifier_of(place);
@@ -167,7 +168,7 @@ fn entry_access(level: u32, place: usize, point: EntryPoint) -> Access
 #[inline(always)]
 fn exit_access(level: u32, place: usize, point: ExitPoint) -> Access
     requires least { 1 ≤ level }
-    requires most { level ≤ 6 }
+    requires most { level ≤ MAX_LEVELS }
     ensures { result ≡ exit_access level place point }
 {
     match point {
@@ -180,8 +181,8 @@ fn exit_access(level: u32, place: usize, point: ExitPoint) -> Access
 /// Returns the process after a point of the way in whose access loaded the value.
 #[inline(always)]
 fn entry_next(levels: u32, level: u32, place: usize, point: EntryPoint, value: u64) -> Process
-    requires most { level ≤ 6 }
-    requires room { place < 64 }
+    requires most { level ≤ MAX_LEVELS }
+    requires room { place < MAX_PLACES }
     ensures { result ≡ entry_next levels level place point value }
 {
     let identifier = identifier_of(place);
@@ -206,7 +207,7 @@ fn entry_next(levels: u32, level: u32, place: usize, point: EntryPoint, value: u
 /// Returns the process after a point of the way out whose access loaded the value.
 #[inline(always)]
 fn exit_next(level: u32, place: usize, point: ExitPoint, value: u64) -> Process
-    requires room { place < 64 }
+    requires room { place < MAX_PLACES }
     ensures { result ≡ exit_next level place point value }
 {
     match point {
@@ -220,7 +221,7 @@ fn exit_next(level: u32, place: usize, point: ExitPoint, value: u64) -> Process
 /// Returns the process after it won the level: at the next level, or inside after the root.
 #[inline(always)]
 fn after_entry(levels: u32, level: u32) -> Process
-    requires { level ≤ 6 }
+    requires { level ≤ MAX_LEVELS }
     ensures { result ≡ after_entry levels level }
 {
     if level < levels {

@@ -17,7 +17,7 @@ pub enum ReplayFault {
     /// P1: some pick is not a place of the tree.
     #[error("fault P1")]
     Place,
-    /// P2: the number of levels is not 1 to 6.
+    /// P2: the number of levels is not 1 to `MAX_LEVELS`.
     #[error("fault P2")]
     Levels,
     /// P3: out of memory.
@@ -27,7 +27,7 @@ pub enum ReplayFault {
 
 /// Returns the steps of a run from the start: the picked places step one after another in a tree of that many levels.
 ///
-/// Errors: P2 if the levels are not 1 to 6, else P1 if some pick is not a place, else P3 if memory runs out. Nothing is
+/// Errors: P2 if no tree has that many levels, else P1 if some pick is not a place, else P3 if memory runs out. Nothing is
 /// kept after an error.
 pub fn replay(alloc: Global, levels: u32, picks: &[u32]) -> Result<Vec<Step>, ReplayFault>
     ensures steps { IfOk result (λ steps. Replays levels opening picks.now steps.items) }

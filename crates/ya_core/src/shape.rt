@@ -1,12 +1,14 @@
 //! The words of a tree in one flat row.
 ghost use Rattle.std.specs.Prelude.{◌≡◌, ◌↔◌, ℕ, ◌+◌, ◌-◌, ◌*◌, ◌^◌, ◌<◌, ◌≤◌, IsSome, IfSome};
+ghost use Rattle.ya_core.specs.declared.limits.TheConstants.{MAX_LEVELS, MAX_PLACES};
 ghost use Rattle.ya_core.specs.ArbitrationTree.{HasShape, IsWord, number_of, count_of_words, nodes_below};
 
+use crate::limits::MAX_LEVELS;
 use crate::word::Word;
 use std::marker::Model;
 
-/// An arbitration tree of 1 to 6 levels: its numbers of places and words, and the number of each word in one flat row.
-/// Contracts see it as its number of levels.
+/// An arbitration tree of 1 to [`MAX_LEVELS`] levels: its numbers of places and words, and the number of each word in
+/// one flat row. Contracts see it as its number of levels.
 #[derive(Clone, Copy, Debug)]
 pub struct Shape {
     levels: u32,
@@ -23,25 +25,25 @@ impl Model for Shape {
 }
 
 impl Shape {
-    /// Returns the tree of this many levels, or `None` outside 1 to 6.
+    /// Returns the tree of this many levels, or `None` outside 1 to [`MAX_LEVELS`].
     #[inline(always)]
     pub fn new(levels: u32) -> Option<Shape>
         ensures some { IsSome result ↔ HasShape levels }
         ensures value { IfSome result (λ shape. shape ≡ levels) }
     {
-        if (1..=6).contains(&levels) {
+        if (1..=MAX_LEVELS).contains(&levels) {
             Some(Shape { levels })
         } else {
             None
         }
     }
 
-    /// Returns the number of levels, 1 to 6.
+    /// Returns the number of levels, 1 to [`MAX_LEVELS`].
     #[inline(always)]
     pub(crate) fn levels(&self) -> u32
         ensures value { result ≡ self.now }
         ensures least { 1 ≤ result }
-        ensures most { result ≤ 6 }
+        ensures most { result ≤ MAX_LEVELS }
     {
         self.levels
     }
@@ -51,7 +53,7 @@ impl Shape {
     pub fn places(&self) -> usize
         ensures value { result ≡ 2 ^ self.now }
         ensures least { 2 ≤ result }
-        ensures most { result ≤ 64 }
+        ensures most { result ≤ MAX_PLACES }
     {
         1 << self.levels
     }
@@ -113,7 +115,7 @@ impl Shape {
         requires least { 1 ≤ level }
         requires most { level ≤ self.now }
         ensures value { result ≡ nodes_below self.now level }
-        ensures room { result + 2 ^ (self.now - level) ≤ 64 }
+        ensures room { result + 2 ^ (self.now - level) ≤ MAX_PLACES }
     {
         self.places() - (1 << (self.levels - level + 1))
     }

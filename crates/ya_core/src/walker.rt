@@ -1,6 +1,7 @@
 //! One process, driven by the values that its caller loads.
 ghost use Rattle.std.specs.Prelude.{◌≡◌, ◌↔◌, ℕ, ◌+◌, ◌-◌, ◌*◌, ◌^◌, ◌<◌, ◌≤◌, true, false, IsTrue, IsFalse};
 ghost use Rattle.ya_core.specs.declared.process.Process.TheVariants.{Idle, Inside, Entering};
+ghost use Rattle.ya_core.specs.declared.limits.TheConstants.{MAX_LEVELS};
 ghost use Rattle.ya_core.specs.ArbitrationTree.{node_of, side_of};
 ghost use Rattle.ya_core.specs.Steps.{access_of};
 ghost use Rattle.ya_core.specs.WalkerModel.{IsWalk, walk, walk_after, op_of, due, due_of, cost_of};
@@ -289,7 +290,7 @@ fn can_stand(word: Word, value: u64) -> bool
 /// Returns true if the identifier is that of a place below the node.
 #[tactic(auto, unfolding(crate::specs::ArbitrationTree::node_of, crate::specs::ArbitrationTree::side_of))]
 fn is_below(level: u32, node: usize, identifier: u64) -> bool
-    requires { level ≤ 6 }
+    requires { level ≤ MAX_LEVELS }
     ensures { IsTrue result ↔ ((1 ≤ identifier) × (node_of level (identifier - 1) ≡ node)) }
 {
     identifier > 0 && (identifier - 1) >> level == node as u64
@@ -299,7 +300,7 @@ fn is_below(level: u32, node: usize, identifier: u64) -> bool
 #[tactic(auto, unfolding(crate::specs::ArbitrationTree::node_of, crate::specs::ArbitrationTree::side_of))]
 fn is_on_side(level: u32, side: usize, identifier: u64) -> bool
     requires least { 1 ≤ level }
-    requires most { level ≤ 6 }
+    requires most { level ≤ MAX_LEVELS }
     requires some { 1 ≤ identifier }
     ensures { IsTrue result ↔ (side_of level (identifier - 1) ≡ side) }
 {

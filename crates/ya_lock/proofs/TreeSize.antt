@@ -1,5 +1,6 @@
 -- A lock has the words of one tree.
 use Rattle.std.proofs.Common.{◌≡◌, ℕ, ◌*◌, ◌^◌, ◌<◌, ◌≤◌, sym, ap, ◌∙◌, subst, arith}
+use Rattle.ya_core.specs.declared.limits.TheConstants.{MAX_LEVELS}
 use Rattle.ya_core.specs.ArbitrationTree.{count_of_words}
 use Rattle.ya_lock.specs.Lock.{LockId}
 use Rattle.ya_lock.specs.inside.Lock.{HasTree, HasPlace}
@@ -25,10 +26,10 @@ place_below x y place levels shape e h s p =
     subst (λ (l : ℕ). place < 2 ^ l) (one_tree x y p.levels levels e p.words h ∙ sym s) p.below
 
 -- the index of a word of the tree is a small number
-pub word_fits : (levels number : ℕ) → levels ≤ 6 → number < count_of_words levels → 8 * number ≤ 4584
+pub word_fits : (levels number : ℕ) → levels ≤ MAX_LEVELS → number < count_of_words levels → 8 * number ≤ 4294967296
 word_fits levels number most below =
     let count : ℕ = count_of_words levels in let making : ℕ = making_index levels in
-    let lies : 8 * count ≡ making = making_is levels in let small : making ≤ 4584 = making_small levels most in
+    let lies : 8 * count ≡ making = making_is levels in let small : making ≤ 4294967296 = making_small levels most in
     let h : number < count = below in omega arith
 
 -- and it is a word of the lock

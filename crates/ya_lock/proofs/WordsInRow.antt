@@ -5,9 +5,10 @@ use Rattle.std.proofs.Math.Decide.{dec_lt}
 use Rattle.std.proofs.Math.Nat.{mul-le-mul_left, mul-le-mul_right}
 use Rattle.std.proofs.Math.Pow.{pow-lt}
 use Rattle.std.proofs.lemmas.Nat.{pow_pos}
-use Rattle.ya_core.proofs.Promised.{at_most_64, number_within, same_number}
+use Rattle.ya_core.proofs.Promised.{few_places, number_within, same_number}
 use Rattle.std.proofs.Math.ListN.{get_or-eq_default}
 use Rattle.std.proofs.lemmas.List.{get_or-replicate, length-replicate, set-get_or}
+use Rattle.ya_core.specs.declared.limits.TheConstants.{MAX_LEVELS, MAX_PLACES}
 use Rattle.ya_core.specs.declared.word.Word.{Word}
 use Rattle.ya_core.specs.ArbitrationTree.{IsWord, number_of, count_of_words}
 use Rattle.ya_core.specs.FlatRow.{is_word}
@@ -92,11 +93,11 @@ pub words_behind : (levels i : ℕ) (row : List ℕ) (n : ℕ) → making_index 
 words_behind levels i row n behind = λ k w. behind_by levels i row n w (is_word levels w) behind refl k
 
 -- the row is short
-pub making_small : (levels : ℕ) → levels ≤ 6 → making_index levels ≤ 4584
+pub making_small : (levels : ℕ) → levels ≤ MAX_LEVELS → making_index levels ≤ 4294967296
 unfolding making_index count_of_words
 making_small levels most =
-    let places : ℕ = 2 ^ levels in let few : places ≤ 64 = at_most_64 levels most in
-    let times : levels * places ≤ 6 * places = mul-le-mul_right places most in omega arith
+    let places : ℕ = 2 ^ levels in let few : places ≤ MAX_PLACES = few_places levels most in
+    let times : levels * places ≤ MAX_LEVELS * places = mul-le-mul_right places most in omega arith
 
 -- the index of the making word
 pub making_is : (levels : ℕ) → 8 * count_of_words levels ≡ making_index levels

@@ -1,6 +1,7 @@
 //! Bells: the words on which places sleep that wait for long. A bell is 1 while its place sleeps or is about to. Bells
 //! are tuning, as `Backoff` is: the table's rule reads none, and no contract depends on one.
 ghost use Rattle.std.specs.Prelude.{◌≡◌, ◌^◌, ◌<◌, ◌≤◌, true};
+ghost use Rattle.ya_core.specs.ArbitrationTree.{HasShape};
 ghost use Rattle.ya_core.specs.WalkerModel.{is_waiting};
 ghost use Rattle.ya_lock.specs.inside.Rule.{bell_index};
 ghost use Rattle.ya_lock.specs.inside.Lock.{HasLooked, HasStoredFor};
@@ -21,7 +22,7 @@ impl<V: Kept + Drop, const L: u32> TreeLock<V, L> {
     /// Returns the index of the bell of a place.
     #[inline(always)]
     pub(crate) fn bell(place: usize) -> usize
-        requires levels { (1 ≤ L) × (L ≤ 6) }
+        requires levels { HasShape L }
         requires place { place < 2 ^ L }
         ensures { result ≡ bell_index L place }
     {

@@ -14,7 +14,7 @@
 //!
 //! `crates/walkthrough/src/lock.rt` has `Tally` and the whole of this, with its proof.
 //!
-//! - [`TreeLock`] has 2 to the power of L places, L from 1 to 6. `new` gives the [`Pass`] of each.
+//! - [`TreeLock`] has 2 to the power of L places, L from 1 to `ya_core::MAX_LEVELS`. `new` gives the [`Pass`] of each.
 //! - A [`Pass`] is the right to enter from one place. It knows the value as its place has last seen it.
 //! - A [`Guard`] is a place that is inside. It has the value as it was found and as it is now.
 //! - The lent type implements [`Kept`]. Its `since` relates a value to those that other places may make of it, and `done`

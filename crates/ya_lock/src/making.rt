@@ -1,5 +1,6 @@
 //! The construction of a lock: first its tree and its table, then the passes of its places from the seat that made it.
 ghost use Rattle.std.specs.Prelude.{◌≡◌, ℕ, ◌+◌, ◌^◌, ◌≤◌, [], vec_capacity, IfOk};
+ghost use Rattle.ya_core.specs.ArbitrationTree.{HasShape};
 ghost use Rattle.ya_lock.specs.declared.rule.View.TheVariants.{Making, HandingOut};
 ghost use Rattle.ya_lock.specs.Rule.{making_index};
 ghost use Rattle.ya_lock.specs.inside.Lock.{IsLockTable};
@@ -20,7 +21,7 @@ impl<V: Kept + Drop, const L: u32> TreeLock<V, L> {
     /// Returns the tree of the lock.
     #[inline(always)]
     pub(crate) fn shape() -> Shape
-        requires { (1 ≤ L) × (L ≤ 6) }
+        requires { HasShape L }
         ensures { result ≡ L }
     {
         let Some(shape) = Shape::new(L) else {
@@ -35,7 +36,7 @@ impl<V: Kept + Drop, const L: u32> TreeLock<V, L> {
         alloc: Global,
         making: usize,
     ) -> Result<(LockTable<V>, LockSeat<V>), NoMemory>
-        requires levels { (1 ≤ L) × (L ≤ 6) }
+        requires levels { HasShape L }
         requires making { making ≡ making_index L }
         ensures table { IfOk result
             (λ made. IsLockTable L made.0.shared.key made.0.shared.table_id) }

@@ -62,8 +62,7 @@ impl<'a, V: Kept + Drop, const L: u32> Passage<'a, V, L> {
         ensures of { result.of ≡ way_of pass }
         ensures begins { BeginsEntry result.walk }
     {
-        // The invariant of the lock is known once one of its fields is read: it has 1 to 6 levels.
-        let _ = &lock.table;
+        lock.holds_tree();
         let Pass {
             seat,
             place,
@@ -242,9 +241,7 @@ impl<'a, V: Kept + Drop, const L: u32> Passage<'a, V, L> {
         requires { BeginsEntry self.old.walk }
         ensures same { self.new ≡ self.old }
     {
-        // The invariant of the lock is known once one of its fields is read: it has 1 to 6 levels.
-        let lock = self.lock;
-        let _ = &lock.table;
+        self.lock.holds_tree();
         let mut walker = Walker::new(TreeLock::<V, L>::shape(), self.place);
         walker.begin_entry();
         self.walker = walker;

@@ -1,8 +1,9 @@
 //! The lock and its calls.
 ghost use Rattle.std.specs.Prelude.{◌≡◌, ◌+◌, ◌*◌, ◌≤◌, IfOk, IfErr};
+ghost use Rattle.ya_core.specs.ArbitrationTree.{HasShape};
 ghost use Rattle.ya_core.specs.WalkerModel.{op_of};
 ghost use Rattle.ya_lock.specs.Lock.{ArePassesInOrder, guard_of, pass_of};
-ghost use Rattle.ya_lock.specs.inside.Lock.{guard_at};
+ghost use Rattle.ya_lock.specs.inside.Lock.{guard_at, HasTree};
 
 use crate::ghost_value::GhostValue;
 use crate::guard::Guard;
@@ -18,8 +19,8 @@ use std::marker::Model;
 use std::sync::Wait;
 use ya_core::{NoMemory, Op, Walker};
 
-/// A lock of 2 to the power of L places, which lends one value to one place at a time. L is 1 to 6. Contracts see
-/// its identity.
+/// A lock of 2 to the power of L places, which lends one value to one place at a time. L is 1 to
+/// `ya_core::MAX_LEVELS`. Contracts see its identity.
 #[derive(Drop)]
 pub struct TreeLock<V: Kept + Drop, const L: u32> {
     pub(crate) table: LockTable<V>,
@@ -40,7 +41,7 @@ impl<V: Kept + Drop, const L: u32> TreeLock<V, L> {
     /// Returns a lock that lends the value, and the pass of each place in order. Each pass has seen the value as it is
     /// now. If memory runs out, the value comes back.
     pub fn new(alloc: Global, value: V) -> Result<(TreeLock<V, L>, Vec<Pass<V>>), (V, NoMemory)>
-        requires { (1 ≤ L) × (L ≤ 6) }
+        requires { HasShape L }
         ensures passes { IfOk result (λ made. ArePassesInOrder made.0 L value made.1.items) }
         ensures refused { IfErr result (λ r. r.0 ≡ value) }
     {
@@ -71,8 +72,7 @@ impl<V: Kept + Drop, const L: u32> TreeLock<V, L> {
         ensures fresh { V.since pass.place pass.seen result.found }
         ensures count { result.remote ≤ 7 * L }
     {
-        // The invariant of the lock is known once one of its fields is read: it has 1 to 6 levels.
-        let _ = &self.table;
+        self.holds_tree();
         let crowd = self.throttle_if_contended(rt, pass.place, pass.crowd);
         Self::take_value(Passage::begin(self, pass).acquire(rt), crowd)
     }
@@ -159,6 +159,16 @@ impl<V: Kept + Drop, const L: u32> TreeLock<V, L> {
         let _empty = closed.take(SLOT);
         closed.free();
         value
+    }
+
+    /// Recalls that the table has the words of a tree of L levels: the invariant of the lock is known once one of its
+    /// fields is read. Does nothing.
+    #[inline(always)]
+    pub(crate) fn holds_tree(&self)
+        ensures shape { HasShape L }
+        ensures words { HasTree self.now L }
+    {
+        let _ = &self.table;
     }
 
     /// Returns the guard of a place that has come inside, with the value in the slot.

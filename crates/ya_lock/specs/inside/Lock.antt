@@ -2,6 +2,7 @@
 use Rattle.std.specs.Prelude.{◌≡◌, ℕ, ◌*◌, ◌^◌, ◌<◌, ◌≤◌, Bool, true, false, [], ◌∷◌, Some, None, ◌⊎◌}
 use Rattle.std.specs.Prelude as std
 use Rattle.atomic_table.specs.Table.{Me}
+use Rattle.ya_core.specs.declared.limits.TheConstants.{MAX_LEVELS}
 use Rattle.ya_core.specs.declared.process.Process.{Process}
 use Rattle.ya_core.specs.declared.process.Process.TheVariants.{Idle, Inside, Entering, Leaving}
 use Rattle.ya_core.specs.WalkerModel.{Walk}
@@ -53,7 +54,7 @@ pub record HasPlace (lock : LockId) (place : ℕ) : Type 0 where
 -- the table of a lock of `levels` levels: it has the words of their tree and one slot, and its key is their number
 pub record IsLockTable (levels : ℕ) (key : ℕ) (table : LockId) : Type 0 where
   pub least : 1 ≤ levels
-  pub most : levels ≤ 6
+  pub most : levels ≤ MAX_LEVELS
   pub told : key ≡ levels
   pub words : HasTree table levels
   pub slots : table.slots ≡ 1

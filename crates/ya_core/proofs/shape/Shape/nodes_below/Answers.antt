@@ -1,5 +1,5 @@
 use Rattle.std.proofs.Common.{◌≡◌, ◌+◌, ◌-◌, ◌^◌, ap, arith}
-use Rattle.ya_core.proofs.Numbers.{at_most_64, room, double}
+use Rattle.ya_core.proofs.Numbers.{few_places, room, double}
 use Rattle.ya_core.proofs.shape.Shape.nodes_below.Goals as goal
 
 pub overflow_sub-result-2 : goal.overflow_sub-result-2
@@ -7,7 +7,7 @@ overflow_sub-result-2 c =
     let levels = c.args.self.now in
     let same : 2 ^ (c.self.inside.levels - c.args.level + 1) ≡ 2 ^ (levels - c.args.level + 1) =
     ap (λ n. 2 ^ (n - c.args.level + 1)) c.self.view_is in
-    omega (arith, at_most_64 levels (omega arith), room levels c.args.level c.requires.least c.requires.most)
+    omega (arith, few_places levels (omega arith), room levels c.args.level c.requires.least c.requires.most)
 
 pub returns-clause-room : goal.returns-clause-room
 returns-clause-room c =
@@ -16,7 +16,7 @@ returns-clause-room c =
     ap (λ n. 2 ^ (n - c.args.level + 1)) c.self.view_is in
     omega (
       arith,
-      at_most_64 levels (omega arith),
+      few_places levels (omega arith),
       room levels c.args.level c.requires.least c.requires.most,
       double (levels - c.args.level),
     )

@@ -1,4 +1,5 @@
 use Rattle.std.proofs.Common.{arith, ◌≡◌, ◌≢◌, ℕ, ◌+◌, ◌*◌, ◌^◌, ◌<◌, ◌≤◌, sym, ap, ◌∙◌, subst, Option}
+use Rattle.ya_core.specs.declared.limits.TheConstants.{MAX_LEVELS}
 use Rattle.atomic_table.specs.Table.{Me, Allows}
 use Rattle.ya_core.specs.declared.word.Word.{Word}
 use Rattle.ya_core.specs.declared.word.Access.{Access}
@@ -26,10 +27,10 @@ due_word : (w : Walk) (a : Access) → IsWalk w → access_of w.levels w.place w
 due_word w a p is = subst (AccessIsWithin w.levels) is (within_access w.levels w.place w.process p.least p.in_tree p.proper)
 
 -- which lies before the making word, at a small index
-due_index : (levels number : ℕ) (word : Word) → levels ≤ 6 → IsWord levels word → number ≡ number_of levels word
-    → (8 * number ≡ index_of levels word) × (8 * number + 8 ≤ making_index levels) × (8 * number < 4584)
+due_index : (levels number : ℕ) (word : Word) → levels ≤ MAX_LEVELS → IsWord levels word → number ≡ number_of levels word
+    → (8 * number ≡ index_of levels word) × (8 * number + 8 ≤ making_index levels) × (8 * number < 4294967296)
 due_index levels number word most within is =
-    let m : ℕ = making_index levels in let small : m ≤ 4584 = making_small levels most in
+    let m : ℕ = making_index levels in let small : m ≤ 4294967296 = making_small levels most in
     let i : ℕ = index_of levels word in let below : i + 8 ≤ m = index_below levels word within in
     let at : 8 * number ≡ i = ap (λ (k : ℕ). 8 * k) is ∙ index_is levels word in (at, omega arith, omega arith)
 

@@ -1,4 +1,4 @@
-use Rattle.std.proofs.Common.{refl, sym, ap, ◌∙◌, lit<}
+use Rattle.std.proofs.Common.{refl, ap, ◌∙◌, lit<}
 use Rattle.ya_lock.specs.Lock.{IdlePass}
 use Rattle.ya_lock.proofs.TreeSize.{place_below}
 use Rattle.ya_lock.proofs.tree_lock.TreeLock.enter.Goals as goal
@@ -7,8 +7,8 @@ pub throttle_if_contended-crowd-requires : goal.throttle_if_contended-crowd-requ
 throttle_if_contended-crowd-requires g c =
     let same = ap (λ (q : IdlePass g.row.V.Denot). q.lock) c.pass.view_is ∙ c.requires in (
       lit< tt,
-      place_below c.pass.inside.seat.table_id c.self.inside.table.shared.table_id c.pass.inside.place g.row.L g.row.L
-          (same ∙ sym c.self.view_is) c.self.invariant.words refl c.pass.invariant.in_tree,
+      place_below c.pass.inside.seat.table_id c.args.self.now c.pass.inside.place g.row.L g.row.L same
+          c.holds_tree.ensures.words refl c.pass.invariant.in_tree,
     )
 
 pub take_value-requires : goal.take_value-requires

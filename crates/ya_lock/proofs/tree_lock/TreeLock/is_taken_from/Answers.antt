@@ -6,7 +6,7 @@ use Rattle.ya_lock.proofs.tree_lock.TreeLock.is_taken_from.Goals as goal
 pub overflow_mul-c : goal.overflow_mul-c
 overflow_mul-c g c =
     let number : ℕ = c.c.result in
-    let small : 8 * number ≤ 4584 = word_fits g.row.L number c.self.invariant.most
+    let small : 8 * number ≤ 4294967296 = word_fits g.row.L number c.self.invariant.most
     (subst (λ (l : ℕ). number < count_of_words l) c.shape.ensures c.c.ensures.within) in omega arith
 
 pub peek-requires : goal.peek-requires

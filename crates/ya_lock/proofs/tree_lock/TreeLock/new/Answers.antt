@@ -11,7 +11,7 @@ use Rattle.ya_lock.proofs.tree_lock.TreeLock.new.Goals as goal
 
 pub overflow_mul-words : goal.overflow_mul-words
 overflow_mul-words g c =
-    let m : ℕ = making_index g.row.L in let small : m ≤ 4584 = making_small g.row.L c.requires.1 in let words : ℕ =
+    let m : ℕ = making_index g.row.L in let small : m ≤ 4294967296 = making_small g.row.L c.requires.1 in let words : ℕ =
     c.words.result in
     let is : 8 * words ≡ m =
     ap (λ (n : ℕ). 8 * n) (c.words.ensures ∙ ap count_of_words c.shape-shape.ensures) ∙ making_is g.row.L in

@@ -1,4 +1,5 @@
 use Rattle.std.proofs.Common.{arith, ◌≡◌, ℕ, ◌+◌, ◌*◌, ◌^◌, ◌≤◌, List, [], ◌∷◌, length, sym, ap, ◌∙◌, subst, None}
+use Rattle.ya_core.specs.declared.limits.TheConstants.{MAX_PLACES}
 use Rattle.atomic_table.specs.Table.{opening, Arrives}
 use Rattle.ya_lock.specs.declared.rule.View.TheVariants.{Unused}
 use Rattle.ya_lock.specs.Rule.{making_index, Rule}
@@ -9,9 +10,9 @@ use Rattle.ya_lock.proofs.tree_lock.TreeLock.new_table.Goals as goal
 
 pub overflow_add-making : goal.overflow_add-making
 overflow_add-making g c =
-    let m : ℕ = making_index g.row.L in let small : m ≤ 4584 = making_small g.row.L c.requires.levels.1 in
+    let m : ℕ = making_index g.row.L in let small : m ≤ 4294967296 = making_small g.row.L c.requires.levels.1 in
     let n : c.args.making ≡ m = c.requires.making in let bells : ℕ = c.places-bells.result in
-    let few : bells ≤ 64 = c.places-bells.ensures.most in omega arith
+    let few : bells ≤ MAX_PLACES = c.places-bells.ensures.most in omega arith
 
 pub vacant-requires : goal.vacant-requires
 vacant-requires g c =
