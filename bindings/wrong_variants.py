@@ -100,19 +100,12 @@ GO = {name: ("yarib.go", *texts) for name, texts in {
     "the sides are exchanged": ("one.Old, one.HasOld = routeOf(&raw.before)\n\t\tone.New, one.HasNew = routeOf(&raw.after)",
                                 "one.New, one.HasNew = routeOf(&raw.before)\n\t\tone.Old, one.HasOld = routeOf(&raw.after)"),
     "differences end at the first": ("from < 1<<32; from = ", "from < 1; from = 1 + "),
-    "all matches are cut to the best": ("base, 0, &room[0], C.size_t(len(room)), total))",
-                                        "base, 0, &room[0], C.size_t(len(room)), total)) + uint32(copy(room[1:], make([]C.yarib_route, len(room)-1))*0)"),
     "a faulty command without an error": ("outcomes[k].Err = commands[k].failed(failed(uint32(replies[k].count)))", "outcomes[k].Err = nil"),
     "mapped prefixes are accepted": ("!prefix.Addr().Is4()", "!prefix.Addr().Unmap().Is4()"),
-    "nothing is freed by Close": ("\tC.yarib_free(&one.inside)\n", "\tone.inside.inside = nil\n"),
-    "nothing is freed by the collector": ("runtime.SetFinalizer(one, (*handle).free)", "runtime.KeepAlive(one)"),
     "no router is discard": ("return Hop{router.Unmap(), true}", "return Hop{router.Unmap(), router.IsValid()}"),
-    "lists are cut at 64": ("\treturn routesOf(room[:total]), nil\n",
-                            "\tif total > 64 {\n\t\ttotal = 64\n\t}\n\treturn routesOf(room[:total]), nil\n"),
     "a page is the last": ("if len(page) < pageSize {", "if len(page) <= pageSize {"),
     "a full table is overlooked": ("\t\treturn ErrFull\n", "\t\treturn nil\n"),
     "put keeps the old route": ("table.Replace(feed, prefix, pref, hop); !errors", "table.Apply(Command{Operation: Dump, Feed: feed}); !errors"),
-    "a zero table panics": ("\tif one == nil {\n\t\treturn ErrClosed\n\t}\n\tone.lock.RLock()", "\tone.lock.RLock()"),
     "the best of a prefix is the shortest": ("return found[len(found)-1], true, nil", "return found[0], true, nil"),
     "an error without its command": ("return &CommandError{command, err}", "return &CommandError{Err: err}"),
     "an error blames the prefix": ("\tcase command.Operation == Lookup:\n", "\tcase false:\n"),
@@ -120,7 +113,41 @@ GO = {name: ("yarib.go", *texts) for name, texts in {
     "a walk doesn't stop": ("if !visit(route) {", "if !visit(route) && len(page) == 0 {"),
     "a walk over differences doesn't stop": ("if !visit(one) {", "if !visit(one) && from == 1 {"),
     "the zero place is the second half": ("base, length, isRight = 0, 0, true", "base, length, isRight = 1<<31, 1, true"),
-    "a page is cut": ("size = C.size_t(most)\n", "size = C.size_t(most) / 2\n"),
+}.items()} | {name: ("handle.go", *texts) for name, texts in {
+    "all matches are cut to the best": (
+        "C.yarib_look_up_all(&one.inside, address, 0, &room[0], C.size_t(len(room)), total))",
+        "C.yarib_look_up_all(&one.inside, address, 0, &room[0], C.size_t(len(room)), total)) + "
+        "uint32(copy(room[1:], make([]C.yarib_route, len(room)-1))*0)"),
+    "all matches in a concurrent table are cut": (
+        "C.yarib_concurrent_look_up_all(one.concurrent(), address, 0, &room[0], C.size_t(len(room)), total))",
+        "C.yarib_concurrent_look_up_all(one.concurrent(), address, 0, &room[0], C.size_t(len(room)), total)) + "
+        "uint32(copy(room[1:], make([]C.yarib_route, len(room)-1))*0)"),
+    "nothing is freed by Close": ("\tC.yarib_free(&one.inside)\n", "\tone.inside.inside = nil\n"),
+    "a concurrent table isn't freed": ("\t\tC.yarib_concurrent_free(one.concurrent())\n", "\t\tone.inside.inside = nil\n"),
+    "nothing is freed by the collector": ("runtime.SetFinalizer(one, (*handle).free)", "runtime.KeepAlive(one)"),
+    "a zero table panics": ("\tif one == nil {\n\t\treturn ErrClosed\n\t}\n\tif one.isConcurrent {", "\tif one.isConcurrent {"),
+    "lists are cut at 64": ("\treturn routesOf(room[:total]), nil\n",
+                            "\tif total > 64 {\n\t\ttotal = 64\n\t}\n\treturn routesOf(room[:total]), nil\n"),
+    "a page is cut": ("return room[:used], nil", "return room[:used/2], nil"),
+    "a page of a table that grows is cut": ("if used < size || size == most {", "if used <= size {"),
+    "readers of a concurrent table wait for a change": ("\tif one.isConcurrent {\n\t\tdefer", "\tif one.number == 0 {\n\t\tdefer"),
+    "two changes of a concurrent table at once": (
+        "\tone.lock.Lock()\n\tdefer one.lock.Unlock()\n\treturn failed(call())",
+        "\tif !one.isConcurrent {\n\t\tone.lock.Lock()\n\t\tdefer one.lock.Unlock()\n\t}\n\treturn failed(call())"),
+    "a batch is published one by one": (
+        "\t\treturn uint32(C.yarib_concurrent_apply_each(one.concurrent(), commands, size, replies, size))\n",
+        "\t\tfor k := C.size_t(0); k < size; k++ {\n"
+        "\t\t\tC.yarib_concurrent_apply_each(one.concurrent(), &unsafe.Slice(commands, size)[k], 1, &unsafe.Slice(replies, size)[k], 1)\n"
+        "\t\t}\n\t\treturn C.YARIB_DONE\n"),
+    "answers are from several tables": (
+        "\t\treturn uint32(C.yarib_concurrent_look_up(one.concurrent(), addresses, size, answers, size))\n",
+        "\t\tfor k := C.size_t(0); k < size; k++ {\n"
+        "\t\t\tC.yarib_concurrent_look_up_one(one.concurrent(), unsafe.Slice(addresses, size)[k], &unsafe.Slice(answers, size)[k])\n"
+        "\t\t}\n\t\treturn C.YARIB_DONE\n"),
+    "a concurrent table isn't followed": ("uint32(C.yarib_concurrent_fib_attach(one.concurrent()))", "C.YARIB_DONE"),
+    "one of two tables is counted": ("uint32(C.yarib_concurrent_memory(one.concurrent(), bytes))",
+                                     "uint32(C.yarib_concurrent_memory(one.concurrent(), bytes)) + uint32(C.size_t(0)*(*bytes)) + "
+                                     "func() uint32 { *bytes /= 2; return 0 }()"),
 }.items()} | {name: ("files.go", *texts) for name, texts in {
     "save writes all feeds": ("Selection{Part: All, Feed: feed}", "Selection{Part: All}"),
     "load skips a last line without its end": ("case line != \"\" && line[0]", "case ended == nil && line != \"\" && line[0]"),
@@ -143,7 +170,16 @@ RUST = {name: ("src/lib.rs", *texts) for name, texts in {
     "differences end after the first": ("self.from = found.last.checked_add(1);", "self.from = None;"),
     "all matches are cut to the best": ("let found = whole(64, |part| self.0.look_up_all(u32::from(address), part))?;",
                                         "let mut found = whole(64, |part| self.0.look_up_all(u32::from(address), part))?;\n        found.truncate(1);"),
-    "lists are cut at 64": ("    if total > found.len() {", "    if total > found.len() && size != 64 {"),
+    "lists are cut at 64": ("    while total > found.len() {", "    while total > found.len() && size != 64 {"),
+    "a list of a table that grows is cut": ("    while total > found.len() {", "    if total > found.len() {"),
+    "two changes at once": ("        let _turn = self.turn();\n        Reply::of", "        Reply::of"),
+    "two batches at once": ("            let _turn = self.turn();\n            self.0.apply_each(asked, replies)",
+                            "            self.0.apply_each(asked, replies)"),
+    "a batch is published one by one": (
+        "            let _turn = self.turn();\n            self.0.apply_each(asked, replies)",
+        "            let _turn = self.turn();\n            for k in 0..asked.len() {\n"
+        "                self.0.apply_each(&asked[k..=k], &mut replies[k..=k])?;\n            }\n            Ok(())"),
+    "put in a concurrent table keeps the old route": ("            match self.replace(feed, prefix, pref, hop) {", "            match Ok(Reply::Replaced) {"),
     "discard is written as an address": ('Hop::Discard => f.write_str("discard")', 'Hop::Discard => f.write_str("0.0.0.0")'),
     "discard is added as a router": ("Hop::Discard => (2, 0)", "Hop::Discard => (1, 0)"),
     "an entry's discard is a router": ("        let hop = if raw.hop == 1 {", "        let hop = if raw.hop != 0 {"),
@@ -164,6 +200,12 @@ RUST = {name: ("src/lib.rs", *texts) for name, texts in {
     "preference and feed are exchanged": ("feed: raw.feed,\n            pref: raw.pref,\n            hop,", "feed: raw.pref,\n            pref: raw.feed,\n            hop,"),
     "addresses are read backwards": (".copied().map(u32::from)", ".copied().map(u32::from).map(u32::swap_bytes)"),
     "a command is written as another": ('"replace {prefix} {pref} {hop}"', '"add {prefix} {pref} {hop}"'),
+}.items()} | {name: ("src/raw.rs", *texts) for name, texts in {
+    "nothing is freed": ("        unsafe { yarib_free(self) };\n", ""),
+    "a concurrent table isn't freed": ("        unsafe { yarib_concurrent_free(self) };\n", ""),
+    "a concurrent table isn't followed": ("told(unsafe { yarib_concurrent_fib_attach(self) })", "Ok(())"),
+    "a concurrent table counts its routes as memory": ("yarib_concurrent_count, yarib_concurrent_memory);",
+                                                       "yarib_concurrent_count, yarib_concurrent_count);"),
 }.items()} | {name: ("src/files.rs", *texts) for name, texts in {
     "save writes all feeds": ("feed: Some(feed),", "feed: Some(feed).filter(|feed| *feed == 0),"),
     "load skips a last line without its end": (".unwrap_or(&read)", ".unwrap_or_default()"),

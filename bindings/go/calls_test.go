@@ -173,7 +173,7 @@ func TestEveryCallAnswersAsTheModel(t *testing.T) {
 			wanted := m.apply(command)
 			outcomes = append(outcomes, Outcome{Reply: wanted})
 			entries = append(entries, Entry{written(command), wanted})
-			reply, err := applied(plain, command)
+			reply, err := applied(&plain.common, command)
 			same(t, "a reply", reply, wanted)
 			var reason error
 			if why := map[Code]error{Exists: ErrExists, Full: ErrFull, Missing: ErrMissing}[wanted.Code]; why != nil {
@@ -188,13 +188,13 @@ func TestEveryCallAnswersAsTheModel(t *testing.T) {
 		must(t, err)
 		same(t, "the journal", listed, entries)
 		for k := 0; k < 30; k++ {
-			compareReads(t, plain, &m, draw)
+			compareReads(t, &plain.common, &m, draw)
 		}
 	}
 }
 
 // applied executes a command by its own call if there is one.
-func applied(one *Table, command Command) (Reply, error) {
+func applied(one *common, command Command) (Reply, error) {
 	switch command.Operation {
 	case Add:
 		return one.Add(command.Feed, command.Prefix, command.Pref, command.Hop)
@@ -206,7 +206,7 @@ func applied(one *Table, command Command) (Reply, error) {
 	return one.Apply(command)
 }
 
-func compareReads(t *testing.T, one *Table, m *model, draw *rand.Rand) {
+func compareReads(t *testing.T, one *common, m *model, draw *rand.Rand) {
 	prefix := drawnPrefix(draw)
 	asked := prefix.Addr()
 	all, err := one.LookUpAll(asked)

@@ -32,7 +32,7 @@ func (failure *LineError) Unwrap() error {
 }
 
 // Save writes the feed's routes as a feed file of version 2, which Load and the program read.
-func (table *Table) Save(to io.Writer, feed uint32) error {
+func (table *common) Save(to io.Writer, feed uint32) error {
 	if feed == 0 {
 		return about(ErrNumber, "feed %d, not 1 to %d", feed, MaxFeed)
 	}
@@ -50,7 +50,7 @@ func (table *Table) Save(to io.Writer, feed uint32) error {
 
 // Load adds the routes of a feed file that consists of add lines, and returns their number. A LineError has the first line that
 // can't be added; the routes of the lines before it stay.
-func (table *Table) Load(from io.Reader, feed uint32) (int, error) {
+func (table *common) Load(from io.Reader, feed uint32) (int, error) {
 	reader, added, hasDiscard := bufio.NewReaderSize(from, 4096), 0, false
 	for number := 1; ; number++ {
 		// A line that doesn't fit into the buffer is longer than maxLine.
@@ -76,7 +76,7 @@ func (table *Table) Load(from io.Reader, feed uint32) (int, error) {
 	}
 }
 
-func (table *Table) loadLine(line string, feed uint32, hasDiscard bool) error {
+func (table *common) loadLine(line string, feed uint32, hasDiscard bool) error {
 	fields := strings.Split(line, " ")
 	if len(fields) != 4 || fields[0] != "add" {
 		return ErrLine
@@ -106,16 +106,16 @@ func (table *Table) loadLine(line string, feed uint32, hasDiscard bool) error {
 // as the feed of the prefix is at its limit: usually about 1,990,000 routes fit into two feeds of MaxLimit. The methods of the zero Source
 // return ErrClosed.
 type Source struct {
-	table        Table
+	table        common
 	first, feeds uint32
 }
 
 // NewSource returns a source in this many feeds of a table, from the first one on. No other caller may change these feeds.
-func NewSource(table *Table, first, feeds uint32) (Source, error) {
+func NewSource(table AnyTable, first, feeds uint32) (Source, error) {
 	if first < 1 || feeds < 1 || first > MaxFeed || feeds > MaxFeed+1-first {
 		return Source{}, about(ErrNumber, "%d feeds from feed %d on, of %d", feeds, first, MaxFeed)
 	}
-	return Source{*table, first, feeds}, nil
+	return Source{table.shared(), first, feeds}, nil
 }
 
 // FeedOf returns the feed that a prefix belongs to, and the source's first feed if the prefix isn't IPv4.
@@ -133,7 +133,7 @@ func (source Source) Add(prefix netip.Prefix, pref uint32, hop Hop) (Reply, erro
 	return source.table.Add(source.FeedOf(prefix), prefix, pref, hop)
 }
 
-// Replace changes preference and next hop of the source's route. It returns ErrMissing if there is none.
+// Replace changes preference and next hop of the source's route. It returns ErrMissing if the source has no route to the prefix.
 func (source Source) Replace(prefix netip.Prefix, pref uint32, hop Hop) (Reply, error) {
 	return source.table.Replace(source.FeedOf(prefix), prefix, pref, hop)
 }
@@ -143,7 +143,7 @@ func (source Source) Put(prefix netip.Prefix, pref uint32, hop Hop) (Reply, erro
 	return source.table.Put(source.FeedOf(prefix), prefix, pref, hop)
 }
 
-// Withdraw removes the source's route. It returns ErrMissing if there is none.
+// Withdraw removes the source's route. It returns ErrMissing if the source has no route to the prefix.
 func (source Source) Withdraw(prefix netip.Prefix) (Reply, error) {
 	return source.table.Withdraw(source.FeedOf(prefix), prefix)
 }

@@ -2,7 +2,7 @@
 //
 // Feeds are 1 to 64. The lowest preference number is preferred; between equal preferences, the lowest feed. After an error the
 // table is unchanged, except after an error of Load. Goroutines may share a Table and a Forwarding: calls that only read run at the
-// same time, and a change waits until it is alone. Close frees memory at once; otherwise the garbage collector does.
+// same time, and a change waits until no other call runs. Close frees memory at once; otherwise the garbage collector does.
 package yarib
 
 // #include <stdlib.h>
@@ -13,10 +13,7 @@ import (
 	"errors"
 	"fmt"
 	"net/netip"
-	"runtime"
 	"strings"
-	"sync"
-	"sync/atomic"
 	"unsafe"
 )
 
@@ -92,7 +89,7 @@ func (failure *CommandError) Unwrap() error {
 	return failure.Err
 }
 
-// failed returns the error of a command for a reason, and nil if there is none.
+// failed returns the error of a command for a reason, and nil for the reason nil.
 func (command Command) failed(err error) error {
 	if err == nil {
 		return nil
@@ -100,7 +97,7 @@ func (command Command) failed(err error) error {
 	return &CommandError{command, err}
 }
 
-// fault describes what is wrong with a command that was refused, in the order in which the library tests it.
+// fault describes what is wrong with a command that was refused, in the order of the library's tests.
 func (command Command) fault() string {
 	_, _, isPrefix := numbersOf(command.Prefix)
 	router, isVia := command.Hop.Router()
@@ -312,7 +309,7 @@ type Reply struct {
 	Route Route
 }
 
-// Outcome is the reply to one of several commands, or the reason why there is none.
+// Outcome is the reply to one of several commands, or the error of a command without a reply.
 type Outcome struct {
 	Reply Reply
 	Err   error
@@ -352,104 +349,96 @@ type Selection struct {
 	OnlyBest bool
 }
 
-// handle is a handle of the C library. It is never copied. Its lock is held by any number of calls that read it, or by one that
-// changes it, so the library never finds it busy.
-type handle struct {
-	inside C.yarib
-	lock   sync.RWMutex
-	number uint64
+// common has the calls of a Table and a ConcurrentTable.
+type common struct {
+	held *handle
 }
 
-// handles is the number of handles made.
-var handles uint64
-
-func newHandle() *handle {
-	one := &handle{number: atomic.AddUint64(&handles, 1)}
-	runtime.SetFinalizer(one, (*handle).free)
-	return one
+// AnyTable is a *Table or a *ConcurrentTable.
+type AnyTable interface {
+	shared() common
 }
 
-func (one *handle) free() {
-	if one == nil {
-		return
-	}
-	one.lock.Lock()
-	defer one.lock.Unlock()
-	C.yarib_free(&one.inside)
-}
-
-// change makes a call that changes the handle, once no other is under way.
-func (one *handle) change(call func() uint32) error {
-	if one == nil {
-		return ErrClosed
-	}
-	one.lock.Lock()
-	defer one.lock.Unlock()
-	return failed(call())
-}
-
-// read makes a call that only reads the handle.
-func (one *handle) read(call func() uint32) error {
-	if one == nil {
-		return ErrClosed
-	}
-	one.lock.RLock()
-	defer one.lock.RUnlock()
-	return failed(call())
+func (table *common) shared() common {
+	return *table
 }
 
 // Table is a routing table, created by New or NewJournaled. Each call of the zero Table returns ErrClosed.
 type Table struct {
-	held *handle
+	common
 }
 
-func made(limit uint32, kind C.uint32_t) (*Table, error) {
-	table := &Table{newHandle()}
-	if err := table.held.change(func() uint32 {
-		return uint32(C.yarib_new(&table.held.inside, C.uint32_t(limit), kind))
-	}); err != nil {
-		return nil, about(err, "limit %d, not 1 to %d", limit, MaxLimit)
+// ConcurrentTable is a routing table, created by NewConcurrent, that goroutines read during its changes. A call that reads never
+// waits, and returns what one published table holds: the table before a change or after it. ApplyEach publishes its commands at once.
+// A change waits for other changes, and for calls that began to read before the previous change. RoutesFrom and each page of Walk read
+// the table that is published then. It takes twice the memory of a Table. Each call of the zero ConcurrentTable returns ErrClosed.
+type ConcurrentTable struct {
+	common
+}
+
+func made(limit uint32, create func(held *handle, limit C.uint32_t) uint32) (common, error) {
+	table := common{newHandle()}
+	if err := table.held.change(func() uint32 { return create(table.held, C.uint32_t(limit)) }); err != nil {
+		return common{}, about(err, "limit %d, not 1 to %d", limit, MaxLimit)
 	}
 	return table, nil
 }
 
-// New returns an empty table in which each feed may have up to limit routes, 1 to 1,000,000. Its memory is bounded by its routes.
+// New returns an empty table for up to limit routes of each feed, 1 to 1,000,000. Its memory is bounded by its routes.
 func New(limit uint32) (*Table, error) {
-	return made(limit, C.YARIB_PLAIN)
+	return newTable(limit, C.YARIB_PLAIN)
 }
 
 // NewJournaled returns an empty table with a journal that keeps every answered command, 56 bytes each.
 func NewJournaled(limit uint32) (*Table, error) {
-	return made(limit, C.YARIB_JOURNALED)
+	return newTable(limit, C.YARIB_JOURNALED)
+}
+
+func newTable(limit uint32, kind C.uint32_t) (*Table, error) {
+	table, err := made(limit, func(held *handle, limit C.uint32_t) uint32 {
+		return uint32(C.yarib_new(&held.inside, limit, kind))
+	})
+	if err != nil {
+		return nil, err
+	}
+	return &Table{table}, nil
+}
+
+// NewConcurrent returns an empty table for up to limit routes of each feed, 1 to 1,000,000.
+func NewConcurrent(limit uint32) (*ConcurrentTable, error) {
+	table, err := made(limit, func(held *handle, limit C.uint32_t) uint32 {
+		held.isConcurrent = true
+		return uint32(C.yarib_concurrent_new(held.concurrent(), limit))
+	})
+	if err != nil {
+		return nil, err
+	}
+	return &ConcurrentTable{table}, nil
 }
 
 // Close frees the table's memory. Closing twice is harmless.
-func (table *Table) Close() {
+func (table *common) Close() {
 	table.held.free()
 }
 
 // Apply executes a command and returns its reply. A command that is refused is a CommandError.
-func (table *Table) Apply(command Command) (Reply, error) {
+func (table *common) Apply(command Command) (Reply, error) {
 	asked, raw := command.numbers(), C.yarib_reply{}
-	if err := table.held.change(func() uint32 {
-		return uint32(C.yarib_apply(&table.held.inside, &asked, &raw))
-	}); err != nil {
+	if err := table.held.change(func() uint32 { return table.held.apply(&asked, &raw) }); err != nil {
 		return Reply{}, command.failed(err)
 	}
 	return replyOf(&raw), nil
 }
 
 // ApplyEach executes the commands in order. A command that fails doesn't stop the others.
-func (table *Table) ApplyEach(commands []Command) ([]Outcome, error) {
+func (table *common) ApplyEach(commands []Command) ([]Outcome, error) {
 	// One more, so that there is a first one.
 	asked, replies := make([]C.yarib_command, len(commands)+1), make([]C.yarib_reply, len(commands)+1)
 	for k, command := range commands {
 		asked[k] = command.numbers()
 	}
 	size := C.size_t(len(commands))
-	if err := table.held.change(func() uint32 {
-		return uint32(C.yarib_apply_each(&table.held.inside, &asked[0], size, &replies[0], size))
-	}); err != nil {
+	if err := table.held.change(func() uint32 { return table.held.applyEach(&asked[0], &replies[0], size) }); err != nil {
 		return nil, err
 	}
 	outcomes := make([]Outcome, len(commands))
@@ -477,7 +466,7 @@ func unchanged(code Code) error {
 }
 
 // done executes a command. A reply that says that nothing changed is an error too.
-func (table *Table) done(command Command) (Reply, error) {
+func (table *common) done(command Command) (Reply, error) {
 	reply, err := table.Apply(command)
 	if err != nil {
 		return reply, err
@@ -486,17 +475,17 @@ func (table *Table) done(command Command) (Reply, error) {
 }
 
 // Add adds a route. It returns ErrExists or ErrFull if nothing changed.
-func (table *Table) Add(feed uint32, prefix netip.Prefix, pref uint32, hop Hop) (Reply, error) {
+func (table *common) Add(feed uint32, prefix netip.Prefix, pref uint32, hop Hop) (Reply, error) {
 	return table.done(Command{Operation: Add, Feed: feed, Prefix: prefix, Pref: pref, Hop: hop})
 }
 
-// Replace changes preference and next hop of the feed's route. It returns ErrMissing if there is none.
-func (table *Table) Replace(feed uint32, prefix netip.Prefix, pref uint32, hop Hop) (Reply, error) {
+// Replace changes preference and next hop of the feed's route. It returns ErrMissing if the feed has no route to the prefix.
+func (table *common) Replace(feed uint32, prefix netip.Prefix, pref uint32, hop Hop) (Reply, error) {
 	return table.done(Command{Operation: Replace, Feed: feed, Prefix: prefix, Pref: pref, Hop: hop})
 }
 
 // Put adds a route, or changes the feed's route to this prefix. It returns ErrFull if nothing changed.
-func (table *Table) Put(feed uint32, prefix netip.Prefix, pref uint32, hop Hop) (Reply, error) {
+func (table *common) Put(feed uint32, prefix netip.Prefix, pref uint32, hop Hop) (Reply, error) {
 	for {
 		reply, err := table.Add(feed, prefix, pref, hop)
 		if !errors.Is(err, ErrExists) {
@@ -509,13 +498,13 @@ func (table *Table) Put(feed uint32, prefix netip.Prefix, pref uint32, hop Hop) 
 	}
 }
 
-// Withdraw removes the feed's route. It returns ErrMissing if there is none.
-func (table *Table) Withdraw(feed uint32, prefix netip.Prefix) (Reply, error) {
+// Withdraw removes the feed's route. It returns ErrMissing if the feed has no route to the prefix.
+func (table *common) Withdraw(feed uint32, prefix netip.Prefix) (Reply, error) {
 	return table.done(Command{Operation: Withdraw, Feed: feed, Prefix: prefix})
 }
 
 // LookUpPrefix returns the best route of the longest prefix that contains this prefix, if there is one.
-func (table *Table) LookUpPrefix(prefix netip.Prefix) (Route, bool, error) {
+func (table *common) LookUpPrefix(prefix netip.Prefix) (Route, bool, error) {
 	found, err := table.Select(Selection{Part: Covering, Prefix: prefix, OnlyBest: true})
 	if err != nil || len(found) == 0 {
 		return Route{}, false, err
@@ -525,7 +514,7 @@ func (table *Table) LookUpPrefix(prefix netip.Prefix) (Route, bool, error) {
 
 // Walk visits the routes in the order of Routes from a position on, page by page, until visit returns false. The table may change
 // meanwhile, also by visit: a route is visited if it exists when its page is read, and never twice.
-func (table *Table) Walk(from Place, visit func(Route) bool) error {
+func (table *common) Walk(from Place, visit func(Route) bool) error {
 	for {
 		page, err := table.RoutesFrom(from, pageSize)
 		if err != nil {
@@ -552,7 +541,7 @@ func lookUp(held *handle, asked netip.Addr) (Route, bool, error) {
 		return Route{}, false, about(ErrCommand, "%v", asked)
 	}
 	raw := C.yarib_route{}
-	if err := held.read(func() uint32 { return uint32(C.yarib_look_up_one(&held.inside, base, &raw)) }); err != nil {
+	if err := held.read(func() uint32 { return held.lookUpOne(base, &raw) }); err != nil {
 		return Route{}, false, err
 	}
 	route, found := routeOf(&raw)
@@ -581,49 +570,35 @@ func lookUpEach(held *handle, addresses []uint32) (Answers, error) {
 	if len(addresses) > 0 {
 		first = (*C.uint32_t)(&addresses[0])
 	}
-	if err := held.read(func() uint32 {
-		return uint32(C.yarib_look_up(&held.inside, first, size, &raw[0], size))
-	}); err != nil {
+	if err := held.read(func() uint32 { return held.lookUp(first, &raw[0], size) }); err != nil {
 		return Answers{}, err
 	}
 	return Answers{raw[:len(addresses)]}, nil
 }
 
 // LookUp returns the best route of the longest prefix that covers the address, if there is one.
-func (table *Table) LookUp(address netip.Addr) (Route, bool, error) {
+func (table *common) LookUp(address netip.Addr) (Route, bool, error) {
 	return lookUp(table.held, address)
 }
 
 // LookUpEach looks up all these addresses, in host byte order, in less time than one call each.
-func (table *Table) LookUpEach(addresses []uint32) (Answers, error) {
+func (table *common) LookUpEach(addresses []uint32) (Answers, error) {
 	return lookUpEach(table.held, addresses)
 }
 
-// whole returns a whole list. The call reports its length; if the list is longer than expected, it is called once more.
-func (one *handle) whole(call func(room []C.yarib_route, total *C.size_t) uint32) ([]Route, error) {
-	total, room := C.size_t(64), []C.yarib_route{}
-	for int(total) > len(room) {
-		room = make([]C.yarib_route, total)
-		if err := one.read(func() uint32 { return call(room, &total) }); err != nil {
-			return nil, err
-		}
-	}
-	return routesOf(room[:total]), nil
-}
-
 // LookUpAll returns all routes whose prefix covers the address, the best first.
-func (table *Table) LookUpAll(address netip.Addr) ([]Route, error) {
+func (table *common) LookUpAll(address netip.Addr) ([]Route, error) {
 	base, isRight := number(address)
 	if !isRight {
 		return nil, about(ErrCommand, "%v", address)
 	}
 	return table.held.whole(func(room []C.yarib_route, total *C.size_t) uint32 {
-		return uint32(C.yarib_look_up_all(&table.held.inside, base, 0, &room[0], C.size_t(len(room)), total))
+		return table.held.lookUpAll(base, room, total)
 	})
 }
 
 // Select returns the selected routes, sorted by base, length, preference and feed.
-func (table *Table) Select(asked Selection) ([]Route, error) {
+func (table *common) Select(asked Selection) ([]Route, error) {
 	raw := C.yarib_selection{part: C.uint32_t(asked.Part), feed: C.uint32_t(asked.Feed)}
 	if asked.OnlyBest {
 		raw.only_best = 1
@@ -636,13 +611,13 @@ func (table *Table) Select(asked Selection) ([]Route, error) {
 		raw.base, raw.len = base, length
 	}
 	found, err := table.held.whole(func(room []C.yarib_route, total *C.size_t) uint32 {
-		return uint32(C.yarib_select(&table.held.inside, &raw, 0, &room[0], C.size_t(len(room)), total))
+		return table.held.chosen(&raw, room, total)
 	})
 	return found, about(err, "%v %v of feed %d", asked.Part, asked.Prefix, asked.Feed)
 }
 
 // Routes returns all routes, sorted by base, length, preference and feed.
-func (table *Table) Routes() ([]Route, error) {
+func (table *common) Routes() ([]Route, error) {
 	return table.Select(Selection{Part: All})
 }
 
@@ -654,14 +629,14 @@ type Place struct {
 	Feed   uint32
 }
 
-// Behind returns the position after a route, at which the next page begins.
+// Behind returns the position after a route: the next page begins there.
 func (route Route) Behind() Place {
 	return Place{Prefix: route.Prefix, Pref: route.Pref, Feed: route.Feed + 1}
 }
 
 // RoutesFrom returns up to the given number of routes, sorted by base, length, preference and feed, from a position on. It
 // allocates memory only for them.
-func (table *Table) RoutesFrom(from Place, most int) ([]Route, error) {
+func (table *common) RoutesFrom(from Place, most int) ([]Route, error) {
 	base, length, isRight := numbersOf(from.Prefix)
 	if from == (Place{}) {
 		base, length, isRight = 0, 0, true
@@ -673,27 +648,17 @@ func (table *Table) RoutesFrom(from Place, most int) ([]Route, error) {
 		return nil, about(ErrNumber, "%d routes", most)
 	}
 	raw := C.yarib_route{base: base, len: length, pref: C.uint32_t(from.Pref), feed: C.uint32_t(from.Feed)}
-	room, size, used := []C.yarib_route{}, C.size_t(0), C.size_t(0)
-	if err := table.held.read(func() uint32 {
-		// No page has more routes than the table, which doesn't change during this call.
-		if status := C.yarib_count(&table.held.inside, &size); status != C.YARIB_DONE {
-			return uint32(status)
-		}
-		if C.size_t(most) < size {
-			size = C.size_t(most)
-		}
-		room = make([]C.yarib_route, size+1)
-		return uint32(C.yarib_routes_from(&table.held.inside, &raw, &room[0], size, &used))
-	}); err != nil {
+	page, err := table.held.page(&raw, C.size_t(most))
+	if err != nil {
 		return nil, about(err, "%v", from.Prefix)
 	}
-	return routesOf(room[:used]), nil
+	return routesOf(page), nil
 }
 
 // Count returns the number of routes.
-func (table *Table) Count() (int, error) {
+func (table *common) Count() (int, error) {
 	total := C.size_t(0)
-	err := table.held.read(func() uint32 { return uint32(C.yarib_count(&table.held.inside, &total)) })
+	err := table.held.read(func() uint32 { return table.held.count(&total) })
 	return int(total), err
 }
 
@@ -760,7 +725,7 @@ func (by By) String() string {
 	return fmt.Sprintf("By(%d)", uint32(by))
 }
 
-// Difference is a range of addresses for which two tables give different answers. Each answer says whether there is a route.
+// Difference is a range of addresses that two tables answer differently. Each answer says whether there is a route.
 type Difference struct {
 	First, Last    netip.Addr
 	Old, New       Route
@@ -783,7 +748,7 @@ func firstDifference(older, newer *handle, by By, from uint64, raw *C.yarib_diff
 	return uint32(C.yarib_first_difference(&older.inside, &newer.inside, C.uint32_t(by), C.uint32_t(from), raw))
 }
 
-// Differences returns the ranges for which this table and a newer one give different answers, in order.
+// Differences returns the ranges of addresses that this table and a newer one answer differently, in order.
 func (table *Table) Differences(newer *Table, by By) ([]Difference, error) {
 	found := []Difference{}
 	err := table.WalkDifferences(newer, by, func(one Difference) bool {
@@ -824,18 +789,18 @@ func (table *Table) WalkDifferences(newer *Table, by By, visit func(Difference) 
 // Follow attaches a forwarding table of 64 MiB or more, if none is attached. From then on every command updates it, and look-ups use
 // it. If a command finds no memory for the update, the forwarding table is freed until this is called again. It returns ErrKind if
 // the table keeps a journal.
-func (table *Table) Follow() error {
-	return table.held.change(func() uint32 { return uint32(C.yarib_follow(&table.held.inside)) })
+func (table *common) Follow() error {
+	return table.held.change(table.held.follow)
 }
 
 func memory(held *handle) (int, error) {
 	bytes := C.size_t(0)
-	err := held.read(func() uint32 { return uint32(C.yarib_memory(&held.inside, &bytes)) })
+	err := held.read(func() uint32 { return held.memory(&bytes) })
 	return int(bytes), err
 }
 
 // Memory returns an estimate of the table's size in bytes, including an attached forwarding table.
-func (table *Table) Memory() (int, error) {
+func (table *common) Memory() (int, error) {
 	return memory(table.held)
 }
 

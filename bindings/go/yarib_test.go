@@ -173,9 +173,9 @@ func TestRepliesAndRoutesAreTheModels(t *testing.T) {
 				t.Fatal(entry, outcomes[k], commands[k])
 			}
 		}
-		checkParts(t, plain, &m, draw)
-		checkPages(t, plain, &m, draw)
-		checkLookUps(t, plain, &m, draw)
+		checkParts(t, &plain.common, &m, draw)
+		checkPages(t, &plain.common, &m, draw)
+		checkLookUps(t, &plain.common, &m, draw)
 		if ranges, err := journaled.Differences(plain, ByRoute); err != nil || len(ranges) != 0 {
 			t.Fatal(ranges, err)
 		}
@@ -185,7 +185,7 @@ func TestRepliesAndRoutesAreTheModels(t *testing.T) {
 	}
 }
 
-func checkParts(t *testing.T, table *Table, m *model, draw *rand.Rand) {
+func checkParts(t *testing.T, table *common, m *model, draw *rand.Rand) {
 	if count, err := table.Count(); err != nil || count != len(m.routes) {
 		t.Fatal(count, err)
 	}
@@ -207,7 +207,7 @@ func checkParts(t *testing.T, table *Table, m *model, draw *rand.Rand) {
 }
 
 // checkPages goes over the table from many places on, by pages of many sizes, beside the model's list.
-func checkPages(t *testing.T, table *Table, m *model, draw *rand.Rand) {
+func checkPages(t *testing.T, table *common, m *model, draw *rand.Rand) {
 	for k := 0; k < 20; k++ {
 		from, most := Place{drawnPrefix(draw), uint32(draw.Intn(4)), uint32(draw.Intn(7))}, 1+draw.Intn(9)
 		edge := Route{Prefix: from.Prefix, Pref: from.Pref, Feed: from.Feed}
@@ -242,7 +242,7 @@ func precedes(one, other Route) bool {
 	return isBetter(one, other)
 }
 
-func checkLookUps(t *testing.T, table *Table, m *model, draw *rand.Rand) {
+func checkLookUps(t *testing.T, table *common, m *model, draw *rand.Rand) {
 	asked := []uint32{}
 	for k := 0; k < 200; k++ {
 		octets := drawnPrefix(draw).Addr().As4()

@@ -1,5 +1,5 @@
 //! Feed files of a feed's routes.
-use crate::{Command, Error, Hop, Part, Prefix, Selection, Table};
+use crate::{Command, ConcurrentTable, Error, Hop, Part, Prefix, Reply, Route, Selection, Table};
 use std::fmt;
 use std::io::{self, BufRead, BufWriter, Write};
 use std::net::Ipv4Addr;
@@ -77,18 +77,7 @@ impl Table {
     /// # Errors
     /// [`FileError::Table`] as [`Table::select`] returns it, [`FileError::Io`].
     pub fn save(&self, feed: u32, to: impl Write) -> Result<(), FileError> {
-        let asked = Selection {
-            feed: Some(feed),
-            ..Selection::of(Part::All)
-        };
-        let mut writer = BufWriter::new(to);
-        let routes = self.select(asked)?;
-        writer.write_all(VERSION)?;
-        writer.write_all(b"\n")?;
-        for one in routes {
-            writeln!(writer, "{}", Command::Add(one.prefix, one.pref, one.hop))?;
-        }
-        Ok(writer.flush()?)
+        save(&self.select(routes_of(feed))?, to)
     }
 
     /// Adds the routes of a feed file that consists of `add` lines, and returns their number. If it returns an error, the routes of
@@ -96,42 +85,82 @@ impl Table {
     ///
     /// # Errors
     /// [`FileError::Line`] or [`FileError::Route`] of the first line that can't be added, [`FileError::Io`].
-    pub fn load(&mut self, feed: u32, mut from: impl BufRead) -> Result<usize, FileError> {
-        let (mut added, mut has_discard, mut read) = (0, false, Vec::new());
-        for line in 1.. {
-            read.clear();
-            // A line that is too long is read up to the byte that shows it.
-            let limit = MAX_LINE as u64 + 2;
-            if io::Read::take(&mut from, limit).read_until(b'\n', &mut read)? == 0 {
-                break;
-            }
-            let bytes = read.strip_suffix(b"\n").unwrap_or(&read);
-            if line == 1 && bytes == VERSION {
-                has_discard = true;
-            } else if bytes.len() > MAX_LINE || !matches!(bytes.first(), None | Some(b'#')) {
-                let text = || {
-                    String::from_utf8_lossy(&bytes[..bytes.len().min(MAX_LINE + 1)]).into_owned()
-                };
-                let parsed = parsed(bytes, has_discard).map_err(|error| match error {
-                    Some(error) => FileError::Route {
-                        line,
-                        text: text(),
-                        error,
-                    },
-                    None => FileError::Line { line, text: text() },
-                });
-                let (prefix, pref, hop) = parsed?;
-                self.add(feed, prefix, pref, hop)
-                    .map_err(|error| FileError::Route {
-                        line,
-                        text: text(),
-                        error,
-                    })?;
-                added += 1;
-            }
-        }
-        Ok(added)
+    pub fn load(&mut self, feed: u32, from: impl BufRead) -> Result<usize, FileError> {
+        load(from, |prefix, pref, hop| self.add(feed, prefix, pref, hop))
     }
+}
+
+impl ConcurrentTable {
+    /// Writes the feed's routes in one published table, as [`Table::save`] does.
+    ///
+    /// # Errors
+    /// Those of [`Table::save`].
+    pub fn save(&self, feed: u32, to: impl Write) -> Result<(), FileError> {
+        save(&self.select(routes_of(feed))?, to)
+    }
+
+    /// Adds the routes of a feed file one by one, as [`Table::load`] does.
+    ///
+    /// # Errors
+    /// Those of [`Table::load`].
+    pub fn load(&self, feed: u32, from: impl BufRead) -> Result<usize, FileError> {
+        load(from, |prefix, pref, hop| self.add(feed, prefix, pref, hop))
+    }
+}
+
+fn routes_of(feed: u32) -> Selection {
+    Selection {
+        feed: Some(feed),
+        ..Selection::of(Part::All)
+    }
+}
+
+fn save(routes: &[Route], to: impl Write) -> Result<(), FileError> {
+    let mut writer = BufWriter::new(to);
+    writer.write_all(VERSION)?;
+    writer.write_all(b"\n")?;
+    for one in routes {
+        writeln!(writer, "{}", Command::Add(one.prefix, one.pref, one.hop))?;
+    }
+    Ok(writer.flush()?)
+}
+
+fn load(
+    mut from: impl BufRead,
+    mut add: impl FnMut(Prefix, u32, Hop) -> Result<Reply, Error>,
+) -> Result<usize, FileError> {
+    let (mut added, mut has_discard, mut read) = (0, false, Vec::new());
+    for line in 1.. {
+        read.clear();
+        // A line that is too long is read up to the byte that shows it.
+        let limit = MAX_LINE as u64 + 2;
+        if io::Read::take(&mut from, limit).read_until(b'\n', &mut read)? == 0 {
+            break;
+        }
+        let bytes = read.strip_suffix(b"\n").unwrap_or(&read);
+        if line == 1 && bytes == VERSION {
+            has_discard = true;
+        } else if bytes.len() > MAX_LINE || !matches!(bytes.first(), None | Some(b'#')) {
+            let text =
+                || String::from_utf8_lossy(&bytes[..bytes.len().min(MAX_LINE + 1)]).into_owned();
+            let parsed = parsed(bytes, has_discard).map_err(|error| match error {
+                Some(error) => FileError::Route {
+                    line,
+                    text: text(),
+                    error,
+                },
+                None => FileError::Line { line, text: text() },
+            });
+            let (prefix, pref, hop) = parsed?;
+            add(prefix, pref, hop).map_err(|error| FileError::Route {
+                line,
+                text: text(),
+                error,
+            })?;
+            added += 1;
+        }
+    }
+    Ok(added)
 }
 
 /// Returns the route of an `add` line. The error of a prefix says more than that the line isn't one.

@@ -13,14 +13,16 @@
 //! ```
 //!
 //! Feeds are 1 to 64. The lowest preference number is preferred; between equal preferences, the lowest feed. After an [`Error`]
-//! the table is unchanged. Calls that only read take `&self`, so any number of threads can look up in one table at the same time;
-//! with changes in between they share it behind a [`RwLock`](std::sync::RwLock), or look up in a [`Forwarding`], which doesn't change.
+//! the table is unchanged. Calls that only read take `&self`, so any number of threads can look up in one table at the same time. With
+//! changes in between they share it in a [`RwLock`](std::sync::RwLock). In a [`ConcurrentTable`] threads look up during a change.
 #![deny(unsafe_code)]
 #![warn(missing_docs)]
 
 mod files;
 mod raw;
 mod source;
+
+use raw::Read;
 
 pub use files::FileError;
 pub use source::Source;
@@ -30,6 +32,7 @@ use std::fmt;
 use std::iter::FusedIterator;
 use std::net::Ipv4Addr;
 use std::str::FromStr;
+use std::sync::{Mutex, MutexGuard, PoisonError};
 
 /// The largest feed.
 pub const MAX_FEED: u32 = 64;
@@ -426,7 +429,7 @@ impl Reply {
         }
     }
 
-    /// Returns the reply, or the reason why there is none.
+    /// Returns the reply, or the error of a command without a reply.
     fn of(raw: &raw::Reply) -> Result<Reply> {
         Ok(match raw.code {
             1 => Reply::Added,
@@ -486,7 +489,7 @@ impl Answer {
     }
 }
 
-/// A range of addresses for which two tables give different answers.
+/// A range of addresses that two tables answer differently.
 #[derive(Clone, Copy, Debug, PartialEq, Eq, Hash)]
 #[non_exhaustive]
 pub struct Difference {
@@ -561,7 +564,7 @@ impl Selection {
 pub struct Table(raw::Handle);
 
 impl Table {
-    /// Returns an empty table in which each feed may have up to `limit` routes, 1 to 1,000,000. Its memory is bounded by its
+    /// Returns an empty table for up to `limit` routes of each feed, 1 to 1,000,000. Its memory is bounded by its
     /// routes.
     ///
     /// # Errors
@@ -592,13 +595,7 @@ impl Table {
     /// # Errors
     /// [`Error::Busy`]. The error of a command is its outcome, as [`Table::apply`] returns it.
     pub fn apply_each(&mut self, commands: &[(u32, Command)]) -> Result<Vec<Result<Reply>>> {
-        let asked: Vec<raw::Command> = commands
-            .iter()
-            .map(|(feed, command)| command.numbers(*feed))
-            .collect();
-        let mut replies = vec![raw::Reply::default(); asked.len()];
-        self.0.apply_each(&asked, &mut replies).map_err(Error::of)?;
-        Ok(replies.iter().map(Reply::of).collect())
+        outcomes(commands, |asked, replies| self.0.apply_each(asked, replies))
     }
 
     /// Adds a route.
@@ -637,97 +634,6 @@ impl Table {
         self.apply(feed, Command::Withdraw(prefix))?.done()
     }
 
-    /// Returns the best route of the longest prefix that contains this prefix.
-    ///
-    /// # Errors
-    /// [`Error::Memory`], [`Error::Busy`].
-    pub fn look_up_prefix(&self, prefix: Prefix) -> Result<Option<Route>> {
-        let asked = Selection {
-            only_best: true,
-            ..Selection::of(Part::Covering(prefix))
-        };
-        Ok(self.select(asked)?.pop())
-    }
-
-    /// Returns the best route of the longest prefix that covers the address.
-    ///
-    /// # Errors
-    /// [`Error::Busy`].
-    pub fn look_up(&self, address: Ipv4Addr) -> Result<Option<Route>> {
-        let found = self.0.look_up_one(u32::from(address)).map_err(Error::of)?;
-        Ok(Route::of(&found))
-    }
-
-    /// Returns the answers for all these addresses, in less time than one call each.
-    ///
-    /// # Errors
-    /// [`Error::Busy`].
-    pub fn look_up_each(&self, addresses: &[u32]) -> Result<Vec<Option<Route>>> {
-        answers(&self.0, addresses)
-    }
-
-    /// Returns the answers for all these addresses, as `look_up_each` does after copying them.
-    ///
-    /// # Errors
-    /// [`Error::Busy`].
-    pub fn look_up_addresses(&self, addresses: &[Ipv4Addr]) -> Result<Vec<Option<Route>>> {
-        answers(&self.0, &numbers(addresses))
-    }
-
-    /// Returns all routes whose prefix covers the address, the best first.
-    ///
-    /// # Errors
-    /// [`Error::Memory`], [`Error::Busy`].
-    pub fn look_up_all(&self, address: Ipv4Addr) -> Result<Vec<Route>> {
-        let found = whole(64, |part| self.0.look_up_all(u32::from(address), part))?;
-        Ok(found.iter().filter_map(Route::of).collect())
-    }
-
-    /// Returns the number of routes.
-    ///
-    /// # Errors
-    /// [`Error::Busy`].
-    pub fn count(&self) -> Result<usize> {
-        self.0.count().map_err(Error::of)
-    }
-
-    /// Returns all routes, sorted by base, length, preference and feed.
-    ///
-    /// # Errors
-    /// [`Error::Memory`], [`Error::Busy`].
-    pub fn routes(&self) -> Result<Vec<Route>> {
-        let size = self.count()?;
-        let found = whole(size, |part| self.0.routes(part))?;
-        Ok(found.iter().filter_map(Route::of).collect())
-    }
-
-    /// Returns the routes in the order of `routes` from the position of this prefix, preference and feed on; there need not be such
-    /// a route. Preference and feed 0 are before all routes to the prefix. Allocates memory for a few routes at a time.
-    pub fn routes_from(&self, prefix: Prefix, pref: u32, feed: u32) -> RoutesFrom<'_> {
-        let place = raw::Route {
-            base: u32::from(prefix.base),
-            len: prefix.len,
-            pref,
-            feed,
-            ..raw::Route::default()
-        };
-        RoutesFrom {
-            table: self,
-            place: Some(place),
-            page: Vec::new().into_iter(),
-        }
-    }
-
-    /// Returns the selected routes in the order of `routes`.
-    ///
-    /// # Errors
-    /// [`Error::Number`] if the feed is out of range, [`Error::Memory`], [`Error::Busy`].
-    pub fn select(&self, asked: Selection) -> Result<Vec<Route>> {
-        let asked = asked.numbers();
-        let found = whole(64, |part| self.0.select(&asked, part))?;
-        Ok(found.iter().filter_map(Route::of).collect())
-    }
-
     /// Returns the journal of a table that keeps one.
     ///
     /// # Errors
@@ -745,7 +651,7 @@ impl Table {
         self.0.reserve(entries).map_err(Error::of)
     }
 
-    /// Returns the ranges of addresses for which this table and a newer one give different answers, one after another. A table
+    /// Returns the ranges of addresses that this table and a newer one answer differently, one after another. A table
     /// and itself have none.
     pub fn differences<'a>(&'a self, new: &'a Table, by: By) -> Differences<'a> {
         Differences {
@@ -765,14 +671,6 @@ impl Table {
         self.0.follow().map_err(Error::of)
     }
 
-    /// Returns an estimate of its size in bytes, including an attached forwarding table.
-    ///
-    /// # Errors
-    /// [`Error::Busy`].
-    pub fn memory(&self) -> Result<usize> {
-        self.0.memory().map_err(Error::of)
-    }
-
     /// Returns a forwarding table with the current answers of this table.
     ///
     /// # Errors
@@ -781,6 +679,244 @@ impl Table {
         self.0.forward().map(Forwarding).map_err(Error::of)
     }
 }
+
+/// A routing table that threads read during its changes.
+///
+/// A call that reads never waits, is never [`Error::Busy`], and returns what one published table holds: the table before a change or
+/// after it. [`ConcurrentTable::apply_each`] publishes its commands at once. A change waits for other changes, and for calls that began
+/// to read before the previous change. An iterator over routes reads each page from the table that is published then. It takes twice
+/// the memory of a [`Table`]. If a change returns [`Error::Memory`], it is not made.
+///
+/// ```
+/// use std::net::Ipv4Addr;
+/// use yarib::{Command, ConcurrentTable, Hop};
+///
+/// let (table, router) = (ConcurrentTable::new(1_000)?, Hop::from(Ipv4Addr::new(192, 0, 2, 1)));
+/// let add = |text: &str| Ok::<_, yarib::Error>((1, Command::Add(text.parse()?, 0, router)));
+/// let both = [add("10.0.0.0/8")?, add("11.0.0.0/8")?];
+/// std::thread::scope(|scope| {
+///     scope.spawn(|| {
+///         let answers = table.look_up_each(&[0x0a00_0001, 0x0b00_0001]).unwrap();
+///         assert_eq!(answers[0].is_some(), answers[1].is_some());
+///     });
+///     table.apply_each(&both).unwrap();
+/// });
+/// # Ok::<(), yarib::Error>(())
+/// ```
+#[derive(Debug)]
+pub struct ConcurrentTable(raw::Concurrent, Mutex<()>);
+
+impl ConcurrentTable {
+    /// Returns an empty table for up to `limit` routes of each feed, 1 to 1,000,000.
+    ///
+    /// # Errors
+    /// [`Error::Number`] if the limit is out of range, [`Error::Memory`].
+    pub fn new(limit: u32) -> Result<ConcurrentTable> {
+        let made = raw::Concurrent::new(limit).map_err(Error::of)?;
+        Ok(ConcurrentTable(made, Mutex::new(())))
+    }
+
+    /// Waits until no other thread changes the table.
+    fn turn(&self) -> MutexGuard<'_, ()> {
+        self.1.lock().unwrap_or_else(PoisonError::into_inner)
+    }
+
+    /// Executes a command of the feed, publishes the table, and returns the reply.
+    ///
+    /// # Errors
+    /// [`Error::Number`] if the feed is out of range, [`Error::Memory`], [`Error::Busy`].
+    pub fn apply(&self, feed: u32, command: Command) -> Result<Reply> {
+        let asked = command.numbers(feed);
+        let _turn = self.turn();
+        Reply::of(&self.0.apply(&asked).map_err(Error::of)?)
+    }
+
+    /// Executes the commands in order, publishes the table once, and returns the outcome of each. A command that fails doesn't stop
+    /// the others.
+    ///
+    /// # Errors
+    /// [`Error::Memory`], [`Error::Busy`]. The error of a command is its outcome.
+    pub fn apply_each(&self, commands: &[(u32, Command)]) -> Result<Vec<Result<Reply>>> {
+        outcomes(commands, |asked, replies| {
+            let _turn = self.turn();
+            self.0.apply_each(asked, replies)
+        })
+    }
+
+    /// Adds a route.
+    ///
+    /// # Errors
+    /// [`Error::Exists`], [`Error::Full`], and those of [`ConcurrentTable::apply`].
+    pub fn add(&self, feed: u32, prefix: Prefix, pref: u32, hop: Hop) -> Result<Reply> {
+        self.apply(feed, Command::Add(prefix, pref, hop))?.done()
+    }
+
+    /// Changes preference and next hop of the feed's route.
+    ///
+    /// # Errors
+    /// [`Error::Missing`], and those of [`ConcurrentTable::apply`].
+    pub fn replace(&self, feed: u32, prefix: Prefix, pref: u32, hop: Hop) -> Result<Reply> {
+        self.apply(feed, Command::Replace(prefix, pref, hop))?
+            .done()
+    }
+
+    /// Adds a route, or changes the feed's route to this prefix.
+    ///
+    /// # Errors
+    /// [`Error::Full`], and those of [`ConcurrentTable::apply`].
+    pub fn put(&self, feed: u32, prefix: Prefix, pref: u32, hop: Hop) -> Result<Reply> {
+        loop {
+            match self.add(feed, prefix, pref, hop) {
+                Err(Error::Exists) => {}
+                other => return other,
+            }
+            // Another thread may withdraw the route between the two commands.
+            match self.replace(feed, prefix, pref, hop) {
+                Err(Error::Missing) => {}
+                other => return other,
+            }
+        }
+    }
+
+    /// Removes the feed's route.
+    ///
+    /// # Errors
+    /// [`Error::Missing`], and those of [`ConcurrentTable::apply`].
+    pub fn withdraw(&self, feed: u32, prefix: Prefix) -> Result<Reply> {
+        self.apply(feed, Command::Withdraw(prefix))?.done()
+    }
+
+    /// Attaches a forwarding table of 64 MiB or more to each of its two tables, as [`Table::follow`] does.
+    ///
+    /// # Errors
+    /// [`Error::Memory`], [`Error::Busy`].
+    pub fn follow(&self) -> Result<()> {
+        let _turn = self.turn();
+        self.0.follow().map_err(Error::of)
+    }
+}
+
+fn outcomes(
+    commands: &[(u32, Command)],
+    call: impl FnOnce(&[raw::Command], &mut [raw::Reply]) -> std::result::Result<(), u32>,
+) -> Result<Vec<Result<Reply>>> {
+    let asked: Vec<raw::Command> = commands
+        .iter()
+        .map(|(feed, command)| command.numbers(*feed))
+        .collect();
+    let mut replies = vec![raw::Reply::default(); asked.len()];
+    call(&asked, &mut replies).map_err(Error::of)?;
+    Ok(replies.iter().map(Reply::of).collect())
+}
+
+/// Defines the calls that read a table.
+macro_rules! reading_calls {
+    ($table:ident) => {
+        impl $table {
+            /// Returns the best route of the longest prefix that contains this prefix.
+            ///
+            /// # Errors
+            /// [`Error::Memory`], [`Error::Busy`].
+            pub fn look_up_prefix(&self, prefix: Prefix) -> Result<Option<Route>> {
+                let asked = Selection {
+                    only_best: true,
+                    ..Selection::of(Part::Covering(prefix))
+                };
+                Ok(self.select(asked)?.pop())
+            }
+
+            /// Returns the best route of the longest prefix that covers the address.
+            ///
+            /// # Errors
+            /// [`Error::Busy`].
+            pub fn look_up(&self, address: Ipv4Addr) -> Result<Option<Route>> {
+                let found = self.0.look_up_one(u32::from(address)).map_err(Error::of)?;
+                Ok(Route::of(&found))
+            }
+
+            /// Returns the answers for all these addresses, in less time than one call each.
+            ///
+            /// # Errors
+            /// [`Error::Busy`].
+            pub fn look_up_each(&self, addresses: &[u32]) -> Result<Vec<Option<Route>>> {
+                answers(&self.0, addresses)
+            }
+
+            /// Returns the answers for all these addresses, as `look_up_each` does after copying them.
+            ///
+            /// # Errors
+            /// [`Error::Busy`].
+            pub fn look_up_addresses(&self, addresses: &[Ipv4Addr]) -> Result<Vec<Option<Route>>> {
+                answers(&self.0, &numbers(addresses))
+            }
+
+            /// Returns all routes whose prefix covers the address, the best first.
+            ///
+            /// # Errors
+            /// [`Error::Memory`], [`Error::Busy`].
+            pub fn look_up_all(&self, address: Ipv4Addr) -> Result<Vec<Route>> {
+                let found = whole(64, |part| self.0.look_up_all(u32::from(address), part))?;
+                Ok(found.iter().filter_map(Route::of).collect())
+            }
+
+            /// Returns the number of routes.
+            ///
+            /// # Errors
+            /// [`Error::Busy`].
+            pub fn count(&self) -> Result<usize> {
+                self.0.count().map_err(Error::of)
+            }
+
+            /// Returns all routes, sorted by base, length, preference and feed.
+            ///
+            /// # Errors
+            /// [`Error::Memory`], [`Error::Busy`].
+            pub fn routes(&self) -> Result<Vec<Route>> {
+                let size = self.count()?;
+                let found = whole(size, |part| self.0.routes(part))?;
+                Ok(found.iter().filter_map(Route::of).collect())
+            }
+
+            /// Returns the routes in the order of `routes` from the position of this prefix, preference and feed on; there need not be such
+            /// a route. Preference and feed 0 are before all routes to the prefix. Allocates memory for a few routes at a time.
+            pub fn routes_from(&self, prefix: Prefix, pref: u32, feed: u32) -> RoutesFrom<'_> {
+                let place = raw::Route {
+                    base: u32::from(prefix.base),
+                    len: prefix.len,
+                    pref,
+                    feed,
+                    ..raw::Route::default()
+                };
+                RoutesFrom {
+                    table: &self.0,
+                    place: Some(place),
+                    page: Vec::new().into_iter(),
+                }
+            }
+
+            /// Returns the selected routes in the order of `routes`.
+            ///
+            /// # Errors
+            /// [`Error::Number`] if the feed is out of range, [`Error::Memory`], [`Error::Busy`].
+            pub fn select(&self, asked: Selection) -> Result<Vec<Route>> {
+                let asked = asked.numbers();
+                let found = whole(64, |part| self.0.select(&asked, part))?;
+                Ok(found.iter().filter_map(Route::of).collect())
+            }
+
+            /// Returns an estimate of its size in bytes, including what is attached. A concurrent table is two tables.
+            ///
+            /// # Errors
+            /// [`Error::Busy`].
+            pub fn memory(&self) -> Result<usize> {
+                self.0.memory().map_err(Error::of)
+            }
+        }
+    };
+}
+
+reading_calls!(Table);
+reading_calls!(ConcurrentTable);
 
 fn entry(raw: &raw::Entry) -> Result<Entry> {
     Ok(Entry {
@@ -794,20 +930,20 @@ fn numbers(addresses: &[Ipv4Addr]) -> Vec<u32> {
     addresses.iter().copied().map(u32::from).collect()
 }
 
-fn answers(handle: &raw::Handle, addresses: &[u32]) -> Result<Vec<Option<Route>>> {
+fn answers(handle: &impl raw::Read, addresses: &[u32]) -> Result<Vec<Option<Route>>> {
     let mut found = vec![raw::Route::default(); addresses.len()];
     handle.look_up(addresses, &mut found).map_err(Error::of)?;
     Ok(found.iter().map(Route::of).collect())
 }
 
-/// Returns a whole list. The call reports its length; if the list is longer than `size`, it is called once more.
+/// Returns a whole list. The call reports its length; if the list is longer than `size`, it is called again.
 fn whole<T: Clone + Default>(
     size: usize,
     mut call: impl FnMut(&mut [T]) -> std::result::Result<usize, u32>,
 ) -> Result<Vec<T>> {
     let mut found = vec![T::default(); size];
     let mut total = call(&mut found).map_err(Error::of)?;
-    if total > found.len() {
+    while total > found.len() {
         found.resize(total, T::default());
         total = call(&mut found).map_err(Error::of)?;
     }
@@ -822,7 +958,7 @@ const PAGE: usize = 256;
 #[derive(Debug)]
 #[must_use = "an iterator reads nothing until it is used"]
 pub struct RoutesFrom<'a> {
-    table: &'a Table,
+    table: &'a dyn raw::Read,
     /// The position of the next page, if there is one.
     place: Option<raw::Route>,
     page: std::vec::IntoIter<raw::Route>,
@@ -837,7 +973,6 @@ impl RoutesFrom<'_> {
         let mut page = vec![raw::Route::default(); PAGE];
         let used = self
             .table
-            .0
             .routes_from(&place, &mut page)
             .map_err(Error::of)?;
         page.truncate(used);
@@ -866,7 +1001,7 @@ impl Iterator for RoutesFrom<'_> {
 
 impl FusedIterator for RoutesFrom<'_> {}
 
-/// The ranges for which two tables give different answers.
+/// The ranges of addresses that two tables answer differently.
 #[derive(Debug)]
 #[must_use = "an iterator reads nothing until it is used"]
 pub struct Differences<'a> {

@@ -8,8 +8,8 @@ use std::sync::atomic::{AtomicBool, Ordering};
 use std::sync::RwLock;
 use std::thread;
 use yarib::{
-    Answer, By, Command, Error, FileError, Forwarding, Hop, Part, Prefix, Reply, Route, Selection,
-    Source, Table, MAX_FEED,
+    Answer, By, Command, ConcurrentTable, Error, FileError, Forwarding, Hop, Part, Prefix, Reply,
+    Route, RoutesFrom, Selection, Source, Table, MAX_FEED,
 };
 
 /// Numbers that look drawn, the same in each run.
@@ -163,8 +163,12 @@ fn replies_and_routes_are_the_models() {
         }
         assert_eq!(plain.routes().unwrap(), model.listed());
         assert_eq!(plain.count().unwrap(), model.routes.len());
-        check_parts(&mut plain, &model, &mut draw);
-        check_pages(&mut plain, &model, &mut draw);
+        check_parts(&|asked| plain.select(asked), &model, &mut draw);
+        check_pages(
+            &|prefix, pref, feed| plain.routes_from(prefix, pref, feed),
+            &model,
+            &mut draw,
+        );
         assert_eq!(journaled.differences(&plain, By::Route).count(), 0);
         let addresses: Vec<u32> = (0..300)
             .map(|_| u32::from(draw.prefix().base()).wrapping_add(draw.below(2)))
@@ -199,7 +203,11 @@ fn contains(prefix: Prefix, other: Prefix) -> bool {
 }
 
 /// Parts of the table are those of the model's list.
-fn check_parts(table: &mut Table, model: &Model, draw: &mut Draw) {
+fn check_parts(
+    select: &dyn Fn(Selection) -> yarib::Result<Vec<Route>>,
+    model: &Model,
+    draw: &mut Draw,
+) {
     for _ in 0..20 {
         let prefix = draw.prefix();
         let feed = [None, Some(1 + draw.below(5))][draw.below(2) as usize];
@@ -226,20 +234,115 @@ fn check_parts(table: &mut Table, model: &Model, draw: &mut Draw) {
                 feed,
                 only_best,
             };
-            assert_eq!(table.select(asked).unwrap(), wanted, "{asked:?}");
+            assert_eq!(select(asked).unwrap(), wanted, "{asked:?}");
         }
     }
 }
 
 /// The routes from a place on are those of the model's list that don't stand before it.
-fn check_pages(table: &mut Table, model: &Model, draw: &mut Draw) {
+fn check_pages<'a>(
+    routes_from: &dyn Fn(Prefix, u32, u32) -> RoutesFrom<'a>,
+    model: &Model,
+    draw: &mut Draw,
+) {
     for _ in 0..20 {
         let place = (draw.prefix(), draw.below(4), draw.below(7));
         let mut wanted = model.listed();
         wanted.retain(|route| (route.prefix, route.pref, route.feed) >= place);
-        let pages = table.routes_from(place.0, place.1, place.2);
+        let pages = routes_from(place.0, place.1, place.2);
         let found: Vec<Route> = pages.map(Result::unwrap).collect();
         assert_eq!(found, wanted, "{place:?}");
+    }
+}
+
+/// The commands of a concurrent table, by all its calls.
+#[test]
+fn a_concurrent_table_answers_as_the_model() {
+    for seed in 0..12 {
+        let (mut draw, limit) = (Draw(4000 + seed), [3, 1_000_000][seed as usize % 2]);
+        let mut model = Model {
+            limit: limit as usize,
+            routes: BTreeMap::new(),
+        };
+        let table = ConcurrentTable::new(limit).unwrap();
+        if seed % 4 == 3 {
+            table.follow().unwrap();
+            assert!(table.memory().unwrap() >= 2 << 26);
+        }
+        for _ in 0..80 {
+            let (feed, command) = (1 + draw.below(5), draw.command());
+            let found = match command {
+                Command::Add(prefix, pref, hop) => table.add(feed, prefix, pref, hop),
+                Command::Replace(prefix, pref, hop) => table.replace(feed, prefix, pref, hop),
+                Command::Withdraw(prefix) => table.withdraw(feed, prefix),
+                other => table.apply(feed, other),
+            };
+            let wanted = match model.apply(feed, command) {
+                Reply::Exists => Err(Error::Exists),
+                Reply::Full => Err(Error::Full),
+                Reply::Missing => Err(Error::Missing),
+                other => Ok(other),
+            };
+            assert_eq!(found, wanted);
+            let asked: Vec<(u32, Command)> = (0..draw.below(6))
+                .map(|_| (1 + draw.below(5), draw.command()))
+                .chain([(65, Command::Dump)])
+                .collect();
+            let wanted: Vec<_> = asked
+                .iter()
+                .map(|(feed, command)| match feed {
+                    65 => Err(Error::Number),
+                    _ => Ok(model.apply(*feed, *command)),
+                })
+                .collect();
+            assert_eq!(table.apply_each(&asked), Ok(wanted));
+            let (prefix, feed, pref) = (draw.prefix(), 1 + draw.below(5), draw.below(3));
+            let is_there = model.routes.contains_key(&(prefix, feed));
+            let made = if is_there {
+                Command::Replace
+            } else {
+                Command::Add
+            };
+            let wanted = match model.apply(feed, made(prefix, pref, Hop::Discard)) {
+                Reply::Full => Err(Error::Full),
+                other => Ok(other),
+            };
+            assert_eq!(table.put(feed, prefix, pref, Hop::Discard), wanted);
+        }
+        compare_reads(&table, &model, &mut draw);
+        let other = ConcurrentTable::new(limit).unwrap();
+        for feed in 1..=5 {
+            let mut text = Vec::new();
+            table.save(feed, &mut text).unwrap();
+            other.load(feed, &text[..]).unwrap();
+        }
+        assert_eq!(other.routes().unwrap(), model.listed());
+    }
+    assert_eq!(ConcurrentTable::new(0).unwrap_err(), Error::Number);
+}
+
+fn compare_reads(table: &ConcurrentTable, model: &Model, draw: &mut Draw) {
+    assert_eq!(table.routes().unwrap(), model.listed());
+    assert_eq!(table.count().unwrap(), model.routes.len());
+    assert!(table.memory().unwrap() >= 2 * 48 * model.routes.len().min(1));
+    check_parts(&|asked| table.select(asked), model, draw);
+    check_pages(
+        &|prefix, pref, feed| table.routes_from(prefix, pref, feed),
+        model,
+        draw,
+    );
+    let addresses: Vec<Ipv4Addr> = (0..100).map(|_| draw.prefix().base()).collect();
+    let numbers: Vec<u32> = addresses.iter().copied().map(u32::from).collect();
+    let wanted: Vec<Option<Route>> = numbers.iter().map(|one| model.best(*one)).collect();
+    assert_eq!(table.look_up_each(&numbers).unwrap(), wanted);
+    assert_eq!(table.look_up_addresses(&addresses).unwrap(), wanted);
+    for (address, best) in addresses.iter().zip(&wanted) {
+        assert_eq!(table.look_up(*address).unwrap(), *best);
+        assert_eq!(table.look_up_prefix(Prefix::from(*address)).unwrap(), *best);
+        let mut listed = model.listed();
+        listed.retain(|route| route.prefix.contains(*address));
+        listed.sort_by_key(|route| (32 - route.prefix.len(), route.pref, route.feed));
+        assert_eq!(table.look_up_all(*address).unwrap(), listed);
     }
 }
 

@@ -1,0 +1,358 @@
+package yarib
+
+import (
+	"errors"
+	"math/rand"
+	"net/netip"
+	"runtime"
+	"strings"
+	"sync"
+	"sync/atomic"
+	"testing"
+	"time"
+)
+
+func concurrentTable(t *testing.T, limit uint32) *ConcurrentTable {
+	t.Helper()
+	made, err := NewConcurrent(limit)
+	must(t, err)
+	t.Cleanup(made.Close)
+	return made
+}
+
+func TestEveryCallOfAConcurrentTableAnswersAsTheModel(t *testing.T) {
+	for seed := int64(0); seed < 12; seed++ {
+		draw, limit := rand.New(rand.NewSource(seed)), []uint32{3, 1000000}[seed%2]
+		m, one := model{int(limit), map[place]Route{}}, concurrentTable(t, limit)
+		if seed%4 == 3 {
+			must(t, one.Follow())
+			bytes, err := one.Memory()
+			must(t, err)
+			if bytes < 2<<26 {
+				t.Fatal(bytes)
+			}
+		}
+		for k := 0; k < 40; k++ {
+			commands, outcomes := []Command{}, []Outcome{}
+			for j := draw.Intn(5); j >= 0; j-- {
+				command := drawnCommand(draw)
+				reply, err := applied(&one.common, command)
+				wanted := m.apply(command)
+				same(t, "a reply", reply, wanted)
+				same(t, "whether nothing changed", err != nil, unchanged(wanted.Code) != nil)
+			}
+			for j := draw.Intn(5); j > 0; j-- {
+				command := drawnCommand(draw)
+				if draw.Intn(20) == 0 {
+					command.Feed = 65
+					outcomes = append(outcomes, Outcome{Err: &CommandError{command, ErrNumber}})
+				} else {
+					outcomes = append(outcomes, Outcome{Reply: m.apply(command)})
+				}
+				commands = append(commands, command)
+			}
+			found, err := one.ApplyEach(commands)
+			must(t, err)
+			same(t, "outcomes", resultsOf(found), resultsOf(outcomes))
+			compareReads(t, &one.common, &m, draw)
+		}
+		checkParts(t, &one.common, &m, draw)
+		checkPages(t, &one.common, &m, draw)
+		checkLookUps(t, &one.common, &m, draw)
+		for feed := uint32(1); feed <= 5; feed++ {
+			text, other := strings.Builder{}, concurrentTable(t, limit)
+			must(t, one.Save(&text, feed))
+			_, err := other.Load(strings.NewReader(text.String()), feed)
+			must(t, err)
+			found, err := other.Routes()
+			must(t, err)
+			same(t, "routes loaded", found, m.listed(func(route Route) bool { return route.Feed == feed }))
+		}
+	}
+}
+
+func TestASourceOfAConcurrentTable(t *testing.T) {
+	one := concurrentTable(t, 5)
+	source, err := NewSource(one, 2, 3)
+	must(t, err)
+	ten := netip.MustParsePrefix("10.0.0.0/8")
+	_, err = source.Put(ten, 5, Discard)
+	must(t, err)
+	found, err := source.Routes()
+	must(t, err)
+	same(t, "routes", found, []Route{{ten, source.FeedOf(ten), 5, Discard}})
+}
+
+const (
+	published = 300 // tables
+	prefixes  = 64
+)
+
+// publish publishes table k: all its next hops are k, and if k is odd, each prefix has a longer one in it.
+func publish(t *testing.T, one *ConcurrentTable, k uint32) {
+	t.Helper()
+	commands := []Command{}
+	for j := uint32(0); j < prefixes; j++ {
+		wide := Command{Operation: Replace, Feed: 1, Prefix: netip.PrefixFrom(addressOf(j<<24), 8), Hop: Via(addressOf(k))}
+		if k == 0 {
+			wide.Operation = Add
+		}
+		narrow := Command{Operation: Withdraw, Feed: 1, Prefix: netip.PrefixFrom(addressOf(j<<24), 16), Hop: Via(addressOf(k))}
+		if k%2 == 1 {
+			narrow.Operation = Add
+		}
+		commands = append(commands, wide, narrow)
+	}
+	outcomes, err := one.ApplyEach(commands)
+	must(t, err)
+	for j, outcome := range outcomes {
+		if outcome.Err != nil || (k > 0 && unchanged(outcome.Reply.Code) != nil) {
+			t.Fatal(k, commands[j], outcome)
+		}
+	}
+}
+
+// publishedTable returns the routes of table k, sorted.
+func publishedTable(k uint32) []Route {
+	routes := []Route{}
+	for j := uint32(0); j < prefixes; j++ {
+		for length := 8; length <= 8+8*int(k%2); length += 8 {
+			routes = append(routes, Route{netip.PrefixFrom(addressOf(j<<24), length), 1, 0, Via(addressOf(k))})
+		}
+	}
+	return routes
+}
+
+// numberOfTable returns the number of the table that a route is from.
+func numberOfTable(route Route) uint32 {
+	router, _ := route.Hop.Router()
+	return uint32(numberOf(router))
+}
+
+// waysToRead are calls that read a concurrent table. Each returns what it found, and what it would find in table k.
+var waysToRead = []func(one *ConcurrentTable) ([]Route, func(k uint32) []Route, error){
+	func(one *ConcurrentTable) ([]Route, func(k uint32) []Route, error) {
+		route, _, err := one.LookUp(addressOf(5 << 24))
+		return []Route{route}, func(k uint32) []Route { return publishedTable(k)[5+6*(k%2) : 6+6*(k%2)] }, err
+	},
+	func(one *ConcurrentTable) ([]Route, func(k uint32) []Route, error) {
+		asked, found := []uint32{}, []Route{}
+		for j := uint32(0); j < prefixes; j++ {
+			asked = append(asked, j<<24, j<<24|1<<16)
+		}
+		answers, err := one.LookUpEach(asked)
+		for j := 0; j < answers.Len(); j++ {
+			route, _ := answers.At(j)
+			found = append(found, route)
+		}
+		return found, func(k uint32) []Route {
+			routes, all := publishedTable(k), []Route{}
+			for j := 0; j < len(routes); j++ {
+				if k%2 == 0 {
+					all = append(all, routes[j], routes[j])
+				} else {
+					all = append(all, routes[j^1])
+				}
+			}
+			return all
+		}, err
+	},
+	func(one *ConcurrentTable) ([]Route, func(k uint32) []Route, error) {
+		found, err := one.Routes()
+		return found, publishedTable, err
+	},
+	func(one *ConcurrentTable) ([]Route, func(k uint32) []Route, error) {
+		found, err := one.RoutesFrom(Place{}, 3*prefixes)
+		return found, publishedTable, err
+	},
+	func(one *ConcurrentTable) ([]Route, func(k uint32) []Route, error) {
+		found, err := one.Select(Selection{Part: Within, Prefix: netip.PrefixFrom(addressOf(0), 2)})
+		return found, publishedTable, err
+	},
+	func(one *ConcurrentTable) ([]Route, func(k uint32) []Route, error) {
+		found, err := one.LookUpAll(addressOf(0))
+		return found, func(k uint32) []Route {
+			all := publishedTable(k)[:1+k%2]
+			if len(all) == 2 {
+				all[0], all[1] = all[1], all[0]
+			}
+			return all
+		}, err
+	},
+}
+
+// Four goroutines read and one publishes tables. Each call returns what one published table holds: the last one that was published
+// before the call, or a later one.
+func TestGoroutinesReadOnePublishedTable(t *testing.T) {
+	for _, isFollowed := range []bool{false, true} {
+		one, last, ended := concurrentTable(t, 2*prefixes), uint32(0), make(chan struct{})
+		publish(t, one, 0)
+		if isFollowed {
+			must(t, one.Follow())
+		}
+		var group sync.WaitGroup
+		for k := 0; k < 4; k++ {
+			group.Add(1)
+			go func() {
+				defer group.Done()
+				readPublished(t, one, &last, ended)
+			}()
+		}
+		for k := uint32(1); k <= published; k++ {
+			publish(t, one, k)
+			atomic.StoreUint32(&last, k)
+		}
+		close(ended)
+		group.Wait()
+	}
+}
+
+func readPublished(t *testing.T, one *ConcurrentTable, last *uint32, ended chan struct{}) {
+	seen := uint32(0)
+	for {
+		select {
+		case <-ended:
+			return
+		default:
+		}
+		for way, read := range waysToRead {
+			least := atomic.LoadUint32(last)
+			found, wanted, err := read(one)
+			if err != nil || len(found) == 0 {
+				t.Error(way, found, err)
+				return
+			}
+			k := numberOfTable(found[0])
+			if k < least || k < seen || k > published || !isSame(found, wanted(k)) {
+				t.Errorf("way %d, table %d, at least %d and %d: %v", way, k, least, seen, found)
+				return
+			}
+			seen = k
+		}
+		if count, err := one.Count(); err != nil || (count != prefixes && count != 2*prefixes) {
+			t.Error(count, err)
+			return
+		}
+	}
+}
+
+func TestGoroutinesChangeOneConcurrentTable(t *testing.T) {
+	one, group := concurrentTable(t, 1000), sync.WaitGroup{}
+	for feed := uint32(1); feed <= 4; feed++ {
+		group.Add(1)
+		go func(feed uint32) {
+			defer group.Done()
+			for k := uint32(0); k < 500; k++ {
+				if _, err := one.Add(feed, netip.PrefixFrom(addressOf(k<<12), 20), k, Discard); err != nil {
+					t.Error(err)
+					return
+				}
+			}
+		}(feed)
+	}
+	group.Wait()
+	count, err := one.Count()
+	must(t, err)
+	same(t, "how many routes were added", count, 4*500)
+}
+
+// While a change holds the lock, calls that read return, and another change waits.
+func TestEveryReaderOfAConcurrentTableGoesOn(t *testing.T) {
+	one, ended, changed := concurrentTable(t, 2*prefixes), make(chan error), make(chan error)
+	publish(t, one, 0)
+	one.held.lock.Lock()
+	go func() {
+		for _, read := range waysToRead {
+			if _, _, err := read(one); err != nil {
+				ended <- err
+			}
+		}
+		ended <- nil
+	}()
+	select {
+	case err := <-ended:
+		must(t, err)
+	case <-time.After(20 * time.Second):
+		one.held.lock.Unlock()
+		t.Fatal("a call that reads waits")
+	}
+	go func() {
+		_, err := one.Apply(Command{Operation: Dump, Feed: 1})
+		changed <- err
+	}()
+	select {
+	case err := <-changed:
+		one.held.lock.Unlock()
+		t.Fatal("a change doesn't wait", err)
+	case <-time.After(50 * time.Millisecond):
+	}
+	one.held.lock.Unlock()
+	must(t, <-changed)
+}
+
+func TestEveryReaderSeesThatATableIsClosed(t *testing.T) {
+	for round := 0; round < 10; round++ {
+		one, group := concurrentTable(t, 2*prefixes), sync.WaitGroup{}
+		publish(t, one, 0)
+		for k := 0; k < 4; k++ {
+			group.Add(1)
+			go func() {
+				defer group.Done()
+				for {
+					route, _, err := one.LookUp(addressOf(5 << 24))
+					if errors.Is(err, ErrClosed) {
+						return
+					}
+					if err != nil || numberOfTable(route) > 20 {
+						t.Error(route, err)
+						return
+					}
+				}
+			}()
+		}
+		for k := uint32(1); k <= 20; k++ {
+			publish(t, one, k)
+		}
+		one.Close()
+		one.Close()
+		group.Wait()
+	}
+}
+
+func TestAZeroConcurrentTableIsClosed(t *testing.T) {
+	var zero ConcurrentTable
+	zero.Close()
+	for what, call := range map[string]func() error{
+		"count":  func() error { _, err := zero.Count(); return err },
+		"apply":  func() error { _, err := zero.Apply(Command{Operation: Dump, Feed: 1}); return err },
+		"routes": func() error { _, err := zero.Routes(); return err },
+		"follow": func() error { return zero.Follow() },
+		"memory": func() error { _, err := zero.Memory(); return err },
+		"page":   func() error { _, err := zero.RoutesFrom(Place{}, 1); return err },
+	} {
+		if err := call(); !errors.Is(err, ErrClosed) {
+			t.Fatal(what, err)
+		}
+	}
+	if _, err := NewConcurrent(0); !errors.Is(err, ErrNumber) {
+		t.Fatal(err)
+	}
+}
+
+func TestConcurrentTablesAreFreed(t *testing.T) {
+	before := resident(t)
+	for k := 0; k < 8; k++ {
+		one, err := NewConcurrent(5)
+		must(t, err)
+		must(t, one.Follow())
+		if k%2 == 0 {
+			one.Close()
+		}
+		one = nil
+		runtime.GC()
+		time.Sleep(10 * time.Millisecond)
+	}
+	if grown := resident(t) - before; grown > 5<<26 {
+		t.Fatal(grown)
+	}
+}

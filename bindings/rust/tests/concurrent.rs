@@ -1,0 +1,273 @@
+//! Threads that read a concurrent table while one changes it.
+//!
+//! Table k has routes to `PREFIXES` prefixes, all with the next hop k. If k is odd, each prefix also has a longer one in it.
+use std::net::Ipv4Addr;
+use std::sync::atomic::{AtomicBool, AtomicU32, Ordering};
+use std::thread;
+use yarib::{Command, ConcurrentTable, Error, Hop, Part, Prefix, Route, Selection, Table};
+
+const PREFIXES: u32 = 64;
+const CHANGES: u32 = 300;
+
+fn prefix(k: u32, len: u8) -> Prefix {
+    Prefix::new(Ipv4Addr::from(k << 24), len).unwrap()
+}
+
+fn via(k: u32) -> Hop {
+    Hop::Via(Ipv4Addr::from(k))
+}
+
+/// Publishes table k.
+fn publish(table: &ConcurrentTable, k: u32) {
+    let mut commands = Vec::new();
+    for j in 0..PREFIXES {
+        let wide = prefix(j, 8);
+        let narrow = prefix(j, 16);
+        commands.push((
+            1,
+            match k {
+                0 => Command::Add(wide, 0, via(k)),
+                _ => Command::Replace(wide, 0, via(k)),
+            },
+        ));
+        commands.push((
+            1,
+            match k % 2 {
+                1 => Command::Add(narrow, 0, via(k)),
+                _ => Command::Withdraw(narrow),
+            },
+        ));
+    }
+    assert!(table
+        .apply_each(&commands)
+        .unwrap()
+        .iter()
+        .all(Result::is_ok));
+}
+
+/// Returns the routes of table k, in order.
+fn published(k: u32) -> Vec<Route> {
+    let lengths: &[u8] = if k % 2 == 1 { &[8, 16] } else { &[8] };
+    let route = |j, len| Route {
+        prefix: prefix(j, len),
+        feed: 1,
+        pref: 0,
+        hop: via(k),
+    };
+    (0..PREFIXES)
+        .flat_map(|j| lengths.iter().map(move |len| route(j, *len)))
+        .collect()
+}
+
+fn number(route: &Route) -> u32 {
+    match route.hop {
+        Hop::Via(router) => u32::from(router),
+        Hop::Discard => u32::MAX,
+    }
+}
+
+/// What is found in the table of a number.
+type InTable = Box<dyn Fn(u32) -> Vec<Route>>;
+
+/// Reads in one of several ways, and returns what was found and what would be found in each table.
+fn read(table: &ConcurrentTable, way: u32) -> (Vec<Route>, InTable) {
+    let longest = |k| {
+        published(k)
+            .into_iter()
+            .filter(move |one| k % 2 == 0 || one.prefix.len() == 16)
+    };
+    match way {
+        0 => {
+            let found = table.look_up(Ipv4Addr::from(5 << 24)).unwrap();
+            (
+                found.into_iter().collect(),
+                Box::new(move |k| longest(k).skip(5).take(1).collect()),
+            )
+        }
+        1 => {
+            let asked: Vec<u32> = (0..PREFIXES).map(|j| j << 24).collect();
+            let found = table.look_up_each(&asked).unwrap();
+            (
+                found.into_iter().flatten().collect(),
+                Box::new(move |k| longest(k).collect()),
+            )
+        }
+        2 => (table.routes().unwrap(), Box::new(published)),
+        3 => {
+            let pages = table.routes_from(prefix(0, 0), 0, 0);
+            (pages.map(Result::unwrap).collect(), Box::new(published))
+        }
+        4 => {
+            let asked = Selection::of(Part::Within(prefix(0, 2)));
+            (table.select(asked).unwrap(), Box::new(published))
+        }
+        _ => {
+            let found = table.look_up_all(Ipv4Addr::from(0)).unwrap();
+            (
+                found,
+                Box::new(|k| {
+                    published(k)
+                        .into_iter()
+                        .take(1 + (k % 2) as usize)
+                        .rev()
+                        .collect()
+                }),
+            )
+        }
+    }
+}
+
+/// Each call returns what one published table holds: the last one that was published before the call, or a later one.
+#[test]
+fn threads_read_one_published_table() {
+    for is_followed in [false, true] {
+        let table = ConcurrentTable::new(2 * PREFIXES).unwrap();
+        publish(&table, 0);
+        if is_followed {
+            table.follow().unwrap();
+        }
+        let (done, ended) = (AtomicU32::new(0), AtomicBool::new(false));
+        let reader = || {
+            let mut seen = 0;
+            while !ended.load(Ordering::Relaxed) {
+                for way in 0..6 {
+                    let least = done.load(Ordering::SeqCst);
+                    let (found, wanted) = read(&table, way);
+                    let k = number(&found[0]);
+                    assert!(
+                        (least.max(seen)..=CHANGES).contains(&k),
+                        "{way}: {k}, {least}, {seen}"
+                    );
+                    assert_eq!(found, wanted(k), "{way}");
+                    seen = k;
+                }
+                assert!(
+                    [PREFIXES as usize, 2 * PREFIXES as usize].contains(&table.count().unwrap())
+                );
+            }
+        };
+        thread::scope(|scope| {
+            for _ in 0..4 {
+                scope.spawn(reader);
+            }
+            for k in 1..=CHANGES {
+                publish(&table, k);
+                done.store(k, Ordering::SeqCst);
+            }
+            ended.store(true, Ordering::Relaxed);
+        });
+        for way in 0..6 {
+            assert_eq!(read(&table, way).0, read(&table, way).1(CHANGES));
+        }
+    }
+}
+
+/// Threads that change one table wait for one another, by single commands and by many.
+#[test]
+fn threads_change_one_table() {
+    let table = ConcurrentTable::new(500).unwrap();
+    let route = |k| Prefix::new(Ipv4Addr::from(k << 12), 20).unwrap();
+    thread::scope(|scope| {
+        for feed in 1..=4 {
+            let table = &table;
+            scope.spawn(move || {
+                for k in 0..500 {
+                    if feed % 2 == 0 {
+                        table.add(feed, route(k), k, Hop::Discard).unwrap();
+                    } else {
+                        let command = (feed, Command::Add(route(k), k, Hop::Discard));
+                        assert!(table.apply_each(&[command]).unwrap()[0].is_ok());
+                    }
+                }
+                let refused = table.add(feed, prefix(1, 8), 0, Hop::Discard);
+                assert_eq!(refused, Err(Error::Full));
+            });
+        }
+    });
+    assert_eq!(table.count(), Ok(4 * 500));
+}
+
+/// A list of a table that grows is one of its tables: it always has the route that was added first, which is the last in order.
+#[test]
+fn lists_of_a_table_that_grows() {
+    let (table, size, ended) = (
+        ConcurrentTable::new(50_000).unwrap(),
+        50_000,
+        AtomicBool::new(false),
+    );
+    let route = |k| Prefix::new(Ipv4Addr::from((size - k) << 8), 24).unwrap();
+    table.add(1, route(0), 0, Hop::Discard).unwrap();
+    let reader = || {
+        while !ended.load(Ordering::Relaxed) {
+            let found = table.routes().unwrap();
+            assert_eq!(found.last().map(|one| one.prefix), Some(route(0)));
+            assert_eq!(
+                found[0].prefix,
+                route(u32::try_from(found.len()).unwrap() - 1)
+            );
+        }
+    };
+    thread::scope(|scope| {
+        scope.spawn(reader);
+        for k in 1..size {
+            table.add(1, route(k), 0, Hop::Discard).unwrap();
+        }
+        ended.store(true, Ordering::Relaxed);
+    });
+}
+
+/// While a change of many commands runs, another thread goes on reading, and a second change waits.
+#[test]
+fn readers_go_on_during_a_change() {
+    let add = |k| {
+        (
+            1,
+            Command::Add(Prefix::new(Ipv4Addr::from(k << 8), 24).unwrap(), 0, via(k)),
+        )
+    };
+    let commands: Vec<(u32, Command)> = (0..200_000).map(add).collect();
+    let is_seen = (0..20).any(|_| {
+        let (table, is_changing) = (
+            ConcurrentTable::new(1_000_000).unwrap(),
+            AtomicBool::new(false),
+        );
+        let (ended, read) = (AtomicBool::new(false), AtomicU32::new(0));
+        thread::scope(|scope| {
+            scope.spawn(|| {
+                while !ended.load(Ordering::SeqCst) {
+                    let is_during = is_changing.load(Ordering::SeqCst);
+                    table.look_up(Ipv4Addr::from(0)).unwrap();
+                    if is_during && is_changing.load(Ordering::SeqCst) {
+                        read.fetch_add(1, Ordering::SeqCst);
+                    }
+                }
+            });
+            scope.spawn(|| {
+                while !ended.load(Ordering::SeqCst) {
+                    table.apply(2, Command::Dump).unwrap();
+                }
+            });
+            is_changing.store(true, Ordering::SeqCst);
+            table.apply_each(&commands).unwrap();
+            is_changing.store(false, Ordering::SeqCst);
+            ended.store(true, Ordering::SeqCst);
+        });
+        read.load(Ordering::SeqCst) > 1_000
+    });
+    assert!(is_seen);
+}
+
+#[test]
+fn tables_are_freed() {
+    let resident = || {
+        let text = std::fs::read_to_string("/proc/self/statm").unwrap();
+        text.split(' ').nth(1).unwrap().parse::<usize>().unwrap() * 4096
+    };
+    let before = resident();
+    for _ in 0..8 {
+        ConcurrentTable::new(5).unwrap().follow().unwrap();
+        Table::new(5).unwrap().follow().unwrap();
+    }
+    // Other tests hold two forwarding tables meanwhile.
+    assert!(resident() < before + (6 << 26));
+}
