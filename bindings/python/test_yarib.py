@@ -318,6 +318,37 @@ class Threads(unittest.TestCase):
         finally:
             handle._held, handle._changing = kept
 
+    def test_calls_between_a_call_and_its_results(self):
+        """A signal handler, or another thread, makes calls when C has returned and before Python reads what C wrote."""
+        table, other, inside = self.made(), self.made(), []
+        other.add("11.0.0.0/8", via=7, pref=5, feed=3)
+
+        class Interrupted:
+            def __init__(self, library):
+                self.library = library
+
+            def __getattr__(self, name):
+                def call(*words):
+                    status = getattr(self.library, name)(*words)
+                    if not inside:
+                        inside.append(True)
+                        other.look_up("11.1.1.1")
+                        other.get("11.0.0.0/8")
+                        other.apply(3, "dump")
+                        inside.clear()
+                    return status
+                return call
+
+        tables, kept = yarib._tables, (yarib._tables.held, yarib._tables.Handle._held, yarib._tables.Handle._changing)
+        tables.held = tables.Handle._held = tables.Handle._changing = Interrupted(kept[0])
+        try:
+            table.add("12.0.0.0/8", via="192.0.2.1")
+            found = [table.look_up("12.0.0.1"), table.get("12.0.0.0/8"), table["12.0.0.1"], *table.routes()[1:2]]
+            self.assertEqual(found, [route("12.0.0.0/8", 1, 0, "192.0.2.1")] * 4)
+            self.assertEqual((table.apply(1, "purge").count, table.get("12.0.0.0/8"), table.look_up("12.0.0.1")), (3, None, None))
+        finally:
+            tables.held, tables.Handle._held, tables.Handle._changing = kept
+
     def test_they_read_one_published_table(self):
         """All answers of a call are from one published table, the last one or a later one, and no reader waits or fails."""
         table, asked, faults, ended = yarib.ConcurrentTable(), [k << 24 | 5 for k in range(64)], [], threading.Event()

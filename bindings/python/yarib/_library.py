@@ -5,8 +5,9 @@ import ctypes
 import ctypes.util
 import os
 import pathlib
+import struct
 import time
-from typing import Any, Callable, Dict, NoReturn, Tuple
+from typing import Any, Callable, Dict, List, NoReturn, Tuple
 
 VERSION = "0.2"
 NAME = "libyarib.so.0"
@@ -32,31 +33,19 @@ class RawRoute(ctypes.Structure):
                 ("feed", ctypes.c_uint32), ("len", ctypes.c_uint8), ("hop", ctypes.c_uint8)]
 
 
-class RawCommand(ctypes.Structure):
-    _fields_ = [("operation", ctypes.c_uint32), ("feed", ctypes.c_uint32), ("base", ctypes.c_uint32),
-                ("pref", ctypes.c_uint32), ("via", ctypes.c_uint32), ("len", ctypes.c_uint8), ("hop", ctypes.c_uint8)]
-
-
-class RawReply(ctypes.Structure):
-    _fields_ = [("code", ctypes.c_uint32), ("count", ctypes.c_uint32), ("route", RawRoute)]
-
-
-class RawEntry(ctypes.Structure):
-    _fields_ = [("command", RawCommand), ("reply", RawReply)]
-
-
 class RawSelection(ctypes.Structure):
     _fields_ = [("part", ctypes.c_uint32), ("feed", ctypes.c_uint32), ("base", ctypes.c_uint32),
                 ("len", ctypes.c_uint8), ("only_best", ctypes.c_uint8)]
 
 
-class RawPrefix(ctypes.Structure):
-    _fields_ = [("base", ctypes.c_uint32), ("len", ctypes.c_uint8)]
-
-
 class RawDifference(ctypes.Structure):
     _fields_ = [("first", ctypes.c_uint32), ("last", ctypes.c_uint32), ("before", RawRoute), ("after", RawRoute)]
 
+
+# The header's structures: base, preference, router, feed, length and hop of a route; operation, feed, base, preference, router,
+# length and hop of a command; code and count of a reply, and its route.
+ROUTE, COMMAND, REPLY = struct.Struct("=IIIIBBxx"), struct.Struct("=IIIIIBBxx"), struct.Struct("=IIIIIIBBxx")
+ENTRY, PREFIX, ADDRESS = struct.Struct("=IIIIIBBxxIIIIIIBBxx"), struct.Struct("=IBxxx"), struct.Struct("=I")
 
 NUMBER, SIZE, POINTER = ctypes.c_uint32, ctypes.c_size_t, ctypes.c_void_p
 CALLS: Dict[str, Tuple[Any, ...]] = {
@@ -84,6 +73,9 @@ CALLS: Dict[str, Tuple[Any, ...]] = {
     "yarib_address_parse": (ctypes.c_char_p, SIZE, POINTER),
     "yarib_address_print": (NUMBER, POINTER, SIZE, POINTER),
 }
+# Calls without conversions of their arguments, which take half of a short call's time. Each argument must be a number below 1 << 31
+# or, if C reads 32 bits, 1 << 32; a bytes object or a reference.
+PLAIN = ("yarib_apply", "yarib_look_up_one", "yarib_routes_from", "yarib_prefix_parse", "yarib_address_parse")
 # The calls for a concurrent table that are declared as those for a table.
 CONCURRENT = ("free", "apply", "apply_each", "look_up", "look_up_one", "look_up_all", "routes", "routes_from", "select", "count",
               "follow", "memory")
@@ -102,7 +94,8 @@ def load(kind: Callable[[str], Any]) -> Any:
     library = kind(file_of_library())
     for name, types in CALLS.items():
         call = getattr(library, name)
-        call.argtypes = types
+        if name.replace("concurrent_", "") not in PLAIN:
+            call.argtypes = types
         call.restype = NUMBER
     return library
 
@@ -123,6 +116,20 @@ concurrent_held, concurrent_freed = Concurrent(held), Concurrent(freed)
 
 # So long, in seconds, a thread waits before it makes a busy call again.
 PAUSE = 0.00005
+
+
+class Room:
+    """Memory for what one short call writes. A call takes it out of `rooms`, and puts it back when the results are read:
+    meanwhile another thread or a signal handler may make a call, which then takes another one."""
+    __slots__ = ("bytes", "at", "size_at")
+
+    def __init__(self) -> None:
+        self.bytes = bytearray(40)
+        self.at = ctypes.byref((ctypes.c_char * 32).from_buffer(self.bytes))
+        self.size_at = ctypes.byref(SIZE.from_buffer(self.bytes, 32))
+
+
+rooms: List[Room] = []
 
 
 class Error(Exception):

@@ -6,14 +6,22 @@ import ctypes
 import ipaddress
 import operator
 import os
+import struct
 import sys
 import threading
 from typing import Any, Callable, Dict, Iterable, Iterator, List, NamedTuple, NoReturn, Optional, Sequence, Tuple, Union
 
 from . import _library as c
-from ._library import Error, Invalid, check, concurrent_freed, concurrent_held, done, freed, held, status_of
+from ._library import (
+    COMMAND, ENTRY, REPLY, ROUTE, Error, Invalid, Room, check, concurrent_freed, concurrent_held, done, freed, held, rooms,
+    status_of,
+)
 
 PAGE, ENTRIES = 256, 4096
+# A call without conversions accepts only sizes below it.
+MANY = 1 << 31
+ADDRESS_FROM, PREFIX_FROM, ROUTE_FROM, REPLY_FROM = (
+    one.unpack_from for one in (c.ADDRESS, c.PREFIX, ROUTE, REPLY))
 NETWORK, ADDRESS = ipaddress.IPv4Network, ipaddress.IPv4Address
 Address = Union[str, int, ipaddress.IPv4Address]
 Prefix = Union[str, ipaddress.IPv4Network, Sequence[int]]
@@ -79,10 +87,16 @@ class Entry(NamedTuple):
 def address_of(value: Address) -> int:
     """Returns the number of an address."""
     if isinstance(value, str):
-        found = ctypes.c_uint32()
         text = value.encode("utf-8", "surrogateescape")
-        check(held.yarib_address_parse(text, len(text), ctypes.byref(found)), value)
-        return found.value
+        try:
+            room = rooms.pop()
+        except IndexError:
+            room = Room()
+        if status := held.yarib_address_parse(text, len(text) if len(text) < MANY else ctypes.c_size_t(len(text)), room.at):
+            check(status, value)
+        found: int = ADDRESS_FROM(room.bytes)[0]
+        rooms.append(room)
+        return found
     return int(value) if isinstance(value, ADDRESS) else number(value, "an IPv4 address")
 
 
@@ -100,10 +114,16 @@ def number(value: object, said: str = "a number", bits: int = 32) -> int:
 def prefix_of(value: Prefix) -> Tuple[int, int]:
     """Returns the base and length of a prefix."""
     if isinstance(value, str):
-        found = c.RawPrefix()
         text = value.encode("utf-8", "surrogateescape")
-        check(held.yarib_prefix_parse(text, len(text), ctypes.byref(found)), value)
-        return found.base, found.len
+        try:
+            room = rooms.pop()
+        except IndexError:
+            room = Room()
+        if status := held.yarib_prefix_parse(text, len(text) if len(text) < MANY else ctypes.c_size_t(len(text)), room.at):
+            check(status, value)
+        base, length = PREFIX_FROM(room.bytes)
+        rooms.append(room)
+        return base, length
     if isinstance(value, NETWORK):
         return int(value.network_address), value.prefixlen
     if not isinstance(value, (tuple, list)) or len(value) != 2:
@@ -114,20 +134,24 @@ def prefix_of(value: Prefix) -> Tuple[int, int]:
     return base, length
 
 
-def route_of(raw: Any) -> Optional[Route]:
-    if raw.hop == c.NO_ROUTE:
+# Faster than a call of Route.
+new = tuple.__new__
+
+
+def route_of(base: int, pref: int, via: int, feed: int, length: int, hop: int) -> Optional[Route]:
+    if hop == c.NO_ROUTE:
         return None
-    return Route(raw.base, raw.len, raw.feed, raw.pref, raw.via if raw.hop == c.VIA else None)
+    return new(Route, (base, length, feed, pref, via if hop == c.VIA else None))
 
 
-def routes_of(raws: Iterable[Any]) -> List[Route]:
-    return [route for route in map(route_of, raws) if route is not None]
+def routes_of(block: memoryview) -> List[Route]:
+    return [route for fields in ROUTE.iter_unpack(block) if (route := route_of(*fields)) is not None]
 
 
-def outcome_of(raw: Any) -> Outcome:
-    if raw.code == c.UNANSWERED:
-        return Outcome(c.CODES[0], 0, None, c.STATUS[raw.count])
-    return Outcome(c.CODES[raw.code], raw.count, route_of(raw.route), None)
+def outcome_of(code: int, count: int, *route: int) -> Outcome:
+    if code == c.UNANSWERED:
+        return Outcome(c.CODES[0], 0, None, c.STATUS[count])
+    return Outcome(c.CODES[code], count, route_of(*route), None)
 
 
 OPERATIONS = {"add": c.ADD, "replace": c.REPLACE, "withdraw": c.WITHDRAW, "lookup": c.LOOKUP, "dump": c.DUMP,
@@ -135,36 +159,50 @@ OPERATIONS = {"add": c.ADD, "replace": c.REPLACE, "withdraw": c.WITHDRAW, "looku
 NAMES = {number: name for name, number in OPERATIONS.items()}
 
 
-def command_of(feed: int, name: str, *words: Any) -> Any:
+def command_of(feed: int, name: str, *words: Any) -> bytes:
     """Returns a command from its arguments, such as ("add", prefix, pref, via) or ("lookup", address)."""
     operation = OPERATIONS[name]
-    raw = c.RawCommand(operation=operation, feed=number(feed, "a feed"))
     if operation == c.LOOKUP:
-        raw.base, = map(address_of, words)
-    elif operation in (c.DUMP, c.PURGE):
+        address, = map(address_of, words)
+        return packed(operation, feed, address)
+    if operation in (c.DUMP, c.PURGE):
         if words:
             raise TypeError(f"{name} takes no argument")
-    else:
-        raw.base, raw.len = prefix_of(words[0])
-        if operation in (c.ADD, c.REPLACE):
-            _, pref, via = words
-            raw.pref = number(pref, "a preference")
-            raw.hop = c.DISCARD if via is None else c.VIA
-            raw.via = 0 if via is None else address_of(via)
-        elif len(words) != 1:
+        return packed(operation, feed, 0)
+    if operation == c.WITHDRAW:
+        if len(words) != 1:
             raise TypeError(f"{name} takes a prefix")
-    return raw
+        return packed(operation, feed, *prefix_of(words[0]))
+    prefix, pref, via = words
+    return put_of(operation, feed, prefix, pref, via)
 
 
-def words_of(raw: Any) -> Tuple[Any, ...]:
+def put_of(operation: int, feed: int, prefix: Prefix, pref: int, via: Optional[Address]) -> bytes:
+    """Returns a command to add or replace a route."""
+    base, length = prefix_of(prefix)
+    if via is None:
+        return packed(operation, feed, base, length, pref, 0, c.DISCARD)
+    try:
+        return COMMAND.pack(operation, feed, base, pref, address_of(via), length, c.VIA)
+    except struct.error:
+        return packed(operation, feed, base, length, pref)
+
+
+def packed(operation: int, feed: int, base: int, length: int = 0, pref: int = 0, via: int = 0, hop: int = 0) -> bytes:
+    return COMMAND.pack(operation, number(feed, "a feed"), base, number(pref, "a preference"), via, length, hop)
+
+
+def words_of(operation: int, feed: int, base: int, pref: int, via: int, length: int, hop: int) -> Tuple[Any, ...]:
     """Returns the arguments of a command."""
-    prefix = NETWORK((raw.base, raw.len)) if raw.operation <= c.WITHDRAW else None
-    name = NAMES[raw.operation]
-    if raw.operation in (c.ADD, c.REPLACE):
-        return raw.feed, name, prefix, raw.pref, ADDRESS(raw.via) if raw.hop == c.VIA else None
-    if raw.operation == c.WITHDRAW:
-        return raw.feed, name, prefix
-    return (raw.feed, name, ADDRESS(raw.base)) if raw.operation == c.LOOKUP else (raw.feed, name)
+    name = NAMES[operation]
+    if operation == c.LOOKUP:
+        return feed, name, ADDRESS(base)
+    if operation in (c.DUMP, c.PURGE):
+        return feed, name
+    prefix = NETWORK((base, length))
+    if operation == c.WITHDRAW:
+        return feed, name, prefix
+    return feed, name, prefix, pref, ADDRESS(via) if hop == c.VIA else None
 
 
 class Answers:
@@ -172,22 +210,21 @@ class Answers:
     which `memory` and `numpy.frombuffer(answers.memory(), answers.dtype)` read without a copy."""
 
     dtype: Dict[str, Any] = {"names": ["base", "pref", "via", "feed", "len", "hop"], "formats": ["u4", "u4", "u4", "u4", "u1", "u1"],
-                             "offsets": [0, 4, 8, 12, 16, 17], "itemsize": ctypes.sizeof(c.RawRoute)}
+                             "offsets": [0, 4, 8, 12, 16, 17], "itemsize": ROUTE.size}
 
     def __init__(self, size: int) -> None:
-        self.block = bytearray(size * ctypes.sizeof(c.RawRoute))
-        self.raw = (c.RawRoute * size).from_buffer(self.block)
+        self.block = bytearray(size * ROUTE.size)
 
     def __len__(self) -> int:
-        return len(self.raw)
+        return len(self.block) // ROUTE.size
 
     def __getitem__(self, index: Any) -> Any:
         if isinstance(index, slice):
-            return [route_of(raw) for raw in self.raw[index]]
-        return route_of(self.raw[index])
+            return [self[k] for k in range(*index.indices(len(self)))]
+        return route_of(*ROUTE.unpack_from(self.block, range(len(self))[index] * ROUTE.size))
 
     def __iter__(self) -> Iterator[Optional[Route]]:
-        return map(route_of, self.raw)
+        return (route_of(*fields) for fields in ROUTE.iter_unpack(self.block))
 
     def __repr__(self) -> str:
         return f"<yarib.Answers: {len(self)}>"
@@ -219,14 +256,26 @@ def addresses_of(addresses: Any) -> Tuple[Any, int]:
 def ask(handle: Any, addresses: Any, calls: Any = freed) -> Answers:
     block, size = addresses_of(addresses)
     answers = Answers(size)
-    done(calls.yarib_look_up, handle, block, size, answers.raw if size else (c.RawRoute * 1)(), size)
+    done(calls.yarib_look_up, handle, block, size, pointer_to(answers.block), size)
     return answers
 
 
+def pointer_to(block: bytearray) -> Any:
+    """Returns a reference to a block, also to an empty one, for C."""
+    return (ctypes.c_char * len(block)).from_buffer(block) if block else (ctypes.c_char * 1)()
+
+
 def ask_one(handle: Any, address: Address, calls: Any = held) -> Optional[Route]:
-    found = c.RawRoute()
-    done(calls.yarib_look_up_one, handle, address_of(address), ctypes.byref(found))
-    return route_of(found)
+    asked = address_of(address)
+    try:
+        room = rooms.pop()
+    except IndexError:
+        room = Room()
+    if calls.yarib_look_up_one(handle, asked, room.at):
+        done(calls.yarib_look_up_one, handle, asked, room.at)
+    base, pref, via, feed, length, hop = ROUTE_FROM(room.bytes)
+    rooms.append(room)
+    return new(Route, (base, length, feed, pref, via if hop == c.VIA else None)) if hop else None
 
 
 def bytes_of(handle: Any, calls: Any = held) -> int:
@@ -274,29 +323,40 @@ class Routes(Handle):
     def apply(self, feed: int, name: str, *words: Any) -> Outcome:
         """Executes a command of the feed and returns its outcome: add or replace with prefix, preference and via, withdraw
         with prefix, lookup with address, dump or purge."""
-        raw, reply = command_of(feed, name, *words), c.RawReply()
-        self._change(self._changing.yarib_apply, self._at, ctypes.byref(raw), ctypes.byref(reply))
-        return outcome_of(reply)
+        return outcome_of(*self._reply(command_of(feed, name, *words)))
+
+    def _reply(self, command: bytes) -> Tuple[int, ...]:
+        """Executes a command and returns the fields of its reply."""
+        try:
+            room = rooms.pop()
+        except IndexError:
+            room = Room()
+        if self._changing.yarib_apply(self._at, command, room.at):
+            # After a status that isn't 0 nothing has changed, so the call can be made again.
+            self._change(self._changing.yarib_apply, self._at, command, room.at)
+        fields = REPLY_FROM(room.bytes)
+        rooms.append(room)
+        return fields
 
     def apply_each(self, commands: Iterable[Sequence[Any]]) -> List[Outcome]:
         """Executes commands, given as the arguments of `apply`, and returns the list of their outcomes."""
         raw = [command_of(*words) for words in commands]
         if not raw:
             return []
-        block, replies = (c.RawCommand * len(raw))(*raw), (c.RawReply * len(raw))()
-        self._change(self._freed.yarib_apply_each, self._at, block, len(raw), replies, len(raw))
-        return [outcome_of(reply) for reply in replies]
+        replies = bytearray(len(raw) * REPLY.size)
+        self._change(self._freed.yarib_apply_each, self._at, b"".join(raw), len(raw), pointer_to(replies), len(raw))
+        return [outcome_of(*fields) for fields in REPLY.iter_unpack(replies)]
 
-    def _put(self, prefix: Prefix, feed: int, name: str, *words: Any) -> None:
-        said = self.apply(feed, name, prefix, *words).said
-        if said in ("exists", "full"):
-            raise (Exists if said == "exists" else Full)(f"feed {feed}: {prefix}")
-        if said == "missing":
+    def _put(self, command: bytes, prefix: Prefix, feed: int) -> None:
+        code = self._reply(command)[0]
+        if code in (c.EXISTS, c.FULL):
+            raise (Exists if code == c.EXISTS else Full)(f"feed {feed}: {prefix}")
+        if code == c.MISSING:
             raise Missing(f"feed {feed}: {prefix}")
 
     def add(self, prefix: Prefix, via: Optional[Address], pref: int = 0, feed: int = 1) -> None:
         """Adds a route; `via` None discards packets. Raises Exists or Full."""
-        self._put(prefix, feed, "add", pref, via)
+        self._put(put_of(c.ADD, feed, prefix, pref, via), prefix, feed)
 
     def put(self, prefix: Prefix, via: Optional[Address], pref: int = 0, feed: int = 1) -> bool:
         """Adds a route, or changes the feed's route to this prefix. Returns True if it was added. Raises Full."""
@@ -310,11 +370,11 @@ class Routes(Handle):
 
     def replace(self, prefix: Prefix, via: Optional[Address], pref: int = 0, feed: int = 1) -> None:
         """Changes preference and next hop of the feed's route. Raises Missing."""
-        self._put(prefix, feed, "replace", pref, via)
+        self._put(put_of(c.REPLACE, feed, prefix, pref, via), prefix, feed)
 
     def withdraw(self, prefix: Prefix, feed: int = 1) -> None:
         """Removes the feed's route. Raises Missing."""
-        self._put(prefix, feed, "withdraw")
+        self._put(command_of(feed, "withdraw", prefix), prefix, feed)
 
     def purge(self, feed: int = 1) -> int:
         """Removes all routes of the feed and returns their number."""
@@ -334,17 +394,17 @@ class Routes(Handle):
     def look_up_all(self, address: Address) -> List[Route]:
         """Returns all routes whose prefix covers the address, the best first."""
         address = address_of(address)
-        found = self._pages(c.RawRoute, 64, lambda *place: self._held.yarib_look_up_all(self._at, address, *place))
+        found = self._pages(ROUTE.size, 64, lambda *place: self._held.yarib_look_up_all(self._at, address, *place))
         return routes_of(found)
 
-    def _pages(self, kind: Any, size: int, call: Callable[..., int]) -> Any:
-        """Returns a whole list, in at most two calls while it doesn't change."""
+    def _pages(self, width: int, size: int, call: Callable[..., int]) -> memoryview:
+        """Returns a whole list of elements of `width` bytes, in at most two calls while it doesn't change."""
         total = ctypes.c_size_t()
         while True:
-            block = (kind * size)()
-            done(call, 0, block, size, ctypes.byref(total))
+            block = bytearray(size * width)
+            done(call, 0, pointer_to(block), size, ctypes.byref(total))
             if total.value <= size:
-                return block[:total.value]
+                return memoryview(block)[:total.value * width]
             size = total.value
 
     def __len__(self) -> int:
@@ -357,7 +417,7 @@ class Routes(Handle):
         best of each prefix; with a feed, only those best routes that belong to the feed."""
         if feed is not None or best:
             return self._select(c.ALL, (0, 0), feed, best)
-        found = self._pages(c.RawRoute, len(self) + 1, lambda *place: self._held.yarib_routes(self._at, *place))
+        found = self._pages(ROUTE.size, len(self) + 1, lambda *place: self._held.yarib_routes(self._at, *place))
         return routes_of(found)
 
     def exact(self, prefix: Prefix, feed: Optional[int] = None, best: bool = False) -> List[Route]:
@@ -377,7 +437,7 @@ class Routes(Handle):
             c.fail(c.BAD_NUMBER, feed)
         base, length = prefix
         asked = c.RawSelection(part, number(feed or 0, "a feed"), base, length, int(bool(best)))
-        found = self._pages(c.RawRoute, 64, lambda *place: self._held.yarib_select(self._at, ctypes.byref(asked), *place))
+        found = self._pages(ROUTE.size, 64, lambda *place: self._held.yarib_select(self._at, ctypes.byref(asked), *place))
         return routes_of(found)
 
     def routes_from(self, prefix: Prefix, pref: int = 0, feed: int = 0) -> Iterator[Route]:
@@ -385,16 +445,16 @@ class Routes(Handle):
         Preference and feed 0 are before all routes to the prefix. Allocates memory for one page of routes. The table
         may change during the iteration: a route is included if it exists when its turn comes, and never twice."""
         base, length = prefix_of(prefix)
-        return self._pages_from(c.RawRoute(base, number(pref, "a preference"), 0, number(feed, "a feed"), length))
+        return self._pages_from(ROUTE.pack(base, number(pref, "a preference"), 0, number(feed, "a feed"), length, 0))
 
-    def _pages_from(self, place: Any) -> Iterator[Route]:
+    def _pages_from(self, place: bytes) -> Iterator[Route]:
         used = ctypes.c_size_t(PAGE)
         while used.value == PAGE:
-            page = (c.RawRoute * PAGE)()
-            done(self._held.yarib_routes_from, self._at, ctypes.byref(place), page, PAGE, ctypes.byref(used))
-            yield from routes_of(page[:used.value])
-            place = c.RawRoute.from_buffer_copy(page[PAGE - 1])
-            place.feed += 1
+            page = bytearray(PAGE * ROUTE.size)
+            done(self._held.yarib_routes_from, self._at, place, pointer_to(page), PAGE, ctypes.byref(used))
+            yield from routes_of(memoryview(page)[:used.value * ROUTE.size])
+            base, pref, via, feed, length, hop = ROUTE.unpack_from(page, (PAGE - 1) * ROUTE.size)
+            place = ROUTE.pack(base, pref, via, feed + 1, length, hop)
 
     def __iter__(self) -> Iterator[Route]:
         """Iterates over all routes, page by page, like `routes_from`."""
@@ -412,10 +472,21 @@ class Routes(Handle):
         return route
 
     def _get(self, key: Union[Address, Prefix]) -> Optional[Route]:
-        if is_prefix(key):
-            routes = self.exact(key, best=True)  # type: ignore[arg-type]
-            return routes[0] if routes else None
-        return self.look_up(key)  # type: ignore[arg-type]
+        return self._best(key) if is_prefix(key) else self.look_up(key)  # type: ignore[arg-type]
+
+    def _best(self, prefix: Prefix) -> Optional[Route]:
+        """Returns the best route to exactly this prefix, which is the first one in order, or None."""
+        base, length = prefix_of(prefix)
+        place, call = ROUTE.pack(base, 0, 0, 0, length, 0), self._held.yarib_routes_from
+        try:
+            room = rooms.pop()
+        except IndexError:
+            room = Room()
+        if call(self._at, place, room.at, 1, room.size_at):
+            done(call, self._at, place, room.at, 1, room.size_at)
+        fields, used = ROUTE_FROM(room.bytes), room.bytes[32]
+        rooms.append(room)
+        return route_of(*fields) if used and fields[0] == base and fields[4] == length else None
 
     def get(self, key: Union[Address, Prefix], default: Any = None) -> Any:
         """Returns what `table[key]` returns, or the default if there is no such route."""
@@ -433,7 +504,7 @@ class Routes(Handle):
         prefix covers this address."""
         if isinstance(key, Route):
             return key in self.exact(key[:2], feed=key.feed)
-        return bool(self.exact(key)) if is_prefix(key) else self.look_up(key) is not None  # type: ignore[arg-type]
+        return self._get(key) is not None  # type: ignore[arg-type]
 
     def save(self, path: Union[str, os.PathLike[str]], feed: int = 1) -> None:
         """Writes the feed's routes as a feed file of version 2."""
@@ -493,8 +564,8 @@ class Table(Routes):
 
     def journal(self) -> List[Entry]:
         """Returns each answered command with its outcome. Raises Refused if the table keeps no journal."""
-        raws = self._pages(c.RawEntry, ENTRIES, lambda *place: held.yarib_journal(self._at, *place))
-        return [Entry(words_of(raw.command), outcome_of(raw.reply)) for raw in raws]
+        block = self._pages(ENTRY.size, ENTRIES, lambda *place: held.yarib_journal(self._at, *place))
+        return [Entry(words_of(*fields[:7]), outcome_of(*fields[7:])) for fields in ENTRY.iter_unpack(block)]
 
     def reserve(self, entries: int) -> None:
         """Reserves capacity for this many journal entries, if there is a journal."""
@@ -508,7 +579,7 @@ class Table(Routes):
             return
         if by not in ("hop", "route"):
             raise Invalid(f"yarib: {by!r} is not \"hop\" or \"route\"")
-        kind, told = {"hop": (0, hop_of), "route": (1, route_of)}[by]
+        kind, told = {"hop": (0, hop_of), "route": (1, whole_route)}[by]
         raw, first = c.RawDifference(), 0
         while first < 1 << 32:
             status = status_of(held.yarib_first_difference, self._at, other._at, kind, first, ctypes.byref(raw))
@@ -581,6 +652,10 @@ def restored(limit: int, journal: bool, commands: List[Sequence[Any]]) -> Table:
     table.reserve(len(commands))
     table.apply_each(commands)
     return table
+
+
+def whole_route(raw: Any) -> Optional[Route]:
+    return route_of(raw.base, raw.pref, raw.via, raw.feed, raw.len, raw.hop)
 
 
 def hop_of(raw: Any) -> object:
