@@ -1,0 +1,174 @@
+/* With YARIB_CHECK each call tests what its caller owes: a null pointer in the place of each argument, memory that is read and written
+ * at once, and one handle in the place of two end the program by an assert. The rest of the arguments is as it should be. */
+#define YARIB_CHECK
+#include <yarib.h>
+
+#include <signal.h>
+#include <stdio.h>
+#include <stdlib.h>
+#include <string.h>
+#include <sys/resource.h>
+#include <sys/wait.h>
+#include <unistd.h>
+
+static yarib t, u;
+static yarib_concurrent k;
+static yarib_command command;
+static yarib_reply reply;
+static yarib_route route, routes[2];
+static yarib_selection selection;
+static yarib_entry entry;
+static yarib_difference difference;
+static yarib_prefix prefix;
+static uint32_t address, hop;
+static size_t size;
+static char text[20];
+static union {
+    yarib_command commands[2];
+    yarib_reply replies[2];
+    yarib_route routes[2];
+    yarib_selection selection;
+    uint32_t numbers[8];
+} both;
+
+/* A call that must end the program. */
+#define FAULT(call) case __COUNTER__: (void)!(call); break
+
+static int fault(int number)
+{
+    switch (number) {
+    FAULT(yarib_new(NULL, 1, 0));
+    FAULT(yarib_free(NULL));
+    FAULT(yarib_apply(NULL, &command, &reply));
+    FAULT(yarib_apply(&t, NULL, &reply));
+    FAULT(yarib_apply(&t, &command, NULL));
+    FAULT(yarib_apply(&t, both.commands, both.replies));
+    FAULT(yarib_apply_each(NULL, &command, 1, &reply, 1));
+    FAULT(yarib_apply_each(&t, NULL, 1, &reply, 1));
+    FAULT(yarib_apply_each(&t, &command, 1, NULL, 1));
+    FAULT(yarib_apply_each(&t, both.commands, 1, both.replies, 1));
+    FAULT(yarib_reserve(NULL, 1));
+    FAULT(yarib_look_up(NULL, &address, 1, &route, 1));
+    FAULT(yarib_look_up(&t, NULL, 1, &route, 1));
+    FAULT(yarib_look_up(&t, &address, 1, NULL, 1));
+    FAULT(yarib_look_up(&t, both.numbers, 1, both.routes, 1));
+    FAULT(yarib_look_up_one(NULL, 1, &route));
+    FAULT(yarib_look_up_one(&t, 1, NULL));
+    FAULT(yarib_hops(NULL, &address, 1, 0, 1, &hop, 1));
+    FAULT(yarib_hops(&t, NULL, 1, 0, 1, &hop, 1));
+    FAULT(yarib_hops(&t, &address, 1, 0, 1, NULL, 1));
+    FAULT(yarib_hops(&t, both.numbers, 2, 0, 1, both.numbers + 1, 2));
+    FAULT(yarib_look_up_all(NULL, 1, 0, routes, 2, &size));
+    FAULT(yarib_look_up_all(&t, 1, 0, NULL, 2, &size));
+    FAULT(yarib_look_up_all(&t, 1, 0, routes, 2, NULL));
+    FAULT(yarib_routes(NULL, 0, routes, 2, &size));
+    FAULT(yarib_routes(&t, 0, NULL, 2, &size));
+    FAULT(yarib_routes(&t, 0, routes, 2, NULL));
+    FAULT(yarib_routes_from(NULL, &route, routes, 2, &size));
+    FAULT(yarib_routes_from(&t, NULL, routes, 2, &size));
+    FAULT(yarib_routes_from(&t, &route, NULL, 2, &size));
+    FAULT(yarib_routes_from(&t, &route, routes, 2, NULL));
+    FAULT(yarib_routes_from(&t, &routes[1], routes, 2, &size));
+    FAULT(yarib_select(NULL, &selection, 0, routes, 2, &size));
+    FAULT(yarib_select(&t, NULL, 0, routes, 2, &size));
+    FAULT(yarib_select(&t, &selection, 0, NULL, 2, &size));
+    FAULT(yarib_select(&t, &selection, 0, routes, 2, NULL));
+    FAULT(yarib_select(&t, &both.selection, 0, both.routes, 2, &size));
+    FAULT(yarib_count(NULL, &size));
+    FAULT(yarib_count(&t, NULL));
+    FAULT(yarib_journal(NULL, 0, &entry, 1, &size));
+    FAULT(yarib_journal(&t, 0, NULL, 1, &size));
+    FAULT(yarib_journal(&t, 0, &entry, 1, NULL));
+    FAULT(yarib_first_difference(NULL, &u, 0, 0, &difference));
+    FAULT(yarib_first_difference(&t, NULL, 0, 0, &difference));
+    FAULT(yarib_first_difference(&t, &u, 0, 0, NULL));
+    FAULT(yarib_first_difference(&t, &t, 0, 0, &difference));
+    FAULT(yarib_fib_new(NULL, &u));
+    FAULT(yarib_fib_new(&t, NULL));
+    FAULT(yarib_fib_new(&t, &t));
+    FAULT(yarib_forward(&t, NULL));
+    FAULT(yarib_fib_clone(NULL, &u));
+    FAULT(yarib_fib_clone(&t, NULL));
+    FAULT(yarib_fib_clone(&t, &t));
+    FAULT(yarib_share(&t, NULL));
+    FAULT(yarib_fib_attach(NULL));
+    FAULT(yarib_follow(NULL));
+    FAULT(yarib_memory(NULL, &size));
+    FAULT(yarib_memory(&t, NULL));
+    FAULT(yarib_concurrent_new(NULL, 1));
+    FAULT(yarib_concurrent_free(NULL));
+    FAULT(yarib_concurrent_apply(NULL, &command, &reply));
+    FAULT(yarib_concurrent_apply(&k, NULL, &reply));
+    FAULT(yarib_concurrent_apply(&k, &command, NULL));
+    FAULT(yarib_concurrent_apply(&k, both.commands, both.replies));
+    FAULT(yarib_concurrent_apply_each(NULL, &command, 1, &reply, 1));
+    FAULT(yarib_concurrent_apply_each(&k, NULL, 1, &reply, 1));
+    FAULT(yarib_concurrent_apply_each(&k, &command, 1, NULL, 1));
+    FAULT(yarib_concurrent_apply_each(&k, both.commands, 1, both.replies, 1));
+    FAULT(yarib_concurrent_fib_attach(NULL));
+    FAULT(yarib_concurrent_look_up(NULL, &address, 1, &route, 1));
+    FAULT(yarib_concurrent_look_up(&k, NULL, 1, &route, 1));
+    FAULT(yarib_concurrent_look_up(&k, &address, 1, NULL, 1));
+    FAULT(yarib_concurrent_look_up(&k, both.numbers, 1, both.routes, 1));
+    FAULT(yarib_concurrent_look_up_one(NULL, 1, &route));
+    FAULT(yarib_concurrent_look_up_one(&k, 1, NULL));
+    FAULT(yarib_concurrent_hops(NULL, &address, 1, 0, 1, &hop, 1));
+    FAULT(yarib_concurrent_hops(&k, NULL, 1, 0, 1, &hop, 1));
+    FAULT(yarib_concurrent_hops(&k, &address, 1, 0, 1, NULL, 1));
+    FAULT(yarib_concurrent_hops(&k, both.numbers, 2, 0, 1, both.numbers + 1, 2));
+    FAULT(yarib_concurrent_look_up_all(NULL, 1, 0, routes, 2, &size));
+    FAULT(yarib_concurrent_look_up_all(&k, 1, 0, NULL, 2, &size));
+    FAULT(yarib_concurrent_look_up_all(&k, 1, 0, routes, 2, NULL));
+    FAULT(yarib_concurrent_routes(NULL, 0, routes, 2, &size));
+    FAULT(yarib_concurrent_routes(&k, 0, NULL, 2, &size));
+    FAULT(yarib_concurrent_routes(&k, 0, routes, 2, NULL));
+    FAULT(yarib_concurrent_routes_from(NULL, &route, routes, 2, &size));
+    FAULT(yarib_concurrent_routes_from(&k, NULL, routes, 2, &size));
+    FAULT(yarib_concurrent_routes_from(&k, &route, NULL, 2, &size));
+    FAULT(yarib_concurrent_routes_from(&k, &route, routes, 2, NULL));
+    FAULT(yarib_concurrent_routes_from(&k, &routes[1], routes, 2, &size));
+    FAULT(yarib_concurrent_select(NULL, &selection, 0, routes, 2, &size));
+    FAULT(yarib_concurrent_select(&k, NULL, 0, routes, 2, &size));
+    FAULT(yarib_concurrent_select(&k, &selection, 0, NULL, 2, &size));
+    FAULT(yarib_concurrent_select(&k, &selection, 0, routes, 2, NULL));
+    FAULT(yarib_concurrent_select(&k, &both.selection, 0, both.routes, 2, &size));
+    FAULT(yarib_concurrent_count(NULL, &size));
+    FAULT(yarib_concurrent_count(&k, NULL));
+    FAULT(yarib_concurrent_memory(NULL, &size));
+    FAULT(yarib_concurrent_memory(&k, NULL));
+    FAULT(yarib_prefix_parse(NULL, 1, &prefix));
+    FAULT(yarib_prefix_parse(text, 1, NULL));
+    FAULT(yarib_prefix_print(NULL, text, 20, &size));
+    FAULT(yarib_prefix_print(&prefix, NULL, 20, &size));
+    FAULT(yarib_prefix_print(&prefix, text, 20, NULL));
+    FAULT(yarib_address_parse(NULL, 1, &address));
+    FAULT(yarib_address_parse(text, 1, NULL));
+    FAULT(yarib_address_print(1, NULL, 20, &size));
+    FAULT(yarib_address_print(1, text, 20, NULL));
+    default: return 0;
+    }
+    return 1;
+}
+
+enum { FAULTS = __COUNTER__ };
+
+int main(void)
+{
+    const struct rlimit none = {0, 0};
+    setrlimit(RLIMIT_CORE, &none);
+    for (int number = 0; number < FAULTS; number++) {
+        int status;
+        pid_t child = fork();
+        if (child == 0) {
+            if (!freopen("/dev/null", "w", stderr)) _exit(2);
+            memset(&both, 0, sizeof both);
+            fault(number);
+            _exit(0);
+        }
+        if (child < 0 || waitpid(child, &status, 0) != child || !WIFSIGNALED(status) || WTERMSIG(status) != SIGABRT) {
+            fprintf(stderr, "fault %d of %d isn't noticed\n", number, FAULTS);
+            return 1;
+        }
+    }
+    return 0;
+}
