@@ -367,6 +367,17 @@ static void names(void)
     CHECK(strcmp(yarib_status_text((enum yarib_status)12), "unknown status") == 0);
 }
 
+/* The feeds of these prefixes are the same in each language's package. */
+static void feeds_of_a_source(void)
+{
+    static const struct { uint32_t base; uint8_t len; uint32_t feed; } prefixes[] = {
+        {0, 0, 1}, {0x0a000000, 8, 11}, {0x0a010000, 16, 38}, {0xc0000200, 24, 2}, {UINT32_MAX, 32, 11}, {1u << 31, 1, 8}};
+    for (size_t k = 0; k < sizeof prefixes / sizeof *prefixes; k++) {
+        CHECK(yarib_source_feed(prefixes[k].base, prefixes[k].len, 1, YARIB_MAX_FEED) == prefixes[k].feed);
+        CHECK(yarib_source_feed(prefixes[k].base, prefixes[k].len, 7, 1) == 7);
+    }
+}
+
 int main(void)
 {
     yarib empty = YARIB_EMPTY;
@@ -379,5 +390,6 @@ int main(void)
     differences();
     texts();
     names();
+    feeds_of_a_source();
     return 0;
 }

@@ -393,6 +393,14 @@ YARIB_STATUS yarib_concurrent_select(const yarib_concurrent *table, const yarib_
 YARIB_STATUS yarib_concurrent_count(const yarib_concurrent *table, size_t *total);
 YARIB_STATUS yarib_concurrent_memory(const yarib_concurrent *table, size_t *bytes);
 
+/* Returns the feed that holds a prefix of a source of more than YARIB_MAX_LIMIT routes: one of `feeds` feeds from `first` on, always the
+ * same one. So the table's answers are those of a single feed without its limit. About 1,990,000 routes fit into two feeds before an
+ * add to one of them is YARIB_FULL. */
+static inline uint32_t yarib_source_feed(uint32_t base, uint8_t len, uint32_t first, uint32_t feeds)
+{
+    return first + (uint32_t)((uint64_t)((base + len) * 2654435769u) * feeds >> 32);
+}
+
 /* Parses a prefix such as 10.0.0.0/8, without leading zeros and without a bit set past the length. The text needs no terminating null.
  * Errors: YARIB_BAD_TEXT, YARIB_BAD_LENGTH, YARIB_BAD_BITS. */
 YARIB_STATUS yarib_prefix_parse(const char *text, size_t size, yarib_prefix *prefix);
