@@ -6,17 +6,14 @@ body of another function. So the name of an entry is a sum of the toolchain, the
 file. The sum also contains all other sources of its crate and of those below, without the bodies of functions. Further
 it contains all of specs/, all files of lemmas, and the proofs of the function itself, of closures, and of what these
 cite. For a function that calls itself, or whose proof cites the goals of another, it is a sum of all files of its
-crate. An entry that can't be read or written counts for nothing. Whoever can write to the folder is trusted, as with
-what `rt ci` keeps."""
+crate."""
 import ast
 import functools
 import hashlib
-import os
 import re
-import tempfile
 
-from .crates import CRATES, TOP, below, cache, heads
-from .prover import kit
+from . import kept
+from .crates import CRATES, TOP, below, heads
 from .rust_sources import Source
 
 SCRIPTS = ("tools/mutants", "common/mutant_lists.py", "common/prover.py")
@@ -61,9 +58,7 @@ def files(crate, part):
 def shared(crate):
     """What the verdicts on all bodies of a crate rest on."""
     named = below([crate])
-    prover = os.stat(kit() / "bin/rattle")
-    found = [decides(), [(kit() / name).read_bytes() for name in ("KIT-ID", "WHAT")], prover.st_size,
-             prover.st_mtime_ns, [line for line in heads() if line[0][0] in named]]
+    found = [decides(), [line for line in heads() if line[0][0] in named]]
     for one in sorted(named):
         found += [(one, str(path), without_bodies(path)) for path in files(one, "src") if path.suffix == ".rt"]
         found += [(one, str(path), text_of(path)) for path in files(one, "specs")]
@@ -110,23 +105,12 @@ class Kept:
         read = [CRATES / body.crate / body.file, *own] if own is not None else [
             path for part in ("src", "specs", "proofs") for path in files(body.crate, part)]
         texts = [(str(path.relative_to(TOP)), text_of(path)) for path in read]
-        return cache("bodies") / hashlib.sha256(
-            repr((shared(self.crate), texts, body.name, body.section)).encode()).hexdigest()
+        return kept.entry("bodies", shared(self.crate), texts, body.name, body.section)
 
     def said_of(self, body):
         """What was said of the body as it was refused, or None."""
-        try:
-            return self.entry(body).read_text() or None
-        except OSError:
-            return None
+        return kept.read(self.entry(body))
 
     def keep(self, body, said):
-        """Keeps that the body was refused. It is written apart and then renamed, so that no other run meets half of
-        it."""
-        try:
-            cache("bodies").mkdir(parents=True, exist_ok=True)
-            with tempfile.NamedTemporaryFile("w", dir=cache("bodies"), delete=False) as new:
-                new.write(said)
-            os.replace(new.name, self.entry(body))
-        except OSError:
-            pass
+        """Keeps that the body was refused."""
+        kept.write(self.entry(body), said)
