@@ -95,12 +95,17 @@ class Crate:
     def __init__(self, name):
         self.name = name
         folder = CRATES / name
-        self.examples = next(File(path) for path, crate in example_files().values() if crate == name)
+        self.examples = [File(path) for path in example_files()[name]]
         paths = [*sorted(folder.glob("specs/**/*.antt")), *sorted(folder.glob("proofs/*.antt"))]
-        files = [*(File(path) for path in paths if path != self.examples.path), self.examples]
+        tested = [file.path for file in self.examples]
+        files = [*(File(path) for path in paths if path not in tested), *self.examples]
         self.files = {file.module: file for file in files}
         self.speaks = {block: self.spoken_of(block) for file in files for block in file.blocks}
         self.known = {}
+
+    def example(self, name):
+        """Returns the block of the example with this name, or None."""
+        return next((file.owner[name] for file in self.examples if name in file.owner), None)
 
     def spoken_of(self, block):
         found = set()
@@ -135,7 +140,7 @@ class Copy:
             block = ahead.pop()
             if block not in self.needed:
                 self.needed.add(block)
-                ahead += [other for other in crate.speaks[block] if other in resting or other.file is crate.examples]
+                ahead += [other for other in crate.speaks[block] if other in resting or other.file in crate.examples]
 
     def name_of(self, file):
         return f"H{self.number}_" + file.module.removeprefix("Rattle.").replace(".", "_")

@@ -281,12 +281,12 @@ def unique(found, but=None):
 
 @functools.cache
 def example_files():
-    """Returns the files of examples by module, each with the crate whose definitions it tests. A library's examples are in a
-    crate of examples, in a file with the second part of the library's name; those of the program are in its proofs/."""
-    found = {f"Rattle.{crate_of(file)}.proofs.Examples": (file, crate_of(file))
-             for file in CRATES.glob("*/proofs/Examples.antt")}
+    """Returns the files of examples of each crate whose definitions they test. A library's examples are in a crate of
+    examples, in a file with the second part of the library's name and in a directory of that name; those of the program are
+    in its proofs/."""
+    found = {crate_of(file): [file] for file in CRATES.glob("*/proofs/Examples.antt")}
     for crate in LIBRARY_CRATES:
         name = crate.partition("_")[2].capitalize()
-        files = CRATES.glob(f"*_examples/proofs/{name}.antt")
-        found.update((f"Rattle.{crate_of(file)}.proofs.{name}", (file, crate)) for file in files)
-    return dict(sorted(found.items(), key=lambda one: one[1][1]))
+        files = [*CRATES.glob(f"*_examples/proofs/{name}.antt"), *sorted(CRATES.glob(f"*_examples/proofs/{name}/*.antt"))]
+        found |= {crate: files} if files else {}
+    return found

@@ -9,7 +9,7 @@ use Rattle.ya_core.specs.declared.process.Process.TheVariants.{Idle, Inside}
 use Rattle.ya_core.specs.ArbitrationTree.{node_of, side_of}
 use Rattle.ya_core.specs.Steps.{opening}
 use Rattle.ya_core.specs.Worlds.{World, Event, Steps, Appends, opening_world}
-use Rattle.lock_examples.proofs.Core.{follow, runs}
+use Rattle.lock_examples.proofs.Core.Worlds.{follow, runs}
 use Rattle.ya_lock.specs.declared.rule.View.TheVariants.{HandingOut, Seated}
 use Rattle.ya_lock.specs.LockState.{IsOf, HasProcess, IsToMake, NoneInside}
 use Rattle.rt_rib.specs.declared.routes.Hop.TheVariants.{Discard}
