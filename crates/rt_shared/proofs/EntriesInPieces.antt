@@ -9,7 +9,7 @@ use Rattle.rt_rib.specs.Book.{Applies, Refuses}
 use Rattle.rt_shared.specs.declared.outcome.Outcome.{Outcome}
 use Rattle.rt_shared.specs.declared.outcome.Outcome.TheVariants.{Did, Refused}
 use Rattle.rt_shared.specs.Visits.{answered, AllBy}
-use Rattle.rt_shared.specs.inside.Visits.{AreServed}
+use Rattle.rt_shared.specs.inside.ServedBatch.{AreServed}
 use Rattle.rt_shared.specs.declared.lent.Lent.{Lent}
 use Rattle.rt_shared.specs.Table.{feed_of, GrowsByFeed}
 

@@ -1,6 +1,5 @@
 -- Definitions that no public clause uses, for private contracts, invariants and proofs.
 pub mod LentLaws
 pub mod PassModel
-pub mod Table
-pub mod Visits
+pub mod ServedBatch
 pub mod VisitEntries

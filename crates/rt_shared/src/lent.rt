@@ -44,7 +44,7 @@ impl Lent {
     ghost use Rattle.std.specs.Prelude.{ℕ, ◌+◌, ◌<◌, IfOk, OnErr, [], ◌∷◌, ◌++◌, vec_len, vec_capacity, length};
     ghost use Rattle.rt_rib.specs.Book.{Applies, Refuses, IsLimit};
     ghost use Rattle.rt_shared.specs.Visits.{answered};
-    ghost use Rattle.rt_shared.specs.inside.Visits.{AreServed};
+    ghost use Rattle.rt_shared.specs.inside.ServedBatch.{AreServed};
     ghost use Rattle.rt_shared.specs.Table.{HasSameBounds};
 
     /// Returns an empty book for `feeds` feeds. M1: `Refused` if memory runs out.

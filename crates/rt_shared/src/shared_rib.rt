@@ -67,10 +67,7 @@ impl FeedPass {
         ensures feed { feed_of result.place ≡ self.feed }
         ensures seen { result.seen.book.journal ≡ self.seen }
     {
-        let Some(idle) = self.pass else {
-            unreachable!()
-        };
-        idle
+        self.pass.unwrap()
     }
 }
 
@@ -141,10 +138,7 @@ impl<const L: u32> SharedRib<L> {
         ensures ok { IfOk result (λ reply. CommitsBatch self.now.limit pass.old.feed pass.old.seen (cmd ∷ []) (Outcome.Did reply ∷ []) pass.new.seen) }
         ensures err { OnErr result (CommitsBatch self.now.limit pass.old.feed pass.old.seen (cmd ∷ []) (Outcome.Refused ∷ []) pass.new.seen) }
     {
-        let Some(idle) = pass.pass.take() else {
-            unreachable!()
-        };
-        let mut guard = self.lock.enter(rt, idle);
+        let mut guard = self.lock.enter(rt, pass.pass.take().unwrap());
         let answer = guard.get_mut().apply(pass.feed, cmd);
         pass.pass = Some(self.lock.leave(guard));
         answer
@@ -174,10 +168,7 @@ impl<const L: u32> SharedRib<L> {
             return Ok(());
         }
         out.try_reserve(cmds.len())?;
-        let Some(idle) = pass.pass.take() else {
-            unreachable!()
-        };
-        let mut guard = self.lock.enter(rt, idle);
+        let mut guard = self.lock.enter(rt, pass.pass.take().unwrap());
         guard.get_mut().serve_all(feed, cmds, out);
         pass.pass = Some(self.lock.leave(guard));
         Ok(())
@@ -199,10 +190,7 @@ impl<const L: u32> SharedRib<L> {
         ensures lawful { IsLawfulJournal self.now.limit pass.new.seen }
         ensures ok { IfOk result (λ routes. routes.items ≡ table_of_journal self.now.limit pass.new.seen) }
     {
-        let Some(idle) = pass.pass.take() else {
-            unreachable!()
-        };
-        let guard = self.lock.enter(rt, idle);
+        let guard = self.lock.enter(rt, pass.pass.take().unwrap());
         let routes = guard.get().book.get().routes(alloc);
         pass.pass = Some(self.lock.leave(guard));
         routes

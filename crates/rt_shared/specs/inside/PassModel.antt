@@ -3,11 +3,14 @@ use Rattle.std.specs.Prelude.{◌≡◌, ℕ, ◌≤◌, [], Option, Some, None}
 use Rattle.ya_lock.specs.Lock.{IdlePass}
 use Rattle.rt_shared.specs.declared.lent.Lent.{Lent}
 use Rattle.rt_shared.specs.Table.{SharedId, HeldPass, feed_of}
-use Rattle.rt_shared.specs.inside.Table.{no_table}
 
 -- the table whose lock lends the book
 abbrev pub shared_id : IdlePass Lent → SharedId
 shared_id pass = record { lock = pass.lock; limit = pass.seen.book.limit; feeds = pass.seen.feeds }
+
+-- an identity for a pass without its pass of the lock
+abbrev pub no_table : SharedId
+no_table = record { lock = record { words = 0; slots = 0; views_name = 0; atom = 0; block = 0; offset = 0; slot_names = [] }; limit = 0; feeds = 0 }
 
 -- the pass in the view of contracts
 abbrev pub held_pass : ℕ → Option (IdlePass Lent) → HeldPass

@@ -1,7 +1,7 @@
 use Rattle.std.proofs.Common.{ℕ, ◌∷◌, ◌++◌, [], take, arith, sym, subst, ap, ◌∙◌, add-one, List}
 use Rattle.std.proofs.Math.Seq.{take-suc}
 use Rattle.rt_rib.specs.declared.commands.Cmd.{Cmd}
-use Rattle.rt_shared.specs.inside.Visits.{AreServed}
+use Rattle.rt_shared.specs.inside.ServedBatch.{AreServed}
 use Rattle.rt_shared.specs.declared.outcome.Outcome.{Outcome}
 use Rattle.rt_shared.proofs.EntriesInPieces.{served_more}
 use Rattle.rt_shared.proofs.lent.Lent.serve_all.Goals as goal

@@ -1,5 +1,5 @@
 use Rattle.std.proofs.Common.{◌+◌, ◌≤◌, take, length, vec_len, vec_capacity}
-use Rattle.rt_shared.specs.inside.Visits.{AreServed}
+use Rattle.rt_shared.specs.inside.ServedBatch.{AreServed}
 use Rattle.rt_shared.specs.Table.{HasSameBounds}
 use Rattle.rt_shared.proofs.lent.Lent.serve_all.Given as goal
 

@@ -10,13 +10,13 @@ use Rattle.rt_shared.proofs.shared_rib.SharedRib.apply.Goals as goal
 pub leave-requires : goal.leave-requires
 leave-requires g c =
     let e = c.apply-answer.ensures in let guard = c.enter-guard.ensures.guard in
-    let is : c.pass.inside.pass ≡ Some c.in-Some.idle = cc in
-    let there : HoldsLockPass c.pass.inside.feed (Some c.in-Some.idle) = subst (HoldsLockPass c.pass.inside.feed) is c.pass.invariant in
+    let is : c.pass.inside.pass ≡ Some c.unwrap.result = cc in
+    let there : HoldsLockPass c.pass.inside.feed (Some c.unwrap.result) = subst (HoldsLockPass c.pass.inside.feed) is c.pass.invariant in
     let feed : c.pass.inside.feed ≡ feed_of c.enter-guard.result.place = there.0 ∙ ap feed_of (sym (ap (λ (x : OpenGuard Lent). x.place) guard)) in
     let value : c.get_mut.result.now ≡ c.enter-guard.result.found = c.get_mut.ensures.value ∙ ap (λ (x : OpenGuard Lent). x.value) guard in
     let lock : c.enter-guard.result.lock ≡ c.self.inside.lock =
     ap (λ (x : OpenGuard Lent). x.lock) guard
-    ∙ lock_of c.pass.inside.feed c.pass.inside.pass c.in-Some.idle c.args.pass.now c.args.self.now _ is c.pass.view_is c.requires
+    ∙ lock_of c.pass.inside.feed c.pass.inside.pass c.unwrap.result c.args.pass.now c.args.self.now _ is c.pass.view_is c.requires
     c.self.view_is in
     let adds =
     adds_applied c.enter-guard.result.place c.pass.inside.feed c.args.cmd c.get_mut.result.now c.apply-answer.new.self
