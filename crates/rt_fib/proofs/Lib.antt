@@ -6,4 +6,5 @@ pub mod Marks
 pub mod Outside
 pub mod Withdrawing
 pub mod Crossing
+pub mod Shown
 pub mod Promised

@@ -3,3 +3,4 @@ pub mod Entries
 pub mod Pieces
 pub mod Spans
 pub mod Pools
+pub mod Shown

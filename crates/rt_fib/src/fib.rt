@@ -1,17 +1,19 @@
 //! The forwarding table, as its callers see it.
-ghost use Rattle.std.specs.Prelude.{◌≡◌, ◌≤◌, ◌^◌, IfOk, IfSome, OnOk, OnErr, length, map};
+ghost use Rattle.std.specs.Prelude.{◌≡◌, ◌≢◌, ◌≤◌, ◌^◌, true, IfOk, IfSome, OnOk, OnErr, length, map, take};
 ghost use Rattle.rt_rib.specs.declared.commands.Cmd.TheVariants.{Purge};
 ghost use Rattle.rt_rib.specs.Book.{table_of, table_state, IsFeed, Serves};
 ghost use Rattle.rt_rib.specs.LookUp.{look_up};
 ghost use Rattle.rt_fib.specs.Tables.{PreservesLookupsOutside};
 ghost use Rattle.rt_fib.specs.Laws.{KeepsOutside};
+ghost use Rattle.rt_fib.specs.Views.{ViewShows};
 
 use crate::cells::{ANSWER_BYTES, BLOCK_BYTES, Cells};
-use crate::filling::{all_cells, renew_cells};
+use crate::filling::{all_cells, put_entries, renew_cells};
 use crate::marking::keep_pace;
 use crate::pools::bytes_reserved;
 use crate::purging::{prefixes_to_withdraw, purge_rest, withdraw_each};
-use crate::spans::span_of;
+use crate::spans::{ENTRIES, span_of};
+use crate::views::{ViewSizes, hop_numbers, show_blocks, show_entries};
 use rt_cidr::{Addr, Prefix};
 use rt_rib::{Book, Cmd, Refused, Reply, Route, Table};
 use std::alloc::Allocator;
@@ -191,6 +193,51 @@ impl<A: Allocator + Copy, B: Allocator + Copy> Fib<A, B> {
                 (Reply::Purged(count), None)
             }
         }
+    }
+
+    /// Returns the sizes of the arrays that [`write_view`](Fib::write_view) fills. It may use fewer routers.
+    pub fn view_sizes(&self) -> ViewSizes {
+        let pools = &self.cells.pools;
+        ViewSizes {
+            blocks: pools.blocks.values.len().saturating_mul(256),
+            routers: pools.answers.values.len().saturating_add(2),
+        }
+    }
+
+    /// Writes the next hops of all answers into the caller's arrays, as numbers: 0 for no route, 1 for discarding, and a higher one for
+    /// the router at this index. Writes to `used` how many routers there are. Returns false, and writes nothing, if there aren't 2 ^ 24
+    /// entries, or an array is too short. M1: `Refused` if memory for 4 bytes for each answer and router ran out.
+    pub fn write_view(
+        &self,
+        entries: &mut [u32],
+        blocks: &mut [u32],
+        routers: &mut [u32],
+        used: &mut usize,
+    ) -> Result<bool, Refused>
+        ensures shown { IfOk result (λ shown. shown ≡ true → ViewShows entries.new blocks.new (take used.new routers.new) self.now) }
+        ensures within { IfOk result (λ shown. shown ≡ true → used.new ≤ length routers.new) }
+        ensures entries { IfOk result (λ shown. shown ≢ true → entries.new ≡ entries.old) }
+        ensures blocks { IfOk result (λ shown. shown ≢ true → blocks.new ≡ blocks.old) }
+        ensures routers { IfOk result (λ shown. shown ≢ true → routers.new ≡ routers.old) }
+        ensures used { IfOk result (λ shown. shown ≢ true → used.new ≡ used.old) }
+        ensures err { OnErr result ((entries.new ≡ entries.old) × (blocks.new ≡ blocks.old)) }
+        ensures err_routers { OnErr result ((routers.new ≡ routers.old) × (used.new ≡ used.old)) }
+    {
+        let cells = &self.cells;
+        let mut list = Vec::new(self.allocator());
+        list.resize(2, 0u32)?;
+        let numbers = hop_numbers(self.allocator(), &cells.pools.answers.values, &mut list)?;
+        if entries.len() != ENTRIES as usize || routers.len() < list.len() {
+            return Ok(false);
+        }
+        if blocks.len() / 256 < cells.pools.blocks.values.len() {
+            return Ok(false);
+        }
+        show_entries(&cells.entries, &numbers, entries);
+        show_blocks(&cells.pools.blocks.values, &numbers, blocks);
+        put_entries(routers, &list, 0);
+        *used = list.len();
+        Ok(true)
     }
 
     /// Returns how many bytes it takes: its entries take 64 MiB of them.

@@ -381,7 +381,7 @@ pub(crate) fn all_cells<A: Allocator + Copy, B: Allocator + Copy>(
 }
 
 /// Replaces the entries from the first on by the fresh ones.
-fn put_entries(entries: &mut [u32], fresh: &[u32], first: usize)
+pub(crate) fn put_entries(entries: &mut [u32], fresh: &[u32], first: usize)
     requires { first + length fresh.now ≤ length entries.old }
     ensures { ArePut entries.old entries.new fresh.now first (length fresh.now) }
 {

@@ -29,5 +29,7 @@ mod marking;
 mod pools;
 mod purging;
 mod spans;
+mod views;
 
 pub use fib::Fib;
+pub use views::ViewSizes;

@@ -1,0 +1,110 @@
+-- How numbers of next hops lead where the numbers of answers led.
+use Rattle.std.proofs.Common.{◌≡◌, ℕ, ◌+◌, ◌*◌, ◌-◌, ◌/◌, ◌%◌, ◌^◌, ◌<◌, ◌≤◌, inl, inr, List, [], ◌∷◌, ◌++◌, length, take, get_or, get_or-take, Option, Some, None, subst, sym, ap, ◌∙◌, arith}
+use Rattle.std.proofs.lemmas.Bool.{cases_lt}
+use Rattle.std.proofs.lemmas.List.{length-take, get_or_append_left, get_or_push, length_push}
+use Rattle.rt_cidr.specs.declared.address.Addr.{Addr}
+use Rattle.rt_rib.specs.declared.routes.Hop.{Hop}
+use Rattle.rt_rib.specs.declared.routes.Hop.TheVariants.{Via, Discard}
+use Rattle.rt_rib.specs.declared.routes.Route.{Route}
+use Rattle.rt_rib.specs.LookUp.{look_up}
+use Rattle.rt_fib.specs.Views.{IsHopNumber, IsAnswerNumber, IsNumber, LeadsToNumber, ViewShows}
+use Rattle.rt_fib.specs.inside.Pools.{Places}
+use Rattle.rt_fib.specs.inside.Entries.{at, AreAll}
+use Rattle.rt_fib.specs.inside.Shown.{Extends, IsHopOf, AreHopsOf, AreShownEntries, IsShownBlock, AreShownBlocks}
+use Rattle.rt_fib.specs.inside.Spans.{ArePut}
+use Rattle.rt_fib.proofs.Reading.{entry_leads}
+
+-- a router's number in a list that goes on
+hop_extends : (old new : List ℕ) (number : ℕ) (hop : Hop) → Extends old new → IsHopNumber old number hop → IsHopNumber new number hop
+hop_extends old new number (Via a) more is = (is.0, omega (arith, is.1, more.longer), more.same number is.1 ∙ is.2)
+hop_extends old new number Discard more is = is
+
+pub answer_extends : (old new : List ℕ) (number : ℕ) (answer : Option Route) → Extends old new → IsAnswerNumber old number answer → IsAnswerNumber new number answer
+answer_extends old new number None more is = is
+answer_extends old new number (Some r) more is = hop_extends old new number r.hop more is
+
+-- one more answer
+pub hops_push : (old new numbers : List ℕ) (answers : List (Option Route)) (n number : ℕ) (answer : Option Route) → Extends old new
+    → AreHopsOf old numbers answers n → IsHopOf new number answer → ((d : Option Route) → get_or answers n d ≡ answer)
+    → AreHopsOf new (numbers ++ number ∷ []) answers (n + 1)
+hops_push old new numbers answers n number answer more are is there = record {
+  size = omega (arith, are.size, length_push numbers number);
+  each = λ m d below. elim (cases_lt m n) [
+    | inl before ↦
+        let was = are.each m d before in
+        let same : get_or (numbers ++ number ∷ []) m 0 ≡ get_or numbers m 0 =
+        get_or_append_left numbers (number ∷ []) 0 m (omega (arith, before, are.size)) in
+        subst (λ (x : ℕ). IsHopOf new x (get_or answers m d)) (sym same)
+        (record { short = was.short; is = answer_extends old new (get_or numbers m 0) (get_or answers m d) more was.is })
+    | inr from ↦
+        let last : m ≡ n = omega (arith, below, from) in
+        let same : get_or (numbers ++ number ∷ []) m 0 ≡ number = get_or_push numbers number 0 m (omega (arith, are.size, last)) in
+        let found : get_or answers m d ≡ answer = ap (λ (j : ℕ). get_or answers j d) last ∙ there d in
+        subst (λ (x : ℕ). IsHopOf new x (get_or answers m d)) (sym same)
+        (subst (λ (a : Option Route). IsHopOf new number a) (sym found) is)
+  ];
+}
+
+-- one more block
+pub blocks_more : (numbers : List ℕ) (blocks : List (List ℕ)) (old shown next block : List ℕ) (b : ℕ) → AreShownBlocks numbers blocks old shown b
+    → IsShownBlock numbers block shown next (b * 256) 256 → ((d : List ℕ) → get_or blocks b d ≡ block) → AreShownBlocks numbers blocks old next (b + 1)
+blocks_more numbers blocks old shown next block b are is there = record {
+  size = is.size ∙ are.size;
+  each = λ j k d below low. elim (cases_lt j b) [
+    | inl before ↦ is.before (j * 256 + k) (omega (arith, before, low)) ∙ are.each j k d before low
+    | inr from ↦
+        let last : j ≡ b = omega (arith, below, from) in
+        rw last (is.each k low ∙ ap (λ (l : List ℕ). get_or numbers (get_or l k 0) 0) (sym (there d)))
+  ];
+}
+
+-- the list, once it is put into the caller's
+pub put_extends : (old new list : List ℕ) → length list ≤ length old → ArePut old new list 0 (length list) → Extends list (take (length list) new)
+put_extends old new list fits put = record {
+  longer = omega (arith, fits, put.size, length-take (length list) new);
+  same = λ n below.
+      let zero : 0 + n ≡ n = omega arith in
+      get_or-take (length list) new n 0 below ∙ subst (λ (m : ℕ). get_or new m 0 ≡ get_or list n 0) zero (put.there n below);
+}
+
+-- what is written leads each address to the number of its answer
+pub view_shows : (entries shown old more numbers list routers : List ℕ) (blocks : Places (List ℕ)) (answers : Places (Option Route)) (since : ℕ) (table : List Route)
+    → AreAll entries blocks answers since table → AreHopsOf list numbers answers.values (length answers.values) → Extends list routers
+    → AreShownEntries numbers entries shown (length entries) → AreShownBlocks numbers blocks.values old more (length blocks.values)
+    → length blocks.values * 256 ≤ length old → ViewShows shown more routers table
+view_shows entries shown old more numbers list routers blocks answers since table all hops longer are put fits = record {
+  size = are.size ∙ all.size;
+  each = λ addr within.
+      let i = addr.0 / 256 in
+      let k = addr.0 % 256 in
+      let answer = look_up addr table in
+      let low : k < 256 = omega arith in
+      let here : i < length entries = omega (arith, within, all.size) in
+      let there = are.each i here in
+      let number : (n : ℕ) → n < length answers.values → ((d : Option Route) → get_or answers.values n d ≡ answer) → IsHopOf routers (get_or numbers n 0) answer =
+      λ n below found.
+      let hop = hops.each n answer below in
+      record {
+        short = hop.short;
+        is = subst (λ (a : Option Route). IsAnswerNumber routers (get_or numbers n 0) a) (found answer)
+            (answer_extends list routers (get_or numbers n 0) (get_or answers.values n answer) longer hop.is);
+      } in
+      elim (entry_leads entries blocks answers since table addr.0 (get_or entries i 0) all within (omega arith)) [
+        | inl whole ↦
+            let same : get_or shown i 0 ≡ get_or numbers (get_or entries i 0) 0 = there.short whole.short in
+            let hop = number (get_or entries i 0) whole.number.is_used.within whole.number.there in
+            inl (subst (λ (e : ℕ). IsNumber routers e answer) (sym same) (record { short = hop.short; number = hop.is }))
+        | inr names ↦
+            let same : get_or shown i 0 ≡ get_or entries i 0 = there.long (omega (arith, names.long)) in
+            let block = names.named.is_used.within in
+            let hop = number (get_or names.numbers k 0) names.number.is_used.within names.number.there in
+            let read : get_or more (names.block * 256 + k) 0 ≡ get_or numbers (get_or names.numbers k 0) 0 =
+            put.each names.block k names.numbers block low ∙ ap (λ (b : List ℕ). get_or numbers (get_or b k 0) 0) (names.named.there names.numbers) in
+            inr (record {
+              block = names.block;
+              long = same ∙ names.long;
+              within = omega (arith, block, low, fits, put.size);
+              number = subst (λ (x : ℕ). IsAnswerNumber routers x answer) (sym read) hop.is;
+            })
+      ];
+}

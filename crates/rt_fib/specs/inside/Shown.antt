@@ -1,0 +1,41 @@
+-- Numbers of next hops that stand for the numbers of answers.
+use Rattle.std.specs.Prelude.{◌≡◌, ℕ, ◌+◌, ◌*◌, ◌^◌, ◌<◌, ◌≤◌, List, length, get_or, Option}
+use Rattle.rt_rib.specs.declared.routes.Route.{Route}
+use Rattle.rt_fib.specs.Views.{IsAnswerNumber}
+
+-- the first numbers of the one list are those of the other
+pub record Extends (old new : List ℕ) : Type 0 where
+  pub longer : length old ≤ length new
+  pub same : (n : ℕ) → n < length old → get_or new n 0 ≡ get_or old n 0
+
+-- this is the number of that answer's next hop, and is no block's
+pub record IsHopOf (routers : List ℕ) (number : ℕ) (answer : Option Route) : Type 0 where
+  pub short : number < 2 ^ 31
+  pub is : IsAnswerNumber routers number answer
+
+-- these are the numbers of the next hops of the first so many answers
+pub record AreHopsOf (routers numbers : List ℕ) (answers : List (Option Route)) (count : ℕ) : Type 0 where
+  pub size : length numbers ≡ count
+  pub each : (n : ℕ) (d : Option Route) → n < count → IsHopOf routers (get_or numbers n 0) (get_or answers n d)
+
+-- the number of an answer became that of its next hop, and the name of a block stayed
+pub record IsShownEntry (numbers : List ℕ) (entry shown : ℕ) : Type 0 where
+  pub short : entry < 2 ^ 31 → shown ≡ get_or numbers entry 0
+  pub long : 2 ^ 31 ≤ entry → shown ≡ entry
+
+-- so did the first so many entries
+pub record AreShownEntries (numbers entries shown : List ℕ) (count : ℕ) : Type 0 where
+  pub size : length shown ≡ length entries
+  pub each : (i : ℕ) → i < count → IsShownEntry numbers (get_or entries i 0) (get_or shown i 0)
+
+-- the first so many numbers of a block became those of their next hops, from this index on, and what is before the index stayed
+pub record IsShownBlock (numbers block old shown : List ℕ) (first count : ℕ) : Type 0 where
+  pub size : length shown ≡ length old
+  pub each : (k : ℕ) → k < count → get_or shown (first + k) 0 ≡ get_or numbers (get_or block k 0) 0
+  pub before : (i : ℕ) → i < first → get_or shown i 0 ≡ get_or old i 0
+
+-- so did the numbers of the first so many blocks
+pub record AreShownBlocks (numbers : List ℕ) (blocks : List (List ℕ)) (old shown : List ℕ) (count : ℕ) : Type 0 where
+  pub size : length shown ≡ length old
+  pub each : (b k : ℕ) (d : List ℕ) → b < count → k < 256
+      → get_or shown (b * 256 + k) 0 ≡ get_or numbers (get_or (get_or blocks b d) k 0) 0
