@@ -4,15 +4,16 @@ Of each language, by name: the file, the text that is there exactly once, and th
 """
 TABLES, LIBRARY = "yarib/_tables.py", "yarib/_library.py"
 PYTHON = {
-    "in finds later prefixes": (TABLES, "if used and fields[0] == base and fields[4] == length", "if used"),
-    "in finds longer prefixes": (TABLES, "fields[0] == base and fields[4] == length", "fields[0] == base"),
-    "in finds prefixes of other bases": (TABLES, "fields[0] == base and fields[4] == length", "fields[4] == length"),
-    "in finds what a call before found": (TABLES, "if used and fields[0] == base", "if fields[0] == base"),
+    "in finds other lengths": (TABLES, "return route_of(*found) if found[4] == length else None", "return route_of(*found)"),
+    "in doesn't find what a longer prefix hides": (TABLES, "if found[4] > length or base", "if base"),
+    "in accepts bits past the length": (TABLES, "if found[4] > length or base & LAST >> length:", "if found[4] > length:"),
+    "a router is another one": (TABLES, "    return address_of(text)\n", "    return address_of(text) ^ 1\n"),
     "a call's room is given back too early": (TABLES, "    if calls.yarib_look_up_one(handle, asked, room.at):\n",
                                               "    rooms.append(room)\n    if calls.yarib_look_up_one(handle, asked, room.at):\n"),
     "a command's room is given back too early": (TABLES, "        if self._changing.yarib_apply(self._at, command, room.at):\n",
                                                  "        rooms.append(room)\n"
                                                  "        if self._changing.yarib_apply(self._at, command, room.at):\n"),
+    "a full feed is overlooked": (TABLES, "{c.EXISTS: Exists, c.FULL: Full, c.MISSING: Missing}", "{c.EXISTS: Exists, c.MISSING: Missing}"),
     "best is forgotten in routes": (TABLES, "self._select(c.ALL, (0, 0), feed, best)", "self._select(c.ALL, (0, 0), feed, False)"),
     "feed is forgotten in routes": (TABLES, "self._select(c.ALL, (0, 0), feed, best)", "self._select(c.ALL, (0, 0), None, best)"),
     "within and covering are exchanged": (TABLES, "return self._select(c.WITHIN,", "return self._select(c.COVERING,"),
@@ -91,7 +92,7 @@ PYTHON = {
                                         "        commands = list(commands)\n        if len(commands) > 1:\n"
                                         "            return [self.apply_each([one])[0] for one in commands]\n"
                                         "        raw = [command_of(*words) for words in commands]\n"),
-    "a replace is an add": (TABLES, "put_of(c.REPLACE, feed,", "put_of(c.ADD, feed,"),
+    "a replace is an add": (TABLES, "self._put(c.REPLACE, prefix,", "self._put(c.ADD, prefix,"),
 }
 
 GO = {name: ("yarib.go", *texts) for name, texts in {

@@ -502,6 +502,8 @@ class Conventions(Limited):
             self.assertRaises(KeyError, table.__getitem__, key)
             self.assertRaises(yarib.Missing, table.__getitem__, key)
             self.assert_same((table.get(key), table.get(key, 5), key in table), (None, 5, False))
+        for call in (table.get, table.__getitem__, table.__contains__):
+            self.assertRaises(yarib.Invalid, call, ((10 << 24) + 1, 8))
         del table["10.0.0.0/8"]
         self.assert_same(table.routes(), [narrow])
         self.assertRaises(KeyError, table.__delitem__, "10.0.0.0/8")

@@ -3,6 +3,7 @@ from __future__ import annotations
 
 import array
 import ctypes
+import functools
 import ipaddress
 import operator
 import os
@@ -20,6 +21,7 @@ from ._library import (
 PAGE, ENTRIES = 256, 4096
 # A call without conversions accepts only sizes below it.
 MANY = 1 << 31
+LAST = (1 << 32) - 1
 ADDRESS_FROM, PREFIX_FROM, ROUTE_FROM, REPLY_FROM = (
     one.unpack_from for one in (c.ADDRESS, c.PREFIX, ROUTE, REPLY))
 NETWORK, ADDRESS = ipaddress.IPv4Network, ipaddress.IPv4Address
@@ -37,6 +39,9 @@ class Full(Error, ValueError):
 
 class Missing(Error, KeyError):
     """The feed has no route to this prefix; nothing changed."""
+
+
+UNCHANGED: Dict[int, Any] = {c.EXISTS: Exists, c.FULL: Full, c.MISSING: Missing}
 
 
 class Route(NamedTuple):
@@ -84,20 +89,35 @@ class Entry(NamedTuple):
     outcome: Outcome
 
 
+def room_of_call() -> Room:
+    try:
+        return rooms.pop()
+    except IndexError:
+        return Room()
+
+
 def address_of(value: Address) -> int:
     """Returns the number of an address."""
+    room = room_of_call()
+    found = address_in(room, value)
+    rooms.append(room)
+    return found
+
+
+def address_in(room: Room, value: Address) -> int:
+    """Returns the number of an address, which is parsed in this room if it is a text."""
     if isinstance(value, str):
         text = value.encode("utf-8", "surrogateescape")
-        try:
-            room = rooms.pop()
-        except IndexError:
-            room = Room()
         if status := held.yarib_address_parse(text, len(text) if len(text) < MANY else ctypes.c_size_t(len(text)), room.at):
             check(status, value)
-        found: int = ADDRESS_FROM(room.bytes)[0]
-        rooms.append(room)
-        return found
+        return ADDRESS_FROM(room.bytes)[0]  # type: ignore[no-any-return]
     return int(value) if isinstance(value, ADDRESS) else number(value, "an IPv4 address")
+
+
+@functools.lru_cache(1024)
+def router_of(text: str) -> int:
+    """Returns the number of an address that many routes have."""
+    return address_of(text)
 
 
 def number(value: object, said: str = "a number", bits: int = 32) -> int:
@@ -113,17 +133,19 @@ def number(value: object, said: str = "a number", bits: int = 32) -> int:
 
 def prefix_of(value: Prefix) -> Tuple[int, int]:
     """Returns the base and length of a prefix."""
+    room = room_of_call()
+    found = prefix_in(room, value)
+    rooms.append(room)
+    return found
+
+
+def prefix_in(room: Room, value: Prefix) -> Tuple[int, int]:
+    """Returns the base and length of a prefix, which is parsed in this room if it is a text."""
     if isinstance(value, str):
         text = value.encode("utf-8", "surrogateescape")
-        try:
-            room = rooms.pop()
-        except IndexError:
-            room = Room()
         if status := held.yarib_prefix_parse(text, len(text) if len(text) < MANY else ctypes.c_size_t(len(text)), room.at):
             check(status, value)
-        base, length = PREFIX_FROM(room.bytes)
-        rooms.append(room)
-        return base, length
+        return PREFIX_FROM(room.bytes)  # type: ignore[return-value]
     if isinstance(value, NETWORK):
         return int(value.network_address), value.prefixlen
     if not isinstance(value, (tuple, list)) or len(value) != 2:
@@ -174,16 +196,20 @@ def command_of(feed: int, name: str, *words: Any) -> bytes:
             raise TypeError(f"{name} takes a prefix")
         return packed(operation, feed, *prefix_of(words[0]))
     prefix, pref, via = words
-    return put_of(operation, feed, prefix, pref, via)
+    room = room_of_call()
+    command = put_in(room, operation, feed, prefix, pref, via)
+    rooms.append(room)
+    return command
 
 
-def put_of(operation: int, feed: int, prefix: Prefix, pref: int, via: Optional[Address]) -> bytes:
-    """Returns a command to add or replace a route."""
-    base, length = prefix_of(prefix)
+def put_in(room: Room, operation: int, feed: int, prefix: Prefix, pref: int, via: Optional[Address]) -> bytes:
+    """Returns a command to add or replace a route. The prefix is parsed in this room if it is a text."""
+    base, length = prefix_in(room, prefix)
     if via is None:
         return packed(operation, feed, base, length, pref, 0, c.DISCARD)
     try:
-        return COMMAND.pack(operation, feed, base, pref, address_of(via), length, c.VIA)
+        router = router_of(via) if type(via) is str else address_of(via)
+        return COMMAND.pack(operation, feed, base, pref, router, length, c.VIA)
     except struct.error:
         return packed(operation, feed, base, length, pref)
 
@@ -266,11 +292,11 @@ def pointer_to(block: bytearray) -> Any:
 
 
 def ask_one(handle: Any, address: Address, calls: Any = held) -> Optional[Route]:
-    asked = address_of(address)
     try:
         room = rooms.pop()
     except IndexError:
         room = Room()
+    asked = address_in(room, address)
     if calls.yarib_look_up_one(handle, asked, room.at):
         done(calls.yarib_look_up_one, handle, asked, room.at)
     base, pref, via, feed, length, hop = ROUTE_FROM(room.bytes)
@@ -323,20 +349,17 @@ class Routes(Handle):
     def apply(self, feed: int, name: str, *words: Any) -> Outcome:
         """Executes a command of the feed and returns its outcome: add or replace with prefix, preference and via, withdraw
         with prefix, lookup with address, dump or purge."""
-        return outcome_of(*self._reply(command_of(feed, name, *words)))
+        room = room_of_call()
+        found = outcome_of(*self._reply(room, command_of(feed, name, *words)))
+        rooms.append(room)
+        return found
 
-    def _reply(self, command: bytes) -> Tuple[int, ...]:
+    def _reply(self, room: Room, command: bytes) -> Tuple[int, ...]:
         """Executes a command and returns the fields of its reply."""
-        try:
-            room = rooms.pop()
-        except IndexError:
-            room = Room()
         if self._changing.yarib_apply(self._at, command, room.at):
             # After a status that isn't 0 nothing has changed, so the call can be made again.
             self._change(self._changing.yarib_apply, self._at, command, room.at)
-        fields = REPLY_FROM(room.bytes)
-        rooms.append(room)
-        return fields
+        return REPLY_FROM(room.bytes)
 
     def apply_each(self, commands: Iterable[Sequence[Any]]) -> List[Outcome]:
         """Executes commands, given as the arguments of `apply`, and returns the list of their outcomes."""
@@ -347,16 +370,19 @@ class Routes(Handle):
         self._change(self._freed.yarib_apply_each, self._at, b"".join(raw), len(raw), pointer_to(replies), len(raw))
         return [outcome_of(*fields) for fields in REPLY.iter_unpack(replies)]
 
-    def _put(self, command: bytes, prefix: Prefix, feed: int) -> None:
-        code = self._reply(command)[0]
-        if code in (c.EXISTS, c.FULL):
-            raise (Exists if code == c.EXISTS else Full)(f"feed {feed}: {prefix}")
-        if code == c.MISSING:
-            raise Missing(f"feed {feed}: {prefix}")
+    def _put(self, operation: int, prefix: Prefix, via: Optional[Address], pref: int, feed: int) -> None:
+        try:
+            room = rooms.pop()
+        except IndexError:
+            room = Room()
+        code = self._reply(room, put_in(room, operation, feed, prefix, pref, via))[0]
+        rooms.append(room)
+        if code in UNCHANGED:
+            raise UNCHANGED[code](f"feed {feed}: {prefix}")
 
     def add(self, prefix: Prefix, via: Optional[Address], pref: int = 0, feed: int = 1) -> None:
         """Adds a route; `via` None discards packets. Raises Exists or Full."""
-        self._put(put_of(c.ADD, feed, prefix, pref, via), prefix, feed)
+        self._put(c.ADD, prefix, via, pref, feed)
 
     def put(self, prefix: Prefix, via: Optional[Address], pref: int = 0, feed: int = 1) -> bool:
         """Adds a route, or changes the feed's route to this prefix. Returns True if it was added. Raises Full."""
@@ -370,11 +396,12 @@ class Routes(Handle):
 
     def replace(self, prefix: Prefix, via: Optional[Address], pref: int = 0, feed: int = 1) -> None:
         """Changes preference and next hop of the feed's route. Raises Missing."""
-        self._put(put_of(c.REPLACE, feed, prefix, pref, via), prefix, feed)
+        self._put(c.REPLACE, prefix, via, pref, feed)
 
     def withdraw(self, prefix: Prefix, feed: int = 1) -> None:
         """Removes the feed's route. Raises Missing."""
-        self._put(command_of(feed, "withdraw", prefix), prefix, feed)
+        if self.apply(feed, "withdraw", prefix).said == "missing":
+            raise Missing(f"feed {feed}: {prefix}")
 
     def purge(self, feed: int = 1) -> int:
         """Removes all routes of the feed and returns their number."""
@@ -476,17 +503,21 @@ class Routes(Handle):
 
     def _best(self, prefix: Prefix) -> Optional[Route]:
         """Returns the best route to exactly this prefix, which is the first one in order, or None."""
-        base, length = prefix_of(prefix)
-        place, call = ROUTE.pack(base, 0, 0, 0, length, 0), self._held.yarib_routes_from
         try:
             room = rooms.pop()
         except IndexError:
             room = Room()
-        if call(self._at, place, room.at, 1, room.size_at):
-            done(call, self._at, place, room.at, 1, room.size_at)
-        fields, used = ROUTE_FROM(room.bytes), room.bytes[32]
+        base, length = prefix_in(room, prefix)
+        if self._held.yarib_look_up_one(self._at, base, room.at):
+            done(self._held.yarib_look_up_one, self._at, base, room.at)
+        found = ROUTE_FROM(room.bytes)
+        if found[4] > length or base & LAST >> length:
+            # A longer prefix with this base hides it, or the prefix is invalid.
+            place = ROUTE.pack(base, 0, 0, 0, length, 0)
+            done(self._held.yarib_routes_from, self._at, place, room.at, 1, room.size_at)
+            found = ROUTE_FROM(room.bytes)
         rooms.append(room)
-        return route_of(*fields) if used and fields[0] == base and fields[4] == length else None
+        return route_of(*found) if found[4] == length else None
 
     def get(self, key: Union[Address, Prefix], default: Any = None) -> Any:
         """Returns what `table[key]` returns, or the default if there is no such route."""
