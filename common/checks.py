@@ -103,13 +103,6 @@ def library_stub(archive):
     subprocess.run(["ar", "cr", archive, compiled_to], check=True)
 
 
-def heap_stub(folder):
-    """Makes a library in this directory that replaces the toolchain's heap; bindings/build takes heap.pic.o from it."""
-    (folder / "heap.pic.c").write_text("int rattle_alloc(void) { return 1; }\nint rattle_dealloc(void) { return 1; }\n")
-    subprocess.run(["gcc", "-fPIC", "-c", "heap.pic.c"], cwd=folder, check=True)
-    subprocess.run(["ar", "cr", "liblibc_c.a", "heap.pic.o"], cwd=folder, check=True)
-
-
 def is_unproved(case):
     """Returns True if the program is that of `./test --quick`, and prints that the case is left out. That program has
     AddressSanitizer; nothing can be loaded before it, and it needs /proc."""

@@ -19,7 +19,7 @@ import tempfile
 import time
 
 from common.built import LOGIC
-from common.checks import TOP, chosen, compiled, end, expect, heap_stub, library_stub, run, run_case, text_of
+from common.checks import TOP, chosen, compiled, end, expect, library_stub, run, run_case, text_of
 from common.crates import all_crates, below
 from common.prover import kit
 
@@ -82,7 +82,7 @@ class Copy:
         common = [f"common/{name}.py" for name in ("built", "building", "crates", "prover")]
         for name in ("yarib", "crates.txt", "tools/build", "tools/common.py", *common, "bindings/build",
                      "bindings/c/yarib.map", "bindings/c/yarib.h", "bindings/c/layer.h",
-                     "bindings/c/handles.c", "bindings/c/readers.c"):
+                     "bindings/c/handles.c", "bindings/c/readers.c", "bindings/c/heap.c"):
             (self.top / name).parent.mkdir(parents=True, exist_ok=True)
             shutil.copy(TOP / name, self.top / name)
         for path in self.top.rglob("*"):
@@ -582,10 +582,9 @@ def put_tools(folder):
         (folder / name).write_text(text)
         (folder / name).chmod(0o755)
     compiled(folder, "tests/started.c")
-    # In place of the kit's heap and of the archive that the prover makes.
+    # In place of the archive that the prover makes.
     (folder / "kit/c").mkdir()
     library_stub(folder / "kit/c/stub.a")
-    heap_stub(folder / "kit/c")
 
 
 CASES = (

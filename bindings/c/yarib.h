@@ -315,10 +315,10 @@ YARIB_STATUS yarib_follow(yarib *table);
 
 /* Writes a size in bytes. For a forwarding table it is the memory of the forwarding table; each of its handles reports the whole
  * size. For a table it is an estimate: 48 for each node (at most two a prefix), 56 for each journal entry, and the size of an
- * attached forwarding table. Glibc allocates 48 for most nodes and more for some, and at least this estimate in all. For a table
- * without a journal, glibc allocates at most 1.25 times the estimate, plus 1.25 KiB, plus 96 for each further route to the same
- * prefix. For a table with a journal, if yarib_reserve was never called, it allocates at most twice the estimate, plus the same
- * 1.25 KiB, plus the same 96 for each further route. Reserved capacity that no entry uses yet isn't counted.
+ * attached forwarding table. The library's heap takes 40 for most nodes, and at least three quarters of this estimate in all. For a
+ * table without a journal, it takes at most the estimate, plus 16 KiB, plus 40 for each further route to the same prefix. For a table
+ * with a journal, if yarib_reserve was never called, it takes at most twice the estimate, plus the same. Slabs that are partly empty
+ * after many routes were removed come on top. Reserved capacity that no entry uses yet isn't counted.
  * Errors: YARIB_NOTHING. */
 YARIB_STATUS yarib_memory(const yarib *table, size_t *bytes);
 

@@ -1,0 +1,247 @@
+/* The library's heap: what the proved code calls for memory. Blocks of up to 128 bytes, which a table has many of, lie in slabs of one
+ * size. Larger blocks, and those that no slab is found for, come from malloc.
+ *
+ * glibc keeps small blocks that are freed in lists, and sorts all of them when a larger block is allocated later: after a free of a
+ * million routes, some program's next call of malloc takes a third of a second. A slab only counts its blocks, and gives its memory back
+ * to the kernel when it has none left.
+ *
+ * A slab belongs to one of a few parts of the heap, each with a lock of its own. A thread always allocates in the same part, and frees a
+ * block in the part that it is from.
+ *
+ * With YARIB_NO_SLABS all blocks come from malloc, so that valgrind and sanitizers see them. */
+#define _DEFAULT_SOURCE
+#include <pthread.h>
+#include <stdbool.h>
+#include <stdint.h>
+#include <stdlib.h>
+#include <string.h>
+#include <sys/mman.h>
+#if __has_include(<sys/single_threaded.h>)
+#include <sys/single_threaded.h>
+#else
+static const char __libc_single_threaded = 0;
+#endif
+
+/* Sizes of blocks are multiples of STEP. */
+#define STEP ((size_t)8)
+#ifdef YARIB_NO_SLABS
+#define LARGEST ((size_t)0)
+#else
+#define LARGEST ((size_t)128)
+#endif
+#define SLAB ((uintptr_t)1 << 16)
+#define CHUNK ((uintptr_t)1 << 26)
+#define PARTS 8
+/* The size of a slab's head, so that its first block is at a multiple of 16. */
+#define HEAD ((size_t)64)
+
+struct tried {
+    bool ok;
+    void *block;
+};
+
+/* The head of a slab. `free` leads through the blocks that were freed; those from `fresh` on were never used. A slab with room is in
+ * its part's list of this size. */
+struct slab {
+    struct slab *next, **place;
+    struct part *part;
+    void *free;
+    char *fresh;
+    size_t size, used;
+};
+
+struct part {
+    pthread_mutex_t lock;
+    struct slab *with_room[LARGEST / STEP + 1];
+} __attribute__((aligned(64)));
+
+/* Slabs come from chunks of the address space, which the heap keeps. The first slab of a chunk lists those that are unused. */
+struct chunk {
+    struct chunk *next;
+    size_t unused;
+    uint16_t numbers[CHUNK / SLAB];
+};
+
+static struct part parts[PARTS] = {[0 ... PARTS - 1] = {.lock = PTHREAD_MUTEX_INITIALIZER}};
+static pthread_mutex_t lock = PTHREAD_MUTEX_INITIALIZER;
+static struct chunk *with_unused;
+static unsigned char is_chunk[((uintptr_t)1 << 47) / CHUNK];
+static unsigned threads;
+static __thread struct part *mine;
+static char nothing;
+
+/* Locks a part, unless there is only one thread: only a call of this thread could start another one. */
+static void lock_part(struct part *part)
+{
+    if (!__libc_single_threaded) pthread_mutex_lock(&part->lock);
+}
+
+static void unlock_part(struct part *part)
+{
+    if (!__libc_single_threaded) pthread_mutex_unlock(&part->lock);
+}
+
+static void lock_all(void)
+{
+    for (int k = 0; k < PARTS; k++) pthread_mutex_lock(&parts[k].lock);
+    pthread_mutex_lock(&lock);
+}
+
+static void unlock_all(void)
+{
+    pthread_mutex_unlock(&lock);
+    for (int k = 0; k < PARTS; k++) pthread_mutex_unlock(&parts[k].lock);
+}
+
+/* A child of a fork must not find a lock that a thread held which it doesn't have. */
+__attribute__((constructor)) static void begin(void)
+{
+    pthread_atfork(lock_all, unlock_all, unlock_all);
+}
+
+/* Maps a chunk at a multiple of its size. */
+static struct chunk *new_chunk(void)
+{
+    char *mapped = mmap(NULL, 2 * CHUNK, PROT_READ | PROT_WRITE, MAP_PRIVATE | MAP_ANONYMOUS | MAP_NORESERVE, -1, 0);
+    if (mapped == MAP_FAILED) return NULL;
+    char *at = (char *)(((uintptr_t)mapped + CHUNK - 1) & ~(CHUNK - 1));
+    if (at > mapped) munmap(mapped, at - mapped);
+    munmap(at + CHUNK, mapped + CHUNK - at);
+    struct chunk *chunk = (struct chunk *)at;
+    for (size_t k = CHUNK / SLAB - 1; k > 0; k--) chunk->numbers[chunk->unused++] = k;
+    is_chunk[(uintptr_t)at / CHUNK] = 1;
+    return chunk;
+}
+
+static struct slab *new_slab(void)
+{
+    pthread_mutex_lock(&lock);
+    struct chunk *chunk = with_unused ? with_unused : new_chunk();
+    struct slab *slab = NULL;
+    if (chunk) {
+        slab = (struct slab *)((char *)chunk + SLAB * chunk->numbers[--chunk->unused]);
+        with_unused = chunk->unused > 0 ? chunk : chunk->next;
+    }
+    pthread_mutex_unlock(&lock);
+    return slab;
+}
+
+/* Gives the memory of a slab back to the kernel. */
+static void give_back(struct slab *slab)
+{
+    struct chunk *chunk = (struct chunk *)((uintptr_t)slab & ~(CHUNK - 1));
+    madvise(slab, SLAB, MADV_DONTNEED);
+    pthread_mutex_lock(&lock);
+    chunk->numbers[chunk->unused++] = ((uintptr_t)slab - (uintptr_t)chunk) / SLAB;
+    if (chunk->unused == 1) {
+        chunk->next = with_unused;
+        with_unused = chunk;
+    }
+    pthread_mutex_unlock(&lock);
+}
+
+static void link_slab(struct slab *slab)
+{
+    slab->place = &slab->part->with_room[slab->size / STEP];
+    slab->next = *slab->place;
+    if (slab->next) slab->next->place = &slab->next;
+    *slab->place = slab;
+}
+
+static void unlink_slab(struct slab *slab)
+{
+    *slab->place = slab->next;
+    if (slab->next) slab->next->place = slab->place;
+}
+
+static bool is_full(const struct slab *slab)
+{
+    return !slab->free && slab->fresh + slab->size > (char *)slab + SLAB;
+}
+
+/* Returns a slab of a part with room for a block of this size, or null. */
+static struct slab *slab_for(struct part *part, size_t size)
+{
+    struct slab *slab = part->with_room[size / STEP];
+    if (slab || !(slab = new_slab())) return slab;
+    *slab = (struct slab){.part = part, .size = size, .fresh = (char *)slab + HEAD};
+    link_slab(slab);
+    return slab;
+}
+
+static void *alloc_small(size_t size)
+{
+    if (!mine) mine = &parts[__atomic_fetch_add(&threads, 1, __ATOMIC_RELAXED) % PARTS];
+    lock_part(mine);
+    struct slab *slab = slab_for(mine, size);
+    void *block = NULL;
+    if (slab) {
+        block = slab->free;
+        if (block) {
+            slab->free = *(void **)block;
+        } else {
+            block = slab->fresh;
+            slab->fresh += size;
+        }
+        slab->used++;
+        if (is_full(slab)) unlink_slab(slab);
+    }
+    unlock_part(mine);
+    return block;
+}
+
+/* Returns the slab of a block, or null if malloc gave it. */
+static struct slab *slab_of(const void *block)
+{
+    return is_chunk[(uintptr_t)block / CHUNK] ? (struct slab *)((uintptr_t)block & ~(SLAB - 1)) : NULL;
+}
+
+static void free_small(struct slab *slab, void *block)
+{
+    struct part *part = slab->part;
+    lock_part(part);
+    bool was_full = is_full(slab);
+    *(void **)block = slab->free;
+    slab->free = block;
+    slab->used--;
+    if (was_full) link_slab(slab);
+    /* The last slab of this size with room stays, for the next block. */
+    bool is_unused = slab->used == 0 && (slab->next || slab->place != &part->with_room[slab->size / STEP]);
+    if (is_unused) unlink_slab(slab);
+    unlock_part(part);
+    if (is_unused) give_back(slab);
+}
+
+struct tried rattle_alloc(size_t size, size_t alignment)
+{
+    void *block = NULL;
+    if (size == 0) size = alignment;
+    size_t step = alignment > STEP ? 2 * STEP : STEP;
+    if (size <= LARGEST && alignment <= step) block = alloc_small((size + step - 1) / step * step);
+    if (!block) block = malloc(size);
+    return (struct tried){block != NULL, block != NULL ? block : &nothing};
+}
+
+void rattle_dealloc(void *block)
+{
+    struct slab *slab = slab_of(block);
+    if (slab) free_small(slab, block);
+    else free(block);
+}
+
+struct tried rattle_realloc(void *block, size_t kept, size_t size, size_t alignment)
+{
+    struct slab *slab = slab_of(block);
+    (void)kept;
+    if (size == 0) size = alignment;
+    if (slab && size <= slab->size) return (struct tried){true, block};
+    if (slab) {
+        struct tried made = rattle_alloc(size, alignment);
+        if (!made.ok) return made;
+        memcpy(made.block, block, slab->size);
+        rattle_dealloc(block);
+        return made;
+    }
+    void *moved = realloc(block, size);
+    return (struct tried){moved != NULL, moved != NULL ? moved : &nothing};
+}

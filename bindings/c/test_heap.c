@@ -1,0 +1,217 @@
+/* The library's heap by itself: random calls of several threads, beside what each block must hold; what it gives back; what the next
+ * allocation of the program takes; what a refusal and a fork leave. */
+#define _DEFAULT_SOURCE
+#include <pthread.h>
+#include <stdbool.h>
+#include <stdint.h>
+#include <stdio.h>
+#include <stdlib.h>
+#include <string.h>
+#include <sys/resource.h>
+#include <sys/wait.h>
+#include <time.h>
+#include <unistd.h>
+
+#define CHECK(holds) ((holds) ? (void)0 : (fprintf(stderr, "%s:%d: %s\n", __FILE__, __LINE__, #holds), _exit(1)))
+
+struct tried {
+    bool ok;
+    void *block;
+};
+struct tried rattle_alloc(size_t size, size_t alignment);
+struct tried rattle_realloc(void *block, size_t kept, size_t size, size_t alignment);
+void rattle_dealloc(void *block);
+
+enum { THREADS = 4, SHELVES = 512, CALLS = 200000 };
+
+/* A block and what each of its bytes holds. Threads take blocks from shelves and put others there, so they free each other's. */
+struct held {
+    unsigned char *at;
+    size_t size;
+    unsigned char fill;
+};
+static struct held shelves[SHELVES];
+static pthread_mutex_t locks[SHELVES];
+
+static uint32_t draw(uint64_t *last, uint32_t below)
+{
+    *last = *last * 6364136223846793005u + 1442695040888963407u;
+    return (uint32_t)((*last >> 32) * below >> 32);
+}
+
+static void check(const struct held *one)
+{
+    for (size_t k = 0; k < one->size; k++) CHECK(one->at[k] == one->fill);
+}
+
+static void fill(struct held *one, uint64_t *last)
+{
+    one->fill = draw(last, 256);
+    memset(one->at, one->fill, one->size);
+}
+
+static size_t drawn_size(uint64_t *last)
+{
+    return draw(last, 8) == 0 ? draw(last, 3000) : draw(last, 140);
+}
+
+static void visit(struct held *one, uint64_t *last)
+{
+    size_t alignment = (size_t)1 << draw(last, 5);
+    if (one->at) check(one);
+    if (!one->at) {
+        one->size = drawn_size(last);
+        struct tried made = rattle_alloc(one->size, alignment);
+        CHECK(made.ok && (uintptr_t)made.block % alignment == 0);
+        one->at = made.block;
+        fill(one, last);
+    } else if (draw(last, 3) == 0) {
+        size_t size = drawn_size(last), kept = size < one->size ? size : one->size;
+        struct tried moved = rattle_realloc(one->at, one->size, size, 1);
+        CHECK(moved.ok);
+        *one = (struct held){moved.block, kept, one->fill};
+        check(one);
+        one->size = size;
+        fill(one, last);
+    } else {
+        rattle_dealloc(one->at);
+        one->at = NULL;
+    }
+}
+
+static void *work(void *seed)
+{
+    uint64_t last = (uintptr_t)seed;
+    for (int k = 0; k < CALLS; k++) {
+        uint32_t shelf = draw(&last, SHELVES);
+        pthread_mutex_lock(&locks[shelf]);
+        visit(&shelves[shelf], &last);
+        pthread_mutex_unlock(&locks[shelf]);
+    }
+    return NULL;
+}
+
+static void run_threads(uintptr_t seed, void (*meanwhile)(void))
+{
+    pthread_t threads[THREADS];
+    for (int k = 0; k < THREADS; k++) CHECK(pthread_create(&threads[k], NULL, work, (void *)(seed + k)) == 0);
+    if (meanwhile) meanwhile();
+    for (int k = 0; k < THREADS; k++) pthread_join(threads[k], NULL);
+}
+
+/* A child allocates and frees, also blocks of its parent, whose threads were in the middle of calls. */
+static void fork_meanwhile(void)
+{
+    for (int k = 0; k < 50; k++) {
+        struct tried before = rattle_alloc(40, 8);
+        pid_t child = fork();
+        CHECK(child >= 0 && before.ok);
+        if (child == 0) {
+            void *held[16] = {NULL};
+            alarm(10);
+            for (int j = 0; j < 5000; j++) {
+                struct tried one = rattle_alloc(1 + j % 128, 8);
+                CHECK(one.ok);
+                if (held[j % 16]) rattle_dealloc(held[j % 16]);
+                held[j % 16] = one.block;
+            }
+            for (int j = 0; j < 16; j++) rattle_dealloc(held[j]);
+            rattle_dealloc(before.block);
+            _exit(0);
+        }
+        int status;
+        CHECK(waitpid(child, &status, 0) == child && status == 0);
+        rattle_dealloc(before.block);
+    }
+}
+
+static size_t resident(void)
+{
+    size_t pages = 0;
+    FILE *file = fopen("/proc/self/statm", "r");
+    CHECK(file && fscanf(file, "%*u %zu", &pages) == 1);
+    fclose(file);
+    return pages * 4096;
+}
+
+static double seconds(void)
+{
+    struct timespec now;
+    clock_gettime(CLOCK_THREAD_CPUTIME_ID, &now);
+    return now.tv_sec + now.tv_nsec / 1e9;
+}
+
+enum { MANY = 2000000 };
+static void *many[MANY];
+
+/* Frees many small blocks in a random order. The next allocations take less than a millisecond, and the memory is given back. */
+static void give_back(void)
+{
+    uint64_t last = 5;
+    for (size_t k = 0; k < MANY; k++) many[k] = NULL;
+    size_t before = resident();
+    for (size_t k = 0; k < MANY; k++) {
+        struct tried made = rattle_alloc(40, 8);
+        CHECK(made.ok);
+        memset(many[k] = made.block, 1, 40);
+    }
+    for (uint32_t k = MANY - 1; k > 0; k--) {
+        uint32_t other = draw(&last, k + 1);
+        void *one = many[k];
+        many[k] = many[other];
+        many[other] = one;
+    }
+    size_t full = resident();
+    for (size_t k = 0; k < MANY; k++) rattle_dealloc(many[k]);
+    size_t after = resident();
+    double start = seconds();
+    for (size_t size = 1024; size <= 1 << 20; size *= 2) {
+        void *volatile block = malloc(size); /* so that the compiler keeps the call */
+        free(block);
+    }
+    double taken = seconds() - start;
+    printf("%zu bytes for each block, %zu left of each, %.3f ms for the next allocations\n", (full - before) / MANY,
+        (after > before ? after - before : 0) / MANY, taken * 1e3);
+    CHECK((full - before) / MANY <= 44);
+    CHECK(after <= before + (full - before) / 50);
+    CHECK(taken < 1e-3);
+}
+
+/* Allocates until nothing is left. Refusals leave what is held, and after a free there is memory again. */
+static void refuse(void)
+{
+    struct rlimit limit = {.rlim_cur = 700u << 20, .rlim_max = 700u << 20};
+    size_t size = 0;
+    CHECK(setrlimit(RLIMIT_AS, &limit) == 0);
+    struct tried made;
+    for (; (made = rattle_alloc(1 + size % 128, 1)).ok; size++) {
+        CHECK(size < MANY * 10);
+        *(unsigned char *)made.block = size;
+        if (size < MANY) many[size] = made.block;
+    }
+    CHECK(size >= 1000000 && made.block != NULL);
+    size_t kept = size < MANY ? size : MANY;
+    CHECK(!rattle_realloc(many[0], 1, (size_t)1 << 31, 1).ok);
+    for (size_t k = 0; k < kept; k++) CHECK(*(unsigned char *)many[k] == (unsigned char)k);
+    for (size_t k = 0; k < kept; k++) rattle_dealloc(many[k]);
+    for (size_t k = 0; k < kept / 2; k++) CHECK(rattle_alloc(1 + k % 128, 1).ok);
+}
+
+int main(int size, char **words)
+{
+    alarm(60);
+    for (int k = 0; k < SHELVES; k++) CHECK(pthread_mutex_init(&locks[k], NULL) == 0);
+    /* Sanitizers need more memory and time, and report what a child's missing threads held. */
+    bool is_whole = size == 1 || strcmp(words[1], "calls") != 0;
+    for (uintptr_t seed = 1; seed <= 3; seed++) run_threads(100 * seed, seed == 2 && is_whole ? fork_meanwhile : NULL);
+    for (int k = 0; k < SHELVES; k++) {
+        if (!shelves[k].at) continue;
+        check(&shelves[k]);
+        rattle_dealloc(shelves[k].at);
+    }
+    if (is_whole) {
+        give_back();
+        refuse();
+    }
+    return 0;
+}
