@@ -6,10 +6,11 @@ use crate::limits::MAX_FEEDS;
 use crate::map::Map;
 use crate::offers::Offers;
 use rt_cidr::{Addr, Prefix};
+use rt_trie::LANES;
 use std::alloc::Allocator;
 
 /// The number of commands that are read ahead at once: the number of look-ups that the trie does in turn.
-pub const READ_AHEAD_COMMANDS: usize = 8;
+pub const READ_AHEAD_COMMANDS: usize = LANES;
 
 /// A trie with fewer nodes fits in the cache, and there is nothing to wait for.
 const CACHED: usize = 8_192;
@@ -19,9 +20,9 @@ pub(crate) fn read_ahead<A: Allocator + Copy>(map: &Map<A>, cmds: &[Cmd]) {
     if map.nodes() < CACHED {
         return;
     }
-    let mut addresses = [Addr(0); READ_AHEAD_COMMANDS];
-    let mut answers = [None; READ_AHEAD_COMMANDS];
-    let count = cmds.len().min(READ_AHEAD_COMMANDS);
+    let mut addresses = [Addr(0); LANES];
+    let mut answers = [None; LANES];
+    let count = cmds.len().min(LANES);
     for k in 0..count {
         addresses[k] = address_of(cmds[k]);
     }

@@ -7,12 +7,12 @@ ghost use Rattle.rt_rib.specs.LookUp.{look_up, look_up_all};
 ghost use Rattle.rt_rib.specs.Maps.{Map, route_by, routes_of, IsMap};
 ghost use Rattle.rt_rib.specs.inside.Maps.{route_at, look_up_each};
 
-use crate::ahead::READ_AHEAD_COMMANDS;
 use crate::map::{Map, map_laws, route_by};
 use crate::offers::{Offer, Offers};
 use crate::refused::Refused;
 use crate::routes::Route;
 use rt_cidr::{Addr, Prefix};
+use rt_trie::LANES;
 use std::alloc::Allocator;
 
 /// Returns the best route to the prefix that is the longest match of an address, if there is one.
@@ -80,7 +80,7 @@ pub(crate) fn best_of_each<A: Allocator + Copy>(
 {
     let mut start = 0;
     while start < addresses.len() {
-        let size = (addresses.len() - start).min(READ_AHEAD_COMMANDS);
+        let size = (addresses.len() - start).min(LANES);
         best_of_chunk(map, addresses, answers, start, size);
         start += size;
     }
@@ -95,14 +95,14 @@ fn best_of_chunk<A: Allocator + Copy>(
     size: usize,
 )
     requires map { IsMap map.now.pairs }
-    requires chunk { size ≤ READ_AHEAD_COMMANDS }
+    requires chunk { size ≤ LANES }
     requires within { start + size ≤ length addresses.now }
     requires size { length answers.old ≡ length addresses.now }
     ensures each { (j : ℕ) → j < size
         → route_at answers.new (start + j) ≡ look_up (address_at addresses.now (start + j)) (routes_of map.now.pairs) }
     ensures rest { (k : ℕ) → k < start → route_at answers.new k ≡ route_at answers.old k }
 {
-    let mut longest = [None; READ_AHEAD_COMMANDS];
+    let mut longest = [None; LANES];
     map.longest_many(&addresses[start..start + size], &mut longest[..size]);
     for k in 0..size {
         answers[start + k] = best_at(longest[k]);

@@ -2,7 +2,7 @@
 //! is the theorem.
 
 ghost use Rattle.rt_trie.specs.Laws.{PutIsSeen, EraseIsSeen, PutKeepsOrder, EraseKeepsOrder, PairsAreFound, MapHasOneList};
-ghost use Rattle.rt_trie.specs.Laws.{FirstIsLeast, NoneIsFirst, AfterIsNext, NoneIsAfter, ChildByNextBit};
+ghost use Rattle.rt_trie.specs.Laws.{ChildByNextBit};
 
 use rt_cidr::laws::same_prefix;
 
@@ -18,17 +18,6 @@ pub fn changes<V>()
 pub fn one_list<V>()
     ensures found { PairsAreFound V }
     ensures one { MapHasOneList V }
-{
-    same_prefix();
-}
-
-/// The first prefix is the lowest stored one. The next one after p is the stored prefix after p with no other in
-/// between.
-pub fn least<V>()
-    ensures first { FirstIsLeast V }
-    ensures none_first { NoneIsFirst V }
-    ensures after { AfterIsNext V }
-    ensures none_after { NoneIsAfter V }
 {
     same_prefix();
 }

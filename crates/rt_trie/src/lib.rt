@@ -42,5 +42,6 @@ mod walks;
 pub use covering::Covering;
 pub use matches::LongestMatchCursor;
 pub use retaining::RetainFilter;
+pub use search::LANES;
 pub use tries::Trie;
 pub use walks::Walk;

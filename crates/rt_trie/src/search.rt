@@ -113,8 +113,8 @@ pub(crate) fn step<'a, V, A: Allocator>(
     }
 }
 
-/// The number of look-ups that proceed in turn, so that their waits for memory overlap.
-const LANES: usize = 8;
+/// The number of look-ups that `Trie::longest_many` does in turn, so that their waits for memory overlap.
+pub const LANES: usize = 8;
 
 /// Replaces each answer by the pair of the longest prefix for the address with the same index.
 pub(crate) fn longest_many<'a, V, A: Allocator>(
