@@ -1,6 +1,5 @@
 //! Ranges of addresses that have different answers in two tables.
 ghost use Rattle.std.specs.Prelude.{◌≡◌, ◌+◌};
-ghost use Rattle.rt_rib.specs.Book.{table_of};
 ghost use Rattle.rt_diff.specs.Answers.{own_numbers};
 ghost use Rattle.rt_diff.specs.Differences.{IsFirstDifference};
 
@@ -8,7 +7,7 @@ use crate::pieces::{first_unlike, last_of};
 use crate::renumbered::RenumberedLookups;
 use crate::table_answers::{CompareBy, TableAnswer};
 use rt_cidr::Addr;
-use rt_rib::{Book, LookupCursor};
+use rt_rib::Table;
 use std::alloc::Allocator;
 use std::fmt;
 use std::marker::Model;
@@ -54,25 +53,14 @@ impl<'a, A: Allocator + Copy> fmt::Debug for Comparison<'a, A> {
 }
 
 impl<'a, A: Allocator + Copy> Comparison<'a, A> {
-    /// Returns a comparison of the tables of two books. Doesn't allocate.
-    pub fn new(old: &'a Book<A>, new: &'a Book<A>, by: CompareBy) -> Comparison<'a, A>
-        ensures { result ≡ record { by = by; old_table = own_numbers (table_of old.now); new_table = own_numbers (table_of new.now) } }
-    {
-        Comparison::of(old.lookup_cursor(), new.lookup_cursor(), by)
-    }
-
-    /// Returns a comparison of the answers of two tables, whether or not a journal explains them. Doesn't allocate.
-    pub fn of(
-        old: LookupCursor<'a, A>,
-        new: LookupCursor<'a, A>,
-        by: CompareBy,
-    ) -> Comparison<'a, A>
-        ensures { result ≡ record { by = by; old_table = own_numbers old.entry; new_table = own_numbers new.entry } }
+    /// Returns a comparison of the answers of two tables. Doesn't allocate.
+    pub fn new(old: &'a Table<A>, new: &'a Table<A>, by: CompareBy) -> Comparison<'a, A>
+        ensures { result ≡ record { by = by; old_table = own_numbers old.now.routes; new_table = own_numbers new.now.routes } }
     {
         Comparison {
             by,
-            old_table: RenumberedLookups::new(old),
-            new_table: RenumberedLookups::new(new),
+            old_table: RenumberedLookups::new(old.lookup_cursor()),
+            new_table: RenumberedLookups::new(new.lookup_cursor()),
         }
     }
 

@@ -1,7 +1,7 @@
 //! The differences of two routing tables: ranges of addresses that have different answers in them, with both answers.
 //!
 //! ```
-//! let mut tables = Comparison::new(&old, &new, CompareBy::Hop);
+//! let mut tables = Comparison::new(old.table(), new.table(), CompareBy::Hop);
 //! let mut next = tables.first_difference(Addr(0));
 //! while let Some(difference) = next {
 //!     // The addresses from difference.first to difference.last have different answers. Continue after them.
@@ -9,7 +9,7 @@
 //! }
 //! ```
 //!
-//! Contracts see a book as the routes that its journal leaves. An answer is the result of a look-up among them
+//! Contracts see a table as its routes. An answer is the result of a look-up among them
 //! (`specs/Answers.antt`). If the two tables number their feeds differently, [`Comparison::renumber_new_feeds`] pairs them.
 //! These ranges are the only list of the tables' differences (`specs/Differences.antt`, [`laws`]). No call allocates.
 //! Each takes time in proportion to the tables' boundaries in what it visits, without a step for each address.

@@ -65,10 +65,5 @@ fn renumbered_route(numbers: &[u32], route: Route) -> Route
         Some(number) => *number,
         None => route.feed,
     };
-    Route {
-        prefix: route.prefix,
-        feed,
-        pref: route.pref,
-        hop: route.hop,
-    }
+    Route { feed, ..route }
 }

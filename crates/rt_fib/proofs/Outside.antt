@@ -13,9 +13,10 @@ use Rattle.rt_rib.specs.declared.commands.Cmd.TheVariants.{Add, Replace, Withdra
 use Rattle.rt_rib.specs.declared.commands.Reply.{Reply}
 use Rattle.rt_rib.specs.Table.{has, count_of, put_in, take_out, is_of, IsTable}
 use Rattle.rt_rib.specs.LookUp.{look_up}
-use Rattle.rt_rib.specs.Sequential.{table_after, table_of_journal}
-use Rattle.rt_rib.specs.Book.{BookContents, TableState, table_of, Applies, Serves}
-use Rattle.rt_rib.specs.Laws.{PutInAdds, TakeOutLeavesOthers, LookUpFindsBest, IsBestMatch, TableByEntry}
+use Rattle.rt_rib.specs.Sequential.{table_after}
+use Rattle.rt_rib.specs.Book.{TableState, Serves}
+use Rattle.rt_rib.specs.Laws.{PutInAdds, TakeOutLeavesOthers, LookUpFindsBest, IsBestMatch}
+use Rattle.rt_rib.proofs.Promised.{IsTable-after}
 use Rattle.rt_fib.specs.Laws.{KeepsOutside}
 
 not_both : {b : Bool} → b ≡ false → b ≡ true → ⊥
@@ -126,22 +127,11 @@ command_keeps limit t feed (Lookup addr) adds leaves finds of_t of_u = refl
 command_keeps limit t feed Dump adds leaves finds of_t of_u = refl
 command_keeps limit t feed Purge adds leaves finds of_t of_u = tt
 
--- and so each command that a book answers
-pub applied_keeps : (old new : BookContents) (feed : ℕ) (cmd : Cmd) (reply : Reply)
-    → PutInAdds → TakeOutLeavesOthers → LookUpFindsBest → TableByEntry
-    → Applies old new feed cmd reply → KeepsOutside cmd (table_of old) (table_of new)
-applied_keeps old new feed cmd reply adds leaves finds tables applies =
-    let after : table_of new ≡ table_after old.limit (table_of old) feed cmd =
-    ap (λ (l : ℕ). table_of_journal l new.journal) applies.limited ∙ ap (table_of_journal old.limit) applies.journaled
-    ∙ tables.step old.limit old.journal (record { feed = feed; cmd = cmd; reply = reply }) in
-    let of_new : IsTable (table_after old.limit (table_of old) feed cmd) = subst IsTable after (tables.table new.limit new.journal) in
-    subst (KeepsOutside cmd (table_of old)) (sym after) (command_keeps old.limit (table_of old) feed cmd adds leaves finds (tables.table old.limit old.journal) of_new)
-
--- and each that a table answers
+-- and so each command that a table answers
 pub served_keeps : (old new : TableState) (feed : ℕ) (cmd : Cmd) (reply : Reply)
-    → PutInAdds → TakeOutLeavesOthers → LookUpFindsBest → IsTable old.routes → IsTable new.routes
+    → PutInAdds → TakeOutLeavesOthers → LookUpFindsBest → IsTable old.routes
     → Serves old new feed cmd reply → KeepsOutside cmd old.routes new.routes
-served_keeps old new feed cmd reply adds leaves finds of_old of_new serves =
+served_keeps old new feed cmd reply adds leaves finds of_old serves =
     let after : new.routes ≡ table_after old.limit old.routes feed cmd = ap (λ (s : TableState). s.routes) serves.changed in
     subst (KeepsOutside cmd old.routes) (sym after)
-    (command_keeps old.limit old.routes feed cmd adds leaves finds of_old (subst IsTable after of_new))
+    (command_keeps old.limit old.routes feed cmd adds leaves finds of_old (IsTable-after old.limit old.routes feed cmd of_old))

@@ -1,11 +1,11 @@
--- What holds of every book, and of every table.
+-- What holds of every table.
 use Rattle.std.specs.Prelude.{◌≡◌, ℕ, List}
 use Rattle.rt_rib.specs.declared.routes.Route.{Route}
 use Rattle.rt_rib.specs.declared.commands.Cmd.{Cmd}
 use Rattle.rt_rib.specs.declared.commands.Cmd.TheVariants.{Add, Replace, Withdraw, Lookup, Dump, Purge}
 use Rattle.rt_rib.specs.declared.commands.Reply.{Reply}
 use Rattle.rt_rib.specs.Table.{IsTable}
-use Rattle.rt_rib.specs.Book.{BookContents, TableState, table_of, Applies, Serves}
+use Rattle.rt_rib.specs.Book.{TableState, Serves}
 use Rattle.rt_fib.specs.Tables.{PreservesLookupsOutside}
 
 -- a command that puts a route in, replaces one or takes one out keeps what lies outside of its prefix, one that only asks keeps
@@ -18,13 +18,8 @@ KeepsOutside (Lookup addr) old new = old ≡ new
 KeepsOutside Dump old new = old ≡ new
 KeepsOutside Purge old new = Unit {0}
 
--- so it is with each command that a book answers, between the tables before and after it
+-- so it is with each command that a table answers, which has no route twice
 abbrev pub CommandsKeepOutside : Type 0
 CommandsKeepOutside =
-    (old new : BookContents) (feed : ℕ) (cmd : Cmd) (reply : Reply) → Applies old new feed cmd reply → KeepsOutside cmd (table_of old) (table_of new)
-
--- and with each that a table answers, which has no route twice before and after it
-abbrev pub TablesKeepOutside : Type 0
-TablesKeepOutside =
-    (old new : TableState) (feed : ℕ) (cmd : Cmd) (reply : Reply) → IsTable old.routes → IsTable new.routes → Serves old new feed cmd reply
+    (old new : TableState) (feed : ℕ) (cmd : Cmd) (reply : Reply) → IsTable old.routes → Serves old new feed cmd reply
     → KeepsOutside cmd old.routes new.routes

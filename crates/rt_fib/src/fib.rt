@@ -1,7 +1,7 @@
 //! The forwarding table, as its callers see it.
 ghost use Rattle.std.specs.Prelude.{◌≡◌, ◌≢◌, ◌≤◌, ◌^◌, true, IfOk, IfSome, OnOk, OnErr, length, map, take};
 ghost use Rattle.rt_rib.specs.declared.commands.Cmd.TheVariants.{Purge};
-ghost use Rattle.rt_rib.specs.Book.{table_of, table_state, IsFeed, Serves};
+ghost use Rattle.rt_rib.specs.Book.{table_state, IsFeed, Serves};
 ghost use Rattle.rt_rib.specs.LookUp.{look_up};
 ghost use Rattle.rt_fib.specs.Tables.{PreservesLookupsOutside};
 ghost use Rattle.rt_fib.specs.Laws.{KeepsOutside};
@@ -15,14 +15,14 @@ use crate::purging::{prefixes_to_withdraw, purge_rest, withdraw_each};
 use crate::spans::{ENTRIES, span_of};
 use crate::views::{ViewSizes, hop_numbers, show_blocks, show_entries};
 use rt_cidr::{Addr, Prefix};
-use rt_rib::{Book, Cmd, Refused, Reply, Route, Table};
+use rt_rib::{Cmd, Refused, Reply, Route, Table};
 use std::alloc::Allocator;
 use std::fmt;
 use std::marker::Model;
 use std::snapshot::Snapshot;
 
 /// Holds what a routing table answers each address, in memory of the allocator. Contracts see the routes of that table. Its memory is
-/// its own: many threads may look up while the book changes. It takes 64 MiB, about 1 KiB for each 256 addresses of one entry that
+/// its own: many threads may look up while the table changes. It takes 64 MiB, about 1 KiB for each 256 addresses of one entry that
 /// have more than one answer, and 32 bytes for each answer.
 #[derive(Drop)]
 pub struct Fib<A: Allocator + Copy, B: Allocator + Copy = A> {
@@ -54,17 +54,9 @@ impl<A: Allocator + Copy, B: Allocator + Copy> fmt::Debug for Fib<A, B> {
 }
 
 impl<A: Allocator + Copy, B: Allocator + Copy> Fib<A, B> {
-    /// Makes a forwarding table with the answers of the book's table, in memory of the allocator. M1: `Refused` if the allocator has
-    /// no memory for it.
-    pub fn new(alloc: A, book: &Book<B>) -> Result<Fib<A, B>, Refused>
-        ensures { IfOk result (λ fib. fib ≡ table_of book.now) }
-    {
-        Fib::of(alloc, book.table())
-    }
-
-    /// Makes a forwarding table with the answers of the table, whether or not a journal explains it, in memory of the allocator. M1:
-    /// `Refused` if the allocator has no memory for it.
-    pub fn of(alloc: A, table: &Table<B>) -> Result<Fib<A, B>, Refused>
+    /// Makes a forwarding table with the answers of the table, in memory of the allocator. M1: `Refused` if the allocator has no memory
+    /// for it.
+    pub fn new(alloc: A, table: &Table<B>) -> Result<Fib<A, B>, Refused>
         ensures { IfOk result (λ fib. fib ≡ table.now.routes) }
     {
         Ok(Fib {
@@ -72,15 +64,15 @@ impl<A: Allocator + Copy, B: Allocator + Copy> Fib<A, B> {
         })
     }
 
-    /// Copies it into memory of the allocator, while the book's table is the one that it answers by. The copy is one to publish,
-    /// while this one goes on following the book. It reads and writes the number of bytes that it takes, and doesn't read the book. M1: `Refused`
-    /// if the allocator has no memory for it.
-    pub fn copy(&self, alloc: A, book: &Book<B>) -> Result<Fib<A, B>, Refused>
-        requires { self.now ≡ table_of book.now }
+    /// Copies it into memory of the allocator, while the table is the one that it answers by. The copy is one to publish, while this
+    /// one goes on following the table. It reads and writes the number of bytes that it takes, and doesn't read the table. M1:
+    /// `Refused` if the allocator has no memory for it.
+    pub fn copy(&self, alloc: A, table: &Table<B>) -> Result<Fib<A, B>, Refused>
+        requires { self.now ≡ table.now.routes }
         ensures { IfOk result (λ copy. copy ≡ self.now) }
     {
         Ok(Fib {
-            cells: self.cells.copy(alloc, book.table())?,
+            cells: self.cells.copy(alloc, table)?,
         })
     }
 
@@ -100,23 +92,14 @@ impl<A: Allocator + Copy, B: Allocator + Copy> Fib<A, B> {
         self.cells.look_up_each(addresses, answers);
     }
 
-    /// Renews the answers of the prefix's addresses. The book's table must answer all other addresses as this one does. Then it answers
-    /// by the book's table. For a prefix of one route it reads and writes few places, for a prefix of length 8 about 65,536 entries.
+    /// Renews the answers of the prefix's addresses. The table must answer all other addresses as this one does. Then it answers by the
+    /// table. For a prefix of one route it reads and writes few places, for a prefix of length 8 about 65,536 entries.
     /// Each change also marks some of the entries and what they lead to. What no address leads to any more is used again once all
     /// entries were marked. If a round of marking saw so little in use that it may take over twice the memory of a new one, the
     /// next change rebuilds it: so a table that shrank gives memory back. M1: `Refused` if memory ran out. Then it answers as
     /// before, has no more blocks and answers than before, and all that was free is free again: so trying again takes no more than the
     /// first time.
-    pub fn renew(&mut self, book: &Book<B>, prefix: Prefix) -> Result<(), Refused>
-        requires { PreservesLookupsOutside prefix self.old (table_of book.now) }
-        ensures ok { OnOk result (self.new ≡ table_of book.now) }
-        ensures err { OnErr result (self.new ≡ self.old) }
-    {
-        self.renew_to(book.table(), prefix)
-    }
-
-    /// Does what [`renew`](Fib::renew) does, by a table, whether or not a journal explains it.
-    pub fn renew_to(&mut self, table: &Table<B>, prefix: Prefix) -> Result<(), Refused>
+    pub fn renew(&mut self, table: &Table<B>, prefix: Prefix) -> Result<(), Refused>
         requires { PreservesLookupsOutside prefix self.old table.now.routes }
         ensures ok { OnOk result (self.new ≡ table.now.routes) }
         ensures err { OnErr result (self.new ≡ self.old) }
@@ -141,32 +124,22 @@ impl<A: Allocator + Copy, B: Allocator + Copy> Fib<A, B> {
         ensures ok { OnOk result (self.new ≡ table.now.routes) }
         ensures err { OnErr result (self.new ≡ self.old) }
     {
-        *self = Fib::of(self.allocator(), table)?;
+        *self = Fib::new(self.allocator(), table)?;
         Ok(())
     }
 
-    /// Follows the last command that the book has answered: it renews the command's prefix, rebuilds itself after a purge, and does
-    /// nothing after a look-up or a dump. The law `commands_preserve_lookups_outside_prefix` says that each command of a book may be followed so. M1:
-    /// `Refused` if memory ran out, and then it answers as before.
-    pub fn follow(&mut self, book: &Book<B>, cmd: &Cmd) -> Result<(), Refused>
-        requires { KeepsOutside cmd.now self.old (table_of book.now) }
-        ensures ok { OnOk result (self.new ≡ table_of book.now) }
-        ensures err { OnErr result (self.new ≡ self.old) }
-    {
-        self.follow_to(book.table(), cmd)
-    }
-
-    /// Does what [`follow`](Fib::follow) does, by a table, whether or not a journal explains it. The law `tables_preserve_lookups_outside_prefix` says
-    /// that each command of a table may be followed so.
-    pub fn follow_to(&mut self, table: &Table<B>, cmd: &Cmd) -> Result<(), Refused>
+    /// Follows the last command that the table has answered: it renews the command's prefix, rebuilds itself after a purge, and does
+    /// nothing after a look-up or a dump. The law `commands_preserve_lookups_outside_prefix` says that each command of a table may be
+    /// followed so. M1: `Refused` if memory ran out, and then it answers as before.
+    pub fn follow(&mut self, table: &Table<B>, cmd: &Cmd) -> Result<(), Refused>
         requires { KeepsOutside cmd.now self.old table.now.routes }
         ensures ok { OnOk result (self.new ≡ table.now.routes) }
         ensures err { OnErr result (self.new ≡ self.old) }
     {
         match cmd {
-            Cmd::Add { prefix, .. } => self.renew_to(table, *prefix),
-            Cmd::Replace { prefix, .. } => self.renew_to(table, *prefix),
-            Cmd::Withdraw { prefix } => self.renew_to(table, *prefix),
+            Cmd::Add { prefix, .. } => self.renew(table, *prefix),
+            Cmd::Replace { prefix, .. } => self.renew(table, *prefix),
+            Cmd::Withdraw { prefix } => self.renew(table, *prefix),
             Cmd::Lookup { .. } => Ok(()),
             Cmd::Dump => Ok(()),
             Cmd::Purge => self.build_anew(table),

@@ -1,23 +1,13 @@
-//! Theorems about every book and every table. Each function is a theorem: calling it makes its clause known, and it does nothing.
-ghost use Rattle.rt_fib.specs.Laws.{CommandsKeepOutside, TablesKeepOutside};
+//! Theorems about every table. Each function is a theorem: calling it makes its clause known, and it does nothing.
+ghost use Rattle.rt_fib.specs.Laws.{CommandsKeepOutside};
 
-use rt_rib::laws::{look_up_finds_best, put_in_adds, table_by_entry, take_out_leaves_others};
+use rt_rib::laws::{look_up_finds_best, put_in_adds, take_out_leaves_others};
 
 /// States that a command that puts a route in, replaces one or takes one out leaves the answers of all addresses that its prefix
 /// doesn't cover, and that a look-up or a dump leaves all. So a forwarding table follows a command by a `renew` of its prefix, or
 /// does nothing.
 pub fn commands_preserve_lookups_outside_prefix()
     ensures { CommandsKeepOutside }
-{
-    put_in_adds();
-    take_out_leaves_others();
-    look_up_finds_best();
-    table_by_entry();
-}
-
-/// States the same for the commands that a table answers.
-pub fn tables_preserve_lookups_outside_prefix()
-    ensures { TablesKeepOutside }
 {
     put_in_adds();
     take_out_leaves_others();

@@ -1,9 +1,9 @@
 //! A forwarding table (FIB): what a routing table answers each address, found by two reads of memory, or three.
 //!
 //! ```
-//! let mut fib = Fib::new(alloc, &book)?;
-//! book.apply(1, cmd)?;
-//! fib.follow(&book, &cmd)?; // It answers as the book does again.
+//! let mut fib = Fib::new(alloc, &table)?;
+//! table.apply(1, cmd)?;
+//! fib.follow(&table, &cmd)?; // It answers as the table does again.
 //! ```
 //!
 //! It is the table DIR-24-8 of Gupta, Lin and McKeown (*Routing Lookups in Hardware at Memory Access Speeds*, INFOCOM 1998): an
@@ -16,7 +16,7 @@
 //!
 //! Contracts see a [`Fib`] as the routing table that it answers by: [`Fib::look_up`] answers each address what a look-up of that
 //! table does (`look_up` in `rt_rib`'s `specs/LookUp.antt`). It is proved that no place is read which isn't there, so no test tries it.
-//! [`laws`] says which commands of a book [`Fib::renew`] follows by their prefix.
+//! [`laws`] says which commands of a table [`Fib::renew`] follows by their prefix.
 //!
 //! No clause says how much memory it takes, or that many threads may look up in one: this is only tested.
 #![tactic(auto)]

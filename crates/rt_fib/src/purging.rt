@@ -6,7 +6,7 @@ ghost use Rattle.rt_rib.specs.Table.{purge};
 ghost use Rattle.rt_rib.specs.Book.{IsFeed};
 
 use crate::fib::Fib;
-use crate::laws::tables_preserve_lookups_outside_prefix;
+use crate::laws::commands_preserve_lookups_outside_prefix;
 use crate::spans::span_of;
 use rt_cidr::Prefix;
 use rt_rib::{Cmd, Hop, Refused, Route, Table};
@@ -92,11 +92,10 @@ fn withdraw<A: Allocator + Copy, B: Allocator + Copy>(
     ensures rest { purge feed table.new.routes ≡ purge feed table.old.routes }
 {
     let cmd = Cmd::Withdraw { prefix };
-    tables_preserve_lookups_outside_prefix();
+    commands_preserve_lookups_outside_prefix();
     table.holds();
     table.apply(feed, cmd)?;
-    table.holds();
-    fib.follow_to(table, &cmd)
+    fib.follow(table, &cmd)
 }
 
 /// Withdraws the feed's routes to the prefixes from the table, and follows. Error M1 (`Refused`) if memory runs out.
@@ -137,7 +136,7 @@ pub(crate) fn purge_rest<A: Allocator + Copy, B: Allocator + Copy>(
     if rest == 0 {
         return Some(fib);
     }
-    match fib.follow_to(table, &Cmd::Purge) {
+    match fib.follow(table, &Cmd::Purge) {
         Ok(()) => Some(fib),
         Err(_) => None,
     }

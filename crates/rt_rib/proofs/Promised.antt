@@ -7,5 +7,7 @@ pub use Rattle.rt_rib.proofs.Crossing.{table_send, book_send}
 pub use Rattle.rt_rib.proofs.Equality.{decides_hop, decides_route}
 -- the table that a journal leaves after one more entry
 pub use Rattle.rt_rib.proofs.Journals.{table_of_journal-push}
+-- a command leaves no route twice
+pub use Rattle.rt_rib.proofs.Journals.{IsTable-after}
 -- lawful journals
 pub use Rattle.rt_rib.proofs.Journals.{IsLawfulJournal-nil, IsLawfulJournal-push}

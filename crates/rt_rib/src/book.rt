@@ -1,15 +1,13 @@
 //! The book: a table with the journal of everything it answered, and nothing but what keeps the two consistent.
-ghost use Rattle.std.specs.Prelude.{◌≡◌, ◌<◌, [], length, map, IfOk, OnOk, OnErr};
+ghost use Rattle.std.specs.Prelude.{◌≡◌, ◌<◌, [], IfOk, OnOk, OnErr};
 ghost use Rattle.std.specs.List.{All};
 ghost use Rattle.rt_rib.specs.Book.{IsLimit, IsFeed};
 
-use crate::answers::LookupCursor;
+use crate::ahead;
 use crate::commands::{Cmd, Entry, Reply};
 use crate::refused::Refused;
 use crate::routes::Route;
 use crate::table::Table;
-use crate::{ahead, lookups};
-use rt_cidr::Addr;
 use std::alloc::Allocator;
 use std::fmt;
 use std::marker::Model;
@@ -61,7 +59,6 @@ impl<A: Allocator + Copy> fmt::Debug for Book<A> {
 impl<A: Allocator + Copy> Book<A> {
     ghost use Rattle.rt_rib.specs.Sequential.{IsLawfulJournal};
     ghost use Rattle.rt_rib.specs.Table.{IsTable};
-    ghost use Rattle.rt_rib.specs.LookUp.{look_up, look_up_all};
     ghost use Rattle.rt_rib.specs.Book.{table_of, Applies, Refuses, Reserves, HoldsTable};
 
     /// Returns an empty book in which each feed may have up to `limit` routes. Doesn't allocate, so its journal has no
@@ -135,36 +132,6 @@ impl<A: Allocator + Copy> Book<A> {
         ahead::read_ahead(self.table.map(), cmds);
     }
 
-    /// Replaces each answer by the best route of the longest prefix that covers the address with the same index, or by
-    /// `None` if no prefix covers it: the answer of `Cmd::Lookup`. The two lists must be equally long.
-    ///
-    /// Eight look-ups proceed in turn, so that their waits for memory overlap, which is faster if the table doesn't fit
-    /// in the cache. The book with its journal is unchanged. Doesn't allocate.
-    pub fn look_up(&self, addresses: &[Addr], answers: &mut [Option<Route>])
-        requires { length answers.old ≡ length addresses.now }
-        ensures { answers.new ≡ map (λ addr. look_up addr (table_of self.now)) addresses.now }
-    {
-        lookups::best_of_each(self.table.map(), addresses, answers);
-    }
-
-    /// Returns a cursor for look-ups of successive addresses, each with how far its answer holds. For rising addresses
-    /// a look-up continues from the path of the previous one instead of from the trie's root. Changes nothing. Doesn't
-    /// allocate.
-    pub fn lookup_cursor(&self) -> LookupCursor<'_, A>
-        ensures { result ≡ table_of self.now }
-    {
-        LookupCursor::new(self.table.map())
-    }
-
-    /// Returns every route whose prefix covers the address, by decreasing length, then by preference, then by feed, so
-    /// that the first is the answer to a look-up. Allocates only this list, with the given allocator. The book is
-    /// unchanged. Error M1 (`Refused`) if memory runs out.
-    pub fn look_up_all(&self, alloc: A, addr: Addr) -> Result<Vec<Route, A>, Refused>
-        ensures { IfOk result (λ routes. routes.items ≡ look_up_all addr (table_of self.now)) }
-    {
-        lookups::all_of(self.table.map(), alloc, addr)
-    }
-
     /// Returns the routes in dump order: by base, then length, then preference, then feed. Allocates the list with the
     /// given allocator. Error M1 (`Refused`) if memory runs out.
     pub fn routes(&self, alloc: A) -> Result<Vec<Route, A>, Refused>
@@ -173,13 +140,6 @@ impl<A: Allocator + Copy> Book<A> {
         ensures lawful { IsLawfulJournal self.now.limit self.now.journal }
     {
         self.table.routes(alloc)
-    }
-
-    /// Returns the number of nodes of the trie of the routes.
-    pub fn nodes(&self) -> usize
-        ensures { result ≡ self.now.trie.nodes }
-    {
-        self.table.map().nodes()
     }
 
     /// Returns every answered command with its reply, in the order in which they were answered.

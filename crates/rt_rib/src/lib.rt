@@ -22,18 +22,18 @@
 //! caller with several commands can use [`Book::read_ahead`], with which their waits for memory overlap
 //! (`src/ahead.rt`).
 //!
-//! A book is a [`Table`] and its journal. A program that runs for months and needs no history can use the table without
-//! a journal: it answers commands by the same `reply_of` and `table_after`. Contracts see its limit, its routes and
-//! their trie.
+//! A book is a [`Table`] and its journal: [`Book::table`] lends the table for queries. A program that runs for months
+//! and needs no history can use the table without a journal: it answers commands by the same `reply_of` and
+//! `table_after`. Contracts see its limit, its routes and their trie.
 //!
-//! These queries leave no entry in the journal:
+//! These queries of a table leave no entry in a journal:
 //!
-//! - [`Book::look_up`] answers many addresses at once.
-//! - [`Book::look_up_all`] returns every route whose prefix covers an address, the best first.
-//! - [`Book::lookup_cursor`] answers successive addresses, each with how far its answer holds.
+//! - [`Table::look_up`] answers one address, [`Table::look_up_each`] many addresses at once.
+//! - [`Table::look_up_all`] returns every route whose prefix covers an address, the best first.
+//! - [`Table::lookup_cursor`] answers successive addresses, each with how far its answer holds.
 //!
-//! The book, which knows that the routes are the journal's, passes such a look-up to the map (`src/lookups.rt`), where a
-//! prefix's first offer is its best one. The map passes it to the trie, whose type keeps it lawful.
+//! The table passes such a look-up to the map (`src/lookups.rt`), where a prefix's first offer is its best one. The map
+//! passes it to the trie, whose type keeps it lawful.
 //!
 //! Only tested, since no clause says it: that a command succeeds if there is memory, which allocator a list uses, and
 //! that the last address of an answer is as high as it is.

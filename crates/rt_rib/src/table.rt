@@ -119,17 +119,26 @@ impl<A: Allocator + Copy> Table<A> {
         map::routes(self.map.walk(), alloc, count as usize)
     }
 
-    /// Replaces each answer by the best route of the longest prefix that covers the address with the same index, or by
-    /// `None` if no prefix covers it. The two lists must be equally long. Eight look-ups proceed in turn, so that their
-    /// waits for memory overlap. Doesn't allocate.
-    pub fn look_up(&self, addresses: &[Addr], answers: &mut [Option<Route>])
+    /// Returns the best route of the longest prefix that covers the address, or `None` if no prefix covers it: the answer
+    /// of `Cmd::Lookup`. Doesn't allocate.
+    pub fn look_up(&self, addr: Addr) -> Option<Route>
+        ensures { result ≡ look_up addr self.now.routes }
+    {
+        lookups::best_of(&self.map, addr)
+    }
+
+    /// Replaces each answer by the look-up of the address with the same index. The two lists must be equally long. Eight
+    /// look-ups proceed in turn, so that their waits for memory overlap, which is faster if the table doesn't fit in the
+    /// cache. Doesn't allocate.
+    pub fn look_up_each(&self, addresses: &[Addr], answers: &mut [Option<Route>])
         requires { length answers.old ≡ length addresses.now }
         ensures { answers.new ≡ map (λ addr. look_up addr self.now.routes) addresses.now }
     {
         lookups::best_of_each(&self.map, addresses, answers);
     }
 
-    /// Returns a cursor for look-ups of successive addresses, each with how far its answer holds. Doesn't allocate.
+    /// Returns a cursor for look-ups of successive addresses, each with how far its answer holds. For rising addresses
+    /// a look-up continues from the path of the previous one instead of from the trie's root. Doesn't allocate.
     pub fn lookup_cursor(&self) -> LookupCursor<'_, A>
         ensures { result ≡ self.now.routes }
     {

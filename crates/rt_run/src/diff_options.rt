@@ -53,7 +53,7 @@ impl<'a> DiffOptions<'a> {
     ) -> Comparison<'a, Global>
         ensures { result ≡ compared_of self.now old.now.routes new.now.routes }
     {
-        let mut tables = Comparison::of(old.lookup_cursor(), new.lookup_cursor(), self.by);
+        let mut tables = Comparison::new(old, new, self.by);
         tables.renumber_new_feeds(self.numbers);
         tables
     }

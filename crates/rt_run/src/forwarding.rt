@@ -30,7 +30,7 @@ pub(crate) fn fib_for(alloc: Global, table: &Table<Global>, asked: usize) -> Opt
     if !is_faster(table.len(), asked) {
         return None;
     }
-    Fib::of(alloc, table).ok()
+    Fib::new(alloc, table).ok()
 }
 
 /// Replaces the elements of `answers` by the results of looking up each address, in order: in the forwarding table if there
@@ -47,6 +47,6 @@ pub(crate) fn look_up_by(
 {
     match fib {
         Some(fib) => fib.look_up_each(addresses, answers),
-        None => table.look_up(addresses, answers),
+        None => table.look_up_each(addresses, answers),
     }
 }

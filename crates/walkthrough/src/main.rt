@@ -17,7 +17,7 @@ use anyhow::Result;
 use lock::Tally;
 use rt_cidr::{Addr, Prefix};
 use rt_feed::{write_report, write_table};
-use rt_rib::{Book, Cmd, Hop, Reply};
+use rt_rib::{Cmd, Hop, Reply, Table};
 use std::alloc::Global;
 use std::io::{self, Write};
 use std::sync::Wait;
@@ -65,18 +65,18 @@ fn print_feeds<W: Write>(alloc: Global, out: &mut W) -> Result<()> {
     Ok(())
 }
 
-/// Returns a book with that route.
-fn book_of_one(alloc: Global) -> Result<Book<Global>> {
+/// Returns a table with that route.
+fn table_of_one(alloc: Global) -> Result<Table<Global>> {
     let add = first_add()?;
-    let mut book = Book::new(alloc, 10);
-    book.apply(1, add)?;
-    Ok(book)
+    let mut table = Table::new(alloc, 10);
+    table.apply(1, add)?;
+    Ok(table)
 }
 
-/// Returns true if that route in one of two books doesn't change where packets go.
+/// Returns true if that route in one of two tables doesn't change where packets go.
 fn one_route_alike(alloc: Global) -> Result<bool> {
-    let changed = book_of_one(alloc)?;
-    Ok(diff::go_alike(&Book::new(alloc, 10), &changed))
+    let changed = table_of_one(alloc)?;
+    Ok(diff::go_alike(&Table::new(alloc, 10), &changed))
 }
 
 fn print_difference<W: Write>(alloc: Global, out: &mut W) -> Result<()> {
@@ -86,10 +86,10 @@ fn print_difference<W: Write>(alloc: Global, out: &mut W) -> Result<()> {
 }
 
 fn print_forwarding<W: Write>(alloc: Global, out: &mut W) -> Result<()> {
-    let mut book = book_of_one(alloc)?;
+    let mut table = table_of_one(alloc)?;
     let narrower = add(b"10.1.0.0/16", 100, b"192.0.2.2")?;
     let addr = Addr::parse(b"10.1.2.3")?;
-    let routes = fib::routes_to(alloc, &mut book, narrower, addr)?;
+    let routes = fib::routes_to(alloc, &mut table, narrower, addr)?;
     if let (Some(before), Some(after)) = routes {
         write!(out, "10.1.2.3 is forwarded by ")?;
         before.prefix.write_to(out)?;

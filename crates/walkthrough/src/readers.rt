@@ -1,14 +1,14 @@
 //! `fib_readers`: feeds change a shared table on threads of their own, a writer follows them and publishes each
 //! forwarding table, and readers query it on threads of their own.
 ghost use Rattle.std.specs.Prelude.{◌≡◌, IfOk, IfSome, OnOk};
-ghost use Rattle.rt_rib.specs.Book.{IsFeed, table_of};
+ghost use Rattle.rt_rib.specs.Book.{IsFeed};
 
 use crate::fib::follow;
 use crate::shared::{LIMIT, ask, table_of_two};
 use fib_readers::{FibReader, FibWriter};
 use rt_cidr::Addr;
 use rt_fib::Fib;
-use rt_rib::{Book, Cmd, Refused, Route};
+use rt_rib::{Book, Cmd, Refused, Route, Table};
 use rt_shared::FeedPass;
 use std::alloc::Global;
 use std::sync::Wait;
@@ -37,19 +37,19 @@ fn find<R: Wait>(rt: &R, reader: FibReader, addr: Addr, feed: u32) -> Option<Rou
     unreachable!()
 }
 
-/// Executes the commands of a feed on the book, and has its forwarding table follow each.
+/// Executes the commands of a feed on the table, and has its forwarding table follow each.
 fn follow_all(
-    book: &mut Book<Global>,
+    table: &mut Table<Global>,
     fib: &mut Fib<Global>,
     feed: u32,
     cmds: &[Cmd],
 ) -> Result<(), Refused>
     requires feed { IsFeed feed }
-    requires fib { fib.old ≡ table_of book.old }
-    ensures { IfOk result (λ _. fib.new ≡ table_of book.new) }
+    requires fib { fib.old ≡ table.old.routes }
+    ensures { IfOk result (λ _. fib.new ≡ table.new.routes) }
 {
     'commands: for cmd in cmds {
-        follow(book, fib, feed, *cmd)?;
+        follow(table, fib, feed, *cmd)?;
     }
     Ok(())
 }
@@ -59,20 +59,20 @@ fn show<R: Wait>(
     rt: &R,
     alloc: Global,
     writer: FibWriter,
-    book: &mut Book<Global>,
+    table: &mut Table<Global>,
     fib: &mut Fib<Global>,
     feed: u32,
     cmds: &[Cmd],
 ) -> (FibWriter, Result<(), Refused>)
     requires feed { IsFeed feed }
-    requires fib { fib.old ≡ table_of book.old }
-    ensures fib { OnOk result.1 (fib.new ≡ table_of book.new) }
-    ensures shown { OnOk result.1 (result.0.table ≡ table_of book.new) }
+    requires fib { fib.old ≡ table.old.routes }
+    ensures fib { OnOk result.1 (fib.new ≡ table.new.routes) }
+    ensures shown { OnOk result.1 (result.0.table ≡ table.new.routes) }
 {
-    let Ok(()) = follow_all(book, fib, feed, cmds) else {
+    let Ok(()) = follow_all(table, fib, feed, cmds) else {
         return (writer, Err(Refused));
     };
-    match fib.copy(alloc, book) {
+    match fib.copy(alloc, table) {
         Ok(copy) => writer.publish(rt, alloc, copy),
         Err(Refused) => (writer, Err(Refused)),
     }
@@ -105,31 +105,31 @@ fn serve_both<R: Threads + Wait + Sync>(
     Ok(table.settle(rt, passes))
 }
 
-/// Has two feeds execute their commands, follows them in the writer's own book, and publishes its table after the first
+/// Has two feeds execute their commands, follows them in the writer's own table, and publishes its answers after the first
 /// feed's commands and after both. Fails if the shared table has another number of routes at the end: memory then ran
 /// out in one of the two.
 fn show_both<R: Threads + Wait + Sync>(
     rt: &R,
     alloc: Global,
     writer: FibWriter,
-    book: &mut Book<Global>,
+    table: &mut Table<Global>,
     fib: &mut Fib<Global>,
     first: &[Cmd],
     second: &[Cmd],
 ) -> (FibWriter, Result<(), Refused>)
-    requires { fib.old ≡ table_of book.old }
-    ensures fib { OnOk result.1 (fib.new ≡ table_of book.new) }
-    ensures shown { OnOk result.1 (result.0.table ≡ table_of book.new) }
+    requires { fib.old ≡ table.old.routes }
+    ensures fib { OnOk result.1 (fib.new ≡ table.new.routes) }
+    ensures shown { OnOk result.1 (result.0.table ≡ table.new.routes) }
 {
     let Ok(shared) = serve_both(rt, alloc, first, second) else {
         return (writer, Err(Refused));
     };
-    let (writer, done) = show(rt, alloc, writer, book, fib, 1, first);
+    let (writer, done) = show(rt, alloc, writer, table, fib, 1, first);
     if done.is_err() {
         return (writer, Err(Refused));
     }
-    let (writer, done) = show(rt, alloc, writer, book, fib, 2, second);
-    if shared.table().len() != book.table().len() {
+    let (writer, done) = show(rt, alloc, writer, table, fib, 2, second);
+    if shared.table().len() != table.len() {
         return (writer, Err(Refused));
     }
     (writer, done)
@@ -156,9 +156,9 @@ pub fn count_beside<R: Threads + Wait + Sync>(
     addr: Addr,
 ) -> Result<usize, Refused> {
     thread::scope(thread::scope_env(), rt, |scope| -> Result<usize, Refused> {
-        let mut book = Book::new(alloc, LIMIT);
-        let mut fib = Fib::new(alloc, &book)?;
-        let writer = FibWriter::new(alloc, fib.copy(alloc, &book)?, READERS)?;
+        let mut table = Table::new(alloc, LIMIT);
+        let mut fib = Fib::new(alloc, &table)?;
+        let writer = FibWriter::new(alloc, fib.copy(alloc, &table)?, READERS)?;
         let mut threads = Vec::new(alloc);
         for _ in 0..READERS {
             if let Ok(reader) = writer.reader() {
@@ -167,7 +167,7 @@ pub fn count_beside<R: Threads + Wait + Sync>(
                 }
             }
         }
-        let (writer, done) = show_both(rt, alloc, writer, &mut book, &mut fib, first, second);
+        let (writer, done) = show_both(rt, alloc, writer, &mut table, &mut fib, first, second);
         // Readers query until they find the route: if it isn't there, only the writer's end stops them.
         let is_there = fib.look_up(addr).is_some_and(|route| route.feed == 2);
         if done.is_err() || !is_there {

@@ -82,9 +82,7 @@ fn compare(old: &Held, new: &Held, by: u32, from: u32, difference: &mut YaribDif
     let (Some(old), Some(new)) = (old.table(), new.table()) else {
         return WRONG_KIND;
     };
-    match Comparison::of(old.lookup_cursor(), new.lookup_cursor(), by).first_difference(Addr(
-        from,
-    )) {
+    match Comparison::new(old, new, by).first_difference(Addr(from)) {
         None => NONE_LEFT,
         Some(found) => {
             *difference = YaribDifference {

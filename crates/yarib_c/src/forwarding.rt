@@ -37,7 +37,7 @@ fn forward(alloc: Global, held: &Held, forwarding: &mut Yarib) -> u32
     let Some(table) = held.table() else {
         return WRONG_KIND;
     };
-    let Ok(fib) = Fib::of(alloc, table) else {
+    let Ok(fib) = Fib::new(alloc, table) else {
         return NO_MEMORY;
     };
     let Ok(fib) = Arc::new(alloc, fib) else {

@@ -103,7 +103,7 @@ impl Held {
         match self {
             Held::Plain(plain) => plain.bytes(),
             Held::Journaled(book) => {
-                node_bytes(book.nodes()) + entry_bytes(book.journal().len())
+                node_bytes(book.table().nodes()) + entry_bytes(book.journal().len())
             }
             Held::Forwarding(fib) => fib.memory(),
         }

@@ -48,7 +48,7 @@ fn answer_chunk(
     let mut asked = [Addr(0); CHUNK];
     copy_chunk(addresses, &mut asked, start, size);
     let mut found = [None; CHUNK];
-    look_up(held, &asked[..size], &mut found[..size]);
+    look_up_each(held, &asked[..size], &mut found[..size]);
     for k in 0..size {
         answers[start + k] = YaribRoute::answer(found[k]);
     }
@@ -66,13 +66,13 @@ fn copy_chunk(addresses: &[u32], asked: &mut [Addr], start: usize, size: usize)
 }
 
 /// Looks up the addresses in the contents of the handle.
-fn look_up(held: &Held, addresses: &[Addr], answers: &mut [Option<Route>])
+fn look_up_each(held: &Held, addresses: &[Addr], answers: &mut [Option<Route>])
     requires { length answers.old ≡ length addresses.now }
     ensures { answers.new ≡ map (λ addr. look_up addr (routes_in held.now)) addresses.now }
 {
     match held {
-        Held::Plain(plain) => plain.look_up(addresses, answers),
-        Held::Journaled(book) => book.look_up(addresses, answers),
+        Held::Plain(plain) => plain.look_up_each(addresses, answers),
+        Held::Journaled(book) => book.table().look_up_each(addresses, answers),
         Held::Forwarding(fib) => fib.look_up_each(addresses, answers),
     }
 }
@@ -82,12 +82,8 @@ pub(crate) fn answer_one(held: &Held, addr: Addr) -> Option<Route>
     ensures { result ≡ look_up addr (routes_in held.now) }
 {
     match held {
-        Held::Plain(plain) => plain.look_up_one(addr),
-        Held::Journaled(book) => {
-            let mut found = [None];
-            book.look_up(&[addr], &mut found);
-            found[0]
-        }
+        Held::Plain(plain) => plain.look_up(addr),
+        Held::Journaled(book) => book.table().look_up(addr),
         Held::Forwarding(fib) => fib.look_up(addr),
     }
 }
@@ -153,7 +149,7 @@ fn route_chunk(
     let mut asked = [Addr(0); CHUNK];
     copy_chunk(addresses, &mut asked, start, size);
     let mut found = [None; CHUNK];
-    look_up(held, &asked[..size], &mut found[..size]);
+    look_up_each(held, &asked[..size], &mut found[..size]);
     for k in 0..size {
         routers[start + k] = router_number(found[k], no_route, discard);
     }

@@ -12,7 +12,7 @@ ghost use Rattle.yarib_c.specs.inside.AttachedFib.{FibHasRoutes, FibMayFollow};
 use crate::sizes::node_bytes;
 use rt_cidr::Addr;
 use rt_fib::Fib;
-use rt_fib::laws::tables_preserve_lookups_outside_prefix;
+use rt_fib::laws::commands_preserve_lookups_outside_prefix;
 use rt_rib::{Cmd, Refused, Reply, Route, Table};
 use std::alloc::Global;
 use std::marker::Model;
@@ -65,7 +65,7 @@ impl PlainTable {
         ensures table { self.new.table ≡ self.old.table }
     {
         if self.beside.is_none() {
-            self.beside = Some(Fib::of(alloc, &self.table)?);
+            self.beside = Some(Fib::new(alloc, &self.table)?);
         }
         Ok(())
     }
@@ -93,8 +93,7 @@ impl PlainTable {
     {
         self.table.holds();
         let reply = self.table.apply(feed, cmd)?;
-        self.table.holds();
-        tables_preserve_lookups_outside_prefix();
+        commands_preserve_lookups_outside_prefix();
         self.beside = followed(self.beside.take(), &self.table, &cmd);
         Ok(reply)
     }
@@ -109,13 +108,13 @@ impl PlainTable {
         reply
     }
 
-    /// Writes for each address, in order, the best route of the longest prefix that covers it, as `Table::look_up` does.
-    pub(crate) fn look_up(&self, addresses: &[Addr], answers: &mut [Option<Route>])
+    /// Writes for each address, in order, the best route of the longest prefix that covers it, as `Table::look_up_each` does.
+    pub(crate) fn look_up_each(&self, addresses: &[Addr], answers: &mut [Option<Route>])
         requires { length answers.old ≡ length addresses.now }
         ensures { answers.new ≡ map (λ addr. look_up addr self.now.table.routes) addresses.now }
     {
         match &self.beside {
-            None => self.table.look_up(addresses, answers),
+            None => self.table.look_up_each(addresses, answers),
             Some(fib) => fib.look_up_each(addresses, answers),
         }
     }
@@ -128,15 +127,11 @@ impl PlainTable {
     }
 
     /// Returns the best route of the longest prefix that covers the address.
-    pub(crate) fn look_up_one(&self, addr: Addr) -> Option<Route>
+    pub(crate) fn look_up(&self, addr: Addr) -> Option<Route>
         ensures { result ≡ look_up addr self.now.table.routes }
     {
         match &self.beside {
-            None => {
-                let mut found = [None];
-                self.table.look_up(&[addr], &mut found);
-                found[0]
-            }
+            None => self.table.look_up(addr),
             Some(fib) => fib.look_up(addr),
         }
     }
@@ -161,7 +156,7 @@ fn followed(beside: Option<Fib<Global>>, table: &Table<Global>, cmd: &Cmd) -> Op
     ensures { FibHasRoutes result table.now.routes }
 {
     let mut fib = beside?;
-    match fib.follow_to(table, cmd) {
+    match fib.follow(table, cmd) {
         Ok(()) => Some(fib),
         Err(_) => None,
     }

@@ -3,11 +3,11 @@ use Rattle.rt_rib.specs.Book.{TableState, table_state}
 use Rattle.rt_fib.proofs.Withdrawing.{withdrawn_rest}
 use Rattle.rt_fib.proofs.purging.withdraw.Goals as goal
 
-pub follow_to-requires : goal.follow_to-requires
-follow_to-requires g c =
+pub follow-requires : goal.follow-requires
+follow-requires g c =
     rw c.requires.same
-    (c.tables_preserve_lookups_outside_prefix.ensures (table_state c.args.table.now) (table_state c.apply.new.self) c.args.feed _ _
-    c.holds.ensures.once c.holds-2.ensures.once c.in_ok-apply.ensures.ok)
+    (c.commands_preserve_lookups_outside_prefix.ensures (table_state c.args.table.now) (table_state c.apply.new.self) c.args.feed _ _
+    c.holds.ensures.once c.in_ok-apply.ensures.ok)
 
 pub returns-clause-limit : goal.returns-clause-limit
 returns-clause-limit g c = ap (λ (s : TableState). s.limit) c.in_ok-apply.ensures.ok.changed

@@ -1,6 +1,5 @@
 use Rattle.std.proofs.Common.{◌≡◌, ◌↔◌, ◌∙◌, IsTrue, List, Bool, true, false, Option, None, Some, not, arith, refl, sym, subst}
 use Rattle.std.specs.Option.{is_some}
-use Rattle.rt_rib.specs.Book.{table_of}
 use Rattle.rt_rib.specs.declared.routes.Route.{Route}
 use Rattle.rt_diff.specs.declared.comparison.Difference.{Difference}
 use Rattle.rt_diff.specs.declared.table_answers.CompareBy.TheVariants as by
@@ -24,6 +23,6 @@ none_found old new (Some d) false first is =
 
 pub returns : goal.returns
 returns c =
-    none_found (table_of c.args.old.now) (table_of c.args.new.now) c.first_difference.result c.is_none.result
+    none_found c.args.old.now.routes c.args.new.now.routes c.first_difference.result c.is_none.result
     (subst (λ t. IsFirstDifference t.by t.old_table t.new_table (record { 0 = 0 }) c.first_difference.result) c.new.ensures c.first_difference.ensures.first)
     c.is_none.ensures

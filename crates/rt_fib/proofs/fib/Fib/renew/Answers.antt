@@ -1,7 +1,7 @@
 use Rattle.rt_fib.specs.Tables.{PreservesLookupsOutside}
 use Rattle.rt_fib.proofs.Leading.{cells_keep}
 use Rattle.rt_fib.proofs.Renewing.{renewed_cells}
-use Rattle.rt_fib.proofs.fib.Fib.renew_to.Goals as goal
+use Rattle.rt_fib.proofs.fib.Fib.renew.Goals as goal
 
 pub invariant_of-self : goal.invariant_of-self
 invariant_of-self g c =

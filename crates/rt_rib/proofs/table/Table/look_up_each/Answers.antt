@@ -1,7 +1,7 @@
 use Rattle.std.proofs.Common.{ap, ◌∙◌}
 use Rattle.rt_rib.specs.inside.Maps.{look_up_each}
 use Rattle.rt_rib.specs.Book.{TableContents}
-use Rattle.rt_rib.proofs.table.Table.look_up.Goals as goal
+use Rattle.rt_rib.proofs.table.Table.look_up_each.Goals as goal
 
 pub returns : goal.returns
 returns g c =
