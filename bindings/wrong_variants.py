@@ -4,7 +4,8 @@ Of each language, by name: the file, the text that is there exactly once, and th
 """
 TABLES, LIBRARY = "yarib/_tables.py", "yarib/_library.py"
 PYTHON = {
-    "in finds other lengths": (TABLES, "return route_of(*found) if found[4] == length else None", "return route_of(*found)"),
+    "in finds longer prefixes": (TABLES, "if found[4] == length else None", "if found[4] >= length else None"),
+    "in finds shorter prefixes": (TABLES, "if found[4] == length else None", "if found[4] <= length else None"),
     "in doesn't find what a longer prefix hides": (TABLES, "if found[4] > length or base", "if base"),
     "in accepts bits past the length": (TABLES, "if found[4] > length or base & LAST >> length:", "if found[4] > length:"),
     "a router is another one": (TABLES, "    return address_of(text)\n", "    return address_of(text) ^ 1\n"),
@@ -14,6 +15,10 @@ PYTHON = {
                                                  "        rooms.append(room)\n"
                                                  "        if self._changing.yarib_apply(self._at, command, room.at):\n"),
     "a full feed is overlooked": (TABLES, "{c.EXISTS: Exists, c.FULL: Full, c.MISSING: Missing}", "{c.EXISTS: Exists, c.MISSING: Missing}"),
+    **{f"{forgotten[0]} is forgotten in {call}": (TABLES, f"self._select(c.{call.upper()}, prefix_of(prefix), feed, best)",
+                                                  f"self._select(c.{call.upper()}, prefix_of(prefix), {forgotten[1]})")
+       for call in ("exact", "within", "covering")
+       for forgotten in (("best", "feed, False"), ("feed", "None, best"))},
     "best is forgotten in routes": (TABLES, "self._select(c.ALL, (0, 0), feed, best)", "self._select(c.ALL, (0, 0), feed, False)"),
     "feed is forgotten in routes": (TABLES, "self._select(c.ALL, (0, 0), feed, best)", "self._select(c.ALL, (0, 0), None, best)"),
     "within and covering are exchanged": (TABLES, "return self._select(c.WITHIN,", "return self._select(c.COVERING,"),
