@@ -298,6 +298,36 @@ enum yarib_status yarib_memory(const yarib *table, size_t *bytes)
     return status;
 }
 
+enum yarib_status yarib_fib_is_attached(const yarib *table, uint32_t *attached)
+{
+    struct own own;
+    if (!enter_reading(table, &own)) return YARIB_BUSY;
+    enum yarib_status status = proved_yarib_fib_is_attached(&own.handle, attached);
+    leave_reading(table, &own);
+    return status;
+}
+
+enum yarib_status yarib_view_sizes(const yarib *table, size_t *blocks, size_t *routers)
+{
+    struct own own;
+    if (!enter_reading(table, &own)) return YARIB_BUSY;
+    enum yarib_status status = proved_yarib_view_sizes(&own.handle, blocks, routers);
+    leave_reading(table, &own);
+    return status;
+}
+
+enum yarib_status yarib_view_write(const yarib *table, yarib_view *view)
+{
+    struct own own;
+    size_t used = 0;
+    if (!enter_reading(table, &own)) return YARIB_BUSY;
+    enum yarib_status status = proved_yarib_view_write(&own.handle, view->entries, view->entry_count, view->blocks,
+        view->block_count, view->routers, view->router_count, &used);
+    leave_reading(table, &own);
+    if (status == YARIB_DONE) view->router_count = used;
+    return status;
+}
+
 /* One handle twice is busy with itself: the proved call needs two. */
 enum yarib_status yarib_first_difference(const yarib *old_table, const yarib *new_table, uint32_t by, uint32_t from,
     yarib_difference *difference)

@@ -29,6 +29,10 @@ uint32_t proved_yarib_first_difference(yarib *old_table, yarib *new_table, uint3
 uint32_t proved_yarib_forward(yarib *table, yarib *forwarding);
 uint32_t proved_yarib_share(yarib *forwarding, yarib *other);
 uint32_t proved_yarib_follow(yarib *table);
+uint32_t proved_yarib_fib_is_attached(yarib *table, uint32_t *attached);
+uint32_t proved_yarib_view_sizes(yarib *table, size_t *blocks, size_t *routers);
+uint32_t proved_yarib_view_write(yarib *table, uint32_t *entries, size_t entry_count, uint32_t *blocks, size_t block_count,
+    uint32_t *routers, size_t router_count, size_t *used);
 uint32_t proved_yarib_memory(yarib *table, size_t *bytes);
 
 /* The place of a thread, with a cache line of its own: the handle that a call of the thread reads. A reader of a concurrent table also

@@ -62,9 +62,10 @@ static enum yarib_status reading(void)
     yarib_route route;
     yarib_entry entry;
     yarib_difference range;
-    uint32_t hop;
-    size_t total;
-    enum yarib_status status = yarib_look_up_one(&table, address, &route), compared;
+    uint32_t hop, attached;
+    size_t total, other_total;
+    yarib_view view = {&hop, 1, &hop, 1, &hop, 1};
+    enum yarib_status status = yarib_look_up_one(&table, address, &route), compared, viewed;
     CHECK(yarib_look_up(&table, &address, 1, &route, 1) == status);
     CHECK(yarib_hops(&table, &address, 1, 0, 1, &hop, 1) == status);
     CHECK(yarib_look_up_all(&table, address, 0, &route, 1, &total) == status);
@@ -73,6 +74,9 @@ static enum yarib_status reading(void)
     CHECK(yarib_select(&table, &all, 0, &route, 1, &total) == status);
     CHECK(yarib_count(&table, &total) == status);
     CHECK(yarib_memory(&table, &total) == status);
+    CHECK(yarib_fib_is_attached(&table, &attached) == status);
+    viewed = status == YARIB_DONE ? YARIB_WRONG_KIND : status;
+    CHECK(yarib_view_sizes(&table, &total, &other_total) == viewed && yarib_view_write(&table, &view) == viewed);
     CHECK(yarib_journal(&table, 0, &entry, 1, &total) == status);
     compared = yarib_first_difference(&table, &other, 0, 0, &range);
     CHECK(compared == status && yarib_first_difference(&other, &table, 0, 0, &range) == status);

@@ -100,6 +100,19 @@ static void look_up(const yarib *handle)
         CHECK(yarib_look_up_one(handle, asked[k], &one) == YARIB_DONE && one.via == found[k].via && hops[k] == one.via);
     }
     CHECK(yarib_memory(handle, &total) == YARIB_DONE);
+    CHECK(yarib_fib_is_attached(handle, hops) == YARIB_DONE);
+}
+
+/* Writes a view of what the handle holds. */
+static void show(const yarib *handle)
+{
+    size_t blocks, routers;
+    CHECK(yarib_view_sizes(handle, &blocks, &routers) == YARIB_DONE);
+    yarib_view view = {malloc(4 * YARIB_VIEW_ENTRIES), YARIB_VIEW_ENTRIES, malloc(4 * blocks), blocks, malloc(4 * routers), routers};
+    CHECK(view.entries && view.blocks && view.routers && yarib_view_write(handle, &view) == YARIB_DONE);
+    free(view.entries);
+    free(view.blocks);
+    free(view.routers);
 }
 
 /* Makes the queries that a table answers. */
@@ -157,6 +170,8 @@ int main(void)
     ask(&journaled, &followed, true);
     ask(&followed, &plain, false);
     look_up(&forwarding);
+    show(&forwarding);
+    show(&followed);
     change_ends_by_a_signal(&plain);
     freeze(false);
     CHECK(yarib_free(&plain) == YARIB_DONE && yarib_free(&journaled) == YARIB_DONE);

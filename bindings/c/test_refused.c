@@ -3,6 +3,7 @@
 
 #include <stdio.h>
 #include <stdlib.h>
+#include <string.h>
 #include <yarib.h>
 
 #define CHECK(holds) ((holds) ? (void)0 : (fprintf(stderr, "%s:%d: %s\n", __FILE__, __LINE__, #holds), exit(1)))
@@ -263,6 +264,33 @@ static int refuse_concurrent(long number, int is_attached, int *late)
     return left == 0;
 }
 
+/* A view of a forwarding table with one route: while a call for memory is refused, nothing is written. */
+static int refuse_view(long number)
+{
+    static uint32_t entries[1 << 24];
+    yarib table = YARIB_EMPTY, forwarding = YARIB_EMPTY;
+    uint32_t blocks[256] = {0}, routers[8] = {0};
+    yarib_view view = {entries, YARIB_VIEW_ENTRIES, blocks, 256, routers, 8};
+    yarib_command command = {.operation = YARIB_ADD, .feed = 1, .base = 0x01020304, .len = 32, .hop = YARIB_VIA, .via = 6};
+    yarib_reply reply;
+    enum yarib_status status;
+    refused_call = 0;
+    CHECK(yarib_new(&table, 1, YARIB_PLAIN) == YARIB_DONE && yarib_apply(&table, &command, &reply) == YARIB_DONE);
+    CHECK(yarib_fib_new(&table, &forwarding) == YARIB_DONE);
+    memset(entries, 0, sizeof entries);
+    refused_call = number;
+    while ((status = yarib_view_write(&forwarding, &view)) != YARIB_DONE) {
+        CHECK(status == YARIB_NO_MEMORY && view.router_count == 8 && entries[0x010203] == 0 && blocks[4] == 0 && routers[2] == 0);
+        refused++;
+    }
+    long left = refused_call;
+    refused_call = 0;
+    CHECK(view.router_count == 3 && routers[2] == 6 && yarib_view_look_up(&view, 0x01020304) == 2);
+    CHECK(yarib_view_look_up(&view, 0x01020305) == YARIB_NUMBER_NO_ROUTE);
+    CHECK(yarib_free(&table) == YARIB_DONE && yarib_free(&forwarding) == YARIB_DONE);
+    return left == 0;
+}
+
 static void refuse_plain(void)
 {
     for (uint32_t kind = YARIB_PLAIN; kind <= YARIB_JOURNALED; kind++) {
@@ -276,6 +304,9 @@ static void refuse_plain(void)
     long number = 1;
     while (refuse_followed(number)) number++;
     CHECK(number > 10);
+    number = 1;
+    while (refuse_view(number)) number++;
+    CHECK(number > 3);
 }
 
 /* With an argument, only concurrent tables are tried. */

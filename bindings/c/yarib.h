@@ -15,7 +15,8 @@
  * Numbers. An address is a uint32_t in host byte order; 10.0.0.0 is 0x0a000000. Feeds are 1 to 64. The lowest preference
  * number is preferred; between equal preferences, the lowest feed. Sizes count elements, not bytes.
  *
- * Statuses. Every call returns an enum yarib_status, except yarib_version and yarib_status_text, which return strings. YARIB_DONE
+ * Statuses. Every call returns an enum yarib_status, except yarib_version and yarib_status_text, which return strings, and
+ * yarib_view_look_up. YARIB_DONE
  * is 0. If a call returns another status, the handles are unchanged and nothing was written. If several statuses apply, the call
  * returns the first of them in this order: YARIB_BUSY (any call with a handle), then the call's Errors as they are listed, from left
  * to right.
@@ -287,8 +288,8 @@ YARIB_STATUS yarib_first_difference(const yarib *old_table, const yarib *new_tab
     yarib_difference *difference);
 
 /* Builds a forwarding table from the table's current answers. It takes 64 MiB or more, and a look-up takes two or three reads. Later
- * changes of the table don't change it. Its handle is for yarib_look_up, yarib_look_up_one, yarib_hops, yarib_fib_clone, yarib_memory
- * and yarib_free; yarib_apply_each and yarib_reserve do nothing to it. If yarib_fib_new succeeds, the previous contents of
+ * changes of the table don't change it. Its handle is for yarib_look_up, yarib_look_up_one, yarib_hops, yarib_fib_clone, yarib_view_sizes,
+ * yarib_view_write, yarib_memory and yarib_free; yarib_apply_each and yarib_reserve do nothing to it. If yarib_fib_new succeeds, the previous contents of
  * `forwarding` are freed.
  * Errors: YARIB_NOTHING, YARIB_WRONG_KIND (the first handle doesn't hold a table), YARIB_NO_MEMORY. */
 YARIB_STATUS yarib_fib_new(const yarib *table, yarib *forwarding);
@@ -303,15 +304,64 @@ YARIB_STATUS yarib_fib_clone(const yarib *forwarding, yarib *other);
  * every command updates it, and look-ups use it. A command takes a little more time: a change of a prefix of length 8 about
  * a millisecond, of a shorter one longer. A purge takes as long as withdrawing each route, or as a rebuild of the forwarding table
  * if that is faster. Another change rebuilds it too, rarely, if the table has become much smaller. If a command finds no memory for
- * the update, the command is still answered, the forwarding table is freed (no status says so, but yarib_memory is lower by its
- * size), and look-ups use the table until this is called again.
+ * the update, the command is still answered, the forwarding table is freed (no status says so, but
+ * yarib_fib_is_attached does), and look-ups use the table until this is called again.
  * Errors: YARIB_NOTHING, YARIB_WRONG_KIND (the handle doesn't hold a table without a journal), YARIB_NO_MEMORY. */
 YARIB_STATUS yarib_fib_attach(yarib *table);
 
-/* The names that these three calls had in version 0.1. */
+/* Writes 1 to `attached` if a forwarding table is attached to `table`, else 0: also for a forwarding table. It becomes 0 only if a
+ * command that inserts, changes or removes routes finds no memory for the update.
+ * Errors: YARIB_NOTHING. */
+YARIB_STATUS yarib_fib_is_attached(const yarib *table, uint32_t *attached);
+
+/* The names that yarib_fib_new, yarib_fib_clone and yarib_fib_attach had in version 0.1. */
 YARIB_STATUS yarib_forward(const yarib *table, yarib *forwarding);
 YARIB_STATUS yarib_share(const yarib *forwarding, yarib *other);
 YARIB_STATUS yarib_follow(yarib *table);
+
+/* A view: the next hops of a forwarding table as numbers, in three arrays of yours. A look-up in a view is the fastest: it reads one
+ * number or two, and takes no handle, so it is never busy. A view is a snapshot: later changes of the table don't change it, and it
+ * stays valid after yarib_free, until you free or change its arrays. Look-ups only read it, in any number of threads at once.
+ *
+ *     size_t blocks, routers;
+ *     if (yarib_view_sizes(&forwarding, &blocks, &routers) != YARIB_DONE) return 1;
+ *     yarib_view view = {malloc(4 * YARIB_VIEW_ENTRIES), YARIB_VIEW_ENTRIES, malloc(4 * blocks), blocks, malloc(4 * routers), routers};
+ *     if (yarib_view_write(&forwarding, &view) != YARIB_DONE) return 1;             // after a test of the three pointers
+ *     uint32_t number = yarib_view_look_up(&view, 0x0a010203);
+ *     if (number >= YARIB_FIRST_ROUTER) printf("via %x\n", view.routers[number]);
+ */
+typedef struct yarib_view {
+    uint32_t *entries;
+    size_t entry_count;
+    uint32_t *blocks;
+    size_t block_count;
+    uint32_t *routers; /* the address of each router; those before YARIB_FIRST_ROUTER mean nothing */
+    size_t router_count;
+} yarib_view;
+
+/* The number of entries, and the numbers that look-ups return. */
+#define YARIB_VIEW_ENTRIES ((size_t)1 << 24)
+#define YARIB_NUMBER_NO_ROUTE 0 /* no prefix covers the address */
+#define YARIB_NUMBER_DISCARD 1  /* packets are discarded */
+#define YARIB_FIRST_ROUTER 2    /* this number or a higher one is the router's index in `routers` */
+
+/* Writes the sizes of the arrays `blocks` and `routers`, at least 1 each. A later change of the table may change them.
+ * Errors: YARIB_NOTHING, YARIB_WRONG_KIND (the handle holds neither a forwarding table nor a table with an attached one). */
+YARIB_STATUS yarib_view_sizes(const yarib *table, size_t *blocks, size_t *routers);
+
+/* Writes a view of the current answers into the arrays of `view`, and the number of routers to its `router_count`, at most its value
+ * before: before you write the same view again, set it to the size of the array. Mostly each router has one number; if there are
+ * thousands of routers, some have several. Allocates 4 bytes for each answer and router, and frees them.
+ * Errors: YARIB_NOTHING, YARIB_WRONG_KIND (as in yarib_view_sizes), YARIB_NO_MEMORY, YARIB_BAD_SIZE (there aren't
+ * YARIB_VIEW_ENTRIES entries, or an array is too small). */
+YARIB_STATUS yarib_view_write(const yarib *table, yarib_view *view);
+
+/* Returns the number of the next hop for the address. Allocates nothing. */
+uint32_t yarib_view_look_up(const yarib_view *view, uint32_t address);
+
+/* Writes the number of the next hop for each address. The two arrays have the same size.
+ * Errors: YARIB_BAD_SIZE. */
+YARIB_STATUS yarib_view_look_up_each(const yarib_view *view, const uint32_t *addresses, size_t size, uint32_t *numbers, size_t room);
 
 /* Writes a size in bytes. For a forwarding table it is the memory of the forwarding table; each of its handles reports the whole
  * size. For a table it is an estimate: 48 for each node (at most two a prefix), 56 for each journal entry, and the size of an
@@ -571,6 +621,44 @@ static inline YARIB_STATUS yarib_fib_attach_checked(yarib *table)
 }
 #define yarib_fib_attach yarib_fib_attach_checked
 #define yarib_follow yarib_fib_attach_checked
+
+static inline YARIB_STATUS yarib_fib_is_attached_checked(const yarib *table, uint32_t *attached)
+{
+    assert(table != NULL && attached != NULL);
+    return yarib_fib_is_attached(table, attached);
+}
+#define yarib_fib_is_attached yarib_fib_is_attached_checked
+
+static inline YARIB_STATUS yarib_view_sizes_checked(const yarib *table, size_t *blocks, size_t *routers)
+{
+    assert(table != NULL && blocks != NULL && routers != NULL && blocks != routers);
+    return yarib_view_sizes(table, blocks, routers);
+}
+#define yarib_view_sizes yarib_view_sizes_checked
+
+static inline YARIB_STATUS yarib_view_write_checked(const yarib *table, yarib_view *view)
+{
+    assert(table != NULL && view != NULL && view->entries != NULL && view->blocks != NULL && view->routers != NULL);
+    return yarib_view_write(table, view);
+}
+#define yarib_view_write yarib_view_write_checked
+
+static inline uint32_t yarib_view_look_up_checked(const yarib_view *view, uint32_t address)
+{
+    assert(view != NULL && view->entries != NULL && view->blocks != NULL && view->routers != NULL);
+    return yarib_view_look_up(view, address);
+}
+#define yarib_view_look_up yarib_view_look_up_checked
+
+static inline YARIB_STATUS yarib_view_look_up_each_checked(const yarib_view *view, const uint32_t *addresses, size_t size,
+    uint32_t *numbers, size_t room)
+{
+    assert(view != NULL && view->entries != NULL && view->blocks != NULL && view->routers != NULL);
+    assert(addresses != NULL && numbers != NULL);
+    assert(yarib_are_apart(addresses, size * sizeof *addresses, numbers, room * sizeof *numbers));
+    return yarib_view_look_up_each(view, addresses, size, numbers, room);
+}
+#define yarib_view_look_up_each yarib_view_look_up_each_checked
 
 static inline YARIB_STATUS yarib_memory_checked(const yarib *table, size_t *bytes)
 {

@@ -1,15 +1,19 @@
 -- What the libraries say of new tables and of answered commands, as it is said of what a handle holds.
-use Rattle.std.proofs.Common.{◌≡◌, ℕ, [], refl, ap}
+use Rattle.std.proofs.Common.{◌≡◌, ℕ, Bool, true, false, nat_le, if◌then◌else◌, List, [], refl, ap}
 use Rattle.std.specs.Prelude.{Some, Result, Ok, Err, IfOk, OnErr, MatchResult}
 use Rattle.rt_rib.specs.declared.commands.Cmd.{Cmd}
 use Rattle.rt_rib.specs.declared.commands.Reply.{Reply}
 use Rattle.rt_rib.specs.declared.refused.Refused.{Refused}
-use Rattle.rt_rib.specs.Sequential.{table_of_journal}
+use Rattle.rt_rib.specs.declared.routes.Route.{Route}
+use Rattle.rt_rib.specs.declared.commands.Cmd.TheVariants.{Add, Replace, Withdraw, Lookup, Dump, Purge}
+use Rattle.rt_rib.specs.declared.commands.Reply.TheVariants.{Added, Exists, Full, Replaced, Withdrawn, Missing}
+use Rattle.rt_rib.specs.Table.{has, count_of}
+use Rattle.rt_rib.specs.Sequential.{reply_of, table_after, table_of_journal}
 use Rattle.rt_rib.specs.Book.{TableState, table_state, BookContents, Applies, Refuses}
 use Rattle.rt_rib.proofs.Promised.{table_of_journal-push}
 use Rattle.yarib_c.specs.declared.held.Held.TheVariants.{Plain, Journaled}
 use Rattle.yarib_c.specs.Plain.{PlainContents}
-use Rattle.yarib_c.specs.Kinds.{IsNew, Applied, NotApplied}
+use Rattle.yarib_c.specs.Kinds.{IsNew, SaysChange, Applied, NotApplied}
 
 -- a new table that keeps no journal
 pub new_plain : (limit : ℕ) (p : PlainContents) → table_state p.table ≡ record { limit = limit; routes = [] } → IsNew limit 0 (Plain p)
@@ -40,8 +44,36 @@ module _ (feed : ℕ) (cmd : Cmd) (old new : BookContents) where
     limited = h.limited;
     routes = rw (h.limited, h.journaled) (table_of_journal-push old.limit old.journal (record { feed = feed; cmd = cmd; reply = reply }));
     journal = ap Some h.journaled;
+    room = h.roomy;
+    followed = λ no. absurd no;
   }
   journaled (Err e) h refused = record {
-    same = record { limited = refused.limited; routes = rw (refused.limited, refused.journaled) refl; journal = ap Some refused.journaled };
+    same = record { limited = refused.limited; routes = rw (refused.limited, refused.journaled) refl; journal = ap Some refused.journaled; room = refused.roomy; followed = λ no. no };
     wanted = refused.wanted;
   }
+
+-- a command whose reply says no change leaves the routes
+kept_by : (one other : Bool) (kept : List Route) (more : List Route) → ¬ SaysChange (if one then Exists else if other then Full else Added)
+    → (if one then kept else if other then kept else more) ≡ kept
+kept_by true other kept more none = refl
+kept_by false true kept more none = refl
+kept_by false false kept more none = absurd (none tt)
+
+kept_unless : (one : Bool) (reply : Reply) (kept more : List Route) → SaysChange reply → ¬ SaysChange (if one then reply else Missing)
+    → (if one then more else kept) ≡ kept
+kept_unless true reply kept more says none = absurd (none says)
+kept_unless false reply kept more says none = refl
+
+pub no_change : (limit : ℕ) (routes : List Route) (feed : ℕ) (cmd : Cmd) → ¬ SaysChange (reply_of limit routes feed cmd)
+    → table_after limit routes feed cmd ≡ routes
+unfolding reply_of table_after
+no_change limit routes feed (Add prefix pref hop) none = kept_by (has feed prefix routes) (nat_le limit (count_of feed routes)) routes _ none
+no_change limit routes feed (Replace prefix pref hop) none = kept_unless (has feed prefix routes) Replaced routes _ tt none
+no_change limit routes feed (Withdraw prefix) none = kept_unless (has feed prefix routes) Withdrawn routes _ tt none
+no_change limit routes feed (Lookup addr) none = refl
+no_change limit routes feed Dump none = refl
+no_change limit routes feed Purge none = absurd (none tt)
+
+pub purge_says : (limit : ℕ) (routes : List Route) (feed : ℕ) → SaysChange (reply_of limit routes feed Purge)
+unfolding reply_of
+purge_says limit routes feed = tt

@@ -1,10 +1,10 @@
 -- What a handle can hold, as a table: its limit, its routes, and its journal if it keeps one.
-use Rattle.std.specs.Prelude.{◌≡◌, ℕ, zero, suc, true, ◌≤◌, ◌⊎◌, List, Option, Some, None, [], ◌∷◌, ◌++◌}
+use Rattle.std.specs.Prelude.{◌≡◌, ℕ, zero, suc, true, ◌+◌, ◌≤◌, ◌⊎◌, List, Option, Some, None, [], ◌∷◌, ◌++◌}
 use Rattle.std.specs.Option.{option_map}
 use Rattle.rt_rib.specs.declared.routes.Route.{Route}
 use Rattle.rt_rib.specs.declared.commands.Cmd.{Cmd}
 use Rattle.rt_rib.specs.declared.commands.Reply.{Reply}
-use Rattle.rt_rib.specs.declared.commands.Reply.TheVariants.{Added}
+use Rattle.rt_rib.specs.declared.commands.Reply.TheVariants.{Added, Exists, Full, Replaced, Withdrawn, Missing, Found, NoRoute, Dumped, Purged}
 use Rattle.rt_rib.specs.declared.commands.Entry.{Entry}
 use Rattle.rt_rib.specs.Sequential.{reply_of, table_after}
 use Rattle.rt_rib.specs.Book.{table_of}
@@ -52,17 +52,48 @@ IsFollowed (Plain plain) = plain.is_followed ≡ true
 IsFollowed (Journaled book) = ⊥
 IsFollowed (Forwarding fib) = ⊥
 
+-- 1 says that a forwarding table follows its commands, and 0 that none does
+abbrev pub SaysFollowed : Held → ℕ → Type 0
+SaysFollowed held number = ((number ≡ 1) × IsFollowed held) ⊎ ((number ≡ 0) × ¬ IsFollowed held)
+
+-- it is a forwarding table, or a table with one that follows its commands
+abbrev pub HasFib : Held → Type 0
+HasFib (Plain plain) = plain.is_followed ≡ true
+HasFib (Journaled book) = ⊥
+HasFib (Forwarding fib) = Unit {0}
+
 -- it is a table that keeps no journal
 abbrev pub IsPlain : Held → Type 0
 IsPlain (Plain plain) = Unit {0}
 IsPlain (Journaled book) = ⊥
 IsPlain (Forwarding fib) = ⊥
 
--- limit, routes and journal are unchanged
+-- the number of entries for which the journal has room
+abbrev pub room_in : Held → ℕ
+room_in (Plain plain) = 0
+room_in (Journaled book) = book.room
+room_in (Forwarding fib) = 0
+
+-- limit, routes and journal are unchanged, no room in the journal is lost, and a forwarding table that follows goes on following
 pub record IsSame (old new : Held) : Type 0 where
   pub limited : limit_of new ≡ limit_of old
   pub routes : routes_in new ≡ routes_in old
   pub journal : journal_in new ≡ journal_in old
+  pub room : room_in old ≤ room_in new
+  pub followed : IsFollowed old → IsFollowed new
+
+-- the reply says that routes were inserted, changed or removed, or that a feed was purged
+abbrev pub SaysChange : Reply → Type 0
+SaysChange Added = Unit {0}
+SaysChange Replaced = Unit {0}
+SaysChange Withdrawn = Unit {0}
+SaysChange (Purged n) = Unit {0}
+SaysChange Exists = ⊥
+SaysChange Full = ⊥
+SaysChange Missing = ⊥
+SaysChange (Found r) = ⊥
+SaysChange NoRoute = ⊥
+SaysChange (Dumped n) = ⊥
 
 -- if it keeps a journal, the journal has room for this many entries
 abbrev pub HasRoom : ℕ → Held → Held → Type 0
@@ -71,12 +102,15 @@ HasRoom entries old (Journaled book) = entries ≤ book.room
 HasRoom entries old (Forwarding fib) = Unit {0}
 
 -- the command was answered as by the sequential table, the routes are those that the sequential table has afterwards,
--- and a journal has gained this entry at its end
+-- and a journal has gained this entry at its end, which uses room for at most one. A forwarding table that follows goes on
+-- following, unless the command is a change
 pub record Applied (old new : Held) (feed : ℕ) (cmd : Cmd) (reply : Reply) : Type 0 where
   pub replied : reply ≡ reply_of (limit_of old) (routes_in old) feed cmd
   pub limited : limit_of new ≡ limit_of old
   pub routes : routes_in new ≡ table_after (limit_of old) (routes_in old) feed cmd
   pub journal : journal_in new ≡ option_map (λ entries. entries ++ record { feed = feed; cmd = cmd; reply = reply } ∷ []) (journal_in old)
+  pub room : room_in old ≤ room_in new + 1
+  pub followed : IsFollowed old → SaysChange reply ⊎ IsFollowed new
 
 -- the command needs memory: it inserts a route, or its entry has no room in the journal
 abbrev pub WantsMemory : Held → ℕ → Cmd → Type 0

@@ -5,6 +5,7 @@ pub mod Kinds
 pub mod Forms
 pub mod Calls
 pub mod Lists
+pub mod ShownViews
 pub mod Selections
 pub mod Sizes
 pub mod Differences

@@ -1,7 +1,7 @@
 //! Forwarding tables. One is made from a table, is queried like a table, and is held by a handle for each thread that queries it.
 //! Another kind belongs to a table and follows the table's commands.
 ghost use Rattle.std.specs.Prelude.{◌≡◌, ◌≢◌, None, [], ◌∷◌};
-ghost use Rattle.yarib_c.specs.Kinds.{routes_in, IsForwarding, IsFollowed, IsPlain, IsSame};
+ghost use Rattle.yarib_c.specs.Kinds.{routes_in, IsForwarding, IsFollowed, SaysFollowed, IsPlain, IsSame};
 ghost use Rattle.yarib_c.specs.Sizes.{TakesBytes};
 ghost use Rattle.yarib_c.specs.Calls.{held_in, HandleHolds, IsFibWithRoutes, IsKept};
 ghost use Rattle.yarib_c.specs.Statuses.{IsOneOf};
@@ -99,6 +99,21 @@ pub extern "C" fn yarib_follow(alloc: Global, table: &mut Yarib) -> u32
             Err(_) => NO_MEMORY,
         },
         Held::Journaled(_) | Held::Forwarding(_) => WRONG_KIND,
+    })
+}
+
+/// Writes 1 if a forwarding table follows the table's commands, and else 0.
+#[unsafe(no_mangle)]
+pub extern "C" fn yarib_fib_is_attached(alloc: Global, table: &mut Yarib, attached: &mut u32) -> u32
+    ensures done { result ≡ DONE → HandleHolds table.old (λ held. SaysFollowed held attached.new) }
+    ensures same { held_in table.new ≡ held_in table.old }
+    ensures absent { result ≡ NOTHING → held_in table.old ≡ None }
+    ensures silent { result ≢ DONE → attached.new ≡ attached.old }
+    ensures known { IsOneOf (DONE ∷ NOTHING ∷ []) result }
+{
+    with_held!(table, alloc, held => {
+        *attached = if held.is_followed() { 1 } else { 0 };
+        DONE
     })
 }
 

@@ -1,7 +1,7 @@
 //! The contents of a handle.
-ghost use Rattle.std.specs.Prelude.{◌≡◌, ◌<◌, ◌≤◌, IfSome, MatchOption, MatchResult, OnOk};
+ghost use Rattle.std.specs.Prelude.{◌≡◌, ◌↔◌, IsTrue, ◌<◌, ◌≤◌, MatchOption, MatchResult, OnOk};
 ghost use Rattle.rt_rib.specs.Book.{IsLimit, IsFeed};
-ghost use Rattle.yarib_c.specs.Kinds.{routes_in, IsForwarding, IsNew, IsSame, HasRoom, Applied, NotApplied};
+ghost use Rattle.yarib_c.specs.Kinds.{routes_in, HasFib, IsForwarding, IsFollowed, IsNew, IsSame, HasRoom, Applied, NotApplied};
 ghost use Rattle.yarib_c.specs.Sizes.{TakesBytes};
 ghost use Rattle.yarib_c.specs.inside.Tables.{IsTableOf};
 
@@ -63,12 +63,22 @@ impl Held {
 
     /// Returns the forwarding table that answers its look-ups, if there is one.
     pub(crate) fn forwarding(&self) -> Option<&Fib<Global>>
-        ensures { IfSome result (λ fib. fib.now ≡ routes_in self.now) }
+        ensures { MatchOption result (¬ HasFib self.now) (λ fib. fib.now ≡ routes_in self.now) }
     {
         match self {
             Held::Plain(plain) => plain.beside(),
             Held::Journaled(_) => None,
             Held::Forwarding(fib) => Some(fib),
+        }
+    }
+
+    /// Returns true if it is a table with a forwarding table that follows its commands.
+    pub(crate) fn is_followed(&self) -> bool
+        ensures { IsTrue result ↔ IsFollowed self.now }
+    {
+        match self {
+            Held::Plain(plain) => plain.is_followed(),
+            Held::Journaled(_) | Held::Forwarding(_) => false,
         }
     }
 

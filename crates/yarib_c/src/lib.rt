@@ -28,6 +28,7 @@ mod selections;
 mod sizes;
 mod status;
 mod texts;
+mod views;
 
 pub use commands::{YaribCommand, YaribEntry, YaribReply};
 pub use differences::YaribDifference;
@@ -35,3 +36,4 @@ pub use handle::Yarib;
 pub use routes::YaribRoute;
 pub use selections::YaribSelection;
 pub use texts::YaribPrefix;
+pub use views::YaribView;

@@ -1,5 +1,5 @@
 //! A table that keeps no journal and, if a call has requested one, a forwarding table that follows it.
-ghost use Rattle.std.specs.Prelude.{◌≡◌, ◌+◌, ◌≤◌, ◌^◌, true, false, [], length, map, IfOk, IfSome, OnOk, OnErr};
+ghost use Rattle.std.specs.Prelude.{◌≡◌, ◌↔◌, ◌⊎◌, ◌+◌, ◌≤◌, ◌^◌, IsTrue, true, false, [], length, map, IfOk, MatchOption, OnOk, OnErr};
 ghost use Rattle.rt_rib.specs.declared.commands.Cmd.TheVariants.{Purge};
 ghost use Rattle.rt_rib.specs.declared.commands.Reply.TheVariants.{Added};
 ghost use Rattle.rt_rib.specs.Sequential.{reply_of};
@@ -7,6 +7,7 @@ ghost use Rattle.rt_rib.specs.LookUp.{look_up};
 ghost use Rattle.rt_rib.specs.Book.{IsLimit, IsFeed, table_state, Serves};
 ghost use Rattle.yarib_c.specs.Sizes.{bytes_of};
 ghost use Rattle.yarib_c.specs.declared.sizes.TheConstants.{NODE_BYTES};
+ghost use Rattle.yarib_c.specs.Kinds.{SaysChange};
 ghost use Rattle.yarib_c.specs.inside.AttachedFib.{FibHasRoutes, FibMayFollow};
 
 use crate::sizes::node_bytes;
@@ -62,6 +63,7 @@ impl PlainTable {
     /// Makes a forwarding table that follows the table, if there isn't one yet. M1: `Refused` if memory ran out.
     pub(crate) fn follow(&mut self, alloc: Global) -> Result<(), Refused>
         ensures ok { OnOk result (self.new.is_followed ≡ true) }
+        ensures kept { self.old.is_followed ≡ true → self.new.is_followed ≡ true }
         ensures table { self.new.table ≡ self.old.table }
     {
         if self.beside.is_none() {
@@ -77,6 +79,7 @@ impl PlainTable {
         ensures ok { IfOk result (λ reply. Serves (table_state self.old.table) (table_state self.new.table) feed cmd reply) }
         ensures err { OnErr result (self.new ≡ self.old) }
         ensures wanted { OnErr result (reply_of self.old.table.limit self.old.table.routes feed cmd ≡ Added) }
+        ensures followed { IfOk result (λ reply. self.old.is_followed ≡ true → SaysChange reply ⊎ (self.new.is_followed ≡ true)) }
     {
         match cmd {
             Cmd::Purge => Ok(self.purge(feed)),
@@ -90,9 +93,13 @@ impl PlainTable {
         ensures ok { IfOk result (λ reply. Serves (table_state self.old.table) (table_state self.new.table) feed cmd reply) }
         ensures err { OnErr result (self.new ≡ self.old) }
         ensures wanted { OnErr result (reply_of self.old.table.limit self.old.table.routes feed cmd ≡ Added) }
+        ensures followed { IfOk result (λ reply. self.old.is_followed ≡ true → SaysChange reply ⊎ (self.new.is_followed ≡ true)) }
     {
         self.table.holds();
         let reply = self.table.apply(feed, cmd)?;
+        if !is_change(&reply) {
+            return Ok(reply);
+        }
         commands_preserve_lookups_outside_prefix();
         self.beside = followed(self.beside.take(), &self.table, &cmd);
         Ok(reply)
@@ -121,9 +128,16 @@ impl PlainTable {
 
     /// Returns the forwarding table that follows it, if there is one.
     pub(crate) fn beside(&self) -> Option<&Fib<Global>>
-        ensures { IfSome result (λ fib. fib.now ≡ self.now.table.routes) }
+        ensures { MatchOption result (self.now.is_followed ≡ false) (λ fib. fib.now ≡ self.now.table.routes) }
     {
         self.beside.as_ref()
+    }
+
+    /// Returns true if a forwarding table follows it.
+    pub(crate) fn is_followed(&self) -> bool
+        ensures { result ≡ self.now.is_followed }
+    {
+        self.beside.is_some()
     }
 
     /// Returns the best route of the longest prefix that covers the address.
@@ -146,6 +160,17 @@ impl PlainTable {
             None => nodes,
             Some(fib) => nodes.saturating_add(fib.memory()),
         }
+    }
+}
+
+/// Returns true if the reply says that routes were inserted, changed or removed, or that a feed was purged.
+fn is_change(reply: &Reply) -> bool
+    ensures { IsTrue result ↔ SaysChange reply.now }
+{
+    match reply {
+        Reply::Added | Reply::Replaced | Reply::Withdrawn | Reply::Purged(_) => true,
+        Reply::Exists | Reply::Full | Reply::Missing => false,
+        Reply::Found(_) | Reply::NoRoute | Reply::Dumped(_) => false,
     }
 }
 
