@@ -21,7 +21,7 @@ PARTS = [
     ("gathering and asking, reading ahead, the report",
      r"^rt_feed::(feed_run|running|report|gates|feeds)|^std::thread"),
     ("the table and the lock", r"^(rt_shared|rt_rib|rt_trie|ya_\w+|atomic_table)::"),
-    ("rendering", r"^rt_feed::print|^rt_cidr::|^rt_run::|^rt_app::|^terminal_line::"),
+    ("rendering", r"^rt_feed::print|^rt_print::|^rt_cidr::|^rt_run::|^rt_app::|^terminal_line::"),
     ("memory: granted, copied, filled", r"malloc|_alloc|free|realloc|^__?mem"),
     ("the rest", r""),
 ]

@@ -54,26 +54,25 @@ QUERIES = Page("STATEMENT-QUERIES.md", "What queries and comparisons print", (
         "writes the best route of the longest prefix that covers the address, in the table that such a run leaves; or "
         "every route that covers it, each before those that it beats, with the step at which each other route lost to "
         "the first. A list writes the selected routes of that table, in its order, or their numbers. All output has a "
-        "style: lines with the feeds' numbers or labels, or JSON objects. `labels_of` makes the labels from the files' "
+        "style: lines or JSON objects, with a label for each feed. `Style::new` makes it from a format and the files' "
         "paths. If no command ran out of memory, that table is the union. The bytes, the status and the "
         "tallies are then a function of the texts, the limit and the query: `shows_union` and `query_output_is_deterministic` say "
-        "this of two runs, `lookup_output_is_deterministic` of two look-ups."), (
+        "this of two runs, `answers_are_deterministic` of two calls of `show`."), (
         "those of [a run](STATEMENT-RUN.md#a-run-from-bytes-to-bytes); for the last two sentences that no status is "
         "5."),
-        ["rt_run::queries::lookup_texts", "rt_run::queries::lookup_all_texts", "rt_run::queries::table_texts",
-         "rt_run::queries::count_texts", "rt_feed::labels::labels_of", "rt_run::laws::shows_union",
-         "rt_run::laws::query_output_is_deterministic", "rt_run::laws::lookup_output_is_deterministic"]),
+        ["rt_run::queries::show", "rt_print::style::Style::new", "rt_run::laws::shows_union",
+         "rt_run::laws::query_output_is_deterministic", "rt_run::laws::answers_are_deterministic"]),
     Chapter("Comparing two tables", (
         "A comparison runs two sets of texts, each over a table of its own, and writes all ranges of addresses for "
         "which the two tables give different answers. An address is in a range if and only if its two answers differ, "
         "and has the answers of its line. Hence if nothing is written, all 2^32 addresses have the same answer in both "
-        "tables. The feeds of the new table are identified by the numbers that the call receives. With the numbers of "
-        "`pair_feeds_by_name`, feeds with the same name are the same. Two tables have only one list of such ranges "
+        "tables. `DiffOptions::new` makes the options from a format and the files' paths. If the format prints names, "
+        "feeds with the same name are the same. Two tables have only one list of such ranges "
         "(`one_list`). If no command ran out of memory, it is the list of both unions. Two comparisons of "
         "the same texts and limits then write the same bytes, with the same statuses and tallies: `diffs_unions` and "
         "`diff_output_is_deterministic`."), (
         "those of two runs, as above."),
-        ["rt_run::comparisons::diff_texts", "rt_feed::pairing::pair_feeds_by_name", "rt_diff::laws::one_list",
+        ["rt_run::comparisons::diff_texts", "rt_print::diff_options::DiffOptions::new", "rt_diff::laws::one_list",
          "rt_run::laws::diffs_unions", "rt_run::laws::diff_output_is_deterministic"]),
 ])
 

@@ -68,7 +68,7 @@ def runs(yarib):
     make(yarib, calls.RUN_FILES, calls.RUNS)
 
 
-# Catches `lookup_texts`, `lookup_all_texts` or `table_texts` always returning F3 or `Write`, and answers to invalid
+# Catches `show` always returning F3 or `Write`, and answers to invalid
 # lines of an address file.
 # Catches answers in another order than the command line's addresses and then the file's: `lookup --address
 # 255.255.255.255 --address 0.0.0.0 --address 255.255.255.254 zero.feed`.

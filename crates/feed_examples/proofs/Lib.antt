@@ -1,3 +1,4 @@
 pub mod Shared
 pub mod Feed
+pub mod Print
 pub mod Run

@@ -30,16 +30,17 @@ use Rattle.rt_feed.specs.declared.report.Answer.TheVariants as answer
 use Rattle.rt_feed.specs.Lines.{HasVersion2Header, CutsLine, skipped, faulty, asked, LineOutcome, TextYields, commands_of, report_lines}
 use Rattle.rt_feed.specs.Reports.{has_refusal, has_fault}
 use Rattle.rt_feed.specs.Visits.{IsSplitInto, concatenated}
-use Rattle.rt_feed.specs.Printed.{reply_text, answer_text, line_text, route_text, row_text, count_text, table_text, found_text, also_text, reason_text}
+use Rattle.rt_feed.specs.Printed.{reply_text, answer_text, line_text}
+use Rattle.rt_print.specs.Routes.{route_text, row_text, count_text, table_text}
 use Rattle.rt_feed.specs.declared.faults.RunFault.TheVariants as run
 use Rattle.feed_examples.proofs.Feed.{at_192_0_2_1, asked_text, two_are_asked_and_a_line_is_faulty}
 use Rattle.feed_examples.proofs.Feed.{north, north_read, south, south_read, east, east_read, what_north_becomes, what_south_becomes, what_east_becomes}
 use Rattle.rt_diff.specs.declared.comparison.Difference.{Difference}
-use Rattle.rt_feed.specs.DifferenceText.{SideStylesContents}
+use Rattle.rt_print.specs.DifferenceText.{DiffContents}
 use Rattle.rt_diff.specs.Answers.{own_numbers}
 use Rattle.rt_diff.specs.declared.table_answers.CompareBy.TheVariants as by
 use Rattle.table_examples.proofs.Diff.{a_table_and_itself_have_none}
-use Rattle.rt_run.specs.DiffText.{DiffContents, differ_status, IsDiffText}
+use Rattle.rt_run.specs.DiffText.{differ_status, IsDiffText}
 use Rattle.rt_run.specs.declared.comparisons.DiffSummary.{DiffSummary}
 use Rattle.ya_lock.specs.Lock.{LockId}
 use Rattle.rt_shared.specs.Table.{SharedId, HeldPass, Settles}
@@ -50,16 +51,17 @@ use Rattle.rt_run.proofs.Lists.{cut-joined}
 use Rattle.ya_replay.specs.ReplayText.{inside_text}
 use Rattle.rt_run.specs.Replayed.{IsReplayText, LeavesReplay}
 use Rattle.rt_run.specs.declared.tallies.RunSummary.{RunSummary}
-use Rattle.rt_feed.specs.declared.styles.Form.TheVariants.{Numbers}
-use Rattle.rt_feed.specs.Styles.{StyleContents, row_as, found_as, all_found_as}
-use Rattle.rt_feed.specs.Counts.{totals_as, count_as, counts_as}
+use Rattle.rt_print.specs.Styles.{StyleContents, row_as, found_as, all_found_as, reason_text}
+use Rattle.rt_print.specs.Counts.{totals_as, count_as, counts_as}
 use Rattle.rt_run.specs.TableText.{answers_text, all_answers_text, routes_text, counts_text, was_full, was_existing, was_missing, faults_of, tally_of}
-use Rattle.rt_run.specs.TableText.{has_refused, has_rejected, tallies_status, LeavesTable, IsQueryOutput, IsLookupOutput}
+use Rattle.rt_run.specs.TableText.{has_refused, has_rejected, tallies_status, LeavesTable, question_text, named_in, said_in, IsQueryOutput, IsAnswer}
+use Rattle.rt_run.specs.declared.lookup_addresses.LookupAddresses.{LookupAddresses}
+use Rattle.rt_run.specs.declared.asked_routes.AskedRoutes.{AskedRoutes}
+use Rattle.rt_run.specs.declared.question.Question.TheVariants as ask
 use Rattle.rt_run.specs.SameTable.{table_alone, LeavesAlone, IsUnion, IsAnsweredAlone}
 use Rattle.rt_run.specs.ChosenFeeds.{is_selected, is_left_out, texts_kept, routes_of_selected}
 use Rattle.rt_run.specs.LeftOut.{AreWithout, LosesLeftOut}
 use Rattle.rt_run.proofs.KeptTexts.{are_without}
-use Rattle.rt_diff.specs.declared.table_answers.CompareBy.{CompareBy}
 use Rattle.rt_rib.specs.declared.selection.PrefixFilter.TheVariants as part
 
 -- table_alone
@@ -230,24 +232,24 @@ two_to_ten_8 = route_via ten_8 2 30 Discard ∷ route_via ten_8 1 50 Discard ∷
 
 -- routes as lines with their feeds' numbers
 abbrev plain : StyleContents
-plain = record { form = Numbers; labels = [] }
+plain = record { json = false; labels = [] }
 
 -- routes_text
 all_of_them : routes_text plain (record { part = part.All; only_best = false; feed = None }) [] two_to_ten_8 ≡ codes "10.0.0.0/8 feed 2 pref 30 via discard\n10.0.0.0/8 feed 1 pref 50 via discard\n"
-unfolding digits address_text prefix_text row_text row_as route_text
+unfolding digits address_text prefix_text row_as
 all_of_them = refl
 
 only_the_best : routes_text plain (record { part = part.All; only_best = true; feed = None }) [] two_to_ten_8 ≡ codes "10.0.0.0/8 feed 2 pref 30 via discard\n"
-unfolding digits address_text prefix_text row_text row_as route_text
+unfolding digits address_text prefix_text row_as
 only_the_best = refl
 
 only_a_feeds : routes_text plain (record { part = part.Exact ten_8; only_best = false; feed = Some 1 }) [] two_to_ten_8 ≡ codes "10.0.0.0/8 feed 1 pref 50 via discard\n"
-unfolding digits address_text prefix_text row_text row_as route_text
+unfolding digits address_text prefix_text row_as
 only_a_feeds = refl
 
 only_those_of_the_feeds_that_are_best :
     routes_text plain (record { part = part.All; only_best = true; feed = None }) (1 ∷ 2 ∷ []) two_to_ten_8 ≡ codes "10.0.0.0/8 feed 2 pref 30 via discard\n"
-unfolding digits address_text prefix_text row_text row_as route_text
+unfolding digits address_text prefix_text row_as
 only_those_of_the_feeds_that_are_best = refl
 
 none_if_the_best_is_anothers : routes_text plain (record { part = part.All; only_best = true; feed = None }) (1 ∷ []) two_to_ten_8 ≡ []
@@ -274,7 +276,7 @@ only_the_best_in_numbers = refl
 one_is_covered_and_one_is_not :
     answers_text plain (at_10_1_2_3 ∷ at_10_9_0_1 ∷ []) (route_via ten_1_16 1 10 Discard ∷ [])
     ≡ codes "10.1.2.3 route 10.1.0.0/16 feed 1 pref 10 via discard\n10.9.0.1 no route\n"
-unfolding digits address_text prefix_text look_up found_as found_text reply_text route_text
+unfolding digits address_text prefix_text look_up found_as
 one_is_covered_and_one_is_not = refl
 
 -- all_answers_text
@@ -283,7 +285,7 @@ all_that_cover_each :
     ≡ codes "10.1.2.3 route 10.1.0.0/16 feed 1 pref 10 via discard\n10.1.2.3 also 10.0.0.0/8 feed 2 pref 30 via discard shorter\n"
     ++ codes "10.1.2.3 also 10.0.0.0/8 feed 1 pref 50 via discard shorter\n10.9.0.1 route 10.0.0.0/8 feed 2 pref 30 via discard\n"
     ++ codes "10.9.0.1 also 10.0.0.0/8 feed 1 pref 50 via discard preference\n"
-unfolding digits address_text prefix_text look_up_all all_found_as found_text also_text reason_text reply_text route_text
+unfolding digits address_text prefix_text look_up_all all_found_as found_as reason_text
 all_that_cover_each = refl
 
 -- an answer of each kind that a tally distinguishes
@@ -722,10 +724,44 @@ no_route_of_no_text summary h =
     let no_entries = nobody_asks h.leaves.journal h.leaves.history.no_other in
     let none : ◌≡◌ {A = List ℕ} (1 ∷ []) (0 ∷ []) = h.shown ∙ ap length_text (h.leaves.left ∙ ap (table_of_journal 1) no_entries) in cc
 
--- IsLookupOutput
+-- one named address, and those of the text
+abbrev one_and_a_text : LookupAddresses
+one_and_a_text = record { named = record { ref_ptr = (0, 0); now = at_10_9_0_1 ∷ [] }; text = record { ref_ptr = (0, 0); now = asked_text } }
+
+-- every route of the table
+abbrev every_route : AskedRoutes
+every_route = record { selection = record { part = part.All; only_best = false; feed = None }; feeds = record { ref_ptr = (0, 0); now = [] } }
+
+-- named_in
+only_look_ups_have_addresses :
+    (named_in (ask.Best one_and_a_text) ≡ at_10_9_0_1 ∷ []) × (named_in (ask.All one_and_a_text) ≡ at_10_9_0_1 ∷ []) × (named_in (ask.Routes every_route) ≡ [])
+    × (named_in (ask.Counts every_route) ≡ [])
+only_look_ups_have_addresses = (refl, refl, refl, refl)
+
+-- said_in
+only_look_ups_have_a_text :
+    (said_in (ask.Best one_and_a_text) ≡ asked_text) × (said_in (ask.All one_and_a_text) ≡ asked_text) × (said_in (ask.Routes every_route) ≡ [])
+    × (said_in (ask.Counts every_route) ≡ [])
+only_look_ups_have_a_text = (refl, refl, refl, refl)
+
+-- question_text
+routes_and_their_numbers :
+    (question_text plain (ask.Routes every_route) [] two_to_ten_8 ≡ codes "10.0.0.0/8 feed 2 pref 30 via discard\n10.0.0.0/8 feed 1 pref 50 via discard\n")
+    × (question_text plain (ask.Counts every_route) [] two_to_ten_8 ≡ codes "routes 2 prefixes 1\nfeed 1 routes 1\nfeed 2 routes 1\nlength 8 routes 2\n")
+unfolding digits address_text prefix_text row_as counts_as totals_as count_as
+routes_and_their_numbers = (refl, refl)
+
+all_or_the_best :
+    (question_text plain (ask.Best one_and_a_text) (at_10_1_2_3 ∷ []) two_to_ten_8 ≡ codes "10.1.2.3 route 10.0.0.0/8 feed 2 pref 30 via discard\n")
+    × (question_text plain (ask.All one_and_a_text) (at_10_1_2_3 ∷ []) two_to_ten_8
+    ≡ codes "10.1.2.3 route 10.0.0.0/8 feed 2 pref 30 via discard\n10.1.2.3 also 10.0.0.0/8 feed 1 pref 50 via discard preference\n")
+unfolding digits address_text prefix_text look_up look_up_all found_as all_found_as reason_text
+all_or_the_best = (refl, refl)
+
+-- IsAnswer
 the_named_one_before_the_two_of_the_text :
     (summary : RunSummary) → summary.tallies.items ≡ map tally_of (reports_of the_tutorials_outcomes) → summary.status ≡ 0
-    → IsLookupOutput the_tutorials_run (at_10_9_0_1 ∷ []) asked_text (answers_text plain)
+    → IsAnswer the_tutorials_run plain (ask.Best one_and_a_text)
     (answers_text plain (at_10_9_0_1 ∷ at_192_0_2_1 ∷ at_10_1_2_3 ∷ []) (table_of_journal 65536 tutorial))
     (record { status = 2; run = summary; faulty = record { count = 1; first = Some (3, fault.Text) } })
 the_named_one_before_the_two_of_the_text summary tallied status = record {
@@ -802,21 +838,20 @@ no_byte_lost_where_its_text_could_not_be_written (its_text, is, begins) = let lo
 some_range_or_none : (d : Difference) → (differ_status [] ≡ 0) × (differ_status (d ∷ []) ≡ 1) × (differ_status (d ∷ d ∷ []) ≡ 1)
 some_range_or_none d = (refl, refl, refl)
 
--- DiffContents
-what_a_comparison_is_asked : (way : CompareBy) (numbers : List ℕ) (told : SideStylesContents) (asked : DiffContents) → asked ≡ record { by = way; numbers = numbers; styles = told }
-    → (asked.by ≡ way) × (asked.numbers ≡ numbers) × (asked.styles ≡ told)
-what_a_comparison_is_asked way numbers told terms is = (ap (λ (a : DiffContents). a.by) is, ap (λ (a : DiffContents). a.numbers) is, ap (λ (a : DiffContents). a.styles) is)
-
 -- a comparison of whole routes, with each feed's own number
-abbrev whole_routes : SideStylesContents → DiffContents
-whole_routes styles = record { by = by.Route; numbers = []; styles = styles }
+abbrev whole_routes : StyleContents → DiffContents
+whole_routes style = record { by = by.Route; numbers = []; old = style; new = style }
+
+-- DiffContents
+what_a_comparison_is_asked : (style : StyleContents) → ((whole_routes style).by ≡ by.Route) × ((whole_routes style).numbers ≡ []) × ((whole_routes style).new ≡ style)
+what_a_comparison_is_asked style = (refl, refl, refl)
 
 -- IsDiffText
 nothing_is_written_of_a_run_and_itself :
-    (styles : SideStylesContents) (old new : RunSummary) → old.tallies.items ≡ map tally_of (reports_of the_tutorials_outcomes) → old.status ≡ 0
+    (style : StyleContents) (old new : RunSummary) → old.tallies.items ≡ map tally_of (reports_of the_tutorials_outcomes) → old.status ≡ 0
     → new.tallies.items ≡ map tally_of (reports_of the_tutorials_outcomes) → new.status ≡ 0
-    → IsDiffText (whole_routes styles) the_tutorials_run the_tutorials_run [] (record { status = 0; old = old; new = new })
-nothing_is_written_of_a_run_and_itself styles old new old_tallied old_status new_tallied new_status = record {
+    → IsDiffText (whole_routes style) the_tutorials_run the_tutorials_run [] (record { status = 0; old = old; new = new })
+nothing_is_written_of_a_run_and_itself style old new old_tallied old_status new_tallied new_status = record {
   old_table = table_of_journal 65536 tutorial;
   new_table = table_of_journal 65536 tutorial;
   old_left = what_the_tutorial_leaves old old_tallied old_status;

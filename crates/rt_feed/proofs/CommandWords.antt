@@ -18,10 +18,10 @@ use Rattle.rt_rib.specs.declared.commands.Cmd.TheVariants.{Add, Replace, Withdra
 use Rattle.rt_feed.specs.declared.parse.TheConstants.{LINE_BYTES}
 use Rattle.rt_feed.specs.declared.versions.Version.{Version}
 use Rattle.rt_feed.specs.CommandText.{space, words, route_words, command_text, HasHop, HasCommand}
-use Rattle.rt_feed.specs.Printed.{hop_text}
+use Rattle.rt_print.specs.Routes.{hop_text}
 use Rattle.rt_feed.specs.Grammar.{hash, fields, is_skipped, kinds_after}
 use Rattle.rt_feed.proofs.CutBytes.{is_unspaced}
-use Rattle.rt_feed.proofs.Printing.{hop_fits}
+use Rattle.rt_print.proofs.Promised.{hop_fits}
 
 -- a line whose fields are a command's words is the command's text
 pub line-from_words : (line : List ℕ) (cmd : Cmd) → fields line ≡ words cmd → line ≡ command_text cmd

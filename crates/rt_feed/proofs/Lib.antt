@@ -7,10 +7,6 @@ pub mod FilledReports
 pub mod RunSteps
 pub mod GateVisits
 pub mod Printing
-pub mod DifferenceLines
-pub mod LineParts
-pub mod CountParts
-pub mod FeedLabels
 pub mod PrefixFaults
 pub mod OneAnswer
 pub mod OneAddress

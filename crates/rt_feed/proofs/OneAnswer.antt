@@ -14,7 +14,7 @@ use Rattle.rt_feed.specs.declared.parse.LineFault.{LineFault}
 use Rattle.rt_feed.specs.declared.versions.Version.{Version}
 use Rattle.rt_feed.specs.declared.versions.Version.TheVariants.{Two}
 use Rattle.rt_feed.specs.CommandText.{words, route_words, HasHop, HasCommand}
-use Rattle.rt_feed.specs.Printed.{hop_text}
+use Rattle.rt_print.specs.Routes.{hop_text}
 use Rattle.rt_feed.specs.Grammar.{Kind, prefix, preference, hop, address, IsFaultOf, IsFirstFault, IsFaultAfter, IsFaultOfFields, kinds_after, fields}
 use Rattle.rt_feed.specs.Grammar.{AnswersLine}
 use Rattle.rt_feed.specs.inside.Fields.{route_kinds, IsFaultAmong}

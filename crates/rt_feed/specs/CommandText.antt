@@ -9,7 +9,7 @@ use Rattle.rt_rib.specs.declared.commands.Cmd.{Cmd}
 use Rattle.rt_rib.specs.declared.commands.Cmd.TheVariants.{Add, Replace, Withdraw, Lookup, Dump, Purge}
 use Rattle.rt_feed.specs.declared.versions.Version.{Version}
 use Rattle.rt_feed.specs.declared.versions.Version.TheVariants.{Two}
-use Rattle.rt_feed.specs.Printed.{hop_text}
+use Rattle.rt_print.specs.Routes.{hop_text}
 
 -- the byte between two words
 abbrev pub space : ℕ

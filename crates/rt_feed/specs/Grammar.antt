@@ -15,7 +15,7 @@ use Rattle.rt_feed.specs.declared.parse.LineFault.TheVariants as fault
 use Rattle.rt_feed.specs.declared.versions.Version.{Version}
 use Rattle.rt_feed.specs.declared.versions.Version.TheVariants.{One, Two}
 use Rattle.rt_feed.specs.CommandText.{space, command_text, HasHop, HasCommand}
-use Rattle.rt_feed.specs.Printed.{hop_text}
+use Rattle.rt_print.specs.Routes.{hop_text}
 
 -- the first byte of a comment, `#`
 abbrev pub hash : ℕ

@@ -1,15 +1,10 @@
 pub mod Addresses
 pub mod CommandText
-pub mod Counts
-pub mod DifferenceText
 pub mod Grammar
-pub mod Json
-pub mod Labels
 pub mod Laws
 pub mod Lines
 pub mod Printed
 pub mod Reports
 pub mod FeedRuns
-pub mod Styles
 pub mod Visits
 pub mod inside

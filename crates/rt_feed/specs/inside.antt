@@ -5,4 +5,3 @@ pub mod Lines
 pub mod ReadAddresses
 pub mod FeedRuns
 pub mod HeldVisits
-pub mod Styles

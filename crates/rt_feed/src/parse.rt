@@ -3,7 +3,7 @@ ghost use Rattle.std.specs.Prelude.{◌≡◌, ◌≢◌, ◌∷◌, ◌<◌, �
 ghost use Rattle.rt_cidr.specs.Text.{address_text, prefix_text};
 ghost use Rattle.rt_feed.specs.declared.parse.TheConstants.{LINE_BYTES};
 ghost use Rattle.rt_feed.specs.CommandText.{HasHop};
-ghost use Rattle.rt_feed.specs.Printed.{hop_text};
+ghost use Rattle.rt_print.specs.Routes.{hop_text};
 ghost use Rattle.rt_feed.specs.Grammar.{Kind, kinds_after, is_skipped, fields, AnswersLine};
 ghost use Rattle.rt_feed.specs.inside.Fields.{fields_of_rest, name_text, route_kinds, prefix_fault, IsRoute, IsFaulty, IsFaultAmong, AnswersFields};
 

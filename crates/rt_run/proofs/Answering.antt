@@ -11,7 +11,7 @@ use Rattle.rt_cidr.specs.Output.{AppendsBeginning}
 use Rattle.rt_cidr.proofs.Promised.{begins_after, begins_longer}
 use Rattle.rt_rib.specs.declared.routes.Route.{Route}
 use Rattle.rt_rib.specs.LookUp.{look_up, look_up_all}
-use Rattle.rt_feed.specs.Styles.{StyleContents, label_of, found_as, all_found_as}
+use Rattle.rt_print.specs.Styles.{StyleContents, label_of, found_as, all_found_as}
 use Rattle.rt_run.specs.declared.output.AddressMatches.{AddressMatches}
 use Rattle.rt_run.specs.TableText.{answers_text, all_answers_text}
 use Rattle.rt_run.specs.inside.Outputs.{matches_text}
@@ -24,7 +24,7 @@ module _ (style : StyleContents) (table : List Route) (all rest piece behind : L
   answers_grow =
       append_assoc text (answers_text style piece table) (answers_text style behind table)
       ∙ (ap (λ t. text ++ t)
-      (sym (ap (λ addresses. answers_text style addresses table) cut ∙ flat_map-append (λ addr. found_as style.form (label_of style.labels) addr (look_up addr table)) piece behind)) ∙ whole)
+      (sym (ap (λ addresses. answers_text style addresses table) cut ∙ flat_map-append (λ addr. found_as style.json (label_of style.labels) addr (look_up addr table)) piece behind)) ∙ whole)
 
   -- a fault within them leaves a beginning of all answers
   pub answers_begin : (a b c : Option (List ℕ)) → Appends a b text
@@ -40,13 +40,13 @@ module _ (style : StyleContents) (table : List Route) (piece : List Addr) (answe
   found_at = is ∙ (ap (λ (all : List (Option Route)). get_or all k found) answered ∙ get_or-map (λ addr. look_up addr table) piece k none found here)
 
   -- a fault within its text leaves a beginning of the piece's answers
-  pub answers_stop : (a b c : Option (List ℕ)) → Appends a b (answers_text style (take k piece) table) → AppendsBeginning b c (found_as style.form (label_of style.labels) (get_or piece k none) found)
+  pub answers_stop : (a b c : Option (List ℕ)) → Appends a b (answers_text style (take k piece) table) → AppendsBeginning b c (found_as style.json (label_of style.labels) (get_or piece k none) found)
       → AppendsBeginning a c (answers_text style piece table)
   answers_stop a b c written begun =
-      let one : Addr → List ℕ = λ addr. found_as style.form (label_of style.labels) addr (look_up addr table) in
+      let one : Addr → List ℕ = λ addr. found_as style.json (label_of style.labels) addr (look_up addr table) in
       let addr = get_or piece k none in
       begins_all (λ n. one) (λ n. flat_map one) (λ n. refl) (λ n x xs. refl) piece k addr here (get_or_default piece k none addr here) a b c written
-      (subst (λ (f : Option Route). AppendsBeginning b c (found_as style.form (label_of style.labels) addr f)) found_at begun)
+      (subst (λ (f : Option Route). AppendsBeginning b c (found_as style.json (label_of style.labels) addr f)) found_at begun)
 
 -- all covering routes of one more address
 pub matches_more :
@@ -54,10 +54,10 @@ pub matches_more :
     → all' ≡ all ++ one ∷ [] → one.addr ≡ get_or addresses k none → one.routes.items ≡ look_up_all (get_or addresses k none) table
     → matches_text style all ≡ all_answers_text style (take k addresses) table → matches_text style all' ≡ all_answers_text style (take (k + 1) addresses) table
 matches_more style table addresses k none all all' one here pushed of_it found so_far =
-    let text : AddressMatches → List ℕ = λ m. all_found_as style.form (label_of style.labels) m.addr m.routes.items in
-    let answer : Addr → List ℕ = λ a. all_found_as style.form (label_of style.labels) a (look_up_all a table) in
+    let text : AddressMatches → List ℕ = λ m. all_found_as style.json (label_of style.labels) m.addr m.routes.items in
+    let answer : Addr → List ℕ = λ a. all_found_as style.json (label_of style.labels) a (look_up_all a table) in
     let addr = get_or addresses k none in
-    let same : text one ≡ answer addr = ap (λ a. all_found_as style.form (label_of style.labels) a one.routes.items) of_it ∙ ap (all_found_as style.form (label_of style.labels) addr) found in
+    let same : text one ≡ answer addr = ap (λ a. all_found_as style.json (label_of style.labels) a one.routes.items) of_it ∙ ap (all_found_as style.json (label_of style.labels) addr) found in
     let next : take (k + 1) addresses ≡ take k addresses ++ addr ∷ [] = ap (λ n. take n addresses) (add-one k) ∙ take-suc addresses k none here in
     ap (matches_text style) pushed ∙ (flat_map-append text all (one ∷ [])
     ∙ (ap (λ t. t ++ (text one ++ [])) so_far ∙ (ap (λ t. all_answers_text style (take k addresses) table ++ (t ++ [])) same

@@ -1,5 +1,5 @@
 -- A text that goes to a writer through a new buffer: the writer's contents after each fault.
-use Rattle.std.proofs.Common.{◌≡◌, ◌==◌, ℕ, ◌<◌, true, false, List, [], ◌∷◌, ◌++◌, length, Option, Some, None, refl, arith, length-append, eqb-true}
+use Rattle.std.proofs.Common.{◌≡◌, ◌==◌, ℕ, ◌<◌, Bool, true, false, List, [], ◌∷◌, ◌++◌, length, Option, Some, None, refl, arith, length-append, eqb-true}
 use Rattle.std.specs.List.{flat_map}
 use Rattle.std.specs.Io.KnownBytes.{Appends, Keeps}
 use Rattle.std.proofs.KnownBytes.{Appends-kept}
@@ -8,11 +8,9 @@ use Rattle.rt_cidr.proofs.Promised.{stops, stops_held}
 use Rattle.rt_cidr.specs.declared.address.Addr.{Addr}
 use Rattle.rt_rib.specs.declared.routes.Route.{Route}
 use Rattle.rt_rib.specs.LookUp.{look_up}
-use Rattle.rt_feed.specs.declared.styles.Form.{Form}
-use Rattle.rt_feed.specs.declared.styles.Form.TheVariants.{Numbers, Labels, Json}
-use Rattle.rt_feed.specs.Printed.{table_text, count_text, row_text, found_text, all_found_text}
-use Rattle.rt_feed.specs.Counts.{prefix_count, totals_as, counts_as}
-use Rattle.rt_feed.specs.Styles.{StyleContents, label_of, row_as, rows_as, address_head, found_as, all_found_as}
+use Rattle.rt_print.specs.Routes.{table_text, count_text}
+use Rattle.rt_print.specs.Counts.{prefix_count, totals_as, counts_as}
+use Rattle.rt_print.specs.Styles.{StyleContents, label_of, row_as, rows_as, address_head, found_as, all_found_as}
 use Rattle.rt_run.specs.declared.output.AddressMatches.{AddressMatches}
 use Rattle.rt_run.specs.TableText.{answers_text}
 use Rattle.rt_run.specs.inside.Outputs.{matches_text}
@@ -46,75 +44,59 @@ module _ {X : Type 0} (text : X → List ℕ) (some : (x : X) → 0 < length (te
   texts-some [] h = absurd cc
   texts-some (x ∷ xs) h = let first = some x in simp length-append (omega arith)
 
-row-some : (route : Route) → 0 < length (row_text route)
-unfolding row_text
-row-some route = simp length-append (omega arith)
-
-found-some : (addr : Addr) (found : Option Route) → 0 < length (found_text addr found)
-unfolding found_text
-found-some addr found = simp length-append (omega arith)
-
-plain_all_found-some : (addr : Addr) (found : List Route) → 0 < length (all_found_text addr found)
-plain_all_found-some addr [] = found-some addr None
-plain_all_found-some addr (first ∷ others) = let line = found-some addr (Some first) in simp length-append (omega arith)
-
 -- nor is the text of a look-up, in any style
-row_as-some : (form : Form) (label : ℕ → List ℕ) (route : Route) → 0 < length (row_as form label route)
+row_as-some : (json : Bool) (label : ℕ → List ℕ) (route : Route) → 0 < length (row_as json label route)
 unfolding row_as
-row_as-some Numbers label route = row-some route
-row_as-some Labels label route = simp length-append (omega arith)
-row_as-some Json label route = simp length-append (omega arith)
+row_as-some false label route = simp length-append (omega arith)
+row_as-some true label route = simp length-append (omega arith)
 
-found_as-some : (form : Form) (label : ℕ → List ℕ) (addr : Addr) (found : Option Route) → 0 < length (found_as form label addr found)
+found_as-some : (json : Bool) (label : ℕ → List ℕ) (addr : Addr) (found : Option Route) → 0 < length (found_as json label addr found)
 unfolding found_as address_head
-found_as-some Numbers label addr found = found-some addr found
-found_as-some Labels label addr None = found-some addr None
-found_as-some Labels label addr (Some r) = simp length-append (omega arith)
-found_as-some Json label addr None = simp length-append (omega arith)
-found_as-some Json label addr (Some r) = simp length-append (omega arith)
+found_as-some false label addr None = simp length-append (omega arith)
+found_as-some false label addr (Some r) = simp length-append (omega arith)
+found_as-some true label addr None = simp length-append (omega arith)
+found_as-some true label addr (Some r) = simp length-append (omega arith)
 
-all_found_as-some : (form : Form) (label : ℕ → List ℕ) (addr : Addr) (found : List Route) → 0 < length (all_found_as form label addr found)
+all_found_as-some : (json : Bool) (label : ℕ → List ℕ) (addr : Addr) (found : List Route) → 0 < length (all_found_as json label addr found)
 unfolding all_found_as address_head
-all_found_as-some Numbers label addr found = plain_all_found-some addr found
-all_found_as-some Labels label addr [] = found-some addr None
-all_found_as-some Labels label addr (first ∷ others) = let line = found_as-some Labels label addr (Some first) in simp length-append (omega arith)
-all_found_as-some Json label addr [] = simp length-append (omega arith)
-all_found_as-some Json label addr (first ∷ others) = simp length-append (omega arith)
+all_found_as-some false label addr [] = found_as-some false label addr None
+all_found_as-some false label addr (first ∷ others) = let line = found_as-some false label addr (Some first) in simp length-append (omega arith)
+all_found_as-some true label addr [] = simp length-append (omega arith)
+all_found_as-some true label addr (first ∷ others) = simp length-append (omega arith)
 
 module _ (style : StyleContents) where
-  pub rows-none : (routes : List Route) → (length routes == 0) ≡ true → rows_as style.form (label_of style.labels) routes ≡ []
-  rows-none = texts-none (row_as style.form (label_of style.labels)) (row_as-some style.form (label_of style.labels))
+  pub rows-none : (routes : List Route) → (length routes == 0) ≡ true → rows_as style routes ≡ []
+  rows-none = texts-none (row_as style.json (label_of style.labels)) (row_as-some style.json (label_of style.labels))
 
-  pub rows-some : (routes : List Route) → (length routes == 0) ≡ false → 0 < length (rows_as style.form (label_of style.labels) routes)
-  rows-some = texts-some (row_as style.form (label_of style.labels)) (row_as-some style.form (label_of style.labels))
+  pub rows-some : (routes : List Route) → (length routes == 0) ≡ false → 0 < length (rows_as style routes)
+  rows-some = texts-some (row_as style.json (label_of style.labels)) (row_as-some style.json (label_of style.labels))
 
   pub answers-none : (addresses : List Addr) (table : List Route) → (length addresses == 0) ≡ true → answers_text style addresses table ≡ []
   answers-none addresses table =
-      texts-none (λ addr. found_as style.form (label_of style.labels) addr (look_up addr table))
-      (λ addr. found_as-some style.form (label_of style.labels) addr (look_up addr table)) addresses
+      texts-none (λ addr. found_as style.json (label_of style.labels) addr (look_up addr table))
+      (λ addr. found_as-some style.json (label_of style.labels) addr (look_up addr table)) addresses
 
   pub answers-some : (addresses : List Addr) (table : List Route) → (length addresses == 0) ≡ false → 0 < length (answers_text style addresses table)
   answers-some addresses table =
-      texts-some (λ addr. found_as style.form (label_of style.labels) addr (look_up addr table))
-      (λ addr. found_as-some style.form (label_of style.labels) addr (look_up addr table)) addresses
+      texts-some (λ addr. found_as style.json (label_of style.labels) addr (look_up addr table))
+      (λ addr. found_as-some style.json (label_of style.labels) addr (look_up addr table)) addresses
 
   pub matches-none : (all : List AddressMatches) → (length all == 0) ≡ true → matches_text style all ≡ []
   matches-none =
-      texts-none (λ one. all_found_as style.form (label_of style.labels) one.addr one.routes.items)
-      (λ one. all_found_as-some style.form (label_of style.labels) one.addr one.routes.items)
+      texts-none (λ one. all_found_as style.json (label_of style.labels) one.addr one.routes.items)
+      (λ one. all_found_as-some style.json (label_of style.labels) one.addr one.routes.items)
 
   pub matches-some : (all : List AddressMatches) → (length all == 0) ≡ false → 0 < length (matches_text style all)
   matches-some =
-      texts-some (λ one. all_found_as style.form (label_of style.labels) one.addr one.routes.items)
-      (λ one. all_found_as-some style.form (label_of style.labels) one.addr one.routes.items)
+      texts-some (λ one. all_found_as style.json (label_of style.labels) one.addr one.routes.items)
+      (λ one. all_found_as-some style.json (label_of style.labels) one.addr one.routes.items)
 
 -- nor is the text of the counts
-totals-some : (form : Form) (routes prefixes : ℕ) (rest : List ℕ) → 0 < length (totals_as form routes prefixes ++ rest)
+totals-some : (json : Bool) (routes prefixes : ℕ) (rest : List ℕ) → 0 < length (totals_as json routes prefixes ++ rest)
 unfolding totals_as
-totals-some Numbers routes prefixes rest = simp length-append (omega arith)
-totals-some Labels routes prefixes rest = simp length-append (omega arith)
-totals-some Json routes prefixes rest = simp length-append (omega arith)
+totals-some false routes prefixes rest = simp length-append (omega arith)
+totals-some true routes prefixes rest = simp length-append (omega arith)
 
-pub counts-some : (form : Form) (label : ℕ → List ℕ) (routes : List Route) → 0 < length (counts_as form label routes)
+pub counts-some : (style : StyleContents) (routes : List Route) → 0 < length (counts_as style routes)
 unfolding counts_as
-counts-some form label routes = totals-some form (length routes) (prefix_count routes) _
+counts-some style routes = totals-some style.json (length routes) (prefix_count routes) _

@@ -10,13 +10,11 @@ use Rattle.rt_diff.specs.declared.comparison.Difference.{Difference}
 use Rattle.rt_diff.specs.Answers.{own_numbers}
 use Rattle.rt_diff.specs.Differences.{AreDifferences}
 use Rattle.rt_diff.proofs.Promised.{at, rest_none, rest_next, rest_there, whole, differences_of, differences_are, is_differences_of}
-use Rattle.rt_feed.specs.declared.styles.Form.{Form}
-use Rattle.rt_feed.specs.declared.styles.Form.TheVariants.{Numbers, Labels, Json}
-use Rattle.rt_feed.specs.DifferenceText.{range_as, difference_as, differences_as}
+use Rattle.rt_print.specs.DifferenceText.{DiffContents, range_as, difference_as, differences_as}
 use Rattle.rt_run.specs.declared.comparisons.DiffSummary.{DiffSummary}
 use Rattle.rt_run.specs.RunContents.{RunContents}
 use Rattle.rt_run.specs.TableText.{LeavesTable}
-use Rattle.rt_run.specs.DiffText.{DiffContents, renumbered_new, differ_status, IsDiffText}
+use Rattle.rt_run.specs.DiffText.{renumbered_new, differ_status, IsDiffText}
 use Rattle.rt_run.specs.inside.Comparisons.{IsFirstFrom, IsFirstOf, lines_of, compared_status, IsSoFar}
 
 -- an absent difference is `None`
@@ -25,11 +23,10 @@ none_left None h = refl
 none_left (Some d) h = absurd (h d refl)
 
 -- the line of a range isn't empty
-range-some : (form : Form) (d : Difference) (old new rest : List ℕ) → 0 < length (range_as form d old new ++ rest)
+range-some : (json : Bool) (d : Difference) (old new rest : List ℕ) → 0 < length (range_as json d old new ++ rest)
 unfolding range_as
-range-some Numbers d old new rest = simp length-append (omega arith)
-range-some Labels d old new rest = simp length-append (omega arith)
-range-some Json d old new rest = simp length-append (omega arith)
+range-some false d old new rest = simp length-append (omega arith)
+range-some true d old new rest = simp length-append (omega arith)
 
 module _ (asked : DiffContents) (old new : List Route) where
   -- before the first line
@@ -38,12 +35,12 @@ module _ (asked : DiffContents) (old new : List Route) where
 
   -- one more line
   pub one_more : (text : List ℕ) (d : Difference) (next : Option Difference) → IsSoFar asked old new (Some d) text
-      → IsFirstFrom asked old new (at (d.last.0 + 1)) next → IsSoFar asked old new next (text ++ difference_as asked.styles d)
+      → IsFirstFrom asked old new (at (d.last.0 + 1)) next → IsSoFar asked old new next (text ++ difference_as asked d)
   one_more text d next far is = record {
     done = far.done ++ d ∷ [];
     printed =
-        ap (λ t. t ++ difference_as asked.styles d) far.printed
-        ∙ (ap (λ t. differences_as asked.styles far.done ++ t) (sym (append-nil (difference_as asked.styles d))) ∙ sym (flat_map-append (difference_as asked.styles) far.done (d ∷ [])));
+        ap (λ t. t ++ difference_as asked d) far.printed
+        ∙ (ap (λ t. differences_as asked far.done ++ t) (sym (append-nil (difference_as asked d))) ∙ sym (flat_map-append (difference_as asked) far.done (d ∷ [])));
     from = at (d.last.0 + 1);
     first = is;
     whole = λ rest are.
@@ -55,7 +52,7 @@ module _ (asked : DiffContents) (old new : List Route) where
   pub all_so_far : (text : List ℕ) → IsSoFar asked old new None text → text ≡ lines_of asked old new
   all_so_far text far =
       let is : AreDifferences asked.by (own_numbers old) (renumbered_new asked new) (far.done ++ []) = far.whole [] (rest_none asked.by (own_numbers old) (renumbered_new asked new) far.from.0 far.first) in
-      far.printed ∙ ap (differences_as asked.styles) (sym (append-nil far.done) ∙ is_differences_of asked.by (own_numbers old) (renumbered_new asked new) (far.done ++ []) is)
+      far.printed ∙ ap (differences_as asked) (sym (append-nil far.done) ∙ is_differences_of asked.by (own_numbers old) (renumbered_new asked new) (far.done ++ []) is)
 
   -- the list continues with the next difference, if there is one
   list_so_far : (text : List ℕ) (d : Difference) (far : IsSoFar asked old new (Some d) text)
@@ -66,22 +63,22 @@ module _ (asked : DiffContents) (old new : List Route) where
 
   -- its line follows the text so far
   text_so_far : (text : List ℕ) (d : Difference) → IsSoFar asked old new (Some d) text
-      → (rest : List ℕ) × (lines_of asked old new ≡ (text ++ difference_as asked.styles d) ++ rest)
+      → (rest : List ℕ) × (lines_of asked old new ≡ (text ++ difference_as asked d) ++ rest)
   text_so_far text d far =
       let (rest, is) = list_so_far text d far in (
-        differences_as asked.styles rest,
-        ap (differences_as asked.styles) is
-            ∙ (flat_map-append (difference_as asked.styles) far.done (d ∷ rest)
-            ∙ (ap (λ t. t ++ (difference_as asked.styles d ++ differences_as asked.styles rest)) (sym far.printed)
-            ∙ sym (append_assoc text (difference_as asked.styles d) (differences_as asked.styles rest)))),
+        differences_as asked rest,
+        ap (differences_as asked) is
+            ∙ (flat_map-append (difference_as asked) far.done (d ∷ rest)
+            ∙ (ap (λ t. t ++ (difference_as asked d ++ differences_as asked rest)) (sym far.printed)
+            ∙ sym (append_assoc text (difference_as asked d) (differences_as asked rest)))),
       )
 
   -- hence a fault within it leaves a beginning of all lines
   pub stops_there : (a b c : Option (List ℕ)) (text : List ℕ) (d : Difference) → IsSoFar asked old new (Some d) text
-      → Appends a b text → AppendsBeginning b c (difference_as asked.styles d) → AppendsBeginning a c (lines_of asked old new)
+      → Appends a b text → AppendsBeginning b c (difference_as asked d) → AppendsBeginning a c (lines_of asked old new)
   stops_there a b c text d far written begun =
       let (rest, is) = text_so_far text d far in
-      subst (AppendsBeginning a c) (sym is) (begins_longer a c (text ++ difference_as asked.styles d) rest (begins_after a b c text (difference_as asked.styles d) written begun))
+      subst (AppendsBeginning a c) (sym is) (begins_longer a c (text ++ difference_as asked d) rest (begins_after a b c text (difference_as asked d) written begun))
 
   -- without a first difference there is no line
   pub lines-none : IsFirstOf asked old new None → lines_of asked old new ≡ []
@@ -91,7 +88,7 @@ module _ (asked : DiffContents) (old new : List Route) where
   pub lines-some : (d : Difference) → IsFirstOf asked old new (Some d) → 0 < length (lines_of asked old new)
   lines-some d is =
       let (rest, same) = text_so_far [] d (none_so_far (Some d) is) in
-      subst (λ (t : List ℕ). 0 < length t) (sym same) (range-some asked.styles.form d _ _ rest)
+      subst (λ (t : List ℕ). 0 < length t) (sym same) (range-some asked.old.json d _ _ rest)
 
   -- hence there is a first difference if and only if there is a line
   pub empty_by_first : (first : Option Difference) (empty : Bool) → is_some first ≡ not empty → IsFirstOf asked old new first

@@ -11,7 +11,7 @@ pub mod SeveralFeeds
 pub mod SameTables
 pub mod LeftOut
 pub mod ShownRest
-pub mod SameLookups
+pub mod SameAnswers
 pub mod SameTallies
 pub mod SameDiffs
 pub mod Replayed

@@ -4,7 +4,7 @@ use Rattle.rt_rib.specs.declared.routes.Route.{Route}
 use Rattle.rt_diff.specs.Answers.{own_numbers}
 use Rattle.rt_diff.specs.Differences.{AreDifferences}
 use Rattle.rt_diff.specs.Laws.{HaveOneList}
-use Rattle.rt_feed.specs.DifferenceText.{differences_as}
+use Rattle.rt_print.specs.DifferenceText.{differences_as}
 use Rattle.rt_run.specs.SameTable.{LeavesUnion, HaveOneUnion, HaveSameTallies}
 use Rattle.rt_run.specs.DiffText.{renumbered_new, differ_status}
 use Rattle.rt_run.specs.SameDiff.{DiffsUnions, DiffOnce}
@@ -35,7 +35,7 @@ diff_output_is_deterministic leaves one one_list tallies asked old old' new new'
     let same : is.list ≡ is'.list = one_list asked.by (own_numbers is.old_table) (renumbered_new asked is.new_table) is.list is'.list is.differences also in
     let said_old = say_the_same tallies old old' is.old_table is'.old_table given.old given'.old same_old is.old_left is'.old_left old_not old_not' in
     let said_new = say_the_same tallies new new' is.new_table is'.new_table given.new given'.new same_new is.new_left is'.new_left new_not new_not' in (
-      is.printed ∙ (ap (differences_as asked.styles) same ∙ sym is'.printed),
+      is.printed ∙ (ap (differences_as asked) same ∙ sym is'.printed),
       is.is_status
           ∙ (ap (λ list. max (differ_status list) (max given.old.status given.new.status)) same
           ∙ (ap (λ n. max (differ_status is'.list) (max n given.new.status)) said_old.0

@@ -28,7 +28,7 @@ use Rattle.rt_feed.specs.Lines.{LineOutcome, skipped, faulty, asked, reading, Te
 use Rattle.rt_feed.specs.Reports.{is_refusal, has_refusal, has_fault}
 use Rattle.rt_shared.specs.Visits.{AnsweredBatch, reply_to, visit_of, entries}
 use Rattle.rt_feed.specs.Visits.{concatenated}
-use Rattle.rt_feed.specs.Printed.{table_text}
+use Rattle.rt_print.specs.Routes.{table_text}
 use Rattle.rt_run.specs.declared.tallies.RejectedInput.{RejectedInput}
 use Rattle.rt_run.specs.declared.tallies.RunSummary.{RunSummary}
 use Rattle.rt_run.specs.RunContents.{RunContents}

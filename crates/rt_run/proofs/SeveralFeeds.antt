@@ -15,7 +15,7 @@ use Rattle.rt_feed.specs.declared.report.Line.{Line}
 use Rattle.rt_feed.specs.declared.feeds.Feed.{Feed}
 use Rattle.rt_feed.specs.Lines.{LineOutcome, report_lines}
 use Rattle.rt_feed.specs.FeedRuns.{RunsFeed, RunsPrefixOf, RunsOne}
-use Rattle.rt_feed.specs.Printed.{table_text}
+use Rattle.rt_print.specs.Routes.{table_text}
 use Rattle.rt_shared.proofs.Promised.{uncut_since}
 use Rattle.rt_run.specs.RunContents.{RunContents}
 use Rattle.rt_run.specs.RunText.{Explains, ExplainsFrom, reports_of, reports_text, reports_status, IsRunText}

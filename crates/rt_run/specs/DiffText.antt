@@ -1,21 +1,13 @@
 -- The output of a comparison: the ranges of addresses for which the final tables of two runs give different answers.
 use Rattle.std.specs.Prelude.{◌≡◌, ℕ, max, List, [], ◌∷◌}
 use Rattle.rt_rib.specs.declared.routes.Route.{Route}
-use Rattle.rt_diff.specs.declared.table_answers.CompareBy.{CompareBy}
 use Rattle.rt_diff.specs.declared.comparison.Difference.{Difference}
 use Rattle.rt_diff.specs.Answers.{RenumberedTable, own_numbers}
 use Rattle.rt_diff.specs.Differences.{AreDifferences}
-use Rattle.rt_feed.specs.DifferenceText.{SideStylesContents, differences_as}
+use Rattle.rt_print.specs.DifferenceText.{DiffContents, differences_as}
 use Rattle.rt_run.specs.declared.comparisons.DiffSummary.{DiffSummary}
 use Rattle.rt_run.specs.RunContents.{RunContents}
 use Rattle.rt_run.specs.TableText.{LeavesTable}
-
--- the part of an answer that is compared, the numbers that identify the feeds of the new table, and the styles of the
--- output
-pub record DiffContents : Type 0 where
-  pub by : CompareBy
-  pub numbers : List ℕ
-  pub styles : SideStylesContents
 
 -- the new table, its feeds identified by these numbers
 abbrev pub renumbered_new : DiffContents → List Route → RenumberedTable
@@ -35,5 +27,5 @@ pub record IsDiffText (asked : DiffContents) (old new : RunContents) (bytes : Li
   pub new_left : LeavesTable new new_table given.new
   pub list : List Difference
   pub differences : AreDifferences asked.by (own_numbers old_table) (renumbered_new asked new_table) list
-  pub printed : bytes ≡ differences_as asked.styles list
+  pub printed : bytes ≡ differences_as asked list
   pub is_status : given.status ≡ max (differ_status list) (max given.old.status given.new.status)

@@ -12,7 +12,8 @@ use Rattle.rt_feed.specs.declared.report.Line.{Line}
 use Rattle.rt_feed.specs.Lines.{LineOutcome, TextYields, commands_of, report_lines}
 use Rattle.rt_feed.specs.Visits.{IsSplitInto}
 use Rattle.rt_feed.specs.Reports.{has_refusal, has_fault}
-use Rattle.rt_feed.specs.Printed.{report_text, table_text}
+use Rattle.rt_feed.specs.Printed.{report_text}
+use Rattle.rt_print.specs.Routes.{table_text}
 use Rattle.rt_feed.specs.declared.faults.RunFault.TheVariants as fault
 use Rattle.rt_run.specs.declared.faults.AppFault.{AppFault}
 use Rattle.rt_run.specs.declared.faults.AppFault.TheVariants.{Run, Replay, Write}

@@ -4,11 +4,11 @@ use Rattle.rt_rib.specs.declared.routes.Route.{Route}
 use Rattle.rt_diff.specs.declared.comparison.Difference.{Difference}
 use Rattle.rt_diff.specs.Answers.{own_numbers}
 use Rattle.rt_diff.specs.Differences.{AreDifferences}
-use Rattle.rt_feed.specs.DifferenceText.{differences_as}
+use Rattle.rt_print.specs.DifferenceText.{DiffContents, differences_as}
 use Rattle.rt_run.specs.declared.comparisons.DiffSummary.{DiffSummary}
 use Rattle.rt_run.specs.RunContents.{RunContents}
 use Rattle.rt_run.specs.SameTable.{IsUnion, HaveSameInput, HaveSameSummary}
-use Rattle.rt_run.specs.DiffText.{DiffContents, renumbered_new, IsDiffText}
+use Rattle.rt_run.specs.DiffText.{renumbered_new, IsDiffText}
 
 -- the bytes are the lines of all ranges for which the unions of the old and of the new texts give different answers
 pub record TellsUnions (asked : DiffContents) (old new : RunContents) (bytes : List ℕ) : Type 0 where
@@ -18,7 +18,7 @@ pub record TellsUnions (asked : DiffContents) (old new : RunContents) (bytes : L
   pub of_new : IsUnion new.texts new.limit new_union
   pub list : List Difference
   pub differences : AreDifferences asked.by (own_numbers old_union) (renumbered_new asked new_union) list
-  pub printed : bytes ≡ differences_as asked.styles list
+  pub printed : bytes ≡ differences_as asked list
 
 -- this holds if no command ran out of memory
 abbrev pub DiffsUnions : Type 0

@@ -2,7 +2,6 @@
 -- commands that concern only their feed's own routes, and the tally of each text.
 use Rattle.std.specs.Prelude.{◌≡◌, ◌≢◌, ◌↔◌, ℕ, ◌+◌, true, false, List, [], ◌∷◌, ◌++◌, fold, map, Some}
 use Rattle.std.specs.List.{slice_get, Contains}
-use Rattle.rt_cidr.specs.declared.address.Addr.{Addr}
 use Rattle.rt_rib.specs.declared.routes.Route.{Route}
 use Rattle.rt_rib.specs.declared.commands.Cmd.{Cmd}
 use Rattle.rt_rib.specs.declared.commands.Entry.{Entry}
@@ -12,12 +11,14 @@ use Rattle.rt_rib.specs.Laws.{is_own}
 use Rattle.rt_shared.specs.declared.outcome.Outcome.{Outcome}
 use Rattle.rt_shared.specs.declared.outcome.Outcome.TheVariants.{Did}
 use Rattle.rt_feed.specs.Lines.{LineOutcome, TextYields, commands_of}
-use Rattle.rt_feed.specs.Printed.{table_text}
+use Rattle.rt_print.specs.Routes.{table_text}
+use Rattle.rt_print.specs.Styles.{StyleContents}
 use Rattle.rt_run.specs.declared.tallies.RunSummary.{RunSummary}
-use Rattle.rt_run.specs.declared.queries.LookupSummary.{LookupSummary}
+use Rattle.rt_run.specs.declared.queries.QuerySummary.{QuerySummary}
+use Rattle.rt_run.specs.declared.question.Question.{Question}
 use Rattle.rt_run.specs.RunContents.{RunContents}
 use Rattle.rt_run.specs.RunText.{IsJournalOfRun, IsRunText, reports_of, reports_text, some_refused}
-use Rattle.rt_run.specs.TableText.{tally_of, IsQueryOutput, IsLookupOutput}
+use Rattle.rt_run.specs.TableText.{tally_of, IsQueryOutput, IsAnswer}
 
 -- the set that the feed's commands leave by themselves, whatever their outcomes, with at most `limit` routes
 unfoldable pub table_alone : ℕ → ℕ → List (Cmd × Outcome) → List Route
@@ -103,11 +104,11 @@ ShowOneTable =
     → HaveSameInput asked asked' → IsQueryOutput asked text_of bytes summary → IsQueryOutput asked' text_of bytes' summary'
     → summary.status ≢ 5 → summary'.status ≢ 5 → (bytes ≡ bytes') × HaveSameSummary summary summary'
 
--- the same for look-ups: if texts, limit and addresses (the named ones and the text of addresses) are the same, so are the
--- bytes, the status, the faulty lines and the summary of the run
-abbrev pub LookUpOnce : Type 0
-LookUpOnce =
-    (asked asked' : RunContents) (named : List Addr) (text : List ℕ) (text_of : List Addr → List Route → List ℕ) (bytes bytes' : List ℕ) (given given' : LookupSummary)
-    → HaveSameInput asked asked' → IsLookupOutput asked named text text_of bytes given → IsLookupOutput asked' named text text_of bytes' given'
+-- the same for the answers to questions: if texts, limit, style and question are the same, so are the bytes, the status, the
+-- faulty lines of the text of addresses, and the summary of the run
+abbrev pub AnswerOnce : Type 0
+AnswerOnce =
+    (asked asked' : RunContents) (style : StyleContents) (question : Question) (bytes bytes' : List ℕ) (given given' : QuerySummary)
+    → HaveSameInput asked asked' → IsAnswer asked style question bytes given → IsAnswer asked' style question bytes' given'
     → given.run.status ≢ 5 → given'.run.status ≢ 5
     → (bytes ≡ bytes') × (given.status ≡ given'.status) × (given.faulty ≡ given'.faulty) × HaveSameSummary given.run given'.run

@@ -1,5 +1,5 @@
 -- The output of queries of a run's final table, and the tally of each text.
-use Rattle.std.specs.Prelude.{◌≡◌, ℕ, max, Bool, true, false, ◌||◌, nat_lt, List, ◌++◌, map, count_by, filter_map, Option, Some, None}
+use Rattle.std.specs.Prelude.{◌≡◌, ℕ, max, Bool, true, false, ◌||◌, nat_lt, List, [], ◌++◌, map, count_by, filter_map, Option, Some, None}
 use Rattle.std.specs.List.{flat_map, list_any}
 use Rattle.rt_cidr.specs.declared.address.Addr.{Addr}
 use Rattle.rt_rib.specs.declared.routes.Route.{Route}
@@ -16,30 +16,53 @@ use Rattle.rt_feed.specs.declared.report.Answer.TheVariants.{Did, Refused, Fault
 use Rattle.rt_feed.specs.Lines.{LineOutcome}
 use Rattle.rt_feed.specs.Addresses.{faulty_lines, SaysAddresses}
 use Rattle.rt_feed.specs.Reports.{is_refusal}
-use Rattle.rt_feed.specs.Counts.{counts_as}
-use Rattle.rt_feed.specs.Styles.{StyleContents, label_of, rows_as, found_as, all_found_as}
+use Rattle.rt_print.specs.Counts.{counts_as}
+use Rattle.rt_print.specs.Styles.{StyleContents, label_of, rows_as, found_as, all_found_as}
 use Rattle.rt_run.specs.declared.tallies.RejectedInput.{RejectedInput}
 use Rattle.rt_run.specs.declared.tallies.RunSummary.{RunSummary}
-use Rattle.rt_run.specs.declared.queries.LookupSummary.{LookupSummary}
+use Rattle.rt_run.specs.declared.queries.QuerySummary.{QuerySummary}
+use Rattle.rt_run.specs.declared.question.Question.{Question}
+use Rattle.rt_run.specs.declared.question.Question.TheVariants as ask
 use Rattle.rt_run.specs.RunContents.{RunContents}
 use Rattle.rt_run.specs.ChosenFeeds.{routes_of_selected}
 use Rattle.rt_run.specs.RunText.{IsJournalOfRun, reports_of, status_where}
 
 -- for each address, in order, the result of looking it up in the table, in the style
 abbrev pub answers_text : StyleContents → List Addr → List Route → List ℕ
-answers_text style addresses table = flat_map (λ addr. found_as style.form (label_of style.labels) addr (look_up addr table)) addresses
+answers_text style addresses table = flat_map (λ addr. found_as style.json (label_of style.labels) addr (look_up addr table)) addresses
 
 -- for each address, in order, all routes of the table that cover it, the best first
 abbrev pub all_answers_text : StyleContents → List Addr → List Route → List ℕ
-all_answers_text style addresses table = flat_map (λ addr. all_found_as style.form (label_of style.labels) addr (look_up_all addr table)) addresses
+all_answers_text style addresses table = flat_map (λ addr. all_found_as style.json (label_of style.labels) addr (look_up_all addr table)) addresses
 
 -- the selected routes of the table, in its order; of these feeds, if there are any
 abbrev pub routes_text : StyleContents → Selection → List ℕ → List Route → List ℕ
-routes_text style asked feeds table = rows_as style.form (label_of style.labels) (routes_of_selected feeds (selected asked table))
+routes_text style asked feeds table = rows_as style (routes_of_selected feeds (selected asked table))
 
 -- the number of these routes and of their prefixes, of each feed's, and of those of each length
 abbrev pub counts_text : StyleContents → Selection → List ℕ → List Route → List ℕ
-counts_text style asked feeds table = counts_as style.form (label_of style.labels) (routes_of_selected feeds (selected asked table))
+counts_text style asked feeds table = counts_as style (routes_of_selected feeds (selected asked table))
+
+-- the text that answers a question about a table, in the style; `addresses` are the ones to look up
+abbrev pub question_text : StyleContents → Question → List Addr → List Route → List ℕ
+question_text style (ask.Best asked) addresses table = answers_text style addresses table
+question_text style (ask.All asked) addresses table = all_answers_text style addresses table
+question_text style (ask.Routes asked) addresses table = routes_text style asked.selection asked.feeds.now table
+question_text style (ask.Counts asked) addresses table = counts_text style asked.selection asked.feeds.now table
+
+-- the named addresses of a question
+abbrev pub named_in : Question → List Addr
+named_in (ask.Best asked) = asked.named.now
+named_in (ask.All asked) = asked.named.now
+named_in (ask.Routes asked) = []
+named_in (ask.Counts asked) = []
+
+-- its text of addresses
+abbrev pub said_in : Question → List ℕ
+said_in (ask.Best asked) = asked.text.now
+said_in (ask.All asked) = asked.text.now
+said_in (ask.Routes asked) = []
+said_in (ask.Counts asked) = []
 
 -- an `add` was over the limit
 abbrev pub was_full : Answer → Bool
@@ -107,10 +130,11 @@ pub record IsQueryOutput (asked : RunContents) (text_of : List Route → List �
   pub leaves : LeavesTable asked table summary
   pub shown : bytes ≡ text_of table
 
--- the bytes are the text of the look-ups of the named addresses, and after them of those in the lines of a text, in the table
--- that some run of this input left. The status is the run's, but at least 2 if a line of this text is faulty
-pub record IsLookupOutput (asked : RunContents) (named : List Addr) (text : List ℕ) (text_of : List Addr → List Route → List ℕ) (bytes : List ℕ) (given : LookupSummary) : Type 0 where
+-- the bytes are the answer to the question, in the style, from the table that some run of this input left. The addresses to
+-- look up are the named ones and after them those in the lines of the text of addresses. The status is the run's, but at least
+-- 2 if a line of this text is faulty
+pub record IsAnswer (asked : RunContents) (style : StyleContents) (question : Question) (bytes : List ℕ) (given : QuerySummary) : Type 0 where
   pub said : List Addr
-  pub says : SaysAddresses text said given.faulty
-  pub shown : IsQueryOutput asked (text_of (named ++ said)) bytes given.run
+  pub says : SaysAddresses (said_in question) said given.faulty
+  pub shown : IsQueryOutput asked (question_text style question (named_in question ++ said)) bytes given.run
   pub is_status : given.status ≡ max (status_where false (nat_lt 0 given.faulty.count)) given.run.status

@@ -7,7 +7,6 @@ ghost use Rattle.rt_run.specs.TableText.{LeavesTable};
 ghost use Rattle.rt_run.specs.inside.Comparisons.{compared_status, IsFirstOf};
 
 use crate::chosen::ChosenTexts;
-use crate::diff_options::DiffOptions;
 use crate::faults::AppFault;
 use crate::output::{Output, write_output};
 use crate::status::Status;
@@ -16,6 +15,7 @@ use crate::turns::{FinishedQuery, run_in_turn};
 use rt_cidr::Addr;
 use rt_diff::Difference;
 use rt_feed::RunFault;
+use rt_print::DiffOptions;
 use rt_rib::Table;
 use std::alloc::Global;
 use std::io::Write;
@@ -32,18 +32,18 @@ pub struct DiffSummary {
 }
 
 /// Executes the old texts and then the new ones, one after another, each side over its own table. Then writes to `w` each
-/// range of addresses for which the two tables give different answers, in ascending order and on the given terms: a line
-/// `FIRST-LAST OLD -> NEW`, or a JSON object (`write_difference_as`). Writes nothing else; hence if nothing is written,
+/// range of addresses for which the two tables give different answers, in ascending order and with the given options: a line
+/// `FIRST-LAST OLD -> NEW`, or a JSON object (`write_difference`). Writes nothing else; hence if nothing is written,
 /// both tables give the same answer for every address. Returns the summaries if everything was written. Its errors are
 /// those of `run_texts`: F1 if there is no old text or no new text; F3 also if there is no memory for the tallies.
 pub fn diff_texts<W: Write>(
     alloc: Global,
     old_asked: &ChosenTexts<'_>,
     new_asked: &ChosenTexts<'_>,
-    terms: &DiffOptions<'_>,
+    options: &DiffOptions,
     w: &mut W,
 ) -> Result<DiffSummary, AppFault>
-    ensures text { WritesOrFails (IsDiffText terms.now old_asked.now new_asked.now) (W.contents w.old) (W.contents w.new) result }
+    ensures text { WritesOrFails (IsDiffText options.now old_asked.now new_asked.now) (W.contents w.old) (W.contents w.new) result }
     ensures no_text { (result ≡ Err (AppFault.Run RunFault.NoText)) ↔ ((old_asked.now.texts ≡ []) ⊎ (new_asked.now.texts ≡ [])) }
 {
     if new_asked.count() == 0 {
@@ -51,7 +51,7 @@ pub fn diff_texts<W: Write>(
     }
     let old = run_in_turn(alloc, old_asked)?;
     let new = run_in_turn(alloc, new_asked)?;
-    let compared = compare_runs(alloc, &old, &new, terms, w);
+    let compared = compare_runs(alloc, &old, &new, options, w);
     old.leak_table();
     new.leak_table();
     compared
@@ -62,21 +62,21 @@ fn compare_runs<W: Write>(
     alloc: Global,
     old: &FinishedQuery,
     new: &FinishedQuery,
-    terms: &DiffOptions<'_>,
+    options: &DiffOptions,
     w: &mut W,
 ) -> Result<DiffSummary, AppFault>
     ensures text { (old_asked new_asked : RunContents) → LeavesTable old_asked old.now.table.routes old.now.summary
         → LeavesTable new_asked new.now.table.routes new.now.summary
-        → WritesOrFails (IsDiffText terms.now old_asked new_asked) (W.contents w.old) (W.contents w.new) result }
+        → WritesOrFails (IsDiffText options.now old_asked new_asked) (W.contents w.old) (W.contents w.new) result }
     ensures ran { result ≢ Err (AppFault.Run RunFault.NoText) }
 {
     let of_old = old.summary(alloc)?;
     let of_new = new.summary(alloc)?;
-    let first = first_difference(&old.table, &new.table, terms);
+    let first = first_difference(&old.table, &new.table, options);
     let status = status_of(&of_old, &of_new, first);
     write_output(
         alloc,
-        Output::Differences(terms, &old.table, &new.table, first),
+        Output::Differences(options, &old.table, &new.table, first),
         w,
     )?;
     Ok(DiffSummary {
@@ -90,11 +90,11 @@ fn compare_runs<W: Write>(
 fn first_difference(
     old: &Table<Global>,
     new: &Table<Global>,
-    terms: &DiffOptions<'_>,
+    options: &DiffOptions,
 ) -> Option<Difference>
-    ensures { IsFirstOf terms.now old.now.routes new.now.routes result }
+    ensures { IsFirstOf options.now old.now.routes new.now.routes result }
 {
-    terms.comparison(old, new).first_difference(Addr(0))
+    options.comparison(old, new).first_difference(Addr(0))
 }
 
 /// Returns the status, from the summaries of two runs and the first difference between their tables.

@@ -2,7 +2,7 @@
 //! its clause known and does nothing. Below, a command is refused if memory ran out for it.
 ghost use Rattle.rt_run.specs.SameDiff.{DiffsUnions, DiffOnce};
 ghost use Rattle.rt_run.specs.LeftOut.{LosesLeftOut, ShowsRest};
-ghost use Rattle.rt_run.specs.SameTable.{LeavesUnion, AnswersAlone, HaveSameTallies, HaveOneUnion, EndsInUnion, EndInOneTable, ShowsUnion, ShowOneTable, LookUpOnce};
+ghost use Rattle.rt_run.specs.SameTable.{LeavesUnion, AnswersAlone, HaveSameTallies, HaveOneUnion, EndsInUnion, EndInOneTable, ShowsUnion, ShowOneTable, AnswerOnce};
 
 use rt_diff::laws::one_list;
 use rt_feed::laws::{one_address_text, one_reading};
@@ -71,8 +71,8 @@ pub fn final_table_is_deterministic()
     same_tallies();
 }
 
-/// If no command was refused, a query of a run writes its answer for the union. Hence the output of `lookup_texts`,
-/// `lookup_all_texts`, `table_texts` and `count_texts` is a function of only the texts, the limit and the query.
+/// If no command was refused, a query of a run writes its answer for the union. Hence the output of `show` is a
+/// function of only the texts, the limit and the question.
 pub fn shows_union()
     ensures { ShowsUnion }
 {
@@ -99,10 +99,10 @@ pub fn query_output_is_deterministic()
     same_tallies();
 }
 
-/// If no command was refused, two look-ups of the same texts, limit and addresses write the same bytes and return the same
-/// summaries.
-pub fn lookup_output_is_deterministic()
-    ensures { LookUpOnce }
+/// If no command was refused, two calls of `show` with the same texts, limit, style and question write the same bytes and
+/// return the same summaries.
+pub fn answers_are_deterministic()
+    ensures { AnswerOnce }
 {
     query_output_is_deterministic();
     one_address_text();
@@ -116,7 +116,7 @@ pub fn diffs_unions()
     leaves_union();
 }
 
-/// If no command was refused, two comparisons of the same texts and limits, on the same terms, write the same bytes and
+/// If no command was refused, two comparisons of the same texts and limits, with the same options, write the same bytes and
 /// return the same statuses and tallies, for any batches and any interleaving of the threads.
 pub fn diff_output_is_deterministic()
     ensures { DiffOnce }

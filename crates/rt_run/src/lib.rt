@@ -3,10 +3,9 @@
 //!
 //! - [`run_texts`] runs the texts of 1 to 64 feeds over one table behind the lock. Each feed has its own thread, and the
 //!   output goes to a writer. Its clause `text` is the theorem from bytes to bytes: the output is the text of a run.
-//! - [`lookup_texts`], [`lookup_all_texts`], [`table_texts`] and [`count_texts`] execute the texts one after another and
-//!   store neither journal nor reports. They write the result of a query of the final table: the best route of each
-//!   address, all routes that cover it, the selected routes, or their number. They return a tally of the rejected input of
-//!   each text.
+//! - [`show`] executes the texts one after another and stores neither journal nor reports. It writes the answer to a
+//!   [`Question`] about the final table: the best route of each address, all routes that cover it, the selected routes, or
+//!   their number. It returns a tally of the rejected input of each text.
 //! - [`diff_texts`] executes two sets of texts this way. It writes the addresses for which their final tables differ.
 //! - A [`ChosenTexts`] leaves some feeds out of a query or of a side of a comparison.
 //! - [`replay_text`] writes the atomic steps of a schedule of the lock. Each step has one line.
@@ -24,13 +23,13 @@
 mod asked_routes;
 mod chosen;
 mod comparisons;
-mod diff_options;
 mod faults;
 mod forwarding;
 pub mod laws;
 mod lookup_addresses;
 mod output;
 mod queries;
+mod question;
 mod replays;
 mod run_input;
 mod runs;
@@ -41,10 +40,10 @@ mod turns;
 pub use asked_routes::AskedRoutes;
 pub use chosen::{ChosenTexts, FeedChoice};
 pub use comparisons::{DiffSummary, diff_texts};
-pub use diff_options::DiffOptions;
 pub use faults::AppFault;
 pub use lookup_addresses::LookupAddresses;
-pub use queries::{LookupSummary, count_texts, lookup_all_texts, lookup_texts, table_texts};
+pub use queries::{QuerySummary, show};
+pub use question::Question;
 pub use replays::replay_text;
 pub use run_input::RunInput;
 pub use runs::{MAX_FEED_FILES, run_texts};

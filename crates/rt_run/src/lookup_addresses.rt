@@ -1,7 +1,9 @@
 //! The addresses of a look-up.
 ghost use Rattle.std.specs.Prelude.{IfOk};
+ghost use Rattle.rt_run.specs.TableText.{named_in, said_in};
 ghost use Rattle.rt_run.specs.inside.LookupAddresses.{IsAsked};
 
+use crate::question::Question;
 use rt_cidr::Addr;
 use rt_feed::{AddressText, read_addresses};
 use std::alloc::{AllocError, Global};
@@ -15,13 +17,14 @@ pub struct LookupAddresses<'a> {
     pub text: &'a [u8],
 }
 
-/// Returns all of them in order, and the faulty lines of the text.
+/// Returns all addresses of the question in order, and the faulty lines of its text of addresses.
 pub(crate) fn read_lookup_addresses(
     alloc: Global,
-    asked: &LookupAddresses<'_>,
+    question: &Question<'_>,
 ) -> Result<AddressText, AllocError>
-    ensures { IfOk result (λ read. IsAsked asked.now.named.now asked.now.text.now read.addresses.items read.faulty) }
+    ensures { IfOk result (λ read. IsAsked (named_in question.now) (said_in question.now) read.addresses.items read.faulty) }
 {
+    let asked = question.addresses();
     let AddressText {
         addresses: mut said,
         faulty,

@@ -3,22 +3,22 @@
 ghost use Rattle.std.specs.Prelude.{◌≡◌, ◌++◌, [], ◌<◌, ◌≤◌, true, false, length, IfSome};
 ghost use Rattle.rt_cidr.specs.Output.{WritesText};
 ghost use Rattle.rt_rib.specs.declared.limits.TheConstants.{MAX_FEEDS};
-ghost use Rattle.rt_feed.specs.Printed.{table_text};
+ghost use Rattle.rt_print.specs.Routes.{table_text};
 ghost use Rattle.rt_run.specs.RunText.{reports_text};
 ghost use Rattle.rt_run.specs.TableText.{answers_text};
 ghost use Rattle.rt_run.specs.inside.Outputs.{IsOutput, matches_text, output_text, Writes};
 ghost use Rattle.rt_run.specs.inside.Comparisons.{IsFirstOf, lines_of};
 
-use crate::diff_options::DiffOptions;
 use crate::faults::AppFault;
 use crate::forwarding::look_up_by;
 use rt_cidr::{Addr, OutputBuffer, OutputRoom};
 use rt_diff::Difference;
-use rt_feed::{
-    Report, RunFault, Style, write_all_matches_styled, write_counts_as, write_difference_as,
-    write_lookup_styled, write_report, write_routes_styled, write_table,
-};
+use rt_feed::{Report, write_report};
 use rt_fib::Fib;
+use rt_print::{
+    DiffOptions, Style, write_all_matches, write_counts, write_difference, write_lookup,
+    write_routes, write_table,
+};
 use rt_rib::{Route, Table};
 use std::alloc::Global;
 use std::io::{self, Write};
@@ -41,15 +41,15 @@ pub(crate) enum Output<'a> {
     /// The reports, the k-th for feed k, and then the table of these routes.
     Run(&'a [Report], &'a [Route]),
     /// The style; then the result of looking up each address in the table, with its forwarding table if there is one.
-    Answers(&'a Style<'a>, &'a Table<Global>, &'a Option<Fib<Global>>, &'a [Addr]),
+    Answers(&'a Style, &'a Table<Global>, &'a Option<Fib<Global>>, &'a [Addr]),
     /// The style, and all routes that cover each address.
-    Matches(&'a Style<'a>, &'a [AddressMatches]),
-    /// The terms, the two tables to compare, and their first difference.
-    Differences(&'a DiffOptions<'a>, &'a Table<Global>, &'a Table<Global>, Option<Difference>),
+    Matches(&'a Style, &'a [AddressMatches]),
+    /// The options, the two tables to compare, and their first difference.
+    Differences(&'a DiffOptions, &'a Table<Global>, &'a Table<Global>, Option<Difference>),
     /// The style, and the routes to list.
-    Routes(&'a Style<'a>, &'a [Route]),
+    Routes(&'a Style, &'a [Route]),
     /// The style, and the routes to count.
-    Counts(&'a Style<'a>, &'a [Route]),
+    Counts(&'a Style, &'a [Route]),
     /// The steps of a replay, and the place that is inside after them.
     Replay(&'a [Step], Option<usize>),
 }
@@ -124,9 +124,11 @@ fn write_parts<W: Write>(w: &mut W, output: Output<'_>) -> Result<(), io::Error>
             write_answers(w, style, table, fib, addresses)
         }
         Output::Matches(style, all) => write_matches(w, style, all),
-        Output::Differences(terms, old, new, first) => write_differences(w, terms, old, new, first),
-        Output::Routes(style, routes) => write_routes_styled(w, style, routes),
-        Output::Counts(style, routes) => write_counts_as(w, style, routes),
+        Output::Differences(options, old, new, first) => write_differences(
+            w, options, old, new, first,
+        ),
+        Output::Routes(style, routes) => write_routes(w, style, routes),
+        Output::Counts(style, routes) => write_counts(w, style, routes),
         Output::Replay(steps, inside) => write_replay(w, steps, inside),
     }
 }
@@ -154,7 +156,7 @@ fn write_reports<W: Write>(w: &mut W, reports: &[Report]) -> Result<(), io::Erro
 /// Writes the result of looking up each address in the table.
 fn write_answers<W: Write>(
     w: &mut W,
-    style: &Style<'_>,
+    style: &Style,
     table: &Table<Global>,
     fib: &Option<Fib<Global>>,
     addresses: &[Addr],
@@ -174,7 +176,7 @@ fn write_answers<W: Write>(
 /// Writes the result of looking up each of at most [`PIECE`] addresses in the table.
 fn write_piece<W: Write>(
     w: &mut W,
-    style: &Style<'_>,
+    style: &Style,
     table: &Table<Global>,
     fib: &Option<Fib<Global>>,
     piece: &[Addr],
@@ -187,7 +189,7 @@ fn write_piece<W: Write>(
     let found = &mut places[..piece.len()];
     look_up_by(table, fib, piece, found);
     for (index, address) in piece.iter().enumerate() {
-        write_lookup_styled(w, style, *address, found[index])?;
+        write_lookup(w, style, *address, found[index])?;
     }
     Ok(())
 }
@@ -195,13 +197,13 @@ fn write_piece<W: Write>(
 /// Writes all routes that cover each address.
 fn write_matches<W: Write>(
     w: &mut W,
-    style: &Style<'_>,
+    style: &Style,
     all: &[AddressMatches],
 ) -> Result<(), io::Error>
     ensures { WritesText (W.contents w.old) (W.contents w.new) (matches_text style.now all.now) result }
 {
     for one in all {
-        write_all_matches_styled(w, style, one.addr, one.routes.as_slice())?;
+        write_all_matches(w, style, one.addr, one.routes.as_slice())?;
     }
     Ok(())
 }
@@ -209,18 +211,18 @@ fn write_matches<W: Write>(
 /// Writes the differences between two tables, starting with the given first one.
 fn write_differences<'a, W: Write>(
     w: &mut W,
-    terms: &DiffOptions<'a>,
+    options: &'a DiffOptions,
     old: &'a Table<Global>,
     new: &'a Table<Global>,
     first: Option<Difference>,
 ) -> Result<(), io::Error>
-    requires { IsFirstOf terms.now old.now.routes new.now.routes first }
-    ensures { WritesText (W.contents w.old) (W.contents w.new) (lines_of terms.now old.now.routes new.now.routes) result }
+    requires { IsFirstOf options.now old.now.routes new.now.routes first }
+    ensures { WritesText (W.contents w.old) (W.contents w.new) (lines_of options.now old.now.routes new.now.routes) result }
 {
-    let mut tables = terms.comparison(old, new);
+    let mut tables = options.comparison(old, new);
     let mut next = first;
     while let Some(difference) = next {
-        write_difference_as(w, terms.styles(), &difference)?;
+        write_difference(w, options, &difference)?;
         next = tables.difference_after(difference.last);
     }
     Ok(())

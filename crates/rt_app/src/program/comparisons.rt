@@ -2,12 +2,10 @@
 
 use super::feed_choice::FeedNumbers;
 use super::queries::report_summary;
-use super::styles::{form_of, side_labels};
+use super::styles::{check_sides, diff_options};
 use super::{Program, ProgramError};
-use command_line::{ComparedBy, DiffRequest};
-use rt_diff::CompareBy;
-use rt_feed::SideStyles;
-use rt_run::{ChosenTexts, DiffOptions, DiffSummary, RunInput, diff_texts};
+use command_line::DiffRequest;
+use rt_run::{ChosenTexts, DiffSummary, RunInput, diff_texts};
 use std::io::Write;
 use std::rt::Files;
 use std::sync::Wait;
@@ -21,7 +19,7 @@ impl<R: Files + Threads + Wait + Sync + AllocGlobal, O: Write, E: Write> Program
         request: &DiffRequest<'w>,
     ) -> Result<u8, ProgramError<'w>> {
         let (old_names, new_names) = (request.run.files.as_slice(), request.new_files.as_slice());
-        let labels = side_labels(self.alloc, request.telling, old_names, new_names)?;
+        check_sides(request)?;
         let old_feeds = FeedNumbers::of(self.alloc, &request.old_feeds, old_names)?;
         let new_feeds = FeedNumbers::of(self.alloc, &request.new_feeds, new_names)?;
         let old_texts = self.read_feeds(old_names, old_feeds.choice())?;
@@ -31,17 +29,11 @@ impl<R: Files + Threads + Wait + Sync + AllocGlobal, O: Write, E: Write> Program
         let new_asked = RunInput::new(new_texts.as_slice(), limit, batch);
         let old_asked = ChosenTexts::new(&old_asked, old_feeds.choice());
         let new_asked = ChosenTexts::new(&new_asked, new_feeds.choice());
-        let by = match request.by {
-            ComparedBy::Hop => CompareBy::Hop,
-            ComparedBy::Route => CompareBy::Route,
-        };
-        let form = form_of(request.telling);
-        let styles = SideStyles::new(form, labels.old.as_slice(), labels.new.as_slice());
-        let terms = DiffOptions::new(by, labels.new_numbers.as_slice(), &styles);
+        let options = diff_options(self.alloc, request)?;
         let feeds = old_asked.count() + new_asked.count();
         let mut out = self.screen.beside(feeds, self.out);
         let DiffSummary { status, old, new } = diff_texts(
-            self.alloc, &old_asked, &new_asked, &terms, &mut out,
+            self.alloc, &old_asked, &new_asked, &options, &mut out,
         )?;
         report_summary(&mut self.screen, old_names, &old);
         report_summary(&mut self.screen, new_names, &new);

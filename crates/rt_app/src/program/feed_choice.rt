@@ -5,7 +5,7 @@ ghost use Rattle.rt_rib.specs.declared.limits.TheConstants.{MAX_FEEDS};
 
 use super::ProgramError;
 use command_line::NamedFeeds;
-use rt_feed::feed_name;
+use rt_print::feed_name;
 use rt_run::{FeedChoice, MAX_FEED_FILES};
 use std::alloc::Global;
 

@@ -2,17 +2,13 @@
 
 use super::feed_choice::FeedNumbers;
 use super::prefixes::prefix_of;
-use super::styles::{form_of, labels_for};
+use super::styles::style_of;
 use super::warnings::{report_faulty_lines, report_rejected};
 use super::{Program, ProgramError};
 use command_line::{LookupRequest, PrefixFilterArg, TableRequest};
 use rt_cidr::Addr;
-use rt_feed::Style;
 use rt_rib::{PrefixFilter, Selection};
-use rt_run::{
-    AskedRoutes, ChosenTexts, LookupAddresses, RunInput, RunSummary, count_texts, lookup_all_texts,
-    lookup_texts, table_texts,
-};
+use rt_run::{AskedRoutes, ChosenTexts, LookupAddresses, Question, RunInput, RunSummary, show};
 use std::alloc::Global;
 use std::io::Write;
 use std::rt::Files;
@@ -28,7 +24,7 @@ impl<R: Files + Threads + Wait + Sync + AllocGlobal, O: Write, E: Write> Program
     ) -> Result<u8, ProgramError<'w>> {
         let run = &request.run;
         let named = named_addresses(self.alloc, request)?;
-        let labels = labels_for(self.alloc, request.telling, run.files.as_slice())?;
+        let style = style_of(self.alloc, request.telling, run.files.as_slice())?;
         let feeds = FeedNumbers::of(self.alloc, &request.feeds, run.files.as_slice())?;
         let texts = self.read_feeds(run.files.as_slice(), feeds.choice())?;
         let text = match request.more {
@@ -37,22 +33,22 @@ impl<R: Files + Threads + Wait + Sync + AllocGlobal, O: Write, E: Write> Program
         };
         let asked = RunInput::new(texts.as_slice(), run.limit, run.batch as usize);
         let asked = ChosenTexts::new(&asked, feeds.choice());
-        let style = Style::new(form_of(request.telling), labels.as_slice());
         let addresses = LookupAddresses {
             named: named.as_slice(),
             text: text.as_slice(),
         };
         let mut out = self.screen.beside(asked.count(), self.out);
-        let told = if request.all {
-            lookup_all_texts(self.alloc, &asked, &style, &addresses, &mut out)?
+        let question = if request.all {
+            Question::All(addresses)
         } else {
-            lookup_texts(self.alloc, &asked, &style, &addresses, &mut out)?
+            Question::Best(addresses)
         };
+        let given = show(self.alloc, &asked, &style, &question, &mut out)?;
         if let Some(name) = request.more {
-            report_faulty_lines(&mut self.screen, name, told.faulty);
+            report_faulty_lines(&mut self.screen, name, given.faulty);
         }
-        report_summary(&mut self.screen, run.files.as_slice(), &told.run);
-        Ok(told.status)
+        report_summary(&mut self.screen, run.files.as_slice(), &given.run);
+        Ok(given.status)
     }
 
     /// Writes the selected routes, or their number. Reports rejected input, and returns the exit status.
@@ -62,7 +58,7 @@ impl<R: Files + Threads + Wait + Sync + AllocGlobal, O: Write, E: Write> Program
     ) -> Result<u8, ProgramError<'w>> {
         let run = &request.run;
         let selection = selection_of(request)?;
-        let labels = labels_for(self.alloc, request.telling, run.files.as_slice())?;
+        let style = style_of(self.alloc, request.telling, run.files.as_slice())?;
         let feeds = FeedNumbers::of(self.alloc, &request.feeds, run.files.as_slice())?;
         let texts = self.read_feeds(run.files.as_slice(), feeds.choice_of_all())?;
         let asked = RunInput::new(texts.as_slice(), run.limit, run.batch as usize);
@@ -71,15 +67,15 @@ impl<R: Files + Threads + Wait + Sync + AllocGlobal, O: Write, E: Write> Program
             selection,
             feeds: feeds.only.as_slice(),
         };
-        let style = Style::new(form_of(request.telling), labels.as_slice());
         let mut out = self.screen.beside(asked.count(), self.out);
-        let summary = if request.count {
-            count_texts(self.alloc, &asked, &style, &routes, &mut out)?
+        let question = if request.count {
+            Question::Counts(routes)
         } else {
-            table_texts(self.alloc, &asked, &style, &routes, &mut out)?
+            Question::Routes(routes)
         };
-        report_summary(&mut self.screen, run.files.as_slice(), &summary);
-        Ok(summary.status)
+        let given = show(self.alloc, &asked, &style, &question, &mut out)?;
+        report_summary(&mut self.screen, run.files.as_slice(), &given.run);
+        Ok(given.status)
     }
 }
 

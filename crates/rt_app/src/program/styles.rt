@@ -1,112 +1,68 @@
-//! Styles of printed routes: with feeds' numbers, with their names, or as JSON.
+//! How routes are printed: with feeds' numbers, with their names, or as JSON.
 
 use super::ProgramError;
-use command_line::OutputOptions;
-use rt_feed::{Form, Labelling, feed_name, labels_of, pair_feeds_by_name};
+use command_line::{ComparedBy, DiffRequest, OutputOptions};
+use rt_diff::CompareBy;
+use rt_print::{DiffOptions, Format, Style, feed_name};
 use rt_run::MAX_FEED_FILES;
-use std::alloc::{AllocError, Global};
+use std::alloc::Global;
 
-/// Returns the form of printed routes.
-pub(super) fn form_of(telling: OutputOptions) -> Form {
+/// Returns the format of printed routes.
+fn format_of(telling: OutputOptions) -> Format {
     match (telling.json, telling.names) {
-        (true, _) => Form::Json,
-        (false, true) => Form::Labels,
-        (false, false) => Form::Numbers,
+        (false, false) => Format::Numbers,
+        (false, true) => Format::Names,
+        (true, false) => Format::Json,
+        (true, true) => Format::JsonWithNames,
     }
 }
 
-/// Returns the labels of these files' feeds; none if feeds are printed by number only. Stops if there are too many files or
-/// if, with `--names`, a file has no valid feed name or two files have the same.
-pub(super) fn labels_for<'w>(
+/// Returns the style for these files' feeds. Stops if there are too many files or if, with `--names`, a file has no valid
+/// feed name or two files have the same.
+pub(super) fn style_of<'w>(
     alloc: Global,
     telling: OutputOptions,
     files: &[&'w str],
-) -> Result<Vec<Vec<u8>>, ProgramError<'w>> {
+) -> Result<Style, ProgramError<'w>> {
     if files.len() > MAX_FEED_FILES {
         return Err(ProgramError::TooMany);
     }
     if telling.names {
         check_names(files)?;
     }
-    let labelling = match (telling.names, telling.json) {
-        (false, false) => return Ok(Vec::new(alloc)),
-        (true, false) => Labelling::Names,
-        (false, true) => Labelling::Files,
-        (true, true) => Labelling::NamesAndFiles,
-    };
-    Ok(labels_of(alloc, labelling, files)?)
+    Ok(Style::new(alloc, format_of(telling), files)?)
 }
 
-/// The labels of the feeds of two sets of files, at the positions of the feeds' identifying numbers, and these numbers for the
-/// new feeds: none if each feed keeps its own number.
-#[derive(Drop)]
-pub(super) struct SideLabels {
-    pub(super) old: Vec<Vec<u8>>,
-    pub(super) new: Vec<Vec<u8>>,
-    pub(super) new_numbers: Vec<u32>,
-}
-
-/// Returns the labels of the old and the new files. With `--names`, feeds with the same name on both sides are paired. Stops
-/// as `labels_for` does.
-pub(super) fn side_labels<'w>(
+/// Returns what `diff` compares, and how it prints. Stops if there are too many files.
+pub(super) fn diff_options<'w>(
     alloc: Global,
-    telling: OutputOptions,
-    old_files: &[&'w str],
-    new_files: &[&'w str],
-) -> Result<SideLabels, ProgramError<'w>> {
-    let mut labels = SideLabels {
-        old: Vec::new(alloc),
-        new: Vec::new(alloc),
-        new_numbers: Vec::new(alloc),
-    };
-    if !telling.names && !telling.json {
-        return Ok(labels);
-    }
-    if old_files.len() > MAX_FEED_FILES || new_files.len() > MAX_FEED_FILES {
+    request: &DiffRequest<'w>,
+) -> Result<DiffOptions, ProgramError<'w>> {
+    let (old, new) = (request.run.files.as_slice(), request.new_files.as_slice());
+    if old.len() > MAX_FEED_FILES || new.len() > MAX_FEED_FILES {
         return Err(ProgramError::TooMany);
     }
-    labels.old = labels_for(alloc, telling, old_files)?;
-    labels.new = labels_for(alloc, telling, new_files)?;
-    if telling.names {
-        labels.new_numbers = pair_feeds_by_name(alloc, old_files, new_files)?;
-        let most = old_files.len() + new_files.len();
-        labels.new = placed(
-            alloc,
-            most,
-            labels.new_numbers.as_slice(),
-            labels.new.as_slice(),
-        )?;
-    }
-    Ok(labels)
+    let by = match request.by {
+        ComparedBy::Hop => CompareBy::Hop,
+        ComparedBy::Route => CompareBy::Route,
+    };
+    Ok(DiffOptions::new(alloc, by, format_of(request.telling), old, new)?)
 }
 
-/// Returns the labels, each at the position of its number from 1 to `most`, and an empty label at each other position.
-fn placed(
-    alloc: Global,
-    most: usize,
-    numbers: &[u32],
-    labels: &[Vec<u8>],
-) -> Result<Vec<Vec<u8>>, AllocError> {
-    let mut all = Vec::new(alloc);
-    for number in 1..=most {
-        all.push(label_of(alloc, number, numbers, labels)?)?;
+/// Stops as `style_of` does, if feeds have labels.
+pub(super) fn check_sides<'w>(request: &DiffRequest<'w>) -> Result<(), ProgramError<'w>> {
+    let (old, new) = (request.run.files.as_slice(), request.new_files.as_slice());
+    if !request.telling.names && !request.telling.json {
+        return Ok(());
     }
-    Ok(all)
-}
-
-/// Returns the label of this number, or an empty one.
-fn label_of(
-    alloc: Global,
-    number: usize,
-    numbers: &[u32],
-    labels: &[Vec<u8>],
-) -> Result<Vec<u8>, AllocError> {
-    for (told_by, label) in numbers.iter().zip(labels.iter()) {
-        if *told_by as usize == number {
-            return label.as_slice().to_vec(alloc);
-        }
+    if old.len() > MAX_FEED_FILES || new.len() > MAX_FEED_FILES {
+        return Err(ProgramError::TooMany);
     }
-    Ok(Vec::new(alloc))
+    if request.telling.names {
+        check_names(old)?;
+        check_names(new)?;
+    }
+    Ok(())
 }
 
 /// Stops if a file has no valid feed name, or the same feed name as an earlier file.

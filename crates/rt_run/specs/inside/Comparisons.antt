@@ -7,8 +7,8 @@ use Rattle.rt_diff.specs.Answers.{own_numbers}
 use Rattle.rt_diff.specs.Differences.{IsFirstDifference, AreDifferences, Compared}
 use Rattle.rt_diff.specs.inside.Rest.{AreRest}
 use Rattle.rt_diff.proofs.Promised.{differences_of}
-use Rattle.rt_feed.specs.DifferenceText.{differences_as}
-use Rattle.rt_run.specs.DiffText.{DiffContents, renumbered_new}
+use Rattle.rt_print.specs.DifferenceText.{DiffContents, differences_as}
+use Rattle.rt_run.specs.DiffText.{renumbered_new}
 
 -- the comparison of two tables
 abbrev pub compared_of : DiffContents → List Route → List Route → Compared
@@ -24,7 +24,7 @@ IsFirstOf asked old new first = IsFirstFrom asked old new (record { 0 = 0 }) fir
 
 -- the lines of all differences of the two tables
 abbrev pub lines_of : DiffContents → List Route → List Route → List ℕ
-lines_of asked old new = differences_as asked.styles (differences_of asked.by (own_numbers old) (renumbered_new asked new))
+lines_of asked old new = differences_as asked (differences_of asked.by (own_numbers old) (renumbered_new asked new))
 
 -- the maximum of both runs' statuses and, if there is a difference, of 1
 abbrev pub compared_status : ℕ → ℕ → Option Difference → ℕ
@@ -39,7 +39,7 @@ addresses_from (Some d) = 2 ^ 32 - d.first.0
 -- this text is the lines of the differences so far, and this is the next difference
 pub record IsSoFar (asked : DiffContents) (old new : List Route) (next : Option Difference) (text : List ℕ) : Type 0 where
   pub done : List Difference
-  pub printed : text ≡ differences_as asked.styles done
+  pub printed : text ≡ differences_as asked done
   pub from : Addr
   pub first : IsFirstFrom asked old new from next
   pub whole : (rest : List Difference) → AreRest asked.by (own_numbers old) (renumbered_new asked new) from.0 rest

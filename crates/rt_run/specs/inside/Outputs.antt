@@ -5,9 +5,9 @@ use Rattle.std.specs.Io.KnownBytes.{Appends}
 use Rattle.rt_cidr.specs.Output.{AppendsBeginning}
 use Rattle.rt_rib.specs.declared.limits.TheConstants.{MAX_FEEDS}
 use Rattle.rt_feed.specs.declared.faults.RunFault.TheVariants as fault
-use Rattle.rt_feed.specs.Printed.{table_text}
-use Rattle.rt_feed.specs.Counts.{counts_as}
-use Rattle.rt_feed.specs.Styles.{StyleContents, label_of, rows_as, all_found_as}
+use Rattle.rt_print.specs.Routes.{table_text}
+use Rattle.rt_print.specs.Counts.{counts_as}
+use Rattle.rt_print.specs.Styles.{StyleContents, label_of, rows_as, all_found_as}
 use Rattle.rt_run.specs.declared.faults.AppFault.{AppFault}
 use Rattle.rt_run.specs.declared.faults.AppFault.TheVariants.{Run, Replay, Write}
 use Rattle.rt_run.specs.declared.output.AddressMatches.{AddressMatches}
@@ -20,7 +20,7 @@ use Rattle.rt_run.specs.TableText.{answers_text}
 
 -- for each address, in order, all routes that cover it
 abbrev pub matches_text : StyleContents → List AddressMatches → List ℕ
-matches_text style all = flat_map (λ one. all_found_as style.form (label_of style.labels) one.addr one.routes.items) all
+matches_text style all = flat_map (λ one. all_found_as style.json (label_of style.labels) one.addr one.routes.items) all
 
 -- the text of the reports and the table, of the answers, of all covering routes, of the differences, of the routes or of their
 -- number, or of a replay
@@ -29,8 +29,8 @@ output_text (output.Run reports routes) = reports_text 1 reports.now ++ table_te
 output_text (output.Answers style table fib addresses) = answers_text style.now addresses.now table.now.routes
 output_text (output.Matches style all) = matches_text style.now all.now
 output_text (output.Differences asked old new first) = lines_of asked.now old.now.routes new.now.routes
-output_text (output.Routes style routes) = rows_as style.now.form (label_of style.now.labels) routes.now
-output_text (output.Counts style routes) = counts_as style.now.form (label_of style.now.labels) routes.now
+output_text (output.Routes style routes) = rows_as style.now routes.now
+output_text (output.Counts style routes) = counts_as style.now routes.now
 output_text (output.Replay steps inside) = replay_text_of steps.now inside
 
 -- there are no more reports than feeds; a forwarding table is made from the table; the difference is the first; and the

@@ -1,7 +1,7 @@
 use Rattle.std.proofs.Common.{[]}
 use Rattle.std.proofs.lemmas.Result.{err_from_is_err_and}
 use Rattle.rt_feed.specs.Printed.{line_text}
-use Rattle.rt_feed.proofs.Printing.{stops_in_one}
+use Rattle.rt_print.proofs.Promised.{stops_in_one}
 use Rattle.rt_feed.proofs.print.write_report.Goals as goal
 
 pub returns-in_err-put_line : goal.returns-in_err-put_line

@@ -3,11 +3,10 @@ use Rattle.std.proofs.lemmas.Result.{err_from_is_err_and}
 use Rattle.std.specs.Io.KnownBytes.{Appends}
 use Rattle.std.proofs.KnownBytes.{Appends-nil}
 use Rattle.rt_cidr.proofs.Promised.{appends_after}
-use Rattle.rt_feed.specs.DifferenceText.{difference_as}
+use Rattle.rt_print.specs.DifferenceText.{DiffContents, difference_as}
 use Rattle.rt_rib.specs.declared.routes.Route.{Route}
 use Rattle.rt_diff.specs.declared.comparison.Difference.{Difference}
 use Rattle.rt_diff.specs.Differences.{IsFirstDifference}
-use Rattle.rt_run.specs.DiffText.{DiffContents}
 use Rattle.rt_run.specs.inside.Comparisons.{IsFirstFrom, addresses_from}
 use Rattle.rt_run.proofs.output.write_differences.Given.{Over}
 use Rattle.rt_run.proofs.output.write_differences.Goals.{After-difference_after-next}
@@ -19,23 +18,23 @@ loop-next-init g c = record {
   tables = c.comparison-tables.ensures;
   text = [];
   written = Appends-nil _;
-  far = none_so_far c.args.terms.now c.args.old.now.routes c.args.new.now.routes c.args.first c.requires;
+  far = none_so_far c.args.options.now c.args.old.now.routes c.args.new.now.routes c.args.first c.requires;
 }
 
-pub returns-in_err-write_difference_as : goal.returns-in_err-write_difference_as
-returns-in_err-write_difference_as g c =
+pub returns-in_err-write_difference : goal.returns-in_err-write_difference
+returns-in_err-write_difference g c =
     let fault = err_from_is_err_and c.from_residual.result c.from_residual.ensures.1 in
     let far = c.loop-next.invariant.far in
-    let begun = rw c.styles.ensures at c.in_err-write_difference_as.ensures.err in
+    let begun = c.in_err-write_difference.ensures.err in
     rw fault.1 (record {
       ok = tt;
-      err = stops_there c.args.terms.now c.args.old.now.routes c.args.new.now.routes _ _ _ c.loop-next.invariant.text c.in-Some.difference
+      err = stops_there c.args.options.now c.args.old.now.routes c.args.new.now.routes _ _ _ c.loop-next.invariant.text c.in-Some.difference
           (rw c.in-Some.is at far) c.loop-next.invariant.written begun;
     })
 
 -- the next difference of the two tables after a range that was written
 first_behind : (g : Over) (c : After-difference_after-next g)
-    → IsFirstFrom c.args.terms.now c.args.old.now.routes c.args.new.now.routes (record { 0 = c.in-Some.difference.last.0 + 1 })
+    → IsFirstFrom c.args.options.now c.args.old.now.routes c.args.new.now.routes (record { 0 = c.in-Some.difference.last.0 + 1 })
     c.difference_after-next.result
 first_behind g c =
     subst (λ t. IsFirstDifference t.by t.old_table t.new_table (record { 0 = c.in-Some.difference.last.0 + 1 }) c.difference_after-next.result)
@@ -45,13 +44,13 @@ pub loop-next-preserved : goal.loop-next-preserved
 loop-next-preserved g c =
     let far = c.loop-next.invariant.far in
     let behind = first_behind g c in
-    let put = rw c.styles.ensures at c.in_ok-write_difference_as.ensures.ok in
+    let put = c.in_ok-write_difference.ensures.ok in
     record {
       tables = c.difference_after-next.ensures.kept ∙ c.loop-next.invariant.tables;
-      text = c.loop-next.invariant.text ++ difference_as c.args.terms.now.styles c.in-Some.difference;
-      written = appends_after _ _ _ c.loop-next.invariant.text (difference_as c.args.terms.now.styles c.in-Some.difference)
+      text = c.loop-next.invariant.text ++ difference_as c.args.options.now c.in-Some.difference;
+      written = appends_after _ _ _ c.loop-next.invariant.text (difference_as c.args.options.now c.in-Some.difference)
           c.loop-next.invariant.written put;
-      far = one_more c.args.terms.now c.args.old.now.routes c.args.new.now.routes c.loop-next.invariant.text c.in-Some.difference
+      far = one_more c.args.options.now c.args.old.now.routes c.args.new.now.routes c.loop-next.invariant.text c.in-Some.difference
           c.difference_after-next.result (rw c.in-Some.is at far) behind;
     }
 
@@ -65,7 +64,7 @@ pub loop-next-smaller : goal.loop-next-smaller
 loop-next-smaller g c =
     let far = rw c.in-Some.is at c.loop-next.invariant.far in
     let d = far.first.difference in
-    rw c.in-Some.is (fewer c.args.terms.now c.args.old.now.routes c.args.new.now.routes c.in-Some.difference c.difference_after-next.result
+    rw c.in-Some.is (fewer c.args.options.now c.args.old.now.routes c.args.new.now.routes c.in-Some.difference c.difference_after-next.result
     d.some d.fits (first_behind g c))
 
 pub returns : goal.returns
@@ -74,7 +73,7 @@ returns g c =
     let none = none_left c.loop-next.next c.in_default.not-Some in
     record {
       ok = subst (Appends (g.W.Write.contents c.args.w.now) (g.W.Write.contents c.loop-next.w))
-          (all_so_far c.args.terms.now c.args.old.now.routes c.args.new.now.routes c.loop-next.invariant.text (rw none at far))
+          (all_so_far c.args.options.now c.args.old.now.routes c.args.new.now.routes c.loop-next.invariant.text (rw none at far))
           c.loop-next.invariant.written;
       err = tt;
     }

@@ -6,10 +6,10 @@ use Rattle.rt_run.proofs.output.write_differences.Given as goal
 -- the tables stay, and the lines so far were written
 abbrev pub invariant-loop-next : goal.invariant-loop-next
 invariant-loop-next g l = record {
-  tables : l.tables ≡ compared_of l.terms l.old.routes l.new.routes;
+  tables : l.tables ≡ compared_of l.options l.old.routes l.new.routes;
   text : List ℕ;
   written : Appends (g.W.Write.contents l.initial.w) (g.W.Write.contents l.w) text;
-  far : IsSoFar l.terms l.old.routes l.new.routes l.next text;
+  far : IsSoFar l.options l.old.routes l.new.routes l.next text;
 }
 
 abbrev pub decreases-loop-next : goal.decreases-loop-next

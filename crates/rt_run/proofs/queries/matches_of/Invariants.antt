@@ -1,5 +1,5 @@
 use Rattle.std.proofs.Common.{◌≡◌, ◌≤◌, length, take, vec_len, vec_capacity}
-use Rattle.rt_feed.specs.Styles.{StyleContents}
+use Rattle.rt_print.specs.Styles.{StyleContents}
 use Rattle.rt_run.specs.TableText.{all_answers_text}
 use Rattle.rt_run.specs.inside.Outputs.{matches_text}
 use Rattle.rt_run.proofs.queries.matches_of.Given as goal

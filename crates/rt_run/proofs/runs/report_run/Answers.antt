@@ -1,6 +1,6 @@
 use Rattle.std.proofs.Common.{◌≡◌, ◌++◌, List, ℕ, Err, refl, ap, subst}
 use Rattle.std.proofs.lemmas.Result.{err_from_is_err_and}
-use Rattle.rt_feed.specs.Printed.{table_text}
+use Rattle.rt_print.specs.Routes.{table_text}
 use Rattle.rt_rib.specs.Book.{table_of}
 use Rattle.rt_run.specs.RunText.{IsRunText, reports_text, reports_status}
 use Rattle.rt_run.specs.inside.Outputs.{Writes}

@@ -27,7 +27,7 @@ returns-in-Routes c =
     (record { none = rows-none _ c.in-Routes.routes.now; some = rows-some _ c.in-Routes.routes.now })
 
 pub returns-in-Counts : goal.returns-in-Counts
-returns-in-Counts c = rw c.in-Counts.is (record { none = λ same. absurd cc; some = λ same. counts-some _ _ _ })
+returns-in-Counts c = rw c.in-Counts.is (record { none = λ same. absurd cc; some = λ same. counts-some _ _ })
 
 pub returns-in-Replay : goal.returns-in-Replay
 returns-in-Replay c = rw c.in-Replay.is (record { none = λ same. absurd cc; some = λ same. replay_text-some _ _ })

@@ -1,0 +1,320 @@
+-- Examples that test the definitions of rt_print, each below a line with the definition's name. Both sides are computed;
+-- relations and laws are spelled out for some values.
+use Rattle.std.proofs.Common.{◌≡◌, ℕ, true, false, List, [], ◌∷◌, ◌++◌, length, Some, None, codes, refl, ap}
+use Rattle.std.specs.Prelude.{decimal}
+use Rattle.std.specs.Fmt.{digits}
+use Rattle.rt_cidr.specs.Text.{address_text, prefix_text}
+use Rattle.table_examples.proofs.Cidr.{ten_8}
+use Rattle.table_examples.proofs.Rib.{ten_1_16, ten_9_16, at_10_1_2_3, at_10_9_0_1, via_192_0_2, route_via}
+use Rattle.rt_rib.specs.declared.routes.Route.{Route}
+use Rattle.rt_rib.specs.declared.routes.Hop.TheVariants.{Via, Discard}
+use Rattle.rt_rib.specs.Table.{IsTable}
+use Rattle.rt_rib.specs.LookUp.{best_routes}
+use Rattle.rt_rib.proofs.BestRoutes.{dedup-best}
+use Rattle.rt_diff.specs.declared.table_answers.CompareBy.TheVariants as by
+use Rattle.rt_diff.specs.declared.table_answers.TableAnswer.TheVariants as answered
+use Rattle.rt_diff.specs.declared.comparison.Difference.{Difference}
+use Rattle.rt_print.specs.declared.format.Format.{Format}
+use Rattle.rt_print.specs.declared.format.Format.TheVariants.{Numbers, Names, Json, JsonWithNames}
+use Rattle.rt_print.specs.Routes.{hop_text, route_text, row_text, count_text, rows_text, table_text}
+use Rattle.rt_print.specs.Json.{escaped, json_string, hop_members, route_object}
+use Rattle.rt_print.specs.Labels.{is_json, has_names, base_name, without_feed, feed_name, label_by, labelled, number_in, paired_number, labels_by}
+use Rattle.rt_print.specs.Styles.{StyleContents, label_of, row_as, address_head, found_as, reason_text, also_line, all_found_as}
+use Rattle.rt_print.specs.DifferenceText.{way_text, DiffContents, diff_of, answered_as, range_as, difference_as, differences_as}
+use Rattle.rt_print.specs.Counts.{prefix_count, length_count, totals_as, count_as, each_below, counts_as}
+use Rattle.feed_examples.proofs.Feed.{at_192_0_2_1}
+
+-- hop_text
+an_address_as_next_hop : hop_text (Via at_192_0_2_1) ≡ codes "192.0.2.1"
+unfolding digits address_text
+an_address_as_next_hop = refl
+
+discard_as_next_hop : hop_text Discard ≡ codes "discard"
+discard_as_next_hop = refl
+
+-- route_text
+a_route_that_discards : route_text (route_via ten_9_16 3 10 Discard) ≡ codes "10.9.0.0/16 feed 3 pref 10 via discard"
+unfolding digits address_text prefix_text route_text
+a_route_that_discards = refl
+
+-- row_text
+a_row : row_text (route_via ten_8 2 30 (via_192_0_2 2)) ≡ codes "10.0.0.0/8 feed 2 pref 30 via 192.0.2.2\n"
+unfolding digits address_text prefix_text row_text route_text
+a_row = refl
+
+-- count_text
+the_count_of_four : count_text 4 ≡ codes "table 4\n"
+unfolding digits count_text
+the_count_of_four = refl
+
+-- a route of feed 1 to 192.0.2.1
+abbrev route_10 : Route
+route_10 = record { prefix = ten_8; feed = 1; pref = 100; hop = Via at_192_0_2_1 }
+
+-- rows_text
+no_rows : rows_text [] ≡ []
+no_rows = refl
+
+one_row : rows_text (route_10 ∷ []) ≡ codes "10.0.0.0/8 feed 1 pref 100 via 192.0.2.1\n"
+unfolding digits address_text prefix_text row_text route_text
+one_row = refl
+
+-- table_text
+the_empty_table : table_text [] ≡ codes "table 0\n"
+unfolding digits count_text
+the_empty_table = refl
+
+a_table_of_two :
+    table_text (route_via ten_8 2 30 (via_192_0_2 2) ∷ route_via ten_9_16 3 10 Discard ∷ [])
+    ≡ codes "table 2\n10.0.0.0/8 feed 2 pref 30 via 192.0.2.2\n10.9.0.0/16 feed 3 pref 10 via discard\n"
+unfolding digits address_text prefix_text count_text row_text route_text
+a_table_of_two = refl
+
+-- reason_text
+each_step_has_its_reason :
+    (reason_text (route_via ten_1_16 1 10 Discard) (route_via ten_8 1 10 Discard) ≡ codes "shorter")
+    × (reason_text (route_via ten_8 1 10 Discard) (route_via ten_8 1 30 Discard) ≡ codes "preference")
+    × (reason_text (route_via ten_8 1 10 Discard) (route_via ten_8 2 10 Discard) ≡ codes "feed")
+unfolding reason_text
+each_step_has_its_reason = (refl, refl, refl)
+
+the_first_step_that_differs :
+    (reason_text (route_via ten_1_16 2 30 Discard) (route_via ten_8 1 10 Discard) ≡ codes "shorter")
+    × (reason_text (route_via ten_8 2 10 Discard) (route_via ten_8 1 30 Discard) ≡ codes "preference")
+unfolding reason_text
+the_first_step_that_differs = (refl, refl)
+
+-- also_line
+a_route_left_behind :
+    also_line (λ feed. decimal feed) at_10_1_2_3 (route_via ten_1_16 1 10 (via_192_0_2 1)) (route_via ten_8 2 30 (via_192_0_2 2))
+    ≡ codes "10.1.2.3 also 10.0.0.0/8 feed 2 pref 30 via 192.0.2.2 shorter\n"
+unfolding digits address_text prefix_text reason_text
+a_route_left_behind = refl
+
+-- way_text
+the_way_to_a_router : way_text (Via at_192_0_2_1) ≡ codes "via 192.0.2.1"
+unfolding digits address_text
+the_way_to_a_router = refl
+
+discard_as_way : way_text Discard ≡ codes "discard"
+discard_as_way = refl
+
+-- answered_as
+an_answer_of_each_kind :
+    (answered_as false (λ feed. decimal feed) answered.NoRoute ≡ codes "no route") × (answered_as false (λ feed. decimal feed) (answered.Hop Discard) ≡ codes "discard")
+    × (answered_as false (λ feed. decimal feed) (answered.Route route_10) ≡ codes "10.0.0.0/8 feed 1 pref 100 via 192.0.2.1")
+unfolding digits address_text prefix_text answered_as
+an_answer_of_each_kind = (refl, refl, refl)
+
+-- the addresses from 10.1.2.3 to 10.9.0.1, which had a next hop and now have none
+abbrev range_without_way : Difference
+range_without_way = record { first = at_10_1_2_3; last = at_10_9_0_1; old = answered.Hop (Via at_192_0_2_1); new = answered.NoRoute }
+
+-- the routes of feed 1 of the old table, and of feed 1 of the new one, which is identified by 3
+abbrev told_range : Difference
+told_range = record { first = at_10_1_2_3; last = at_10_9_0_1; old = answered.Route (route_via ten_8 1 5 Discard); new = answered.Route (route_via ten_8 3 5 Discard) }
+
+abbrev compared_files : Format → DiffContents
+compared_files format = diff_of by.Route format (codes "a.feed" ∷ codes "b.feed" ∷ []) (codes "new/c.feed" ∷ codes "new/a.feed" ∷ [])
+
+-- diff_of
+new_feeds_by_their_names : ((compared_files Names).numbers ≡ 3 ∷ 1 ∷ []) × ((compared_files Json).numbers ≡ 1 ∷ 2 ∷ [])
+unfolding feed_name
+new_feeds_by_their_names = (refl, refl)
+
+-- difference_as
+each_answer_by_its_own_labels : difference_as (compared_files Names) told_range
+    ≡ codes "10.1.2.3-10.9.0.1 10.0.0.0/8 feed a pref 5 via discard -> 10.0.0.0/8 feed c pref 5 via discard\n"
+unfolding digits address_text prefix_text range_as answered_as labels_by label_by feed_name
+each_answer_by_its_own_labels = refl
+
+a_range_as_an_object : difference_as (compared_files Json) range_without_way
+    ≡ codes "{\"first\":\"10.1.2.3\",\"last\":\"10.9.0.1\",\"old\":{\"via\":\"192.0.2.1\"},\"new\":null}\n"
+unfolding digits address_text range_as answered_as
+a_range_as_an_object = refl
+
+-- differences_as
+one_line_for_each_range :
+    differences_as (compared_files Numbers) (range_without_way ∷ range_without_way ∷ [])
+    ≡ codes "10.1.2.3-10.9.0.1 via 192.0.2.1 -> no route\n10.1.2.3-10.9.0.1 via 192.0.2.1 -> no route\n"
+unfolding digits address_text range_as answered_as
+one_line_for_each_range = refl
+
+-- two routes of feed 1 and one of feed 2, to two prefixes
+abbrev counted_routes : List Route
+counted_routes = route_via ten_8 1 5 Discard ∷ route_via ten_8 2 5 Discard ∷ route_via ten_1_16 1 5 Discard ∷ []
+
+-- prefix_count
+each_prefix_once : prefix_count counted_routes ≡ 2
+each_prefix_once = refl
+
+as_many_as_there_are_best_routes : (table : List Route) → IsTable table → prefix_count table ≡ length (best_routes table)
+as_many_as_there_are_best_routes table is = ap length (dedup-best table is)
+
+-- length_count
+those_of_the_length_alone : (length_count 8 counted_routes ≡ 2) × (length_count 16 counted_routes ≡ 1) × (length_count 32 counted_routes ≡ 0)
+those_of_the_length_alone = (refl, refl, refl)
+
+-- totals_as
+the_totals_in_each_style :
+    (totals_as false 3 2 ≡ codes "routes 3 prefixes 2\n") × (totals_as true 3 2 ≡ codes "{\"routes\":3,\"prefixes\":2}\n")
+unfolding totals_as digits
+the_totals_in_each_style = (refl, refl)
+
+-- each_below
+from_0_up_to_the_last_below : (tell : ℕ → List ℕ) → each_below tell 3 ≡ (([] ++ tell 0) ++ tell 1) ++ tell 2
+from_0_up_to_the_last_below tell = refl
+
+-- counts_as
+all_counts : counts_as (record { json = false; labels = [] }) counted_routes
+    ≡ codes "routes 3 prefixes 2\nfeed 1 routes 2\nfeed 2 routes 1\nlength 8 routes 2\nlength 16 routes 1\n"
+unfolding counts_as totals_as count_as digits
+all_counts = refl
+
+-- escaped
+what_stands_for_a_byte :
+    (escaped 34 ≡ codes "\\\"") × (escaped 92 ≡ codes "\\\\") × (escaped 10 ≡ codes "\\u000a") × (escaped 31 ≡ codes "\\u001f") × (escaped 32 ≡ codes " ")
+    × (escaped 127 ≡ 127 ∷ []) × (escaped 195 ≡ 195 ∷ [])
+what_stands_for_a_byte = (refl, refl, refl, refl, refl, refl, refl)
+
+-- json_string
+a_string_with_quotation_marks : json_string (codes "a\"b\".feed\n") ≡ codes "\"a\\\"b\\\".feed\\u000a\""
+unfolding json_string
+a_string_with_quotation_marks = refl
+
+-- hop_members
+a_next_hop_and_none : (hop_members (via_192_0_2 2) ≡ codes "\"via\":\"192.0.2.2\"") × (hop_members Discard ≡ codes "\"via\":null,\"discard\":true")
+unfolding digits address_text
+a_next_hop_and_none = (refl, refl)
+
+-- route_object
+a_route_as_an_object :
+    route_object (codes "2,\"file\":\"b.feed\"") (route_via ten_8 2 30 (via_192_0_2 2)) (codes ",\"reason\":\"shorter\"")
+    ≡ codes "{\"prefix\":\"10.0.0.0/8\",\"feed\":2,\"file\":\"b.feed\",\"pref\":30,\"via\":\"192.0.2.2\",\"reason\":\"shorter\"}"
+unfolding digits address_text prefix_text route_object
+a_route_as_an_object = refl
+
+-- base_name
+parts_behind_slashes :
+    (base_name (codes "a/b/c.feed") ≡ codes "c.feed") × (base_name (codes "c.feed") ≡ codes "c.feed") × (base_name (codes "/c") ≡ codes "c")
+    × (base_name (codes "c/") ≡ []) × (base_name [] ≡ [])
+parts_behind_slashes = (refl, refl, refl, refl, refl)
+
+-- without_feed
+the_ending_is_left_out :
+    (without_feed (codes "c.feed") ≡ codes "c") × (without_feed (codes "c.feeds") ≡ codes "c.feeds") × (without_feed (codes ".feed") ≡ [])
+    × (without_feed (codes "feed") ≡ codes "feed") × (without_feed (codes "c.feed.feed") ≡ codes "c.feed")
+the_ending_is_left_out = (refl, refl, refl, refl, refl)
+
+-- feed_name
+a_feed_by_its_file : feed_name (codes "feeds/east.feed") ≡ codes "east"
+unfolding feed_name
+a_feed_by_its_file = refl
+
+-- is_json
+objects_in_two_formats : (is_json Numbers ≡ false) × (is_json Names ≡ false) × (is_json Json ≡ true) × (is_json JsonWithNames ≡ true)
+objects_in_two_formats = (refl, refl, refl, refl)
+
+-- has_names
+names_in_two_formats : (has_names Numbers ≡ false) × (has_names Names ≡ true) × (has_names Json ≡ false) × (has_names JsonWithNames ≡ true)
+names_in_two_formats = (refl, refl, refl, refl)
+
+-- label_by
+a_feed_by_each_label :
+    (label_by Numbers 2 (codes "feeds/east.feed") ≡ codes "2") × (label_by Names 2 (codes "feeds/east.feed") ≡ codes "east")
+    × (label_by Json 2 (codes "feeds/east.feed") ≡ codes "2,\"file\":\"feeds/east.feed\"")
+    × (label_by JsonWithNames 2 (codes "feeds/east.feed") ≡ codes "2,\"name\":\"east\",\"file\":\"feeds/east.feed\"")
+unfolding digits json_string feed_name label_by
+a_feed_by_each_label = (refl, refl, refl, refl)
+
+-- labelled
+each_path_by_its_number : (tell : ℕ → List ℕ → List ℕ) (one two : List ℕ) → labelled tell 1 (one ∷ two ∷ []) ≡ tell 1 one ∷ tell 2 two ∷ []
+each_path_by_its_number tell one two = refl
+
+-- number_in
+the_first_of_the_name_or_another :
+    (number_in 3 (codes "a.feed" ∷ codes "x/b.feed" ∷ codes "b" ∷ []) (codes "b") 9 ≡ 4) × (number_in 3 (codes "a.feed" ∷ []) (codes "b") 9 ≡ 9)
+    × (number_in 3 [] (codes "b") 9 ≡ 9)
+unfolding feed_name
+the_first_of_the_name_or_another = (refl, refl, refl)
+
+-- paired_number
+its_partners_or_behind_them_all :
+    (paired_number (codes "a.feed" ∷ codes "b.feed" ∷ []) 1 (codes "new/b.feed") ≡ 2)
+    × (paired_number (codes "a.feed" ∷ codes "b.feed" ∷ []) 3 (codes "c.feed") ≡ 5)
+unfolding feed_name
+its_partners_or_behind_them_all = (refl, refl)
+
+-- labels_by
+each_label_with_its_number :
+    (labels_by Numbers [] (codes "a" ∷ []) ≡ []) × (labels_by Names [] (codes "a" ∷ codes "b" ∷ []) ≡ (1, codes "a") ∷ (2, codes "b") ∷ [])
+    × (labels_by Names (codes "a" ∷ codes "b" ∷ []) (codes "b" ∷ codes "c" ∷ []) ≡ (2, codes "b") ∷ (4, codes "c") ∷ [])
+unfolding labels_by label_by feed_name
+each_label_with_its_number = (refl, refl, refl)
+
+-- label_of
+feeds_have_their_labels :
+    (one two : List ℕ) → (label_of ((1, one) ∷ (5, two) ∷ []) 1 ≡ one) × (label_of ((1, one) ∷ (5, two) ∷ []) 5 ≡ two)
+    × (label_of ((1, one) ∷ (1, two) ∷ []) 1 ≡ one)
+feeds_have_their_labels one two = (refl, refl, refl)
+
+a_feed_without_one_by_its_number : (one : List ℕ) → label_of ((1, one) ∷ []) 12 ≡ codes "12"
+unfolding digits
+a_feed_without_one_by_its_number one = refl
+
+-- objects with the numbers of two feeds
+abbrev objects_of_two : StyleContents
+objects_of_two = record { json = true; labels = (1, codes "1") ∷ (2, codes "2") ∷ [] }
+
+-- StyleContents
+what_a_style_has : (objects_of_two.json ≡ true) × (label_of objects_of_two.labels 1 ≡ codes "1") × (label_of objects_of_two.labels 2 ≡ codes "2")
+what_a_style_has = (refl, refl, refl)
+
+-- the label of each feed that the examples have
+abbrev east_and_west : ℕ → List ℕ
+east_and_west = label_of ((1, codes "east") ∷ (2, codes "west") ∷ [])
+
+-- row_as
+a_row_in_each_form :
+    (row_as false east_and_west (route_via ten_8 2 30 Discard) ≡ codes "10.0.0.0/8 feed west pref 30 via discard\n")
+    × (row_as true (λ feed. decimal feed) (route_via ten_8 2 30 Discard) ≡ codes "{\"prefix\":\"10.0.0.0/8\",\"feed\":2,\"pref\":30,\"via\":null,\"discard\":true}\n")
+unfolding digits address_text prefix_text route_object row_as
+a_row_in_each_form = (refl, refl)
+
+-- address_head
+an_address_that_was_asked : address_head at_10_1_2_3 ≡ codes "{\"address\":\"10.1.2.3\",\"route\":"
+unfolding digits address_text address_head
+an_address_that_was_asked = refl
+
+-- found_as
+what_was_found_in_each_form :
+    (found_as false east_and_west at_10_1_2_3 (Some (route_via ten_8 1 30 Discard)) ≡ codes "10.1.2.3 route 10.0.0.0/8 feed east pref 30 via discard\n")
+    × (found_as true (λ feed. decimal feed) at_10_1_2_3 (Some (route_via ten_8 1 30 (via_192_0_2 2)))
+    ≡ codes "{\"address\":\"10.1.2.3\",\"route\":{\"prefix\":\"10.0.0.0/8\",\"feed\":1,\"pref\":30,\"via\":\"192.0.2.2\"}}\n")
+    × (found_as true (λ feed. decimal feed) at_10_1_2_3 None ≡ codes "{\"address\":\"10.1.2.3\",\"route\":null}\n")
+unfolding digits address_text prefix_text route_object address_head found_as
+what_was_found_in_each_form = (refl, refl, refl)
+
+no_route_was_found : found_as false (λ feed. decimal feed) at_192_0_2_1 None ≡ codes "192.0.2.1 no route\n"
+unfolding digits address_text found_as
+no_route_was_found = refl
+
+-- all_found_as
+nothing_covers_it : all_found_as false (λ feed. decimal feed) at_192_0_2_1 [] ≡ codes "192.0.2.1 no route\n"
+unfolding digits address_text found_as all_found_as
+nothing_covers_it = refl
+
+three_cover_it :
+    all_found_as false (λ feed. decimal feed) at_10_1_2_3 (route_via ten_1_16 1 10 (via_192_0_2 1) ∷ route_via ten_8 2 30 (via_192_0_2 2) ∷ route_via ten_8 1 50 Discard ∷ [])
+    ≡ codes "10.1.2.3 route 10.1.0.0/16 feed 1 pref 10 via 192.0.2.1\n"
+    ++ codes "10.1.2.3 also 10.0.0.0/8 feed 2 pref 30 via 192.0.2.2 shorter\n10.1.2.3 also 10.0.0.0/8 feed 1 pref 50 via discard shorter\n"
+unfolding digits address_text prefix_text found_as all_found_as reason_text
+three_cover_it = refl
+
+all_that_was_found_as_an_object :
+    all_found_as true (λ feed. decimal feed) at_10_1_2_3 (route_via ten_1_16 1 10 Discard ∷ route_via ten_8 2 30 Discard ∷ route_via ten_8 1 50 Discard ∷ [])
+    ≡ codes "{\"address\":\"10.1.2.3\",\"route\":{\"prefix\":\"10.1.0.0/16\",\"feed\":1,\"pref\":10,\"via\":null,\"discard\":true},\"also\":["
+    ++ codes "{\"prefix\":\"10.0.0.0/8\",\"feed\":2,\"pref\":30,\"via\":null,\"discard\":true,\"reason\":\"shorter\"},"
+    ++ codes "{\"prefix\":\"10.0.0.0/8\",\"feed\":1,\"pref\":50,\"via\":null,\"discard\":true,\"reason\":\"shorter\"}]}\n"
+unfolding digits address_text prefix_text reason_text route_object address_head all_found_as
+all_that_was_found_as_an_object = refl

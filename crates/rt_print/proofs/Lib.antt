@@ -1,0 +1,5 @@
+pub mod Promised
+pub mod Texts
+pub mod LineParts
+pub mod CountParts
+pub mod FeedLabels

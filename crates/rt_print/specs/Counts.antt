@@ -1,0 +1,39 @@
+-- The numbers of routes: in all, of their prefixes, of each feed, and to prefixes of each length.
+use Rattle.std.specs.Prelude.{ℕ, zero, suc, ◌+◌, ◌==◌, Bool, true, false, if◌then◌else◌, List, [], ◌++◌, length, codes, decimal, count_by}
+use Rattle.std.specs.List.{dedup}
+use Rattle.rt_cidr.specs.Prefix.{same_prefix}
+use Rattle.rt_rib.specs.declared.limits.TheConstants.{MAX_FEEDS}
+use Rattle.rt_rib.specs.declared.routes.Route.{Route}
+use Rattle.rt_rib.specs.Table.{count_of}
+use Rattle.rt_print.specs.Styles.{StyleContents, label_of}
+
+-- the number of prefixes of the routes, if routes to the same prefix are adjacent
+abbrev pub prefix_count : List Route → ℕ
+prefix_count routes = length (dedup (λ s r. same_prefix s.prefix r.prefix) routes)
+
+-- the number of routes to prefixes of this length
+abbrev pub length_count : ℕ → List Route → ℕ
+length_count len routes = count_by (λ r. r.prefix.len == len) routes
+
+-- the text of the numbers of routes and of prefixes
+unfoldable pub totals_as : Bool → ℕ → ℕ → List ℕ
+totals_as false routes prefixes = codes "routes " ++ (decimal routes ++ (codes " prefixes " ++ (decimal prefixes ++ codes "\n")))
+totals_as true routes prefixes = codes "{\"routes\":" ++ (decimal routes ++ (codes ",\"prefixes\":" ++ (decimal prefixes ++ codes "}\n")))
+
+-- the text of the number of routes of this kind and name, empty for 0
+unfoldable pub count_as : Bool → List ℕ → List ℕ → ℕ → List ℕ
+count_as false kind name count = if count == 0 then [] else kind ++ (codes " " ++ (name ++ (codes " routes " ++ (decimal count ++ codes "\n"))))
+count_as true kind name count =
+    if count == 0 then [] else codes "{\"" ++ (kind ++ (codes "\":" ++ (name ++ (codes ",\"routes\":" ++ (decimal count ++ codes "}\n")))))
+
+-- the texts of all numbers below this one, from 0 on
+abbrev pub each_below : (ℕ → List ℕ) → ℕ → List ℕ
+each_below tell zero = []
+each_below tell (suc n) = each_below tell n ++ tell n
+
+-- all these numbers of routes
+unfoldable pub counts_as : StyleContents → List Route → List ℕ
+counts_as style routes =
+    totals_as style.json (length routes) (prefix_count routes)
+    ++ (each_below (λ feed. count_as style.json (codes "feed") (label_of style.labels feed) (count_of feed routes)) (MAX_FEEDS + 1)
+    ++ each_below (λ len. count_as style.json (codes "length") (decimal len) (length_count len routes)) 33)

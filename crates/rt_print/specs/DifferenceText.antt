@@ -1,0 +1,71 @@
+-- The text of the differences of two tables.
+use Rattle.std.specs.Prelude.{ℕ, Bool, true, false, if◌then◌else◌, List, [], ◌++◌, codes}
+use Rattle.std.specs.List.{flat_map}
+use Rattle.rt_cidr.specs.Text.{address_text}
+use Rattle.rt_rib.specs.declared.routes.Hop.{Hop}
+use Rattle.rt_rib.specs.declared.routes.Hop.TheVariants.{Via, Discard}
+use Rattle.rt_diff.specs.declared.table_answers.CompareBy.{CompareBy}
+use Rattle.rt_diff.specs.declared.table_answers.TableAnswer.{TableAnswer}
+use Rattle.rt_diff.specs.declared.table_answers.TableAnswer.TheVariants as answered
+use Rattle.rt_diff.specs.declared.comparison.Difference.{Difference}
+use Rattle.rt_print.specs.declared.format.Format.{Format}
+use Rattle.rt_print.specs.Labels.{has_names, labelled, paired_number}
+use Rattle.rt_print.specs.Routes.{route_line}
+use Rattle.rt_print.specs.Json.{hop_members, route_object}
+use Rattle.rt_print.specs.Styles.{StyleContents, style_of, label_of}
+
+-- the next hop: `via ADDR`, or `discard`
+abbrev pub way_text : Hop → List ℕ
+way_text (Via address) = codes "via " ++ address_text address.0
+way_text Discard = codes "discard"
+
+-- the part of an answer that is compared; the numbers that identify the feeds of the new table; and the style of each
+-- table, both in the same format
+pub record DiffContents : Type 0 where
+  pub by : CompareBy
+  pub numbers : List ℕ
+  pub old : StyleContents
+  pub new : StyleContents
+
+-- with names, a new feed is identified in relation to the old ones; else by its own number
+abbrev pub old_paths_for : Format → List (List ℕ) → List (List ℕ)
+old_paths_for format old = if has_names format then old else []
+
+-- the comparison of the tables of two sets of paths in this format. The label of each new feed is the one for the number
+-- that identifies it
+abbrev pub diff_of : CompareBy → Format → List (List ℕ) → List (List ℕ) → DiffContents
+diff_of by format old new = record {
+  by = by;
+  numbers = labelled (paired_number (old_paths_for format old)) 1 new;
+  old = style_of format [] old;
+  new = style_of format (old_paths_for format old) new;
+}
+
+-- the answer for an address; `label` gives the label of each feed of its table
+unfoldable pub answered_as : Bool → (ℕ → List ℕ) → TableAnswer → List ℕ
+answered_as false label answered.NoRoute = codes "no route"
+answered_as false label (answered.Hop hop) = way_text hop
+answered_as false label (answered.Route r) = route_line (label r.feed) r
+answered_as true label answered.NoRoute = codes "null"
+answered_as true label (answered.Hop hop) = codes "{" ++ (hop_members hop ++ codes "}")
+answered_as true label (answered.Route r) = route_object (label r.feed) r []
+
+-- a range, and these texts of its two answers: `FIRST-LAST OLD -> NEW`, or an object
+unfoldable pub range_as : Bool → Difference → List ℕ → List ℕ → List ℕ
+range_as false d old new =
+    address_text d.first.0 ++ (codes "-" ++ (address_text d.last.0 ++ (codes " " ++ (old ++ (codes " -> " ++ (new ++ codes "\n"))))))
+range_as true d old new =
+    codes "{\"first\":\"" ++ (address_text d.first.0 ++ (codes "\",\"last\":\"" ++ (address_text d.last.0 ++ (codes "\",\"old\":"
+    ++ (old ++ (codes ",\"new\":" ++ (new ++ codes "}\n")))))))
+
+-- the answer for an address of a table in its style
+abbrev pub answer_as : StyleContents → TableAnswer → List ℕ
+answer_as style answer = answered_as style.json (label_of style.labels) answer
+
+-- a range and its two answers
+abbrev pub difference_as : DiffContents → Difference → List ℕ
+difference_as asked d = range_as asked.old.json d (answer_as asked.old d.old) (answer_as asked.new d.new)
+
+-- the ranges in order
+abbrev pub differences_as : DiffContents → List Difference → List ℕ
+differences_as asked list = flat_map (difference_as asked) list

@@ -1,0 +1,71 @@
+-- Routes and look-up results in a style: as lines, or as JSON objects, one a line. Each feed has a label.
+use Rattle.std.specs.Prelude.{ℕ, ◌==◌, nat_lt, Bool, true, false, if◌then◌else◌, List, [], ◌∷◌, ◌++◌, codes, decimal, Option, Some, None}
+use Rattle.std.specs.List.{flat_map, join_by}
+use Rattle.rt_cidr.specs.declared.address.Addr.{Addr}
+use Rattle.rt_cidr.specs.Text.{address_text}
+use Rattle.rt_rib.specs.declared.routes.Route.{Route}
+use Rattle.rt_print.specs.declared.format.Format.{Format}
+use Rattle.rt_print.specs.Labels.{is_json, labels_by}
+use Rattle.rt_print.specs.Routes.{route_line}
+use Rattle.rt_print.specs.Json.{route_object}
+
+-- routes are printed as JSON objects, else as lines; and the labels of feeds, each with the number that identifies the
+-- feed
+pub record StyleContents : Type 0 where
+  pub json : Bool
+  pub labels : List (ℕ × List ℕ)
+
+-- the style of this format for the feeds of these paths, in relation to the feeds of the first paths
+abbrev pub style_of : Format → List (List ℕ) → List (List ℕ) → StyleContents
+style_of format first paths = record { json = is_json format; labels = labels_by format first paths }
+
+-- the label of the feed with this number: the first one for this number, or else the number itself
+abbrev pub label_of : List (ℕ × List ℕ) → ℕ → List ℕ
+label_of [] feed = decimal feed
+label_of (one ∷ labels) feed = if one.0 == feed then one.1 else label_of labels feed
+
+-- a route of the table; here and below `label` gives the label of each feed
+unfoldable pub row_as : Bool → (ℕ → List ℕ) → Route → List ℕ
+row_as false label r = route_line (label r.feed) r ++ codes "\n"
+row_as true label r = route_object (label r.feed) r [] ++ codes "\n"
+
+-- the table's routes in order
+abbrev pub rows_as : StyleContents → List Route → List ℕ
+rows_as style routes = flat_map (row_as style.json (label_of style.labels)) routes
+
+-- the address, as the beginning of an object
+unfoldable pub address_head : Addr → List ℕ
+address_head addr = codes "{\"address\":\"" ++ (address_text addr.0 ++ codes "\",\"route\":")
+
+-- the result of a look-up of the address
+unfoldable pub found_as : Bool → (ℕ → List ℕ) → Addr → Option Route → List ℕ
+found_as false label addr None = address_text addr.0 ++ codes " no route\n"
+found_as false label addr (Some r) = address_text addr.0 ++ (codes " route " ++ (route_line (label r.feed) r ++ codes "\n"))
+found_as true label addr None = address_head addr ++ codes "null}\n"
+found_as true label addr (Some r) = address_head addr ++ (route_object (label r.feed) r [] ++ codes "}\n")
+
+-- the reason why the route lost to the first one: its prefix is shorter, else its preference is higher, else its
+-- feed is
+unfoldable pub reason_text : Route → Route → List ℕ
+reason_text first r =
+    if nat_lt r.prefix.len first.prefix.len then codes "shorter"
+    else if nat_lt first.pref r.pref then codes "preference" else codes "feed"
+
+-- the address, `also`, and a covering route after the first one, with the reason
+abbrev pub also_line : (ℕ → List ℕ) → Addr → Route → Route → List ℕ
+also_line label addr first r =
+    address_text addr.0 ++ (codes " also " ++ (route_line (label r.feed) r ++ (codes " " ++ (reason_text first r ++ codes "\n"))))
+
+-- a route that lost to the first one, as an object with the reason
+abbrev pub also_object : (ℕ → List ℕ) → Route → Route → List ℕ
+also_object label first r =
+    route_object (label r.feed) r (codes ",\"reason\":\"" ++ (reason_text first r ++ codes "\""))
+
+-- all routes found, the best first; in JSON one object with the others in a list
+unfoldable pub all_found_as : Bool → (ℕ → List ℕ) → Addr → List Route → List ℕ
+all_found_as false label addr [] = found_as false label addr None
+all_found_as false label addr (first ∷ others) = found_as false label addr (Some first) ++ flat_map (also_line label addr first) others
+all_found_as true label addr [] = address_head addr ++ codes "null,\"also\":[]}\n"
+all_found_as true label addr (first ∷ others) =
+    address_head addr ++ (route_object (label first.feed) first []
+    ++ (codes ",\"also\":[" ++ (join_by (also_object label first) (codes ",") others ++ codes "]}\n")))

@@ -1,0 +1,75 @@
+-- The parts of a text in a style, on both sides of a feed's label.
+use Rattle.std.specs.Prelude.{ℕ, Bool, true, false, List, [], ◌∷◌, ◌++◌, codes, decimal}
+use Rattle.std.specs.List.{flat_map}
+use Rattle.rt_cidr.specs.declared.address.Addr.{Addr}
+use Rattle.rt_cidr.specs.Text.{address_text, prefix_text}
+use Rattle.rt_rib.specs.declared.routes.Hop.{Hop}
+use Rattle.rt_rib.specs.declared.routes.Route.{Route}
+use Rattle.rt_diff.specs.declared.comparison.Difference.{Difference}
+use Rattle.rt_print.specs.Routes.{hop_text}
+use Rattle.rt_print.specs.Json.{hop_members}
+use Rattle.rt_print.specs.DifferenceText.{way_text}
+use Rattle.rt_print.specs.Styles.{reason_text, also_line, also_object}
+
+-- the first text for lines, the second for objects
+abbrev pub either : Bool → List ℕ → List ℕ → List ℕ
+either false line object = line
+either true line object = object
+
+-- a next hop
+abbrev pub hop_as : Bool → Hop → List ℕ
+hop_as false hop = hop_text hop
+hop_as true hop = hop_members hop
+
+-- a route before its feed's label
+unfoldable pub route_front : Bool → Route → List ℕ
+route_front json r =
+    either json [] (codes "{\"prefix\":\"") ++ (prefix_text r.prefix.base r.prefix.len ++ either json (codes " feed ") (codes "\",\"feed\":"))
+
+-- a route after its feed's label, without an object's end
+unfoldable pub route_back : Bool → Route → List ℕ
+route_back json r =
+    either json (codes " pref ") (codes ",\"pref\":") ++ (decimal r.pref ++ (either json (codes " via ") (codes ",") ++ hop_as json r.hop))
+
+-- a route with this label of its feed, without an object's end
+unfoldable pub route_open : Bool → List ℕ → Route → List ℕ
+route_open json label r = route_front json r ++ (label ++ route_back json r)
+
+-- the address and this word, or the same as the beginning of an object
+unfoldable pub asked_head : Bool → Addr → List ℕ → List ℕ
+asked_head json addr word = either json [] (codes "{\"address\":\"") ++ (address_text addr.0 ++ either json word (codes "\",\"route\":"))
+
+-- the reason why a route lost to the best one, and the end of its line or object
+unfoldable pub reason_end : Bool → Route → Route → List ℕ
+reason_end json best r = either json (codes " ") (codes ",\"reason\":\"") ++ (reason_text best r ++ either json (codes "\n") (codes "\"}"))
+
+-- a route that lost to the best one, an object after this text; here and below `label` gives the label of each feed
+unfoldable pub other_as : Bool → (ℕ → List ℕ) → Addr → Route → List ℕ → Route → List ℕ
+other_as false label addr best comma r = also_line label addr best r
+other_as true label addr best comma r = comma ++ also_object label best r
+
+-- all routes that lost to it, objects with commas between them
+unfoldable pub others_as : Bool → (ℕ → List ℕ) → Addr → Route → List Route → List ℕ
+others_as json label addr best [] = []
+others_as json label addr best (r ∷ rs) = other_as json label addr best [] r ++ flat_map (other_as json label addr best (codes ",")) rs
+
+-- a range before its old answer
+unfoldable pub range_front : Bool → Difference → List ℕ
+range_front json d =
+    either json [] (codes "{\"first\":\"") ++ (address_text d.first.0 ++ (either json (codes "-") (codes "\",\"last\":\"")
+    ++ (address_text d.last.0 ++ either json (codes " ") (codes "\",\"old\":"))))
+
+-- a next hop in an answer
+unfoldable pub way_as : Bool → Hop → List ℕ
+way_as false hop = way_text hop
+way_as true hop = codes "{" ++ (hop_members hop ++ codes "}")
+
+-- the text of the numbers of routes and of prefixes
+unfoldable pub totals_line : Bool → ℕ → ℕ → List ℕ
+totals_line json routes prefixes =
+    either json (codes "routes ") (codes "{\"routes\":") ++ (decimal routes ++ (either json (codes " prefixes ") (codes ",\"prefixes\":")
+    ++ (decimal prefixes ++ either json (codes "\n") (codes "}\n"))))
+
+-- the end of the text of a number of routes
+unfoldable pub count_tail : Bool → ℕ → List ℕ
+count_tail json count = either json (codes " routes ") (codes ",\"routes\":") ++ (decimal count ++ either json (codes "\n") (codes "}\n"))

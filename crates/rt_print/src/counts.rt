@@ -1,0 +1,178 @@
+//! The numbers of routes: in all, of each feed, and to prefixes of each length.
+ghost use Rattle.std.specs.Prelude.{◌≡◌, ◌++◌, length, codes, decimal};
+ghost use Rattle.rt_cidr.specs.Output.{WritesText};
+ghost use Rattle.rt_cidr.specs.ShortText.{FitsInShortText};
+ghost use Rattle.rt_rib.specs.Table.{count_of};
+ghost use Rattle.rt_print.specs.Counts.{prefix_count, length_count, totals_as, count_as, each_below, counts_as};
+ghost use Rattle.rt_print.specs.Styles.{label_of};
+ghost use Rattle.rt_print.specs.inside.Parts.{totals_line, count_tail};
+
+use crate::parts::put_parts;
+use crate::style::{Style, either};
+use rt_cidr::{ShortText, put};
+use rt_rib::{MAX_FEEDS, Route};
+use std::io::{self, Write};
+
+/// The maximum length of a prefix.
+const MAX_BITS: u8 = 32;
+
+/// Writes the number of routes and of their prefixes, and then the number of routes of each feed and to prefixes of
+/// each length, in the style, each on a line; feeds and lengths without a route have no line. Routes to the same prefix
+/// are adjacent, as in a table. Errors and memory are as for `write_routes`.
+pub fn write_counts<W: Write>(w: &mut W, style: &Style, routes: &[Route]) -> io::Result<()>
+    ensures { WritesText (W.contents w.old) (W.contents w.new) (counts_as style.now routes.now) result }
+{
+    let json = style.is_json();
+    write_totals(w, json, routes)?;
+    write_feeds(w, style, routes)?;
+    write_lengths(w, json, routes)
+}
+
+/// Writes the number of routes, and of their prefixes.
+#[tactic(auto, using(crate::proofs::CountParts::totals_line_fits))]
+fn write_totals<W: Write>(w: &mut W, json: bool, routes: &[Route]) -> io::Result<()>
+    ensures { WritesText (W.contents w.old) (W.contents w.new) (totals_as json (length routes.now) (prefix_count routes.now)) result }
+{
+    let mut text = ShortText::new();
+    prepend_totals(&mut text, json, routes.len(), prefix_count(routes));
+    put(w, text.as_bytes())
+}
+
+/// Writes the number of routes of each feed that has one.
+fn write_feeds<W: Write>(w: &mut W, style: &Style, routes: &[Route]) -> io::Result<()>
+    ensures { WritesText (W.contents w.old) (W.contents w.new)
+        (each_below (λ feed. count_as style.now.json (codes "feed") (label_of style.now.labels feed) (count_of feed routes.now)) 65) result }
+{
+    let mut feed = 0;
+    while feed <= MAX_FEEDS as u32 {
+        put_feed(w, style, feed, count_of(routes, feed))?;
+        feed += 1;
+    }
+    Ok(())
+}
+
+/// Writes the number of routes to prefixes of each length that has one.
+fn write_lengths<W: Write>(w: &mut W, json: bool, routes: &[Route]) -> io::Result<()>
+    ensures { WritesText (W.contents w.old) (W.contents w.new)
+        (each_below (λ len. count_as json (codes "length") (decimal len) (length_count len routes.now)) 33) result }
+{
+    let mut len = 0;
+    while len <= MAX_BITS {
+        put_length(w, json, len, length_count(routes, len))?;
+        len += 1;
+    }
+    Ok(())
+}
+
+/// Writes the number of routes of a feed, unless it is 0.
+#[tactic(auto, using(crate::proofs::CountParts::number_fits))]
+fn put_feed<W: Write>(w: &mut W, style: &Style, feed: u32, count: usize) -> io::Result<()>
+    ensures { WritesText (W.contents w.old) (W.contents w.new)
+        (count_as style.now.json (codes "feed") (label_of style.now.labels feed) count) result }
+{
+    let json = style.is_json();
+    if let Some(label) = style.label(feed) {
+        return put_count(w, json, b"feed", label, count);
+    }
+    let mut number = ShortText::new();
+    number.prepend_decimal(u64::from(feed));
+    put_count(w, json, b"feed", number.as_bytes(), count)
+}
+
+/// Writes the number of routes to prefixes of a length, unless it is 0.
+#[tactic(auto, using(crate::proofs::CountParts::number_fits))]
+fn put_length<W: Write>(w: &mut W, json: bool, len: u8, count: usize) -> io::Result<()>
+    ensures { WritesText (W.contents w.old) (W.contents w.new) (count_as json (codes "length") (decimal len) count) result }
+{
+    let mut number = ShortText::new();
+    number.prepend_decimal(u64::from(len));
+    put_count(w, json, b"length", number.as_bytes(), count)
+}
+
+/// Writes the number of routes of this kind and name, unless it is 0.
+#[tactic(auto, using(crate::proofs::CountParts::count_tail_fits))]
+fn put_count<W: Write>(
+    w: &mut W,
+    json: bool,
+    kind: &[u8],
+    name: &[u8],
+    count: usize,
+) -> io::Result<()>
+    ensures { WritesText (W.contents w.old) (W.contents w.new) (count_as json kind.now name.now count) result }
+{
+    if count == 0 {
+        return Ok(());
+    }
+    let mut tail = ShortText::new();
+    prepend_tail(&mut tail, json, count);
+    let (front, middle) = (either(json, b"", b"{\""), either(json, b" ", b"\":"));
+    put_parts(w, &[front, kind, middle, name, tail.as_bytes()])
+}
+
+/// Returns the number of prefixes of the routes, if routes to the same prefix are adjacent.
+fn prefix_count(routes: &[Route]) -> usize
+    ensures { result ≡ prefix_count routes.now }
+{
+    let Some((first, others)) = routes.split_first() else {
+        return 0;
+    };
+    let mut kept = first;
+    let mut rest = others;
+    let mut count = 1;
+    while let [next, behind @ ..] = rest {
+        if next.prefix != kept.prefix {
+            kept = next;
+            count += 1;
+        }
+        rest = behind;
+    }
+    count
+}
+
+/// Returns the number of the feed's routes.
+fn count_of(routes: &[Route], feed: u32) -> usize
+    ensures { result ≡ count_of feed routes.now }
+{
+    let mut count = 0;
+    for route in routes {
+        count += usize::from(route.feed == feed);
+    }
+    count
+}
+
+/// Returns the number of routes to prefixes of this length.
+fn length_count(routes: &[Route], len: u8) -> usize
+    ensures { result ≡ length_count len routes.now }
+{
+    let mut count = 0;
+    for route in routes {
+        count += usize::from(route.prefix.len() == len);
+    }
+    count
+}
+
+// Each function below prepends its text.
+
+/// Prepends `routes ROUTES prefixes PREFIXES` and LF, or the same as an object.
+#[tactic(auto, using(rt_cidr::proofs::Promised::prepending), unfolding(crate::specs::inside::Parts::totals_line))]
+fn prepend_totals(text: &mut ShortText, json: bool, routes: usize, prefixes: usize)
+    requires room { FitsInShortText (totals_line json routes prefixes) text.old }
+    ensures { text.new ≡ totals_line json routes prefixes ++ text.old }
+{
+    text.prepend(either(json, b"\n", b"}\n"));
+    text.prepend_decimal(prefixes as u64);
+    text.prepend(either(json, b" prefixes ", b",\"prefixes\":"));
+    text.prepend_decimal(routes as u64);
+    text.prepend(either(json, b"routes ", b"{\"routes\":"));
+}
+
+/// Prepends ` routes COUNT` and LF, or the same as a member.
+#[tactic(auto, using(rt_cidr::proofs::Promised::prepending), unfolding(crate::specs::inside::Parts::count_tail))]
+fn prepend_tail(text: &mut ShortText, json: bool, count: usize)
+    requires room { FitsInShortText (count_tail json count) text.old }
+    ensures { text.new ≡ count_tail json count ++ text.old }
+{
+    text.prepend(either(json, b"\n", b"}\n"));
+    text.prepend_decimal(count as u64);
+    text.prepend(either(json, b" routes ", b",\"routes\":"));
+}

@@ -1,0 +1,88 @@
+//! What is compared of two tables, and how the differences are printed.
+ghost use Rattle.std.specs.Prelude.{◌≡◌, ◌≤◌, length, map, IfOk};
+ghost use Rattle.rt_rib.specs.declared.limits.TheConstants.{MAX_FEEDS};
+ghost use Rattle.rt_diff.specs.Answers.{own_numbers};
+ghost use Rattle.rt_print.specs.DifferenceText.{diff_of};
+
+use crate::format::Format;
+use crate::pairing::pair_feeds_by_name;
+use crate::style::Style;
+use rt_diff::{CompareBy, Comparison};
+use rt_rib::Table;
+use std::alloc::{AllocError, Global};
+use std::marker::Model;
+
+/// The options of a comparison of two tables and of its output. Contracts see all of them.
+#[derive(Debug, Drop)]
+pub struct DiffOptions {
+    by: CompareBy,
+    numbers: Vec<u32>,
+    old: Style,
+    new: Style,
+}
+
+impl Model for DiffOptions {
+    ghost use Rattle.rt_print.specs.DifferenceText.{DiffContents};
+
+    ghost Value = { DiffContents };
+
+    ghost view = { λ o. record { by = o.by; numbers = o.numbers.items; old = o.old; new = o.new } };
+}
+
+impl DiffOptions {
+    /// Returns the options that compare this part of each answer and print in this format, for the tables of two sets of
+    /// files. If the format has names, feeds of both sets with the same name are the same feed. Fails only if memory runs
+    /// out.
+    pub fn new(
+        alloc: Global,
+        by: CompareBy,
+        format: Format,
+        old: &[&str],
+        new: &[&str],
+    ) -> Result<DiffOptions, AllocError>
+        requires few { (length old.now ≤ MAX_FEEDS) × (length new.now ≤ MAX_FEEDS) }
+        ensures { IfOk result (λ options. options ≡ diff_of by format (map (λ path. path.now) old.now) (map (λ path. path.now) new.now)) }
+    {
+        let first = if format.has_names() { old } else { &old[..0] };
+        let numbers = pair_feeds_by_name(alloc, first, new)?;
+        let old = Style::new(alloc, format, old)?;
+        let new = Style::paired(alloc, format, first, new)?;
+        Ok(DiffOptions {
+            by,
+            numbers,
+            old,
+            new,
+        })
+    }
+
+    /// Returns the style of the old table.
+    pub(crate) fn old_style(&self) -> &Style
+        ensures { result.now ≡ self.now.old }
+    {
+        &self.old
+    }
+
+    /// Returns the style of the new table.
+    pub(crate) fn new_style(&self) -> &Style
+        ensures { result.now ≡ self.now.new }
+    {
+        &self.new
+    }
+
+    /// Returns the comparison of these two tables.
+    pub fn comparison<'a>(
+        &'a self,
+        old: &'a Table<Global>,
+        new: &'a Table<Global>,
+    ) -> Comparison<'a, Global>
+        ensures { result ≡ record {
+          by = self.now.by;
+          old_table = own_numbers old.now.routes;
+          new_table = record { routes = new.now.routes; numbers = self.now.numbers };
+        } }
+    {
+        let mut tables = Comparison::new(old, new, self.by);
+        tables.renumber_new_feeds(self.numbers.as_slice());
+        tables
+    }
+}

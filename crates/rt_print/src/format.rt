@@ -1,0 +1,38 @@
+//! The format of printed routes.
+ghost use Rattle.std.specs.Prelude.{◌≡◌};
+ghost use Rattle.rt_print.specs.Labels.{is_json, has_names};
+
+/// The format of printed routes: lines or JSON objects, one a line, and what identifies a feed in them.
+#[derive(Clone, Copy, PartialEq, Eq, Debug)]
+pub enum Format {
+    /// Lines, each feed by its number.
+    Numbers,
+    /// Lines, each feed by its name (`feed_name`).
+    Names,
+    /// JSON objects, each feed by its number and the path of its file.
+    Json,
+    /// JSON objects, each feed by its number, its name and the path of its file.
+    JsonWithNames,
+}
+
+impl Format {
+    /// Returns true if feeds are printed by their names.
+    pub fn has_names(self) -> bool
+        ensures { result ≡ has_names self }
+    {
+        match self {
+            Format::Names | Format::JsonWithNames => true,
+            Format::Numbers | Format::Json => false,
+        }
+    }
+
+    /// Returns true if routes are printed as JSON objects.
+    pub(crate) fn is_json(self) -> bool
+        ensures { result ≡ is_json self }
+    {
+        match self {
+            Format::Json | Format::JsonWithNames => true,
+            Format::Numbers | Format::Names => false,
+        }
+    }
+}

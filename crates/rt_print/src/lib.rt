@@ -1,0 +1,38 @@
+//! Printed output: routes, look-up results, numbers of routes and differences, as lines or as JSON objects.
+//!
+//! A [`Style`] determines the output. It is made from a [`Format`] and the paths of the feeds' files, and gives each feed
+//! a label: its number, its name, or the members of a JSON object that identify it. A [`DiffOptions`] does the same for
+//! the two tables of a comparison, and pairs their feeds by name if the format prints names.
+//!
+//! ```
+//! let style = Style::new(alloc, Format::Names, &["east.feed", "west.feed"])?;
+//! write_routes(&mut out, &style, routes.as_slice())?;
+//! ```
+//!
+//! Each line is built in a short text. A line with a feed's number goes to the writer at once; one with another label in
+//! three parts, since a label may be longer than a short text. The written text is the only text of what is printed or,
+//! after an error of the writer, a prefix of it. No call of a printer allocates; only `Style::new` and
+//! `DiffOptions::new` do.
+//!
+//! Only tested: the kind of a writer's error, and that the printed examples are what a person expects.
+#![tactic(auto)]
+
+mod counts;
+mod diff_options;
+mod differences;
+mod format;
+mod labels;
+mod lookups;
+mod pairing;
+mod parts;
+mod routes;
+mod style;
+
+pub use counts::write_counts;
+pub use diff_options::DiffOptions;
+pub use differences::write_difference;
+pub use format::Format;
+pub use labels::feed_name;
+pub use lookups::{write_all_matches, write_lookup};
+pub use routes::{prepend_route, write_routes, write_table};
+pub use style::Style;

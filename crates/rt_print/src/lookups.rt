@@ -1,0 +1,167 @@
+//! Look-up results: lines, or JSON objects (RFC 8259), one a line.
+ghost use Rattle.std.specs.Prelude.{◌≡◌, ◌≤◌, ◌++◌, [], length, codes};
+ghost use Rattle.std.specs.List.{flat_map};
+ghost use Rattle.rt_cidr.specs.Output.{WritesText};
+ghost use Rattle.rt_cidr.specs.ShortText.{FitsInShortText};
+ghost use Rattle.rt_print.specs.Styles.{label_of, found_as, all_found_as, reason_text};
+ghost use Rattle.rt_print.specs.inside.Parts.{either, route_open, asked_head, reason_end, other_as, others_as};
+
+use crate::parts::put_parts;
+use crate::routes::put_route;
+use crate::style::{Style, either};
+use rt_cidr::{Addr, ShortText, put};
+use rt_rib::Route;
+use std::io::{self, Write};
+
+/// The best route that covers an address, and its style.
+#[derive(Clone, Copy)]
+struct Best<'a> {
+    style: &'a Style,
+    addr: Addr,
+    route: Route,
+}
+
+/// Writes the result of a look-up of the address, in the style: `ADDR route PREFIX feed F pref P via HOP`, or
+/// `ADDR no route`, and LF, or a JSON object. Errors and memory are as for `write_routes`.
+pub fn write_lookup<W: Write>(
+    w: &mut W,
+    style: &Style,
+    addr: Addr,
+    found: Option<Route>,
+) -> io::Result<()>
+    ensures { WritesText (W.contents w.old) (W.contents w.new) (found_as style.now.json (label_of style.now.labels) addr found) result }
+{
+    let json = style.is_json();
+    match found {
+        None => put_none(w, json, addr, b"null}\n"),
+        Some(route) => {
+            let best = Best { style, addr, route };
+            put_best(w, &best, either(json, b"\n", b"}}\n"))
+        }
+    }
+}
+
+/// Writes all routes that cover the address, given best first, in the style: the first on the line that `write_lookup`
+/// writes, and each further one as `ADDR also PREFIX feed F pref P via HOP REASON` and LF; in JSON all in one object. The
+/// reason is the step at which the route lost to the first one (RFC 1812, section 5.2.4.3): `shorter` for a shorter
+/// prefix; `preference` for an equally long prefix and a higher preference; and `feed` if both are equal. For an empty
+/// list it writes that there is no route. Errors and memory are as for `write_routes`.
+pub fn write_all_matches<W: Write>(
+    w: &mut W,
+    style: &Style,
+    addr: Addr,
+    found: &[Route],
+) -> io::Result<()>
+    ensures { WritesText (W.contents w.old) (W.contents w.new) (all_found_as style.now.json (label_of style.now.labels) addr found.now) result }
+{
+    let json = style.is_json();
+    let Some((first, others)) = found.split_first() else {
+        return put_none(w, json, addr, b"null,\"also\":[]}\n");
+    };
+    let route = *first;
+    let best = Best { style, addr, route };
+    put_best(w, &best, either(json, b"\n", b"},\"also\":["))?;
+    write_others(w, &best, others)?;
+    put(w, either(json, b"", b"]}\n"))
+}
+
+/// Writes that no route covers the address; `end` ends an object.
+#[tactic(auto, using(crate::proofs::LineParts::fits))]
+fn put_none<W: Write>(w: &mut W, json: bool, addr: Addr, end: &[u8]) -> io::Result<()>
+    ensures { WritesText (W.contents w.old) (W.contents w.new) (asked_head json addr (codes " no route\n") ++ either json [] end.now) result }
+{
+    let mut head = ShortText::new();
+    prepend_asked(&mut head, json, addr, b" no route\n");
+    put_parts(w, &[head.as_bytes(), either(json, b"", end)])
+}
+
+/// Writes the address and the best route, and a text after them.
+#[tactic(auto, using(crate::proofs::LineParts::fits))]
+fn put_best<W: Write>(w: &mut W, best: &Best<'_>, tail: &[u8]) -> io::Result<()>
+    requires tail { length tail.now ≤ 100 }
+    ensures { WritesText (W.contents w.old) (W.contents w.new) (asked_head best.now.style.now.json best.now.addr (codes " route ")
+        ++ (route_open best.now.style.now.json (label_of best.now.style.now.labels best.now.route.feed) best.now.route ++ tail.now)) result }
+{
+    let mut head = ShortText::new();
+    prepend_asked(&mut head, best.style.is_json(), best.addr, b" route ");
+    let mut text = ShortText::new();
+    put_route(w, &mut text, best.style, head.as_bytes(), &best.route, tail)
+}
+
+/// Writes the routes that lost to the best one, each with the reason; objects have commas between them.
+fn write_others<W: Write>(w: &mut W, best: &Best<'_>, others: &[Route]) -> io::Result<()>
+    ensures { WritesText (W.contents w.old) (W.contents w.new)
+        (others_as best.now.style.now.json (label_of best.now.style.now.labels) best.now.addr best.now.route others.now) result }
+{
+    let Some((second, further)) = others.split_first() else {
+        return Ok(());
+    };
+    put_other(w, best, b"", second)?;
+    write_further(w, best, further)
+}
+
+/// Writes further such routes, each object after a comma.
+fn write_further<W: Write>(w: &mut W, best: &Best<'_>, further: &[Route]) -> io::Result<()>
+    ensures { WritesText (W.contents w.old) (W.contents w.new)
+        (flat_map (other_as best.now.style.now.json (label_of best.now.style.now.labels) best.now.addr best.now.route (codes ",")) further.now) result }
+{
+    for route in further {
+        put_other(w, best, b",", route)?;
+    }
+    Ok(())
+}
+
+/// Writes one route that lost to the best one, an object after this text.
+#[tactic(auto, using(crate::proofs::LineParts::fits))]
+fn put_other<W: Write>(w: &mut W, best: &Best<'_>, comma: &[u8], route: &Route) -> io::Result<()>
+    requires comma { length comma.now ≤ 100 }
+    ensures { WritesText (W.contents w.old) (W.contents w.new)
+        (other_as best.now.style.now.json (label_of best.now.style.now.labels) best.now.addr best.now.route comma.now route.now) result }
+{
+    let json = best.style.is_json();
+    let mut head = ShortText::new();
+    prepend_asked(&mut head, json, best.addr, b" also ");
+    let mut end = ShortText::new();
+    prepend_reason(&mut end, json, &best.route, route);
+    let front = either(json, head.as_bytes(), comma);
+    let mut text = ShortText::new();
+    put_route(w, &mut text, best.style, front, route, end.as_bytes())
+}
+
+// Each function below prepends its text.
+
+/// Prepends the address and this word, or `{"address":"ADDR","route":`.
+#[tactic(auto, using(rt_cidr::proofs::Promised::prepending), unfolding(crate::specs::inside::Parts::asked_head))]
+fn prepend_asked(text: &mut ShortText, json: bool, addr: Addr, word: &[u8])
+    requires room { FitsInShortText (asked_head json addr word.now) text.old }
+    ensures { text.new ≡ asked_head json addr word.now ++ text.old }
+{
+    text.prepend(either(json, word, b"\",\"route\":"));
+    addr.prepend_to(text);
+    text.prepend(either(json, b"", b"{\"address\":\""));
+}
+
+/// Prepends ` REASON` and LF, or `,"reason":"REASON"}`.
+#[tactic(auto, using(rt_cidr::proofs::Promised::prepending), unfolding(crate::specs::inside::Parts::reason_end))]
+fn prepend_reason(text: &mut ShortText, json: bool, best: &Route, route: &Route)
+    requires room { FitsInShortText (reason_end json best.now route.now) text.old }
+    ensures { text.new ≡ reason_end json best.now route.now ++ text.old }
+{
+    text.prepend(either(json, b"\n", b"\"}"));
+    text.prepend(reason_word(best, route));
+    text.prepend(either(json, b" ", b",\"reason\":\""));
+}
+
+/// Returns the step at which the route lost to the first one.
+#[tactic(auto, unfolding(crate::specs::Styles::reason_text))]
+fn reason_word(first: &Route, route: &Route) -> &'static [u8]
+    ensures { result.now ≡ reason_text first.now route.now }
+{
+    if route.prefix.len() < first.prefix.len() {
+        b"shorter"
+    } else if route.pref > first.pref {
+        b"preference"
+    } else {
+        b"feed"
+    }
+}

@@ -1,0 +1,77 @@
+//! The style of printed routes: lines or JSON objects, and the labels of the feeds.
+ghost use Rattle.std.specs.Prelude.{◌≡◌, ◌≤◌, [], length, map, decimal, None, IfOk, IfSome};
+ghost use Rattle.rt_rib.specs.declared.limits.TheConstants.{MAX_FEEDS};
+ghost use Rattle.rt_print.specs.Styles.{style_of, label_of};
+ghost use Rattle.rt_print.specs.inside.Parts.{either};
+
+use crate::format::Format;
+use crate::labels::{FeedLabel, label_in, labels_by};
+use std::alloc::{AllocError, Global};
+use std::marker::Model;
+
+/// The style of printed routes. Contracts see whether routes are printed as JSON objects, and each label with the number
+/// that identifies its feed.
+#[derive(Debug, Drop)]
+pub struct Style {
+    json: bool,
+    labels: Vec<FeedLabel>,
+}
+
+impl Model for Style {
+    ghost use Rattle.std.specs.Prelude.{map};
+    ghost use Rattle.rt_print.specs.Styles.{StyleContents};
+
+    ghost Value = { StyleContents };
+
+    ghost view = { λ s. record { json = s.json; labels = map (λ label. (label.number, label.text.items)) s.labels.items } };
+}
+
+impl Style {
+    /// Returns the style of this format for the feeds that are read from the files of these paths, the k-th for feed k.
+    /// Fails only if memory runs out.
+    pub fn new(alloc: Global, format: Format, paths: &[&str]) -> Result<Style, AllocError>
+        requires few { length paths.now ≤ MAX_FEEDS }
+        ensures { IfOk result (λ style. style ≡ style_of format [] (map (λ path. path.now) paths.now)) }
+    {
+        Style::paired(alloc, format, &[], paths)
+    }
+
+    /// Returns the same style, but each feed is identified in relation to the feeds of the first paths, if there are some.
+    pub(crate) fn paired(
+        alloc: Global,
+        format: Format,
+        first: &[&str],
+        paths: &[&str],
+    ) -> Result<Style, AllocError>
+        requires few { (length first.now ≤ MAX_FEEDS) × (length paths.now ≤ MAX_FEEDS) }
+        ensures { IfOk result (λ style. style ≡ style_of format (map (λ path. path.now) first.now) (map (λ path. path.now) paths.now)) }
+    {
+        let labels = labels_by(alloc, format, first, paths)?;
+        Ok(Style {
+            json: format.is_json(),
+            labels,
+        })
+    }
+
+    /// Returns true if routes are printed as JSON objects.
+    pub(crate) fn is_json(&self) -> bool
+        ensures { result ≡ self.now.json }
+    {
+        self.json
+    }
+
+    /// Returns the label of the feed with this number. A feed without one is printed by its number.
+    pub(crate) fn label(&self, feed: u32) -> Option<&[u8]>
+        ensures some { IfSome result (λ label. label.now ≡ label_of self.now.labels feed) }
+        ensures none { result ≡ None → label_of self.now.labels feed ≡ decimal feed }
+    {
+        label_in(self.labels.as_slice(), feed)
+    }
+}
+
+/// Returns the first text for lines, the second for JSON objects.
+pub(crate) fn either<'t>(json: bool, line: &'t [u8], object: &'t [u8]) -> &'t [u8]
+    ensures { result.now ≡ either json line.now object.now }
+{
+    if json { object } else { line }
+}
