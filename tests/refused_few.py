@@ -3,7 +3,7 @@
 
 tests/refused_few.py [PROGRAM [CASE..]], or --list for the names of the cases. Needs gcc and glibc; takes seconds.
 
-Each case is run with its 1st, 2nd, 3rd, 4th, 6th, 9th, .. request refused, a replay with each, until no request of that
+Each case is run with its 1st, 2nd, 3rd, 4th, 6th, 9th, 12th, .. request refused, a replay with each, until no request of that
 number comes. Each is refused first by itself, then with all later ones. A run requests memory in TreeLock::new, in
 SharedRib (new, apply or with batches apply_batch, routes), in run_feed and in run_texts. tests/refused_growth.py
 refuses each request, of more cases.
@@ -35,10 +35,10 @@ class Few(Case):
 
 
 def numbers(at):
-    """1, 2, 3, 4, 6, 9, 13, .. without end, from 1 on: each by half more than the last."""
+    """1, 2, 3, 4, 6, 9, 12, 15, .. without end, from 1 on: only the last requests of a run are those of its commands."""
     while True:
         yield at
-        at += max(1, at // 2)
+        at += max(1, min(3, at // 2))
 
 
 def run_of(name, texts, batch):
