@@ -290,17 +290,15 @@ def locked():
 
 
 def clear():
-    """Removes what killed builds and earlier versions of this script left."""
+    """Removes what killed builds left."""
     noted = STATE / "work"
     if noted.exists():
         folder = pathlib.Path(noted.read_text())
         if folder.name.startswith("yarib-build-"):
             shutil.rmtree(folder, ignore_errors=True)
         noted.unlink()
-    for path in [*STATE.glob("*.new"), *STATE.glob("*.stamp")]:
+    for path in STATE.glob("*.new"):
         path.unlink()
-    for path in STATE.glob("*.rlib"):
-        shutil.rmtree(path)
 
 
 def place():

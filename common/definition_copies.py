@@ -1,4 +1,5 @@
-"""Copies of definitions in specs/ and of the examples that test them, so that one check covers many changes.
+"""The changes of definitions that crates list in must-fail/definitions.md, each with the example that refuses it; and
+copies of definitions in specs/ and of the examples that test them, so that one check covers many changes.
 
 For each change, three things are copied into files of a crate above the crates of examples: the changed definition, the
 example that refuses it, and everything on which both depend."""
@@ -7,7 +8,8 @@ import pathlib
 import re
 
 from .crates import CRATES, below, crate_of, needs
-from .definition_reader import constructors, example_files, parse_module, uncommented
+from .definition_reader import constructors, example_files, imports, parse_module, uncommented
+from .mutant_lists import Body
 from .prover import said_by, said_of
 from .workspaces import lay_out
 
@@ -15,6 +17,36 @@ DECLARED = re.compile(r" *(?:(?:pub|abbrev|unfoldable|record|data) )*([^\s:(){}\
 WORD = re.compile(r"(?<![\w.'])[^\W\d][\w']*(?:-[\w']+)*")
 USE = re.compile(r"(?:pub )?use ([\w.«»'-]+?)(?:\.\{([^}]*)\})?(?: as (\w+))?$")
 ERROR = re.compile(r"^(?:note: )?\S*\bproofs/((H\d+_)\w+)\.antt: ?(\d+):\d+: (?!warning: )", re.M)
+
+LISTS = "*/must-fail/definitions.md"
+FORM = re.compile(r"([\w-]+)\n\n```\nfile: (specs/\S+)\n((?:old: .+\nnew:.*\n)+)refused by: (\S+)\n```\n+")
+
+
+# -- the lists of changes
+
+class Change:
+    """A change of a list: its crate and name; and if its form is valid, its file, its pairs of old and new, and its
+    example."""
+
+    def __init__(self, crate, section):
+        self.crate, self.name = crate, section.partition("\n")[0]
+        self.form = FORM.fullmatch(section)
+        _, self.file, pairs, self.example = self.form.groups() if self.form else ("", "", "", "")
+        self.pairs = re.findall(r"^old: (.+)\nnew: ?(.*)$", pairs, re.M)
+
+    # A change replaces its pairs as a listed mutant does.
+    changed = Body.changed
+
+
+def listing_crates():
+    return sorted(file.parent.parent.name for file in CRATES.glob(LISTS))
+
+
+def changes_of(crate):
+    """Returns the changes that a crate lists, in order."""
+    file = CRATES / crate / "must-fail/definitions.md"
+    return [Change(crate, section)
+            for section in re.split(r"^## ", file.read_text(), flags=re.M)[1:]] if file.exists() else []
 
 
 # -- files and what is declared in them
@@ -62,12 +94,7 @@ class File:
         blocks = {number: block for block in self.blocks for number in block.numbers}
         for read in parse_module(self.module, path, text).values():
             self.owner.update({name: blocks[read.line] for name in (read.name, *constructors(read))})
-        self.imported = {}
-        for module, items, _ in self.uses:
-            for item in (items or "").split(","):
-                name, _, other = item.strip().partition(" as ")
-                if name:
-                    self.imported[other or name] = (module, name)
+        self.imported = imports(text)
 
     def read(self, lines):
         current = None

@@ -57,9 +57,6 @@ class Item:
     def attributes(self):
         return [line for line in self.above() if line.startswith("#[")]
 
-    def is_for_tests(self):
-        return "#[cfg(test)]" in self.attributes()
-
     def clauses_end(self):
         """Returns the index of the line at which a function's body begins, after its head and its clauses."""
         for number, line in enumerate(self.lines):
@@ -160,18 +157,8 @@ def source(file):
 
 
 def sources(crate):
-    """Returns the sources of a crate that aren't in a directory `tests`."""
-    return [source(file) for file in sorted((CRATES / crate / "src").rglob("*.rt")) if "tests" not in file.parts[-2:]]
-
-
-def modules_below(file, folder, is_test=False):
-    """Yields a source and those of its modules, which are in the directory, each with whether it is only for tests."""
-    yield source(file), is_test
-    for item in source(file).items:
-        if item.kind == "mod" and item.lines[0].endswith(";"):
-            for path in (folder / f"{item.name}.rt", folder / item.name / "mod.rt"):
-                if path.exists():
-                    yield from modules_below(path, folder / item.name, is_test or item.is_for_tests())
+    """Returns the sources of a crate. None is for tests: those are in tests/libraries/."""
+    return [source(file) for file in sorted((CRATES / crate / "src").rglob("*.rt"))]
 
 
 def root_of(crate):
@@ -180,12 +167,5 @@ def root_of(crate):
 
 
 @functools.cache
-def modules(crate):
-    """Returns the sources of a crate, each with whether it is only for tests."""
-    return list(modules_below(root_of(crate), CRATES / crate / "src"))
-
-
-@functools.cache
 def items_of(crate):
-    """Returns the items of a crate that aren't for tests."""
-    return [item for one, is_test in modules(crate) if not is_test for item in one.items if not item.is_for_tests()]
+    return [item for one in sources(crate) for item in one.items]

@@ -369,9 +369,6 @@ class Written:
         self.definitions += 1
         self.lines += 1 if definition.key in brief else definition.count()
 
-    def known(self):
-        return set(self.home)
-
 
 def from_above(old, spoken_of, written):
     """Yields the lines that name definitions further up that are used here, with the name of another page."""
@@ -385,8 +382,8 @@ def from_above(old, spoken_of, written):
 
 
 def definitions_of(speakers, written, brief, link):
-    """What the speakers rest on, as far as it doesn't stand further up, each with its examples if these are wanted."""
-    new, old, words = in_order(speakers, written.known(), brief)
+    """What the speakers rest on, as far as it isn't further up."""
+    new, old, words = in_order(speakers, written.home, brief)
     bare = [one.key for one in new if not one.comment]
     if bare:
         sys.exit("tools/statement: no comment says what this is: " + ", ".join(bare))
