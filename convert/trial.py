@@ -8,10 +8,15 @@ import subprocess
 import sys
 import tempfile
 # what converters load, so that copies of this process have it
-import argparse, codecs, json, shutil
+import argparse, codecs, gc, json, shlex, shutil, signal, socket, typing
 
 HERE = pathlib.Path(__file__).resolve().parent
 SAMPLES = HERE / "samples"
+# Python compiles the modules of the converters once, to where nothing else looks for them.
+COMPILED = tempfile.TemporaryDirectory(prefix="convert-")
+sys.pycache_prefix, sys.dont_write_bytecode = COMPILED.name, False
+os.environ.pop("PYTHONDONTWRITEBYTECODE", None)
+os.environ["PYTHONPYCACHEPREFIX"] = COMPILED.name
 
 
 class Failed(Exception):
