@@ -1,6 +1,7 @@
 """Wrong variants of the bindings that each language's tests must notice. `bindings/test` applies each one to a copy.
 
-Of each language, by name: the file, the text that is there exactly once, and the wrong text.
+Of each language, by name: the file, the text that is there exactly once, and the wrong text; and, from the lists at the
+end, the test that has to notice it.
 """
 TABLES, LIBRARY = "yarib/_tables.py", "yarib/_library.py"
 PYTHON = {
@@ -235,3 +236,322 @@ RUST = {name: ("src/lib.rs", *texts) for name, texts in {
     "a source purges its first feed": ("for feed in self.first..self.first + self.feeds", "for feed in self.first..=self.first"),
     "a source lists other feeds": ("(self.first..self.first + self.feeds).contains", "(1..self.first + self.feeds).contains"),
 }.items()}
+
+# Of C, the name begins with what is wrong: handles keep calls on one handle apart and pass views on, readers lets readers run
+# beside a change, heap keeps blocks apart and gives memory back.
+C = {f"{file.partition('.')[0]}: {name}": (file, *texts) for file, wrong in {
+    "handles.c": {
+        "a busy handle is taken twice": ("if (((uintptr_t)word & (CHANGING | READERS)) != 0) return 0;\n    own->inside = word;",
+                                         "if (((uintptr_t)word & READERS) != 0) return 0;\n"
+                                         "    own->inside = (void *)((uintptr_t)word & ~CHANGING);"),
+        "a change begins beside a reader": ("if (!is_read(handle)) return 1;", "if (!is_read(handle) || 1) return 1;"),
+        "a change begins beside a counted reader": (
+            "if (((uintptr_t)word & (CHANGING | READERS)) != 0) return 0;\n    own->inside = word;",
+            "if (((uintptr_t)word & CHANGING) != 0) return 0;\n    own->inside = (void *)((uintptr_t)word & ~READERS);"),
+        "a reader begins beside a change": ("if ((word & CHANGING) != 0) {", "if (0) {"),
+        "a reader counts itself beside a change": ("((uintptr_t)word & CHANGING) != 0 || ", ""),
+        "no reader is counted": ("#define READER ((uintptr_t)1 << 48)", "#define READER ((uintptr_t)0)"),
+        "a reader stays counted": ("else __atomic_fetch_sub(&((yarib *)handle)->inside, READER, __ATOMIC_RELEASE);",
+                                   "else (void)handle;"),
+        "a reader keeps its place": ("if (own->place) __atomic_store_n(&own->place->reading, NULL, __ATOMIC_RELEASE);",
+                                     "if (own->place) return;"),
+        "a handle is compared with itself": ("old_table == new_table || ", ""),
+        "the number of routers is left out": ("    if (status == YARIB_DONE) view->router_count = used;\n", "    (void)used;\n"),
+        "the number of routers is written always": ("if (status == YARIB_DONE) view->router_count", "view->router_count"),
+        "the sizes are exchanged": ("proved_yarib_view_sizes(&own.handle, blocks, routers)",
+                                    "proved_yarib_view_sizes(&own.handle, routers, blocks)"),
+        "the blocks are said to be entries": ("view->block_count, view->routers", "view->entry_count, view->routers"),
+    },
+    "readers.c": {
+        "a change is made in the side that readers use": (
+            "    yarib own = sides->tables[1 - sides->front];\n    enum yarib_status status = proved_yarib_apply(&own, command, reply);\n"
+            "    sides->tables[1 - sides->front] = own;", "    enum yarib_status status = proved_yarib_apply(&sides->tables[sides->front], command, reply);"),
+        "readers use the side that is changed": ("sides->tables[__atomic_load_n(&sides->front, __ATOMIC_SEQ_CST)]",
+                                                 "sides->tables[1 - __atomic_load_n(&sides->front, __ATOMIC_SEQ_CST)]"),
+        "a batch is made in the side that readers use": (
+            "        yarib own = sides->tables[1 - sides->front];\n        status = proved_yarib_apply_each(",
+            "        sides->front = 1 - sides->front;\n        yarib own = sides->tables[1 - sides->front];\n"
+            "        status = proved_yarib_apply_each("),
+        "no wait for readers before a change": ("if (!wait_for_readers(table, (*sides)->published)) {", "if (0) {"),
+        "no wait for readers before a free": ("if (old && !wait_for_readers(", "if (0 && !wait_for_readers("),
+        "no wait for readers between forwarding tables": ("if (wait_for_readers(table, sides->published)) sides->published = 0;",
+                                                          "if (1) sides->published = 0;"),
+        "a reader isn't in its place": ("__atomic_store_n(&place->reading, table, __ATOMIC_RELEASE);",
+                                        "__atomic_store_n(&place->reading, NULL, __ATOMIC_RELEASE);"),
+        "a reader claims the next publication": ("__atomic_store_n(&place->since, __atomic_load_n(&publications, __ATOMIC_SEQ_CST),",
+                                                 "__atomic_store_n(&place->since, 1 + __atomic_load_n(&publications, __ATOMIC_SEQ_CST),"),
+        "a reader keeps its place": ("        __atomic_store_n(&visit->place->reading, NULL, __ATOMIC_RELEASE);", "        return;"),
+        "a reader without a place isn't counted": ("__atomic_fetch_add(&counted[visit->version], 1, __ATOMIC_SEQ_CST);", ""),
+        "a reader stays counted": ("        __atomic_fetch_sub(&counted[visit->version], 1, __ATOMIC_RELEASE);\n", ""),
+        "counted readers aren't waited for": ("    while (__atomic_load_n(&counted[now], __ATOMIC_SEQ_CST) != 0) rest(&times);\n", ""),
+        "a change waits for its own thread": (
+            "    if (is_reading_here(table) && (counted_here > 0 || mine->since < published)) return 0;\n", "    (void)mine;\n"),
+        "two changes at once": ("    if (((uintptr_t)word & CHANGING) != 0) return 0;\n",
+                                "    word = (void *)((uintptr_t)word & ~CHANGING);\n    table->inside = word;\n"),
+        "the second side is forgotten": ("    for (; sides->start < sides->end; sides->start++) {",
+                                         "    for (sides->start = sides->end; sides->start < sides->end; sides->start++) {"),
+        "the second side forgets a purge": (" || (reply->code == YARIB_PURGED && reply->count > 0);",
+                                            " || (reply->code == YARIB_PURGED && reply->count > 99);"),
+        "the second side forgets a replacement": (" || reply->code == YARIB_REPLACED ||", " ||"),
+        "the second side gets commands that failed": ("    if (is_change) sides->lacking", "    if (is_change || 1) sides->lacking"),
+        "the second side forgets what found no memory": ("        if (status == YARIB_NO_MEMORY) return 0;\n",
+                                                        "        if (status == YARIB_NO_MEMORY) continue;\n"),
+        "a change begins without the one before": ("        if (status == YARIB_NO_MEMORY) return 0;\n",
+                                                   "        if (status == YARIB_NO_MEMORY) return 1;\n"),
+        "no room for the commands": ("    if (size == 0 || (size <= sides->room", "    if (size < 99999 || (size <= sides->room"),
+        "one side has a forwarding table": ("    for (int k = 0; k < 2 && status == YARIB_DONE; k++) {\n        yarib own",
+                                            "    for (int k = 0; k < 1 && status == YARIB_DONE; k++) {\n        yarib own"),
+        "one side is counted": ("*bytes = 2 * front;", "*bytes = front;"),
+    },
+    "heap.c": {
+        "a slab in use is given back": ("bool is_unused = slab->used == 0 &&", "bool is_unused = slab->used <= 1 &&"),
+        "no slab is given back": ("bool is_unused = slab->used == 0 &&", "bool is_unused = false &&"),
+        "a block is given twice": ("            slab->free = *(void **)block;\n", ""),
+        "a block ends after its slab": ("slab->fresh + slab->size > (char *)slab + SLAB", "slab->fresh > (char *)slab + SLAB"),
+        "a full slab stays in the list": ("        if (is_full(slab)) unlink_slab(slab);\n", ""),
+        "a full slab isn't used again": ("    if (was_full) link_slab(slab);\n", "    if (was_full) slab->next = NULL;\n"),
+        "two threads allocate at once": ("    if (!mine) mine = &parts[__atomic_fetch_add(&threads, 1, __ATOMIC_RELAXED) % PARTS];\n"
+                                         "    lock_part(mine);\n", "    mine = &parts[threads];\n"),
+        "a block is freed under another lock": ("    lock_part(part);\n    bool was_full",
+                                                "    lock_part(&parts[(part - parts + 1) % PARTS]);\n    bool was_full"),
+        "a child of a fork waits": ("pthread_atfork(lock_all, unlock_all, unlock_all)", "pthread_atfork(lock_all, unlock_all, NULL)"),
+        "a slab given back isn't used again": ("    chunk->numbers[chunk->unused++] = ", "    chunk->numbers[0] = "),
+        "alignment is ignored": ("size_t step = alignment > STEP ? 2 * STEP : STEP;", "size_t step = STEP;\n    alignment = STEP;"),
+        "a longer block loses its end": ("        memcpy(made.block, block, slab->size);\n", "        memcpy(made.block, block, slab->size / 2);\n"),
+        "a longer block stays where it is": ("if (slab && size <= slab->size) return", "if (slab && size <= LARGEST) return"),
+        "a refusal is a block": ("    return (struct tried){block != NULL, block != NULL ? block : &nothing};\n",
+                                 "    return (struct tried){true, block != NULL ? block : &nothing};\n"),
+        "small blocks are malloc's": ("if (size <= LARGEST && alignment <= step) block", "if (size > LARGEST && size < LARGEST) block"),
+    },
+}.items() for name, texts in wrong.items()}
+
+
+# The test that has to notice each wrong variant: it is run before all others. For a variant without one all are run.
+def noticed_by(tests, variants):
+    named = {name: test for test, names in tests.items() for name in names}
+    if unknown := named.keys() - variants.keys():
+        raise ValueError(f"no variants: {sorted(unknown)}")
+    return {name: (*texts, named.get(name)) for name, texts in variants.items()}
+
+
+PYTHON = noticed_by({
+    "test_calls.Calls.test_many_commands_in_one_call": (
+        "in finds longer prefixes", "in finds shorter prefixes", "in doesn't find what a longer prefix hides",
+        "a router is another one", "feed is forgotten in exact", "feed is forgotten in within",
+        "best is forgotten in covering", "feed is forgotten in covering", "feed is forgotten in routes",
+        "within and covering are exchanged", "an entry without its prefix", "an added entry without its prefix",
+        "an entry's prefix without its length", "an entry without its route", "an outcome without its count",
+        "an entry's discard as a router", "an entry's address without its number", "a route's discard as a router",
+        "an answer's discard as a router", "preference and feed are exchanged",
+        "an answer's preference and feed are exchanged", "a page that just fits is the last",
+        "the best of all routes is the last", "in doesn't find addresses", "a prefix is looked up by its base",
+        "an address isn't a key",
+    ),
+    "test_calls.Conventions.test_keys": (
+        "in accepts bits past the length", "an answer without a route is a route", "del removes one feed's route",
+        "in finds other routes to a prefix",
+    ),
+    "test_yarib.Threads.test_they_meet_under_the_global_lock": (
+        "a call's room is given back too early",
+    ),
+    "test_yarib.Threads.test_they_meet_without_the_global_lock": (
+        "a command's room is given back too early", "a busy call isn't made again",
+    ),
+    "test_calls.Conventions.test_copies_are_tables_of_their_own": (
+        "a full feed is overlooked", "a copy without the limit", "a copy without the journal",
+    ),
+    "test_yarib.Tables.test_routes_by_prefix": (
+        "best is forgotten in exact", "best is forgotten in routes",
+    ),
+    "test_calls.Calls.test_each_call_answers_as_the_model": (
+        "best is forgotten in within", "numpy's fields are exchanged", "numpy's length and hop are exchanged",
+        "put keeps an old route", "put overlooks a full feed",
+    ),
+    "test_calls.Given.test_numbers_out_of_range": (
+        "feed 0 selects all", "routes(feed=0) gives all",
+    ),
+    "test_yarib.Tables.test_differences": (
+        "a difference's discard as a router", "a route is compared as a hop", "the sides of a difference are exchanged",
+        "differences end after the first",
+    ),
+    "test_calls.Borders.test_lists_of_one_address": (
+        "lists are cut at 64", "a list that just fits is asked for ever",
+    ),
+    "test_calls.Borders.test_lists_of_entries": (
+        "lists are cut at 4,096",
+    ),
+    "test_yarib.Tables.test_routes_from_a_place_on": (
+        "the first page is given again",
+    ),
+    "test_calls.Calls.test_both_sides_of_each_difference": (
+        "a hop is compared as a route",
+    ),
+    "test_calls.Borders.test_lists_of_differences": (
+        "differences skip an address",
+    ),
+    "test_calls.Conventions.test_a_source_of_more_routes_than_a_feed_may_have": (
+        "a purge counts the table", "a source deals by chance", "a source deals otherwise", "a source uses one feed",
+    ),
+    "test_calls.Given.test_buffers_in_another_order_of_bytes": (
+        "big-endian buffers are read as they lie",
+    ),
+    "test_calls.Given.test_reasons": (
+        "reasons are exchanged", "closed and unsupported are exchanged",
+    ),
+    "test_yarib.Tables.test_a_followed_table_answers_as_before": (
+        "the size without what is attached",
+    ),
+    "test_calls.Given.test_the_library_is_the_named_one": (
+        "another library is loaded",
+    ),
+    "test_calls.Conventions.test_other_types_and_wide_numbers": (
+        "an IPv6 address is read as a number", "a float is read as a number", "a reserve of 1 << 70 succeeds",
+    ),
+    "test_yarib.Tables.test_what_is_no_number_or_text_is_refused": (
+        "a wide length wraps",
+    ),
+    "test_calls.Conventions.test_saved_tables_load": (
+        "load skips a line", "save writes all feeds",
+    ),
+    "test_calls.Conventions.test_with_close_and_repr": (
+        "close leaves a forwarding table open",
+    ),
+}, PYTHON)
+
+
+GO = noticed_by({
+    "TestEveryCallAnswersAsTheModel": (
+        "an entry's feed", "an entry's prefix", "an entry's preference", "an entry's hop", "an entry's address",
+        "an entry's reply", "only best is forgotten", "the best of a prefix is the shortest",
+    ),
+    "TestWhatIsRefusedIsNamed": (
+        "a selection's feed is forgotten", "by route as by hop", "by hop as by route", "an error blames the prefix",
+    ),
+    "TestBothSidesOfEachDifference": (
+        "the sides are exchanged", "differences end at the first",
+    ),
+    "TestWhatIsRefused": (
+        "a faulty command without an error", "mapped prefixes are accepted", "no router is discard",
+        "a full table is overlooked", "put keeps the old route", "an error without its command",
+        "parts are called otherwise",
+    ),
+    "TestListsAtPageBoundaries": (
+        "a page is the last",
+    ),
+}, GO)
+
+
+RUST = noticed_by({
+    "model differences_reach_the_last_address": (
+        "old and new answers are exchanged", "an answer by hop is a route", "differences end after the first",
+    ),
+    "model both_sides_of_each_difference": (
+        "by hop and by route are exchanged",
+    ),
+    "model all_matches_at_page_boundaries": (
+        "all matches are cut to the best", "lists are cut at 64", "only best is forgotten",
+        "within and covering are exchanged",
+    ),
+    "concurrent lists_of_a_table_that_grows": (
+        "a list of a table that grows is cut",
+    ),
+    "concurrent readers_go_on_during_a_change": (
+        "two changes at once", "two batches at once",
+    ),
+    "concurrent threads_read_one_published_table": (
+        "a batch is published one by one",
+    ),
+    "model a_concurrent_table_answers_as_the_model": (
+        "put in a concurrent table keeps the old route", "a concurrent table isn't followed",
+        "a concurrent table counts its routes as memory",
+    ),
+    "model commands_are_lines_of_a_feed_file": (
+        "discard is written as an address", "a command is written as another",
+    ),
+    "model conventions_of_rust": (
+        "discard is added as a router", "bits past the length are accepted", "a full table is overlooked",
+        "put keeps the old route", "preference and feed are exchanged",
+    ),
+    "model replies_and_routes_are_the_models": (
+        "an entry's discard is a router", "addresses are read backwards",
+    ),
+    "model lists_at_page_boundaries": (
+        "an entry's feed", "an entry's preference", "an entry's length",
+    ),
+    "model files_hold_every_route": (
+        "a selection's feed is forgotten", "a purge and a dump are exchanged", "save writes all feeds",
+    ),
+    "model pages_follow_one_another": (
+        "a page that just fits is the last", "a page is given again",
+    ),
+    "concurrent tables_are_freed": (
+        "nothing is freed", "a concurrent table isn't freed",
+    ),
+    "model faulty_lines_are_named": (
+        "load skips a last line without its end", "load counts lines from 0", "load accepts long comments",
+        "load accepts other forms of a preference", "load accepts discard in version 1",
+    ),
+    "model feeds_of_a_source": (
+        "a source uses one feed", "a source deals otherwise",
+    ),
+    "model a_source_is_one_feed": (
+        "a source purges its first feed",
+    ),
+}, RUST)
+
+
+C = noticed_by({
+    "test_busy": (
+        "handles: a busy handle is taken twice", "handles: a change begins beside a reader",
+        "handles: a change begins beside a counted reader", "handles: a reader begins beside a change",
+        "handles: a reader counts itself beside a change", "handles: no reader is counted",
+        "handles: a reader stays counted", "handles: a reader keeps its place",
+        "handles: a handle is compared with itself",
+    ),
+    "test_view": (
+        "handles: the number of routers is left out", "handles: the number of routers is written always",
+        "handles: the sizes are exchanged", "handles: the blocks are said to be entries",
+    ),
+    "test_concurrent statuses": (
+        "readers: a change is made in the side that readers use", "readers: readers use the side that is changed",
+        "readers: a reader keeps its place", "readers: the second side is forgotten",
+        "readers: no room for the commands", "readers: one side is counted",
+    ),
+    "test_concurrent reader_is_held": (
+        "readers: a batch is made in the side that readers use", "readers: no wait for readers before a free",
+        "readers: no wait for readers between forwarding tables", "readers: a reader without a place isn't counted",
+        "readers: counted readers aren't waited for",
+    ),
+    "test_concurrent reader_meets_changes": (
+        "readers: no wait for readers before a change", "readers: a reader isn't in its place",
+        "readers: a reader claims the next publication", "readers: a reader stays counted",
+        "readers: a change waits for its own thread",
+    ),
+    "test_concurrent change_meets_readers": (
+        "readers: two changes at once", "readers: the second side forgets a replacement",
+        "readers: the second side gets commands that failed", "readers: one side has a forwarding table",
+    ),
+    "test_concurrent change_at_random": (
+        "readers: the second side forgets a purge",
+    ),
+    "test_refused concurrent": (
+        "readers: the second side forgets what found no memory", "readers: a change begins without the one before",
+    ),
+    "test_heap give_back": (
+        "heap: a slab in use is given back", "heap: no slab is given back", "heap: a block ends after its slab",
+        "heap: a full slab stays in the list", "heap: a full slab isn't used again", "heap: small blocks are malloc's",
+    ),
+    "test_heap calls": (
+        "heap: a block is given twice", "heap: two threads allocate at once", "heap: alignment is ignored",
+        "heap: a longer block loses its end", "heap: a longer block stays where it is",
+    ),
+    "test_heap forks": (
+        "heap: a block is freed under another lock", "heap: a child of a fork waits",
+    ),
+    "test_heap": (
+        "heap: a slab given back isn't used again",
+    ),
+    "test_heap refuse": (
+        "heap: a refusal is a block",
+    ),
+}, C)

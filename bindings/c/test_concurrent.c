@@ -399,24 +399,37 @@ static void statuses(void)
     compare_both();
 }
 
-int main(void)
+static void reader_is_held_in_each_way(void)
 {
-    yarib_command one = add(1, 1);
-    yarib_reply reply;
-    alarm(60);
-    CHECK(sem_init(&is_inside, 0, 0) == 0 && sem_init(&may_leave, 0, 0) == 0);
-    CHECK(yarib_new(&other, 1, YARIB_PLAIN) == YARIB_DONE && yarib_apply(&other, &one, &reply) == YARIB_DONE);
-    statuses();
-    change_meets_readers();
-    reader_meets_changes();
-    change_at_random();
-    change_many();
     for (int k = 0; k < 2 * WAYS; k++) {
         way = k % WAYS;
         is_counted = k >= WAYS;
         reader_is_held();
     }
+}
+
+/* The tests, each of which begins with tables of its own. */
+static const struct {
+    const char *name;
+    void (*run)(void);
+} tests[] = {{"statuses", statuses}, {"change_meets_readers", change_meets_readers}, {"reader_meets_changes", reader_meets_changes},
+    {"change_at_random", change_at_random}, {"change_many", change_many}, {"reader_is_held", reader_is_held_in_each_way}};
+
+/* With a word, only the test of this name is run; the status is 2 if there is none. */
+int main(int size, char **words)
+{
+    yarib_command one = add(1, 1);
+    yarib_reply reply;
+    int run = 0;
+    alarm(60);
+    CHECK(sem_init(&is_inside, 0, 0) == 0 && sem_init(&may_leave, 0, 0) == 0);
+    CHECK(yarib_new(&other, 1, YARIB_PLAIN) == YARIB_DONE && yarib_apply(&other, &one, &reply) == YARIB_DONE);
+    for (size_t k = 0; k < sizeof tests / sizeof *tests; k++) {
+        if (size > 1 && strcmp(words[1], tests[k].name) != 0) continue;
+        tests[k].run();
+        run++;
+    }
     CHECK(yarib_concurrent_free(&table) == YARIB_DONE && table.inside == NULL && yarib_concurrent_free(&table) == YARIB_DONE);
     CHECK(yarib_free(&model) == YARIB_DONE && yarib_free(&other) == YARIB_DONE);
-    return 0;
+    return run > 0 ? 0 : 2;
 }

@@ -125,13 +125,14 @@ static void fork_meanwhile(void)
     }
 }
 
-static size_t resident(void)
+/* Returns the size of the address space, or of what of it is in memory. */
+static size_t taken_bytes(bool is_resident)
 {
-    size_t pages = 0;
+    size_t all = 0, pages = 0;
     FILE *file = fopen("/proc/self/statm", "r");
-    CHECK(file && fscanf(file, "%*u %zu", &pages) == 1);
+    CHECK(file && fscanf(file, "%zu %zu", &all, &pages) == 2);
     fclose(file);
-    return pages * 4096;
+    return (is_resident ? pages : all) * 4096;
 }
 
 static double seconds(void)
@@ -149,7 +150,7 @@ static void give_back(void)
 {
     uint64_t last = 5;
     for (size_t k = 0; k < MANY; k++) many[k] = NULL;
-    size_t before = resident();
+    size_t before = taken_bytes(true);
     for (size_t k = 0; k < MANY; k++) {
         struct tried made = rattle_alloc(40, 8);
         CHECK(made.ok);
@@ -161,9 +162,9 @@ static void give_back(void)
         many[k] = many[other];
         many[other] = one;
     }
-    size_t full = resident();
+    size_t full = taken_bytes(true);
     for (size_t k = 0; k < MANY; k++) rattle_dealloc(many[k]);
-    size_t after = resident();
+    size_t after = taken_bytes(true);
     double start = seconds();
     for (size_t size = 1024; size <= 1 << 20; size *= 2) {
         void *volatile block = malloc(size); /* so that the compiler keeps the call */
@@ -177,11 +178,11 @@ static void give_back(void)
     CHECK(taken < 1e-3);
 }
 
-/* Allocates until nothing is left. Refusals leave what is held, and after a free there is memory again. */
+/* Allocates until 150 MB more are in use. Refusals leave what is held, and after a free there is memory again. */
 static void refuse(void)
 {
-    struct rlimit limit = {.rlim_cur = 700u << 20, .rlim_max = 700u << 20};
-    size_t size = 0;
+    size_t size = 0, most = taken_bytes(false) + (150u << 20);
+    struct rlimit limit = {.rlim_cur = most, .rlim_max = most};
     CHECK(setrlimit(RLIMIT_AS, &limit) == 0);
     struct tried made;
     for (; (made = rattle_alloc(1 + size % 128, 1)).ok; size++) {
@@ -197,21 +198,44 @@ static void refuse(void)
     for (size_t k = 0; k < kept / 2; k++) CHECK(rattle_alloc(1 + k % 128, 1).ok);
 }
 
-int main(int size, char **words)
+/* Rounds of calls, after which every block is as it was left. */
+static void call(uintptr_t first, uintptr_t last, void (*meanwhile)(void))
 {
-    alarm(60);
-    for (int k = 0; k < SHELVES; k++) CHECK(pthread_mutex_init(&locks[k], NULL) == 0);
-    /* Sanitizers need more memory and time, and report what a child's missing threads held. */
-    bool is_whole = size == 1 || strcmp(words[1], "calls") != 0;
-    for (uintptr_t seed = 1; seed <= 3; seed++) run_threads(100 * seed, seed == 2 && is_whole ? fork_meanwhile : NULL);
+    for (uintptr_t seed = first; seed <= last; seed++) run_threads(100 * seed, meanwhile);
     for (int k = 0; k < SHELVES; k++) {
         if (!shelves[k].at) continue;
         check(&shelves[k]);
         rattle_dealloc(shelves[k].at);
+        shelves[k].at = NULL;
     }
-    if (is_whole) {
-        give_back();
-        refuse();
+}
+
+static void call_threads(void)
+{
+    call(1, 3, NULL);
+}
+
+static void call_and_fork(void)
+{
+    call(4, 4, fork_meanwhile);
+}
+
+static const struct {
+    const char *name;
+    void (*run)(void);
+} tests[] = {{"calls", call_threads}, {"forks", call_and_fork}, {"give_back", give_back}, {"refuse", refuse}};
+
+/* With a word, only the test of this name is run; the status is 2 if there is none. Sanitizers run only the first: they need more
+ * memory and time, and report what a child's missing threads held. */
+int main(int size, char **words)
+{
+    int run = 0;
+    alarm(60);
+    for (int k = 0; k < SHELVES; k++) CHECK(pthread_mutex_init(&locks[k], NULL) == 0);
+    for (size_t k = 0; k < sizeof tests / sizeof *tests; k++) {
+        if (size > 1 && strcmp(words[1], tests[k].name) != 0) continue;
+        tests[k].run();
+        run++;
     }
-    return 0;
+    return run > 0 ? 0 : 2;
 }

@@ -109,18 +109,20 @@ static void *reader(void *unused)
     return unused;
 }
 
+/* With forwarding tables there are fewer changes: each writes 16 MB of each of them. */
 static void round_of(int is_attached)
 {
+    const uint32_t changes = is_attached ? CHANGES / 5 : CHANGES;
     pthread_t threads[READERS];
     atomic_store(&ended, 0);
     CHECK(yarib_concurrent_new(&table, 2 * PREFIXES) == YARIB_DONE);
     publish(0);
     if (is_attached) CHECK(yarib_concurrent_fib_attach(&table) == YARIB_DONE);
     for (int k = 0; k < READERS; k++) CHECK(pthread_create(&threads[k], NULL, reader, NULL) == 0);
-    for (uint32_t k = 1; k <= CHANGES; k++) publish(k);
+    for (uint32_t k = 1; k <= changes; k++) publish(k);
     atomic_store(&ended, 1);
     for (int k = 0; k < READERS; k++) pthread_join(threads[k], NULL);
-    for (int way = 0; way < 7; way++) CHECK(read_once(way) == CHANGES);
+    for (int way = 0; way < 7; way++) CHECK(read_once(way) == changes);
 }
 
 static void *visitor(void *unused)
