@@ -1,0 +1,106 @@
+"""Empties the bodies of functions in a copy of a crate, so that the prover has less to check there.
+
+A function is proved from its own text and the contracts of what it calls, never from the body of another function. So
+only the bodies in question stay. Every other function waits forever, and its proof is a hole: the prover takes it by its
+contract. A function stays whole if others see more of it than its contract, if its proof is by hand or for several
+functions, or if another proof cites a part of its proof."""
+import re
+import shutil
+
+from .rust_sources import Source
+
+BODY = "loop {}"
+CITED = re.compile(r"\bproofs\.([\w.+'-]+)")
+PROOF = """use Rattle.{crate}.proofs.{path}.Statement as stated
+
+pub {name}_spec : {{M : Type 1}} → stated.statement M
+{name}_spec = ?
+"""
+
+
+def module_of(file, src):
+    """Returns the path of a source's module."""
+    *module, name = file.relative_to(src).with_suffix("").parts
+    return (*module, *[name] * (name not in ("lib", "main", "mod")))
+
+
+def functions(src):
+    """Returns the sources below this directory, each with its functions outside traits and their paths as the prover writes
+    them. A method is below its type, wherever its impl is, and one of the trait `Tr<A>` for the type `T` below `TTrA`,
+    except that of `Drop`."""
+    files = {file: Source(file) for file in src.rglob("*.rt")}
+    homes = {item.name: module_of(file, src) for file, one in files.items() for item in one.items
+             if item.kind in ("struct", "enum")}
+
+    def found(file):
+        for item in files[file].items:
+            if item.kind == "fn":
+                yield (*module_of(file, src), item.name), item
+            elif item.kind == "impl":
+                trait, owner = item.of_impl()
+                trait = None if trait == "Drop" else trait
+                given = re.search(rf"\b{trait}<(?:\w+::)*(\w+)>", " ".join(item.lines)) if trait else None
+                path = (*homes.get(owner, module_of(file, src)), owner + (trait or "") + (given[1] if given else ""))
+                yield from (((*path, one.name), one) for one in item.members() if one.kind == "fn")
+
+    return {file: list(found(file)) for file in files}
+
+
+def cited(proofs):
+    """Returns the paths of what files in other directories cite of a proof, apart from the theorem itself, `Met`."""
+    found = set()
+    for file in proofs.rglob("*.antt"):
+        for path in CITED.findall(file.read_text()):
+            parts = tuple(path.rstrip(".").split("."))
+            if parts[:-1] != file.relative_to(proofs).parts[:-1] and parts[-1] != "Met":
+                found.update(parts[:end] for end in range(1, len(parts) + 1))
+    return found
+
+
+def is_seen(item):
+    """Whether other functions see more of a function than its contract: its value, or the type of its result."""
+    return re.search(r"\bconst fn\b|-> *[^{]*\bimpl\b", "\n".join(item.lines[:item.clauses_end()]))
+
+
+def empty(crate, folder, whole):
+    """Empties the functions of the crate in this directory, except those with these names; none, if a name is unknown."""
+    src, proofs = folder / "src", folder / "proofs"
+    found, named = functions(src), cited(proofs)
+    if not set(whole) <= {"::".join(path) for its in found.values() for path, _ in its}:
+        return
+    for file, its in found.items():
+        lines = its[0][1].source.lines if its else []
+        for path, item in sorted(its, key=lambda one: -one[1].start):
+            own, start, end = proofs.joinpath(*path), item.start + item.clauses_end(), item.end
+            is_proved_apart = (own / "Proof.antt").exists() or (own.parent / f"+{path[-1]}").exists()
+            is_whole = "::".join(path) in whole or is_seen(item) or path in named or is_proved_apart
+            if is_whole or lines[end - 1].strip() != "}":
+                continue
+            lines[start:end - 1] = [BODY] if lines[start - 1].rstrip().endswith("{") else ["{", BODY]
+            shutil.rmtree(own, ignore_errors=True)
+            own.mkdir(parents=True)
+            (own / "Proof.antt").write_text(PROOF.format(crate=crate, path=".".join(path), name=path[-1]))
+        if its:
+            file.write_text("\n".join(lines))
+
+
+# A name of no goal.
+UNKNOWN = "goal-of-no-function"
+ANSWER = """use Rattle.{crate}.proofs.{path}.Goals as every_goal
+{text}
+pub {name} : every_goal.{name}
+{name} c = ?
+"""
+
+
+def ask_no_offers(crate, folder, function):
+    """Answers a goal that this function doesn't have. A function with a wrong answer isn't proved, but the prover doesn't
+    search again for answers to offer."""
+    *module, name = function.split("::")
+    proofs = folder / "proofs"
+    is_recursive = proofs.joinpath(*module, f"+{name}").exists()
+    path = [*module, f"+{name}" if is_recursive else name]
+    file = proofs.joinpath(*path, "Answers.antt")
+    file.parent.mkdir(parents=True, exist_ok=True)
+    text = file.read_text() if file.exists() else ""
+    file.write_text(ANSWER.format(crate=crate, path=".".join(path), text=text, name=UNKNOWN))
