@@ -1,4 +1,5 @@
 pub mod Shared
 pub mod Feed
 pub mod Print
+pub mod Replay
 pub mod Run

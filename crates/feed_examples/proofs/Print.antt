@@ -16,6 +16,7 @@ use Rattle.rt_diff.specs.declared.table_answers.TableAnswer.TheVariants as answe
 use Rattle.rt_diff.specs.declared.comparison.Difference.{Difference}
 use Rattle.rt_print.specs.declared.format.Format.{Format}
 use Rattle.rt_print.specs.declared.format.Format.TheVariants.{Numbers, Names, Json, JsonWithNames}
+use Rattle.rt_print.specs.Buffer.{buffered}
 use Rattle.rt_print.specs.Routes.{hop_text, route_text, row_text, count_text, rows_text, table_text}
 use Rattle.rt_print.specs.Json.{escaped, json_string, hop_members, route_object}
 use Rattle.rt_print.specs.Labels.{is_json, has_names, base_name, without_feed, feed_name, label_by, labelled, number_in, paired_number, labels_by}
@@ -318,3 +319,16 @@ all_that_was_found_as_an_object :
     ++ codes "{\"prefix\":\"10.0.0.0/8\",\"feed\":1,\"pref\":50,\"via\":null,\"discard\":true,\"reason\":\"shorter\"}]}\n"
 unfolding digits address_text prefix_text reason_text route_object address_head all_found_as
 all_that_was_found_as_an_object = refl
+
+-- buffered
+what_is_below_and_then_what_is_held : buffered 9 (Some (1 ∷ [])) (Some (1 ∷ 2 ∷ [])) (3 ∷ []) ≡ Some (9 ∷ 1 ∷ 1 ∷ 2 ∷ 3 ∷ [])
+what_is_below_and_then_what_is_held = refl
+
+nothing_is_below_yet : buffered 9 (Some (1 ∷ [])) (Some (1 ∷ [])) (3 ∷ []) ≡ Some (9 ∷ 1 ∷ 1 ∷ 3 ∷ [])
+nothing_is_below_yet = refl
+
+not_where_less_is_below_than_at_first : buffered 9 (Some (1 ∷ 2 ∷ [])) (Some (1 ∷ [])) (3 ∷ 4 ∷ []) ≡ None
+not_where_less_is_below_than_at_first = refl
+
+nor_where_the_writer_tells_nothing : (buffered 9 (Some []) None [] ≡ None) × (buffered 9 None (Some []) [] ≡ None) × (buffered 9 None None [] ≡ None)
+nor_where_the_writer_tells_nothing = (refl, refl, refl)

@@ -48,7 +48,7 @@ use Rattle.rt_run.specs.declared.faults.AppFault.TheVariants.{Run, Replay, Write
 use Rattle.rt_run.specs.RunContents.{RunContents}
 use Rattle.rt_run.specs.RunText.{Explains, ExplainsFrom, IsJournalOfRun, reports_of, reports_text, some_refused, status_where, reports_status, IsRunText, WritesOrFails}
 use Rattle.rt_run.proofs.Lists.{cut-joined}
-use Rattle.ya_replay.specs.ReplayText.{inside_text}
+use Rattle.rt_print.specs.ReplayText.{inside_text}
 use Rattle.rt_run.specs.Replayed.{IsReplayText, LeavesReplay}
 use Rattle.rt_run.specs.declared.tallies.RunSummary.{RunSummary}
 use Rattle.rt_print.specs.Styles.{StyleContents, row_as, found_as, all_found_as, reason_text}

@@ -7,4 +7,3 @@ pub mod Ranges
 pub mod Texts
 pub mod ShortTexts
 pub mod Outputs
-pub mod Buffers

@@ -9,8 +9,6 @@ pub use Rattle.rt_cidr.proofs.ShortTexts.{prepending}
 pub use Rattle.rt_cidr.proofs.ShortTexts.{length-decimal, length-address_text, length-prefix_text}
 -- the contents of a writer after one text and then another, and after an error
 pub use Rattle.rt_cidr.proofs.Outputs.{appends_after, begins_after, begins_longer}
--- the contents of a writer when text was written to it through a buffer
-pub use Rattle.rt_cidr.proofs.Buffers.{stops, stops_held}
 -- the text written for a number, an address and a prefix denotes it, and a text denotes at most one pair
 pub use Rattle.rt_cidr.proofs.Texts.{decimal_is_decimal, decimal_one_number, address_text_is_address, pair_one_value}
 pub use Rattle.rt_cidr.proofs.OneAnswer.{prefix_is_written}

@@ -1,5 +1,5 @@
--- The contents of a writer after text was written to it, directly or through a buffer.
-use Rattle.std.specs.Prelude.{ℕ, ◌<◌, List, ◌∷◌, ◌++◌, length, take, Option, Some, None, Result, OnOk, OnErr, if◌then◌else◌, nat_le}
+-- The contents of a writer after text was written to it.
+use Rattle.std.specs.Prelude.{ℕ, ◌<◌, List, length, take, Option, Result, OnOk, OnErr}
 use Rattle.std.specs.Io.KnownBytes.{Appends}
 
 -- after an error: known contents grew by an initial part of the bytes, and never by all of them
@@ -12,12 +12,3 @@ pub record AppendsBeginning (old new : Option (List ℕ)) (bytes : List ℕ) : T
 pub record WritesText {T E : Type 0} (old new : Option (List ℕ)) (text : List ℕ) (result : Result T E) : Type 0 where
   pub ok : OnOk result (Appends old new text)
   pub err : OnErr result (AppendsBeginning old new text)
-
--- the contents of a buffer over a writer: the writer's contents followed by the bytes held, if the writer's contents
--- are known and still at least as long as at the start. In front are the name of the reference to the writer and the
--- number of bytes at the start, since a call that writes to any writer promises nothing but its contents
-abbrev pub buffered : ℕ → Option (List ℕ) → Option (List ℕ) → List ℕ → Option (List ℕ)
-buffered name (Some began) (Some below) held =
-    if nat_le (length began) (length below) then Some (name ∷ length began ∷ (below ++ held)) else None
-buffered name (Some began) None held = None
-buffered name None below held = None

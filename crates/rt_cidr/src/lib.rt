@@ -11,18 +11,15 @@
 //! ```
 //!
 //! Contracts see an [`Addr`] as its 32 bits, and a [`Prefix`] as its base, its length and the fact that they form a
-//! prefix. A [`ShortText`] is the list of its bytes: each printer prepends its text, and only requires room for it. An
-//! [`OutputBuffer`] is a writer over another one: its contents are those of the other, followed by the bytes it holds.
+//! prefix. A [`ShortText`] is the list of its bytes: each printer prepends its text, and only requires room for it.
 //!
-//! Only `OutputRoom::new` allocates. A writer may accept any part of what it is given. A clause of std's `Write` says
-//! that it never reports more, so an implementation that does is rejected when it is proved.
+//! No call allocates. A writer may accept any part of what it is given. A clause of std's `Write` says that it never
+//! reports more, so an implementation that does is rejected when it is proved.
 //!
-//! Only tested: which error is returned if the writer fails, that no writer is flushed, and that a buffer passes text
-//! on in few writes.
+//! Only tested: which error is returned if the writer fails, and that no writer is flushed.
 #![tactic(auto)]
 
 mod address;
-mod buffer;
 mod decimals;
 pub mod laws;
 mod output;
@@ -30,8 +27,7 @@ mod prefixes;
 mod short_text;
 
 pub use address::Addr;
-pub use buffer::{OUTPUT_BYTES, OutputBuffer, OutputRoom};
 pub use decimals::decimal_u32;
-pub use output::put;
+pub use output::{put, put_counted};
 pub use prefixes::{Prefix, TextFault};
 pub use short_text::{SHORT_TEXT_BYTES, ShortText};

@@ -17,7 +17,7 @@ pub fn put<W: Write>(w: &mut W, bytes: &[u8]) -> Result<(), io::Error>
 }
 
 /// Does the same as `put`, and also returns the number of bytes written.
-pub(crate) fn put_counted<W: Write>(w: &mut W, bytes: &[u8]) -> (usize, Result<(), io::Error>)
+pub fn put_counted<W: Write>(w: &mut W, bytes: &[u8]) -> (usize, Result<(), io::Error>)
     ensures all { OnOk result.1 (result.0 ≡ length bytes.now) }
     ensures less { OnErr result.1 (result.0 < length bytes.now) }
     ensures appended { Appends (W.contents w.old) (W.contents w.new) (take result.0 bytes.now) }

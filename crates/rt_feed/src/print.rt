@@ -15,24 +15,17 @@ use std::io::{self, Write};
 /// writer's, as `put` returns them; a prefix of the report but not all of it was then written, so a report without
 /// lines never fails. Doesn't allocate. Makes one `write` for each line, more if the writer accepts only a part, and no
 /// other call; wrap a writer with expensive calls in an `OutputBuffer`.
+#[tactic(auto, using(crate::proofs::Printing::line_fits))]
 pub fn write_report<W: Write>(w: &mut W, feed: u32, report: &Report) -> io::Result<()>
     ensures { WritesText (W.contents w.old) (W.contents w.new) (report_text feed report.now) result }
 {
     let mut text = ShortText::new();
     for line in report.lines() {
-        put_line(w, &mut text, feed, line)?;
+        text.clear();
+        prepend_line(&mut text, feed, line);
+        put(w, text.as_bytes())?;
     }
     Ok(())
-}
-
-/// Writes one line of a report, built in `text`.
-#[tactic(auto, using(crate::proofs::Printing::line_fits))]
-fn put_line<W: Write>(w: &mut W, text: &mut ShortText, feed: u32, line: &Line) -> io::Result<()>
-    ensures { WritesText (W.contents w.old) (W.contents w.new) (line_text feed line.now) result }
-{
-    text.clear();
-    prepend_line(text, feed, line);
-    put(w, text.as_bytes())
 }
 
 // Each function below prepends its text.

@@ -1,5 +1,8 @@
 pub mod Promised
-pub mod Texts
+pub mod Buffers
+pub mod Writing
+pub mod Replaying
+pub mod WhoIsInside
 pub mod LineParts
 pub mod CountParts
 pub mod FeedLabels

@@ -1,63 +1,50 @@
--- The contents of a writer after several texts, with a possible error within one; and the maximum lengths of the parts
--- of a line.
-use Rattle.std.proofs.Common.{◌≡◌, ℕ, ◌+◌, ◌≤◌, Bool, true, false, List, [], ◌∷◌, ◌++◌, length, codes, decimal, Option, Some, None, Result, Err, append_assoc, append-nil, refl, ap, ◌∙◌, arith, length-append}
-use Rattle.std.proofs.lemmas.Result.{on_ok_weaker, on_err_weaker}
-use Rattle.std.specs.Io.KnownBytes.{Appends}
+-- The texts of lines and objects by their parts, and the maximum lengths of these parts.
+use Rattle.std.proofs.Common.{◌≡◌, ◌==◌, ℕ, ◌+◌, ◌≤◌, Bool, true, false, List, [], ◌∷◌, ◌++◌, length, codes, decimal, Some, None, append_assoc, append-nil, refl, ap, ◌∙◌, arith, length-append}
+use Rattle.std.specs.List.{flat_map, join_by}
+use Rattle.std.proofs.lemmas.Bool.Decides.{nat_tests}
 use Rattle.rt_cidr.specs.declared.address.Addr.{Addr}
-use Rattle.rt_cidr.specs.Output.{AppendsBeginning, WritesText}
-use Rattle.rt_cidr.proofs.Promised.{appends_after, begins_after, begins_longer, length-decimal, length-address_text, length-prefix_text}
+use Rattle.rt_cidr.proofs.Promised.{length-decimal, length-address_text, length-prefix_text}
 use Rattle.rt_rib.specs.declared.routes.Hop.{Hop}
 use Rattle.rt_rib.specs.declared.routes.Hop.TheVariants.{Via, Discard}
 use Rattle.rt_rib.specs.declared.routes.Route.{Route}
 use Rattle.rt_diff.specs.declared.table_answers.TableAnswer.TheVariants as answered
 use Rattle.rt_diff.specs.declared.comparison.Difference.{Difference}
 use Rattle.rt_print.specs.DifferenceText.{DiffContents, way_text, answered_as, answer_as, range_as, difference_as}
-use Rattle.rt_print.specs.Routes.{row_text, route_text}
+use Rattle.rt_print.specs.Routes.{hop_text, route_text, count_text}
 use Rattle.rt_print.specs.Json.{route_object}
-use Rattle.rt_print.specs.Styles.{address_head, row_as, found_as, all_found_as}
-use Rattle.rt_print.specs.inside.Parts.{either, hop_as, route_front, route_back, route_open, asked_head, reason_end, other_as, others_as, range_front, way_as}
-use Rattle.rt_print.proofs.Texts.{hop_fits, reason_fits}
-
-module _ {T E : Type 0} (a b c : Option (List ℕ)) where
-  -- a whole text, and then the written part of another one
-  pub writes_after : (xs ys : List ℕ) (result : Result T E) → Appends a b xs → WritesText b c ys result → WritesText a c (xs ++ ys) result
-  writes_after xs ys result first second = record {
-    ok = on_ok_weaker result (appends_after a b c xs ys first) second.ok;
-    err = on_err_weaker result (begins_after a b c xs ys first) second.err;
-  }
-
-  -- a whole text, and an error within the second of three
-  pub stops_after : (xs ys zs : List ℕ) (fault : E) → Appends a b xs → AppendsBeginning b c ys → WritesText {T = T} a c (xs ++ (ys ++ zs)) (Err fault)
-  stops_after xs ys zs fault first second = record { ok = tt; err = begins_after a b c xs (ys ++ zs) first (begins_longer b c ys zs second) }
-
--- an error within a text is an error within a longer one
-pub stops_within : {T E : Type 0} (a c : Option (List ℕ)) (xs ys : List ℕ) (fault : E) → AppendsBeginning a c xs → WritesText {T = T} a c (xs ++ ys) (Err fault)
-stops_within a c xs ys fault first = record { ok = tt; err = begins_longer a c xs ys first }
-
--- a text in front of the empty text is the whole text
-pub alone : {new old : List ℕ} (text : List ℕ) → new ≡ text ++ old → old ≡ [] → new ≡ text
-alone text put none = put ∙ (ap (λ (xs : List ℕ). text ++ xs) none ∙ append-nil text)
+use Rattle.rt_print.specs.Styles.{reason_text, also_line, also_object, address_head, row_as, found_as, all_found_as}
+use Rattle.rt_print.specs.inside.Parts.{either, hop_as, route_front, route_back, route_open, asked_head, reason_end, comma, other_as, others_as, range_front, way_as}
 
 -- a list of length 0 is empty
 pub none_in : {X : Type 0} (xs : List X) → length xs ≡ 0 → xs ≡ []
 none_in [] none = refl
 none_in (x ∷ xs) none = absurd (omega (arith, none))
 
--- a route between two texts, by its parts
-pub open_parts : (json : Bool) (label head : List ℕ) (r : Route) (tail : List ℕ)
-    → (head ++ (route_front json r ++ label)) ++ (route_back json r ++ tail) ≡ head ++ (route_open json label r ++ tail)
-unfolding route_open
-open_parts json label head r tail = simp append_assoc
+pub hop_fits : (hop : Hop) → length (hop_text hop) ≤ 15
+hop_fits (Via address) = length-address_text address.0
+hop_fits Discard = omega arith
+
+pub route_fits : (route : Route) → length (route_text route) ≤ 250
+unfolding route_text
+route_fits route =
+    let prefix = length-prefix_text route.prefix.base route.prefix.len in
+    let feed = length-decimal route.feed in
+    let pref = length-decimal route.pref in
+    let hop = hop_fits route.hop in
+    simp length-append (omega arith)
+
+pub count_fits : (count : ℕ) → length (count_text count) ≤ 400
+unfolding count_text
+count_fits count = let digits = length-decimal count in simp length-append (omega arith)
+
+reason_fits : (first r : Route) → length (reason_text first r) ≤ 10
+unfolding reason_text
+reason_fits first r = grind (arith, nat_tests)
 
 -- a route with its feed's number, as a line
 pub line_open : (r : Route) → route_open false (decimal r.feed) r ≡ route_text r
 unfolding route_open route_front route_back route_text
 line_open r = simp append_assoc
-
--- a row with its feed's number
-pub numbered_row : (r : Route) → route_open false (decimal r.feed) r ++ codes "\n" ≡ row_text r
-unfolding row_text
-numbered_row r = ap (λ text. text ++ codes "\n") (line_open r)
 
 -- a row, by its parts
 pub row_parts : (json : Bool) (label : ℕ → List ℕ) (r : Route)
@@ -87,6 +74,30 @@ unfolding asked_head address_head all_found_as found_as
 no_others_parts false label addr = append-nil _
 no_others_parts true label addr = simp append_assoc
 
+-- the routes that lost to the best one, without numbers
+others_lines : (label : ℕ → List ℕ) (addr : Addr) (best : Route) (number : ℕ) (rs : List Route) → others_as false label addr best number rs ≡ flat_map (also_line label addr best) rs
+unfolding other_as
+others_lines label addr best number [] = refl
+others_lines label addr best number (r ∷ rs) = ap (λ text. also_line label addr best r ++ text) (others_lines label addr best (number + 1) rs)
+
+not_one : (number : ℕ) → (number + 2 == 1) ≡ false
+not_one number = grind (arith, nat_tests)
+
+others_objects : (label : ℕ → List ℕ) (addr : Addr) (best : Route) (number : ℕ) (rs : List Route)
+    → others_as true label addr best (number + 2) rs ≡ flat_map (λ r. codes "," ++ also_object label best r) rs
+unfolding other_as
+others_objects label addr best number [] = refl
+others_objects label addr best number (r ∷ rs) =
+    let next : number + 2 + 1 ≡ number + 1 + 2 = omega arith in
+    rw (not_one number) (ap (λ text. (codes "," ++ also_object label best r) ++ text)
+    (ap (λ n. others_as true label addr best n rs) next ∙ others_objects label addr best (number + 1) rs))
+
+others_joined : (label : ℕ → List ℕ) (addr : Addr) (best : Route) (others : List Route)
+    → others_as true label addr best 1 others ≡ join_by (also_object label best) (codes ",") others
+unfolding other_as
+others_joined label addr best [] = refl
+others_joined label addr best (r ∷ rs) = ap (λ text. also_object label best r ++ text) (others_objects label addr best 0 rs)
+
 -- lines have no text around the routes that lost; an object has the others in a list
 lines_around : (label : ℕ → List ℕ) (addr : Addr) (best : Route) (told : List ℕ)
     → (asked_head false addr (codes " route ") ++ (route_open false (label best.feed) best ++ codes "\n")) ++ (told ++ []) ≡ found_as false label addr (Some best) ++ told
@@ -102,12 +113,10 @@ object_around label addr best told = simp append_assoc
 -- the text of all routes that cover an address, by its parts
 pub others_parts : (json : Bool) (label : ℕ → List ℕ) (addr : Addr) (best : Route) (others : List Route)
     → (asked_head json addr (codes " route ") ++ (route_open json (label best.feed) best ++ either json (codes "\n") (codes "},\"also\":[")))
-    ++ (others_as json label addr best others ++ either json [] (codes "]}\n")) ≡ all_found_as json label addr (best ∷ others)
-unfolding asked_head route_open route_front route_back others_as other_as all_found_as
-others_parts false label addr best [] = lines_around label addr best []
-others_parts false label addr best (r ∷ rs) = lines_around label addr best (others_as false label addr best (r ∷ rs))
-others_parts true label addr best [] = object_around label addr best []
-others_parts true label addr best (r ∷ rs) = object_around label addr best (others_as true label addr best (r ∷ rs))
+    ++ (others_as json label addr best 1 others ++ either json [] (codes "]}\n")) ≡ all_found_as json label addr (best ∷ others)
+unfolding asked_head route_open route_front route_back all_found_as
+others_parts false label addr best others = rw (others_lines label addr best 1 others) (lines_around label addr best _)
+others_parts true label addr best others = rw (others_joined label addr best others) (object_around label addr best _)
 
 -- the text of each of them, by its parts
 pub other_parts : (json : Bool) (label : ℕ → List ℕ) (addr : Addr) (best : Route) (comma : List ℕ) (r : Route)
@@ -221,4 +230,4 @@ either_short false line object short other = short
 either_short true line object short other = other
 
 -- each part has room in a short text
-pub ruleset fits = (route_front_fits, route_back_fits, route_open_fits, asked_head_fits, reason_end_fits, range_front_fits, way_as_fits)
+pub ruleset fits = (route_fits, count_fits, route_front_fits, route_back_fits, route_open_fits, asked_head_fits, reason_end_fits, range_front_fits, way_as_fits)

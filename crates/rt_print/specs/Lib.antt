@@ -1,7 +1,9 @@
+pub mod Buffer
 pub mod Counts
 pub mod DifferenceText
 pub mod Json
 pub mod Labels
+pub mod ReplayText
 pub mod Routes
 pub mod Styles
 pub mod inside

@@ -5,7 +5,7 @@ ghost use Rattle.rt_diff.specs.Answers.{own_numbers};
 ghost use Rattle.rt_print.specs.DifferenceText.{diff_of};
 
 use crate::format::Format;
-use crate::pairing::pair_feeds_by_name;
+use crate::labels::pair_feeds_by_name;
 use crate::style::Style;
 use rt_diff::{CompareBy, Comparison};
 use rt_rib::Table;

@@ -3,11 +3,11 @@ ghost use Rattle.std.specs.Prelude.{◌≡◌, ◌≤◌, ◌++◌, length};
 ghost use Rattle.rt_cidr.specs.Output.{WritesText};
 ghost use Rattle.rt_cidr.specs.ShortText.{FitsInShortText};
 ghost use Rattle.rt_print.specs.DifferenceText.{answer_as, difference_as};
-ghost use Rattle.rt_print.specs.inside.Parts.{range_front, way_as};
+ghost use Rattle.rt_print.specs.inside.Parts.{range_front, way_front, way_as};
 
 use crate::diff_options::DiffOptions;
 use crate::parts::put_parts;
-use crate::routes::{prepend_hop_members, put_route};
+use crate::routes::{prepend_hop, put_route};
 use crate::style::{Style, either};
 use rt_cidr::{ShortText, put};
 use rt_diff::{Difference, TableAnswer};
@@ -49,7 +49,7 @@ fn put_answer<W: Write>(
     match answer {
         TableAnswer::NoRoute => put_parts(w, &[head, either(json, b"no route", b"null")]),
         TableAnswer::Hop(hop) => {
-            prepend_way_as(&mut text, json, *hop);
+            prepend_way(&mut text, json, *hop);
             put_parts(w, &[head, text.as_bytes()])
         }
         TableAnswer::Route(route) => {
@@ -76,21 +76,22 @@ fn prepend_front(text: &mut ShortText, json: bool, difference: &Difference)
 
 /// Prepends `via ADDR` or `discard`, or the next hop as an object.
 #[tactic(auto, using(rt_cidr::proofs::Promised::prepending), unfolding(crate::specs::inside::Parts::way_as))]
-fn prepend_way_as(text: &mut ShortText, json: bool, hop: Hop)
+fn prepend_way(text: &mut ShortText, json: bool, hop: Hop)
     requires room { FitsInShortText (way_as json hop) text.old }
     ensures { text.new ≡ way_as json hop ++ text.old }
 {
-    if json {
-        text.prepend(b"}");
-        prepend_hop_members(text, hop);
-        text.prepend(b"{");
-        return;
-    }
+    text.prepend(either(json, b"", b"}"));
+    prepend_hop(text, json, hop);
+    text.prepend(way_front(json, hop));
+}
+
+/// Returns the text before a next hop in an answer.
+fn way_front(json: bool, hop: Hop) -> &'static [u8]
+    ensures { result.now ≡ way_front json hop }
+{
     match hop {
-        Hop::Via(address) => {
-            address.prepend_to(text);
-            text.prepend(b"via ");
-        }
-        Hop::Discard => text.prepend(b"discard"),
+        _ if json => b"{",
+        Hop::Via(_) => b"via ",
+        Hop::Discard => b"",
     }
 }

@@ -1,4 +1,4 @@
-//! The label of a feed: its number, its name, or its members in JSON.
+//! The label of a feed: its number, its name, or its members in JSON. Feeds of two sets of files are paired by their names.
 ghost use Rattle.std.specs.Prelude.{◌≡◌, ℕ, List, ◌<◌, ◌≤◌, ◌++◌, length, map, decimal, None, IfOk, IfSome, OnOk};
 ghost use Rattle.std.specs.Char.{digit_char};
 ghost use Rattle.std.specs.List.{flat_map};
@@ -8,7 +8,6 @@ ghost use Rattle.rt_print.specs.Styles.{label_of};
 ghost use Rattle.rt_print.specs.Labels.{base_name, feed_name, label_by, labelled, labels_by, paired_number};
 
 use crate::format::Format;
-use crate::pairing::paired_number;
 use rt_cidr::ShortText;
 use std::alloc::{AllocError, Global};
 
@@ -75,6 +74,43 @@ pub(crate) fn label_in(labels: &[FeedLabel], feed: u32) -> Option<&[u8]>
         rest = behind;
     }
     None
+}
+
+/// Returns the numbers of the feeds of a second set of files in relation to a first set, whose k-th file is feed k. A
+/// feed gets the number of the feed of the same name in the first set or, if none has this name, a number that no feed
+/// has there. So feeds of the two sets with the same name have the same number. Fails only if memory runs out.
+pub(crate) fn pair_feeds_by_name(
+    alloc: Global,
+    first: &[&str],
+    second: &[&str],
+) -> Result<Vec<u32>, AllocError>
+    requires few { (length first.now ≤ MAX_FEEDS) × (length second.now ≤ MAX_FEEDS) }
+    ensures { IfOk result (λ numbers. numbers.items ≡ labelled (paired_number (map (λ path. path.now) first.now)) 1 (map (λ path. path.now) second.now)) }
+{
+    let mut numbers = Vec::with_capacity(alloc, second.len())?;
+    for (index, path) in second.iter().enumerate() {
+        let number = paired_number(first, index as u32 + 1, path.as_bytes());
+        numbers.push_reserved(number);
+    }
+    Ok(numbers)
+}
+
+/// Returns the number of the feed of this number and path in relation to the files of these paths.
+pub(crate) fn paired_number(paths: &[&str], feed: u32, path: &[u8]) -> u32
+    requires few { (length paths.now ≤ MAX_FEEDS) × (feed ≤ MAX_FEEDS) }
+    ensures { result ≡ paired_number (map (λ path. path.now) paths.now) feed path.now }
+{
+    let name = feed_name(path);
+    let mut rest = paths;
+    let mut number = 1;
+    while let [first, behind @ ..] = rest {
+        if feed_name(first.as_bytes()) == name {
+            return number;
+        }
+        number += 1;
+        rest = behind;
+    }
+    paths.len() as u32 + feed
 }
 
 /// Appends the label of the feed of this number and path.

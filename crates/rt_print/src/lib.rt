@@ -1,4 +1,5 @@
-//! Printed output: routes, look-up results, numbers of routes and differences, as lines or as JSON objects.
+//! Printed output: routes, look-up results, numbers of routes and differences, as lines or as JSON objects; the text of a
+//! replay of the lock; and a buffer through which text goes to a writer.
 //!
 //! A [`Style`] determines the output. It is made from a [`Format`] and the paths of the feeds' files, and gives each feed
 //! a label: its number, its name, or the members of a JSON object that identify it. A [`DiffOptions`] does the same for
@@ -11,28 +12,36 @@
 //!
 //! Each line is built in a short text. A line with a feed's number goes to the writer at once; one with another label in
 //! three parts, since a label may be longer than a short text. The written text is the only text of what is printed or,
-//! after an error of the writer, a prefix of it. No call of a printer allocates; only `Style::new` and
-//! `DiffOptions::new` do.
+//! after an error of the writer, a prefix of it. An [`OutputBuffer`] is a writer over another one: its contents are those
+//! of the other, followed by the bytes it holds. No call of a printer allocates; only `Style::new`, `DiffOptions::new` and
+//! `OutputRoom::new` do.
 //!
-//! Only tested: the kind of a writer's error, and that the printed examples are what a person expects.
+//! `write_replay` writes the steps that `ya_core::replay` returns, and `inside_place` returns the place that is inside
+//! after them.
+//!
+//! Only tested: the kind of a writer's error, that a buffer passes text on in few writes, and that the printed examples
+//! are what a person expects.
 #![tactic(auto)]
 
+mod buffer;
 mod counts;
 mod diff_options;
 mod differences;
 mod format;
 mod labels;
 mod lookups;
-mod pairing;
 mod parts;
+mod replays;
 mod routes;
 mod style;
 
+pub use buffer::{OUTPUT_BYTES, OutputBuffer, OutputRoom};
 pub use counts::write_counts;
 pub use diff_options::DiffOptions;
 pub use differences::write_difference;
 pub use format::Format;
 pub use labels::feed_name;
 pub use lookups::{write_all_matches, write_lookup};
+pub use replays::{inside_place, write_replay};
 pub use routes::{prepend_route, write_routes, write_table};
 pub use style::Style;

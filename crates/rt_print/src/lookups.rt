@@ -1,10 +1,9 @@
 //! Look-up results: lines, or JSON objects (RFC 8259), one a line.
-ghost use Rattle.std.specs.Prelude.{◌≡◌, ◌≤◌, ◌++◌, [], length, codes};
-ghost use Rattle.std.specs.List.{flat_map};
+ghost use Rattle.std.specs.Prelude.{◌≡◌, ◌+◌, ◌≤◌, ◌++◌, [], length, codes};
 ghost use Rattle.rt_cidr.specs.Output.{WritesText};
 ghost use Rattle.rt_cidr.specs.ShortText.{FitsInShortText};
 ghost use Rattle.rt_print.specs.Styles.{label_of, found_as, all_found_as, reason_text};
-ghost use Rattle.rt_print.specs.inside.Parts.{either, route_open, asked_head, reason_end, other_as, others_as};
+ghost use Rattle.rt_print.specs.inside.Parts.{either, route_open, asked_head, reason_end, comma, other_as, others_as};
 
 use crate::parts::put_parts;
 use crate::routes::put_route;
@@ -91,24 +90,19 @@ fn put_best<W: Write>(w: &mut W, best: &Best<'_>, tail: &[u8]) -> io::Result<()>
 /// Writes the routes that lost to the best one, each with the reason; objects have commas between them.
 fn write_others<W: Write>(w: &mut W, best: &Best<'_>, others: &[Route]) -> io::Result<()>
     ensures { WritesText (W.contents w.old) (W.contents w.new)
-        (others_as best.now.style.now.json (label_of best.now.style.now.labels) best.now.addr best.now.route others.now) result }
+        (others_as best.now.style.now.json (label_of best.now.style.now.labels) best.now.addr best.now.route 1 others.now) result }
 {
-    let Some((second, further)) = others.split_first() else {
-        return Ok(());
-    };
-    put_other(w, best, b"", second)?;
-    write_further(w, best, further)
-}
-
-/// Writes further such routes, each object after a comma.
-fn write_further<W: Write>(w: &mut W, best: &Best<'_>, further: &[Route]) -> io::Result<()>
-    ensures { WritesText (W.contents w.old) (W.contents w.new)
-        (flat_map (other_as best.now.style.now.json (label_of best.now.style.now.labels) best.now.addr best.now.route (codes ",")) further.now) result }
-{
-    for route in further {
-        put_other(w, best, b",", route)?;
+    for (index, route) in others.iter().enumerate() {
+        put_other(w, best, comma(index), route)?;
     }
     Ok(())
+}
+
+/// Returns the text between an object and the ones before it, if their number is `before`.
+fn comma(before: usize) -> &'static [u8]
+    ensures { result.now ≡ comma (before + 1) }
+{
+    if before == 0 { b"" } else { b"," }
 }
 
 /// Writes one route that lost to the best one, an object after this text.

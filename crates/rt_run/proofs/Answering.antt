@@ -15,7 +15,7 @@ use Rattle.rt_print.specs.Styles.{StyleContents, label_of, found_as, all_found_a
 use Rattle.rt_run.specs.declared.output.AddressMatches.{AddressMatches}
 use Rattle.rt_run.specs.TableText.{answers_text, all_answers_text}
 use Rattle.rt_run.specs.inside.Outputs.{matches_text}
-use Rattle.ya_replay.proofs.Promised.{begins_all}
+use Rattle.rt_print.proofs.Promised.{begins_all}
 
 module _ (style : StyleContents) (table : List Route) (all rest piece behind : List Addr) (text : List ℕ)
     (whole : text ++ answers_text style rest table ≡ answers_text style all table) (cut : rest ≡ piece ++ behind) where

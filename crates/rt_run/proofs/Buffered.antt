@@ -3,8 +3,9 @@ use Rattle.std.proofs.Common.{◌≡◌, ◌==◌, ℕ, ◌<◌, Bool, true, fal
 use Rattle.std.specs.List.{flat_map}
 use Rattle.std.specs.Io.KnownBytes.{Appends, Keeps}
 use Rattle.std.proofs.KnownBytes.{Appends-kept}
-use Rattle.rt_cidr.specs.Output.{AppendsBeginning, buffered}
-use Rattle.rt_cidr.proofs.Promised.{stops, stops_held}
+use Rattle.rt_cidr.specs.Output.{AppendsBeginning}
+use Rattle.rt_print.specs.Buffer.{buffered}
+use Rattle.rt_print.proofs.Promised.{stops, stops_held}
 use Rattle.rt_cidr.specs.declared.address.Addr.{Addr}
 use Rattle.rt_rib.specs.declared.routes.Route.{Route}
 use Rattle.rt_rib.specs.LookUp.{look_up}

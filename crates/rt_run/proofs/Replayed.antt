@@ -5,7 +5,7 @@ use Rattle.ya_core.specs.Steps.{State, opening}
 use Rattle.ya_core.specs.ArbitrationTree.{HasShape}
 use Rattle.ya_core.specs.Machines.{ReplaysTo, Replays}
 use Rattle.ya_core.specs.Worlds.{ReportsInside}
-use Rattle.ya_replay.specs.ReplayText.{replay_text_of}
+use Rattle.rt_print.specs.ReplayText.{replay_text_of}
 use Rattle.rt_run.specs.Replayed.{IsReplayText}
 
 -- a tree of some shape has a level

@@ -6,7 +6,7 @@ use Rattle.ya_core.specs.declared.step.Step.{Step}
 use Rattle.ya_core.specs.Steps.{State, opening}
 use Rattle.ya_core.specs.Machines.{ReplaysTo}
 use Rattle.ya_core.specs.Worlds.{ReportsInside}
-use Rattle.ya_replay.specs.ReplayText.{replay_text_of}
+use Rattle.rt_print.specs.ReplayText.{replay_text_of}
 use Rattle.rt_run.specs.declared.faults.AppFault.{AppFault}
 use Rattle.rt_run.specs.declared.faults.AppFault.TheVariants.{Run, Replay, Write}
 

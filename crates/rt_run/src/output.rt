@@ -11,19 +11,18 @@ ghost use Rattle.rt_run.specs.inside.Comparisons.{IsFirstOf, lines_of};
 
 use crate::faults::AppFault;
 use crate::forwarding::look_up_by;
-use rt_cidr::{Addr, OutputBuffer, OutputRoom};
+use rt_cidr::Addr;
 use rt_diff::Difference;
 use rt_feed::{Report, write_report};
 use rt_fib::Fib;
 use rt_print::{
-    DiffOptions, Style, write_all_matches, write_counts, write_difference, write_lookup,
-    write_routes, write_table,
+    DiffOptions, OutputBuffer, OutputRoom, Style, write_all_matches, write_counts,
+    write_difference, write_lookup, write_replay, write_routes, write_table,
 };
 use rt_rib::{Route, Table};
 use std::alloc::Global;
 use std::io::{self, Write};
 use ya_core::Step;
-use ya_replay::write_replay;
 
 /// The number of addresses that are looked up together.
 const PIECE: usize = 256;

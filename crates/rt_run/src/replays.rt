@@ -6,11 +6,10 @@ ghost use Rattle.rt_run.specs.Replayed.{LeavesReplay};
 use crate::faults::AppFault;
 use crate::output::{Output, write_buffered};
 use crate::status::Status;
-use rt_cidr::OutputRoom;
+use rt_print::{OutputRoom, inside_place};
 use std::alloc::Global;
 use std::io::Write;
 use ya_core::{ReplayFault, replay};
-use ya_replay::inside_place;
 
 /// Replays a schedule of the lock in a tree of `levels` levels: from the start, the picked places make one step each, in
 /// order. Writes to `w` one line for each step, and then the place that is inside. Returns 0 if everything was written.

@@ -11,7 +11,7 @@ use Rattle.rt_cidr.specs.declared.address.Addr.{Addr}
 use Rattle.rt_cidr.specs.declared.prefixes.Prefix.{Prefix}
 use Rattle.rt_cidr.specs.declared.prefixes.TextFault.TheVariants.{Text, Length, Bits}
 use Rattle.rt_cidr.specs.Cidr.{size_of, IsPrefix}
-use Rattle.rt_cidr.specs.Output.{AppendsBeginning, buffered}
+use Rattle.rt_cidr.specs.Output.{AppendsBeginning}
 use Rattle.rt_cidr.specs.Prefix.{covers, contains, same_prefix}
 use Rattle.rt_cidr.specs.Text.{dot, slash, zero_digit, IsDecimal, IsOctetText, IsAddressText, IsPrefixText, address_text, prefix_text}
 use Rattle.rt_cidr.specs.Reading.{ReadsPrefix, ReadsDecimal, ReadsAddress, AnswersPair}
@@ -257,16 +257,3 @@ no_other_fault_of_an_address text = (λ h. h, λ h. h)
 -- AnswersPair
 a_pair_is_no_text : (base len : ℕ) → ¬ AnswersPair base len (Err Text)
 a_pair_is_no_text base len h = h
-
--- buffered
-what_is_below_and_then_what_is_held : buffered 9 (Some (1 ∷ [])) (Some (1 ∷ 2 ∷ [])) (3 ∷ []) ≡ Some (9 ∷ 1 ∷ 1 ∷ 2 ∷ 3 ∷ [])
-what_is_below_and_then_what_is_held = refl
-
-nothing_is_below_yet : buffered 9 (Some (1 ∷ [])) (Some (1 ∷ [])) (3 ∷ []) ≡ Some (9 ∷ 1 ∷ 1 ∷ 3 ∷ [])
-nothing_is_below_yet = refl
-
-not_where_less_is_below_than_at_first : buffered 9 (Some (1 ∷ 2 ∷ [])) (Some (1 ∷ [])) (3 ∷ 4 ∷ []) ≡ None
-not_where_less_is_below_than_at_first = refl
-
-nor_where_the_writer_tells_nothing : (buffered 9 (Some []) None [] ≡ None) × (buffered 9 None (Some []) [] ≡ None) × (buffered 9 None None [] ≡ None)
-nor_where_the_writer_tells_nothing = (refl, refl, refl)

@@ -1,9 +1,9 @@
 -- The parts of a text in a style, on both sides of a feed's label.
-use Rattle.std.specs.Prelude.{ℕ, Bool, true, false, List, [], ◌∷◌, ◌++◌, codes, decimal}
-use Rattle.std.specs.List.{flat_map}
+use Rattle.std.specs.Prelude.{ℕ, ◌+◌, ◌==◌, Bool, true, false, if◌then◌else◌, List, [], ◌∷◌, ◌++◌, codes, decimal}
 use Rattle.rt_cidr.specs.declared.address.Addr.{Addr}
 use Rattle.rt_cidr.specs.Text.{address_text, prefix_text}
 use Rattle.rt_rib.specs.declared.routes.Hop.{Hop}
+use Rattle.rt_rib.specs.declared.routes.Hop.TheVariants.{Via, Discard}
 use Rattle.rt_rib.specs.declared.routes.Route.{Route}
 use Rattle.rt_diff.specs.declared.comparison.Difference.{Difference}
 use Rattle.rt_print.specs.Routes.{hop_text}
@@ -48,16 +48,26 @@ unfoldable pub other_as : Bool → (ℕ → List ℕ) → Addr → Route → Lis
 other_as false label addr best comma r = also_line label addr best r
 other_as true label addr best comma r = comma ++ also_object label best r
 
--- all routes that lost to it, objects with commas between them
-unfoldable pub others_as : Bool → (ℕ → List ℕ) → Addr → Route → List Route → List ℕ
-others_as json label addr best [] = []
-others_as json label addr best (r ∷ rs) = other_as json label addr best [] r ++ flat_map (other_as json label addr best (codes ",")) rs
+-- the text between an object and those before it; the first object has the number 1
+abbrev pub comma : ℕ → List ℕ
+comma number = if number == 1 then [] else codes ","
+
+-- routes that lost to it, objects with commas between them; the first route has this number among all that lost
+abbrev pub others_as : Bool → (ℕ → List ℕ) → Addr → Route → ℕ → List Route → List ℕ
+others_as json label addr best number [] = []
+others_as json label addr best number (r ∷ rs) = other_as json label addr best (comma number) r ++ others_as json label addr best (number + 1) rs
 
 -- a range before its old answer
 unfoldable pub range_front : Bool → Difference → List ℕ
 range_front json d =
     either json [] (codes "{\"first\":\"") ++ (address_text d.first.0 ++ (either json (codes "-") (codes "\",\"last\":\"")
     ++ (address_text d.last.0 ++ either json (codes " ") (codes "\",\"old\":"))))
+
+-- the text before a next hop in an answer
+abbrev pub way_front : Bool → Hop → List ℕ
+way_front false (Via address) = codes "via "
+way_front false Discard = []
+way_front true hop = codes "{"
 
 -- a next hop in an answer
 unfoldable pub way_as : Bool → Hop → List ℕ

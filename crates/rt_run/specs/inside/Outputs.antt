@@ -13,7 +13,7 @@ use Rattle.rt_run.specs.declared.faults.AppFault.TheVariants.{Run, Replay, Write
 use Rattle.rt_run.specs.declared.output.AddressMatches.{AddressMatches}
 use Rattle.rt_run.specs.declared.output.Output.{Output}
 use Rattle.rt_run.specs.declared.output.Output.TheVariants as output
-use Rattle.ya_replay.specs.ReplayText.{replay_text_of}
+use Rattle.rt_print.specs.ReplayText.{replay_text_of}
 use Rattle.rt_run.specs.inside.Comparisons.{IsFirstOf, lines_of}
 use Rattle.rt_run.specs.RunText.{reports_text}
 use Rattle.rt_run.specs.TableText.{answers_text}

@@ -1,6 +1,7 @@
 use Rattle.std.proofs.lemmas.Result.{err_from_is_err_and}
 use Rattle.rt_print.specs.inside.Parts.{range_front}
-use Rattle.rt_print.proofs.LineParts.{alone, range_front_fits, difference_parts, stops_within, stops_after, writes_after}
+use Rattle.rt_print.proofs.LineParts.{range_front_fits, difference_parts}
+use Rattle.rt_print.proofs.Writing.{alone, stops_within, stops_after, writes_after}
 use Rattle.rt_print.proofs.differences.write_difference.Goals as goal
 
 pub put_answer-requires : goal.put_answer-requires

@@ -1,6 +1,7 @@
 use Rattle.std.proofs.Common.{codes, arith}
 use Rattle.rt_print.specs.inside.Parts.{asked_head}
-use Rattle.rt_print.proofs.LineParts.{alone, asked_head_fits}
+use Rattle.rt_print.proofs.LineParts.{asked_head_fits}
+use Rattle.rt_print.proofs.Writing.{alone}
 use Rattle.rt_print.proofs.lookups.put_best.Goals as goal
 
 pub put_route-requires-clause-head : goal.put_route-requires-clause-head

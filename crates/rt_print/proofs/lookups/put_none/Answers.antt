@@ -1,6 +1,6 @@
 use Rattle.std.proofs.Common.{[], codes, append-nil}
 use Rattle.rt_print.specs.inside.Parts.{either, asked_head}
-use Rattle.rt_print.proofs.LineParts.{alone}
+use Rattle.rt_print.proofs.Writing.{alone}
 use Rattle.rt_print.proofs.lookups.put_none.Goals as goal
 
 pub returns : goal.returns

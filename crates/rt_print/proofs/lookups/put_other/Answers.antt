@@ -1,7 +1,8 @@
 use Rattle.std.proofs.Common.{codes, arith}
 use Rattle.rt_print.specs.Styles.{label_of}
 use Rattle.rt_print.specs.inside.Parts.{asked_head, reason_end}
-use Rattle.rt_print.proofs.LineParts.{alone, other_parts, asked_head_fits, reason_end_fits, either_short}
+use Rattle.rt_print.proofs.LineParts.{other_parts, asked_head_fits, reason_end_fits, either_short}
+use Rattle.rt_print.proofs.Writing.{alone}
 use Rattle.rt_print.proofs.lookups.put_other.Goals as goal
 
 pub put_route-requires-clause-head : goal.put_route-requires-clause-head

@@ -1,7 +1,8 @@
 use Rattle.std.proofs.Common.{◌≡◌, [], ◌∷◌, rules}
 use Rattle.std.proofs.lemmas.Result.{err_from_is_err_and}
 use Rattle.rt_print.specs.Styles.{label_of}
-use Rattle.rt_print.proofs.LineParts.{none_in, no_others_parts, others_parts, stops_within, stops_after, writes_after}
+use Rattle.rt_print.proofs.LineParts.{none_in, no_others_parts, others_parts}
+use Rattle.rt_print.proofs.Writing.{stops_within, stops_after, writes_after}
 use Rattle.rt_print.proofs.lookups.write_all_matches.Goals as goal
 
 pub returns-in_default : goal.returns-in_default

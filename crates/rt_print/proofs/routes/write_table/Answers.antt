@@ -1,20 +1,15 @@
 use Rattle.std.proofs.Common.{length, append-nil}
-use Rattle.std.proofs.lemmas.Result.{err_from_is_err_and, on_ok_weaker, on_err_weaker}
-use Rattle.rt_cidr.proofs.Promised.{appends_after, begins_after, begins_longer}
-use Rattle.rt_print.specs.Routes.{count_text, rows_text}
+use Rattle.std.proofs.lemmas.Result.{err_from_is_err_and}
+use Rattle.rt_cidr.proofs.Promised.{begins_after}
+use Rattle.rt_print.specs.Routes.{row_text, count_text}
+use Rattle.rt_print.proofs.Writing.{stops_in_one}
 use Rattle.rt_print.proofs.routes.write_table.Goals as goal
 
-pub returns-in_err-put : goal.returns-in_err-put
-returns-in_err-put g c =
-    let fault = err_from_is_err_and c.from_residual.result c.from_residual.ensures.1 in
-    let begun = rw (c.as_bytes.ensures, c.prepend_count.ensures, c.new-text.ensures, append-nil) at c.in_err-put.ensures.err in
-    rw fault.1 (record { ok = tt; err = begins_longer _ _ _ (rows_text c.args.routes.now) begun })
-
-pub returns : goal.returns
-returns g c =
+pub returns-in_err-put-2 : goal.returns-in_err-put-2
+unfolding row_text
+returns-in_err-put-2 g c =
+    let fault = err_from_is_err_and c.from_residual-in_err-put-2.result c.from_residual-in_err-put-2.ensures.1 in
     let first = rw (c.as_bytes.ensures, c.prepend_count.ensures, c.new-text.ensures, append-nil) at c.in_ok-put.ensures.ok in
-    let rows = rows_text c.args.routes.now in
-    record {
-      ok = on_ok_weaker c.write_rows.result (appends_after _ _ _ (count_text (length c.args.routes.now)) rows first) c.write_rows.ensures.ok;
-      err = on_err_weaker c.write_rows.result (begins_after _ _ _ (count_text (length c.args.routes.now)) rows first) c.write_rows.ensures.err;
-    }
+    let begun = rw (c.as_bytes-in-loop-route.ensures, c.prepend_route.ensures, c.prepend.ensures, c.clear.ensures) at c.in_err-put-2.ensures.err in
+    let rows = stops_in_one row_text _ _ _ _ c.loop-route-test.true c.route-item.is _ _ _ c.loop-route.invariant _ _ fault.1 begun in
+    rw fault.1 (record { ok = tt; err = begins_after _ _ _ (count_text (length c.args.routes.now)) _ first (rw fault.1 at rows).err })

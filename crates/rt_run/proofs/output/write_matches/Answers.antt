@@ -3,7 +3,7 @@ use Rattle.std.proofs.lemmas.Result.{err_from_is_err_and}
 use Rattle.rt_print.specs.Styles.{label_of, all_found_as}
 use Rattle.rt_run.specs.declared.output.AddressMatches.{AddressMatches}
 use Rattle.rt_run.specs.inside.Outputs.{matches_text}
-use Rattle.ya_replay.proofs.Promised.{begins_all, appends_next}
+use Rattle.rt_print.proofs.Promised.{begins_all, appends_next}
 use Rattle.rt_run.proofs.output.write_matches.Goals as goal
 
 pub returns-in_err-write_all_matches : goal.returns-in_err-write_all_matches

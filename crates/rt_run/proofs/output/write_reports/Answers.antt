@@ -2,7 +2,7 @@ use Rattle.std.proofs.Common.{refl}
 use Rattle.std.proofs.lemmas.Result.{err_from_is_err_and}
 use Rattle.rt_feed.specs.Printed.{report_text}
 use Rattle.rt_run.specs.RunText.{reports_text}
-use Rattle.ya_replay.proofs.Promised.{begins_all, appends_next}
+use Rattle.rt_print.proofs.Promised.{begins_all, appends_next}
 use Rattle.rt_run.proofs.output.write_reports.Goals as goal
 
 pub returns-in_err-write_report : goal.returns-in_err-write_report

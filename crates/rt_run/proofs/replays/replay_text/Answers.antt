@@ -1,7 +1,7 @@
 use Rattle.std.proofs.Common.{refl}
 use Rattle.ya_core.specs.ArbitrationTree.{HasShape}
-use Rattle.ya_replay.specs.ReplayText.{replay_text_of}
-use Rattle.ya_replay.proofs.Promised.{replay_text-some}
+use Rattle.rt_print.specs.ReplayText.{replay_text_of}
+use Rattle.rt_print.proofs.Promised.{replay_text-some}
 use Rattle.rt_run.proofs.Replayed.{is_replay_text}
 use Rattle.std.proofs.Common.{rules}
 use Rattle.rt_run.proofs.replays.replay_text.Goals as goal

@@ -1,4 +1,4 @@
-use Rattle.ya_replay.proofs.Promised.{replay_text-some}
+use Rattle.rt_print.proofs.Promised.{replay_text-some}
 use Rattle.rt_run.proofs.Buffered.{run_text-some, answers-none, answers-some, matches-none, matches-some, rows-none, rows-some, counts-some}
 use Rattle.rt_run.proofs.Comparing.{empty_by_first}
 use Rattle.rt_run.proofs.output.Output.is_empty.Goals as goal

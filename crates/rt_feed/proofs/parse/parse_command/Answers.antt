@@ -1,5 +1,0 @@
-use Rattle.std.proofs.Common.{rules}
-use Rattle.rt_feed.proofs.parse.parse_command.Goals as goal
-
-pub returns-in-One : goal.returns-in-One
-returns-in-One c = search rules

@@ -1,4 +1,0 @@
-pub mod Promised
-pub mod Numbered
-pub mod Replaying
-pub mod WhoIsInside

@@ -1,6 +1,0 @@
-use Rattle.std.proofs.Common.{◌≡◌, take}
-use Rattle.ya_replay.specs.inside.ReplayText.{inside_after}
-use Rattle.ya_replay.proofs.inside_place.Given as goal
-
-abbrev pub invariant-loop-step : goal.invariant-loop-step
-invariant-loop-step l = l.inside ≡ inside_after (take l.step-index l.steps)

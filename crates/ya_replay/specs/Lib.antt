@@ -1,2 +1,0 @@
-pub mod ReplayText
-pub mod inside

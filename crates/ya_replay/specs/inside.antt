@@ -1,2 +1,0 @@
--- Definitions that no public clause uses, for private contracts, invariants and proofs.
-pub mod ReplayText
