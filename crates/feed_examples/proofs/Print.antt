@@ -9,7 +9,7 @@ use Rattle.table_examples.proofs.Rib.{ten_1_16, ten_9_16, at_10_1_2_3, at_10_9_0
 use Rattle.rt_rib.specs.declared.routes.Route.{Route}
 use Rattle.rt_rib.specs.declared.routes.Hop.TheVariants.{Via, Discard}
 use Rattle.rt_rib.specs.Table.{IsTable}
-use Rattle.rt_rib.specs.LookUp.{best_routes}
+use Rattle.rt_rib.specs.LookUp.{best_routes, reason}
 use Rattle.rt_rib.proofs.BestRoutes.{dedup-best}
 use Rattle.rt_diff.specs.declared.table_answers.CompareBy.TheVariants as by
 use Rattle.rt_diff.specs.declared.table_answers.TableAnswer.TheVariants as answered
@@ -73,15 +73,15 @@ a_table_of_two = refl
 
 -- reason_text
 each_step_has_its_reason :
-    (reason_text (route_via ten_1_16 1 10 Discard) (route_via ten_8 1 10 Discard) ≡ codes "shorter")
-    × (reason_text (route_via ten_8 1 10 Discard) (route_via ten_8 1 30 Discard) ≡ codes "preference")
-    × (reason_text (route_via ten_8 1 10 Discard) (route_via ten_8 2 10 Discard) ≡ codes "feed")
+    (reason_text (reason (route_via ten_1_16 1 10 Discard) (route_via ten_8 1 10 Discard)) ≡ codes "shorter")
+    × (reason_text (reason (route_via ten_8 1 10 Discard) (route_via ten_8 1 30 Discard)) ≡ codes "preference")
+    × (reason_text (reason (route_via ten_8 1 10 Discard) (route_via ten_8 2 10 Discard)) ≡ codes "feed")
 unfolding reason_text
 each_step_has_its_reason = (refl, refl, refl)
 
 the_first_step_that_differs :
-    (reason_text (route_via ten_1_16 2 30 Discard) (route_via ten_8 1 10 Discard) ≡ codes "shorter")
-    × (reason_text (route_via ten_8 2 10 Discard) (route_via ten_8 1 30 Discard) ≡ codes "preference")
+    (reason_text (reason (route_via ten_1_16 2 30 Discard) (route_via ten_8 1 10 Discard)) ≡ codes "shorter")
+    × (reason_text (reason (route_via ten_8 2 10 Discard) (route_via ten_8 1 30 Discard)) ≡ codes "preference")
 unfolding reason_text
 the_first_step_that_differs = (refl, refl)
 

@@ -7,6 +7,9 @@ use Rattle.rt_cidr.proofs.Promised.{length-decimal, length-address_text, length-
 use Rattle.rt_rib.specs.declared.routes.Hop.{Hop}
 use Rattle.rt_rib.specs.declared.routes.Hop.TheVariants.{Via, Discard}
 use Rattle.rt_rib.specs.declared.routes.Route.{Route}
+use Rattle.rt_rib.specs.declared.routes.Reason.{Reason}
+use Rattle.rt_rib.specs.declared.routes.Reason.TheVariants.{Shorter, Preference, Feed}
+use Rattle.rt_rib.specs.LookUp.{reason}
 use Rattle.rt_diff.specs.declared.table_answers.TableAnswer.TheVariants as answered
 use Rattle.rt_diff.specs.declared.comparison.Difference.{Difference}
 use Rattle.rt_print.specs.DifferenceText.{DiffContents, way_text, answered_as, answer_as, range_as, difference_as}
@@ -37,9 +40,11 @@ pub count_fits : (count : ℕ) → length (count_text count) ≤ 400
 unfolding count_text
 count_fits count = let digits = length-decimal count in simp length-append (omega arith)
 
-reason_fits : (first r : Route) → length (reason_text first r) ≤ 10
+reason_fits : (why : Reason) → length (reason_text why) ≤ 10
 unfolding reason_text
-reason_fits first r = grind (arith, nat_tests)
+reason_fits Shorter = omega arith
+reason_fits Preference = omega arith
+reason_fits Feed = omega arith
 
 -- a route with its feed's number, as a line
 pub line_open : (r : Route) → route_open false (decimal r.feed) r ≡ route_text r
@@ -200,7 +205,7 @@ asked_head_fits json addr word short =
 pub reason_end_fits : (json : Bool) (best r : Route) → length (reason_end json best r) ≤ 100
 unfolding reason_end
 reason_end_fits json best r =
-    let reason = reason_fits best r in
+    let word = reason_fits (reason best r) in
     let front = either_fits json (codes " ") (codes ",\"reason\":\"") in
     let back = either_fits json (codes "\n") (codes "\"}") in
     simp length-append (omega arith)

@@ -1,9 +1,12 @@
 -- Routes and look-up results in a style: as lines, or as JSON objects, one a line. Each feed has a label.
-use Rattle.std.specs.Prelude.{ℕ, ◌==◌, nat_lt, Bool, true, false, if◌then◌else◌, List, [], ◌∷◌, ◌++◌, codes, decimal, Option, Some, None}
+use Rattle.std.specs.Prelude.{ℕ, ◌==◌, Bool, true, false, if◌then◌else◌, List, [], ◌∷◌, ◌++◌, codes, decimal, Option, Some, None}
 use Rattle.std.specs.List.{flat_map, join_by}
 use Rattle.rt_cidr.specs.declared.address.Addr.{Addr}
 use Rattle.rt_cidr.specs.Text.{address_text}
 use Rattle.rt_rib.specs.declared.routes.Route.{Route}
+use Rattle.rt_rib.specs.declared.routes.Reason.{Reason}
+use Rattle.rt_rib.specs.declared.routes.Reason.TheVariants.{Shorter, Preference, Feed}
+use Rattle.rt_rib.specs.LookUp.{reason}
 use Rattle.rt_print.specs.declared.format.Format.{Format}
 use Rattle.rt_print.specs.Labels.{is_json, labels_by}
 use Rattle.rt_print.specs.Routes.{route_line}
@@ -44,22 +47,21 @@ found_as false label addr (Some r) = address_text addr.0 ++ (codes " route " ++ 
 found_as true label addr None = address_head addr ++ codes "null}\n"
 found_as true label addr (Some r) = address_head addr ++ (route_object (label r.feed) r [] ++ codes "}\n")
 
--- the reason why the route lost to the first one: its prefix is shorter, else its preference is higher, else its
--- feed is
-unfoldable pub reason_text : Route → Route → List ℕ
-reason_text first r =
-    if nat_lt r.prefix.len first.prefix.len then codes "shorter"
-    else if nat_lt first.pref r.pref then codes "preference" else codes "feed"
+-- the reason why a route lost to the first one
+unfoldable pub reason_text : Reason → List ℕ
+reason_text Shorter = codes "shorter"
+reason_text Preference = codes "preference"
+reason_text Feed = codes "feed"
 
 -- the address, `also`, and a covering route after the first one, with the reason
 abbrev pub also_line : (ℕ → List ℕ) → Addr → Route → Route → List ℕ
 also_line label addr first r =
-    address_text addr.0 ++ (codes " also " ++ (route_line (label r.feed) r ++ (codes " " ++ (reason_text first r ++ codes "\n"))))
+    address_text addr.0 ++ (codes " also " ++ (route_line (label r.feed) r ++ (codes " " ++ (reason_text (reason first r) ++ codes "\n"))))
 
 -- a route that lost to the first one, as an object with the reason
 abbrev pub also_object : (ℕ → List ℕ) → Route → Route → List ℕ
 also_object label first r =
-    route_object (label r.feed) r (codes ",\"reason\":\"" ++ (reason_text first r ++ codes "\""))
+    route_object (label r.feed) r (codes ",\"reason\":\"" ++ (reason_text (reason first r) ++ codes "\""))
 
 -- all routes found, the best first; in JSON one object with the others in a list
 unfoldable pub all_found_as : Bool → (ℕ → List ℕ) → Addr → List Route → List ℕ

@@ -9,7 +9,7 @@ use crate::parts::put_parts;
 use crate::routes::put_route;
 use crate::style::{Style, either};
 use rt_cidr::{Addr, ShortText, put};
-use rt_rib::Route;
+use rt_rib::{Reason, Route};
 use std::io::{self, Write};
 
 /// The best route that covers an address, and its style.
@@ -142,20 +142,18 @@ fn prepend_reason(text: &mut ShortText, json: bool, best: &Route, route: &Route)
     ensures { text.new ≡ reason_end json best.now route.now ++ text.old }
 {
     text.prepend(either(json, b"\n", b"\"}"));
-    text.prepend(reason_word(best, route));
+    text.prepend(reason_word(route.reason(best)));
     text.prepend(either(json, b" ", b",\"reason\":\""));
 }
 
-/// Returns the step at which the route lost to the first one.
+/// Returns the word for the reason why a route lost to the first one.
 #[tactic(auto, unfolding(crate::specs::Styles::reason_text))]
-fn reason_word(first: &Route, route: &Route) -> &'static [u8]
-    ensures { result.now ≡ reason_text first.now route.now }
+fn reason_word(reason: Reason) -> &'static [u8]
+    ensures { result.now ≡ reason_text reason }
 {
-    if route.prefix.len() < first.prefix.len() {
-        b"shorter"
-    } else if route.pref > first.pref {
-        b"preference"
-    } else {
-        b"feed"
+    match reason {
+        Reason::Shorter => b"shorter",
+        Reason::Preference => b"preference",
+        Reason::Feed => b"feed",
     }
 }

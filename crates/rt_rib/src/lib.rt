@@ -62,6 +62,6 @@ pub use commands::{Cmd, Entry, Reply};
 pub use limits::{MAX_FEEDS, MAX_ROUTES_PER_FEED, feed_ok, limit_ok};
 pub use places::RoutesFrom;
 pub use refused::Refused;
-pub use routes::{Hop, Route, keep_best};
+pub use routes::{Hop, Reason, Route, keep_best};
 pub use selection::{PrefixFilter, Selection};
 pub use table::Table;

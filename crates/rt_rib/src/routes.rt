@@ -1,7 +1,7 @@
 //! Routes: plain data, as callers see it.
 ghost use Rattle.std.specs.Prelude.{◌≡◌};
 ghost use Rattle.rt_rib.specs.Table.{IsTable};
-ghost use Rattle.rt_rib.specs.LookUp.{best_routes};
+ghost use Rattle.rt_rib.specs.LookUp.{best_routes, reason};
 
 use rt_cidr::{Addr, Prefix};
 use std::alloc::Allocator;
@@ -27,6 +27,33 @@ pub struct Route {
     pub pref: u32,
     /// The next hop.
     pub hop: Hop,
+}
+
+/// The reason why a route that covers an address is not its best one (RFC 1812, section 5.2.4.3): the first of these
+/// that is true.
+#[derive(Clone, Copy, PartialEq, Eq, Debug)]
+pub enum Reason {
+    /// Its prefix is shorter than the best route's.
+    Shorter,
+    /// Its preference number is higher.
+    Preference,
+    /// Its feed number is higher.
+    Feed,
+}
+
+impl Route {
+    /// Returns the reason why the route is not the best one of an address for which this route is.
+    pub fn reason(&self, best: &Route) -> Reason
+        ensures { result ≡ reason best.now self.now }
+    {
+        if self.prefix.len() < best.prefix.len() {
+            Reason::Shorter
+        } else if self.pref > best.pref {
+            Reason::Preference
+        } else {
+            Reason::Feed
+        }
+    }
 }
 
 /// Keeps only the best route of each prefix, which is the one that a look-up would return, and removes the others. The

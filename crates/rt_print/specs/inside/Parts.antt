@@ -5,6 +5,7 @@ use Rattle.rt_cidr.specs.Text.{address_text, prefix_text}
 use Rattle.rt_rib.specs.declared.routes.Hop.{Hop}
 use Rattle.rt_rib.specs.declared.routes.Hop.TheVariants.{Via, Discard}
 use Rattle.rt_rib.specs.declared.routes.Route.{Route}
+use Rattle.rt_rib.specs.LookUp.{reason}
 use Rattle.rt_diff.specs.declared.comparison.Difference.{Difference}
 use Rattle.rt_print.specs.Routes.{hop_text}
 use Rattle.rt_print.specs.Json.{hop_members}
@@ -41,7 +42,7 @@ asked_head json addr word = either json [] (codes "{\"address\":\"") ++ (address
 
 -- the reason why a route lost to the best one, and the end of its line or object
 unfoldable pub reason_end : Bool → Route → Route → List ℕ
-reason_end json best r = either json (codes " ") (codes ",\"reason\":\"") ++ (reason_text best r ++ either json (codes "\n") (codes "\"}"))
+reason_end json best r = either json (codes " ") (codes ",\"reason\":\"") ++ (reason_text (reason best r) ++ either json (codes "\n") (codes "\"}"))
 
 -- a route that lost to the best one, an object after this text; here and below `label` gives the label of each feed
 unfoldable pub other_as : Bool → (ℕ → List ℕ) → Addr → Route → List ℕ → Route → List ℕ
