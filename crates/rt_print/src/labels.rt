@@ -114,6 +114,7 @@ pub(crate) fn paired_number(paths: &[&str], feed: u32, path: &[u8]) -> u32
 }
 
 /// Appends the label of the feed of this number and path.
+#[tactic(auto, using(std::proofs::Common::append_assoc), unfolding(crate::specs::Labels::label_by))]
 fn push_label(text: &mut Vec<u8>, format: Format, feed: u64, path: &[u8]) -> Result<(), AllocError>
     ensures { OnOk result (text.new.items ≡ text.old.items ++ label_by format feed path.now) }
 {
@@ -134,6 +135,7 @@ fn push_label(text: &mut Vec<u8>, format: Format, feed: u64, path: &[u8]) -> Res
 
 /// Returns the name of the feed that is read from the file of this path: the part after the last slash, without `.feed`
 /// at its end. Any other ending stays.
+#[tactic(auto, unfolding(crate::specs::Labels::feed_name))]
 pub fn feed_name(path: &[u8]) -> &[u8]
     ensures { result.now ≡ feed_name path.now }
 {
@@ -169,6 +171,7 @@ fn push_number(text: &mut Vec<u8>, number: u64) -> Result<(), AllocError>
 }
 
 /// Appends a member of a JSON object: its comma, name and colon, and its value, the string of these bytes.
+#[tactic(auto, using(std::proofs::Common::append_assoc), unfolding(crate::specs::Json::json_string))]
 fn push_member(text: &mut Vec<u8>, name: &[u8], value: &[u8]) -> Result<(), AllocError>
     ensures { OnOk result (text.new.items ≡ text.old.items ++ (name.now ++ json_string value.now)) }
 {

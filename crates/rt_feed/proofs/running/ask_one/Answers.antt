@@ -1,10 +1,6 @@
-use Rattle.std.proofs.Common.{rules}
 use Rattle.rt_feed.proofs.RunSteps.{refuses_one}
 use Rattle.rt_feed.proofs.running.ask_one.Goals as goal
 
 pub returns-in_default-clause-waiting : goal.returns-in_default-clause-waiting
 returns-in_default-clause-waiting g c =
     refuses_one g.G.Gate.holds c.args.gate.now c.apply.new.self c.args.cmd c.args.first c.args.report.now (c.in_default.ensures {u = tt}).err
-
-pub returns-in-Ok-clause-waiting : goal.returns-in-Ok-clause-waiting
-returns-in-Ok-clause-waiting g c = search rules

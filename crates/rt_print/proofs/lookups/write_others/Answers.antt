@@ -1,6 +1,5 @@
-use Rattle.std.proofs.Common.{ℕ, List, refl}
+use Rattle.std.proofs.Common.{refl}
 use Rattle.std.proofs.lemmas.Result.{err_from_is_err_and}
-use Rattle.rt_rib.specs.declared.routes.Route.{Route}
 use Rattle.rt_print.specs.Styles.{label_of}
 use Rattle.rt_print.specs.inside.Parts.{comma, other_as, others_as}
 use Rattle.rt_print.proofs.Writing.{begins_all, appends_next}

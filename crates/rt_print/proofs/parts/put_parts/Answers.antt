@@ -1,4 +1,4 @@
-use Rattle.std.proofs.Common.{[], refl}
+use Rattle.std.proofs.Common.{refl}
 use Rattle.std.proofs.lemmas.Result.{err_from_is_err_and}
 use Rattle.rt_print.proofs.Writing.{stops_in_one}
 use Rattle.rt_print.proofs.parts.put_parts.Goals as goal

@@ -1,4 +1,4 @@
-use Rattle.std.proofs.Common.{ℕ, List, ◌+◌, ◌∷◌, ◌++◌, refl, append-nil}
+use Rattle.std.proofs.Common.{refl, append-nil}
 use Rattle.std.proofs.lemmas.Result.{err_from_is_err_and}
 use Rattle.std.proofs.lemmas.List.{get_or_default, take_all}
 use Rattle.rt_print.specs.ReplayText.{step_text, steps_text}
