@@ -1,5 +1,5 @@
 -- The maximum lengths of the parts of a count's text, and the texts of each number.
-use Rattle.std.proofs.Common.{◌≡◌, ◌==◌, ℕ, zero, suc, ◌+◌, ◌<◌, ◌≤◌, inl, inr, Bool, true, false, List, [], ◌++◌, length, codes, decimal, refl, arith, rules, length-append, subst, add-one, Option, Result, Err}
+use Rattle.std.proofs.Common.{◌≡◌, ◌==◌, ℕ, zero, suc, ◌+◌, ◌<◌, ◌≤◌, inl, inr, Bool, true, false, List, [], ◌++◌, length, codes, decimal, refl, ap, ◌∙◌, arith, rules, length-append, subst, add-one, Option, Result, Err}
 use Rattle.std.specs.Prelude.{◌≢◌}
 use Rattle.std.proofs.lemmas.Bool.{cases_lt}
 use Rattle.std.specs.Io.KnownBytes.{Appends}
@@ -76,3 +76,9 @@ pub each_stops : {T E : Type 0} (a b c : Option (List ℕ)) (tell : ℕ → List
     → Appends a b (each_below tell n) → AppendsBeginning b c (tell n) → WritesText a c (each_below tell bound) result
 each_stops a b c tell n bound result fault failed below first second =
     rw failed (record { ok = tt; err = each_begins a b c tell n bound below first second })
+
+-- texts of the same numbers are the same
+pub each_same : (f g : ℕ → List ℕ) (bound : ℕ) → ((n : ℕ) → n < bound → f n ≡ g n) → each_below f bound ≡ each_below g bound
+each_same f g zero same = refl
+each_same f g (suc n) same =
+    ap (λ text. text ++ f n) (each_same f g n (λ m below. same m (omega (arith, below)))) ∙ ap (λ text. each_below g n ++ text) (same n (omega arith))

@@ -5,4 +5,5 @@ pub mod Replaying
 pub mod WhoIsInside
 pub mod LineParts
 pub mod CountParts
+pub mod Counting
 pub mod FeedLabels

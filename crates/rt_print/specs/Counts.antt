@@ -5,6 +5,7 @@ use Rattle.rt_cidr.specs.Prefix.{same_prefix}
 use Rattle.rt_rib.specs.declared.limits.TheConstants.{MAX_FEEDS}
 use Rattle.rt_rib.specs.declared.routes.Route.{Route}
 use Rattle.rt_rib.specs.Table.{count_of}
+use Rattle.rt_print.specs.declared.counts.TheConstants.{MAX_BITS}
 use Rattle.rt_print.specs.Styles.{StyleContents, label_of}
 
 -- the number of prefixes of the routes, if routes to the same prefix are adjacent
@@ -36,4 +37,4 @@ unfoldable pub counts_as : StyleContents → List Route → List ℕ
 counts_as style routes =
     totals_as style.json (length routes) (prefix_count routes)
     ++ (each_below (λ feed. count_as style.json (codes "feed") (label_of style.labels feed) (count_of feed routes)) (MAX_FEEDS + 1)
-    ++ each_below (λ len. count_as style.json (codes "length") (decimal len) (length_count len routes)) 33)
+    ++ each_below (λ len. count_as style.json (codes "length") (decimal len) (length_count len routes)) (MAX_BITS + 1))

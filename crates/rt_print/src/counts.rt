@@ -1,5 +1,7 @@
 //! The numbers of routes: in all, of each feed, and to prefixes of each length.
-ghost use Rattle.std.specs.Prelude.{◌≡◌, ◌++◌, length, codes, decimal};
+ghost use Rattle.std.specs.Prelude.{◌≡◌, ℕ, ◌+◌, ◌≤◌, ◌++◌, length, get_or, codes, decimal};
+ghost use Rattle.rt_rib.specs.declared.limits.TheConstants.{MAX_FEEDS};
+ghost use Rattle.rt_print.specs.declared.counts.TheConstants.{MAX_BITS};
 ghost use Rattle.rt_cidr.specs.Output.{WritesText};
 ghost use Rattle.rt_cidr.specs.ShortText.{FitsInShortText};
 ghost use Rattle.rt_rib.specs.Table.{count_of};
@@ -14,7 +16,15 @@ use rt_rib::{MAX_FEEDS, Route};
 use std::io::{self, Write};
 
 /// The maximum length of a prefix.
-const MAX_BITS: u8 = 32;
+const MAX_BITS: usize = 32;
+
+/// The number of routes of each feed, and to prefixes of each length.
+#[derive(Drop)]
+struct Counts {
+    /// The last number is that of the routes of all feeds beyond the highest one.
+    feeds: [usize; MAX_FEEDS + 2],
+    lengths: [usize; MAX_BITS + 1],
+}
 
 /// Writes the number of routes and of their prefixes, and then the number of routes of each feed and to prefixes of
 /// each length, in the style, each on a line; feeds and lengths without a route have no line. Routes to the same prefix
@@ -23,9 +33,26 @@ pub fn write_counts<W: Write>(w: &mut W, style: &Style, routes: &[Route]) -> io:
     ensures { WritesText (W.contents w.old) (W.contents w.new) (counts_as style.now routes.now) result }
 {
     let json = style.is_json();
+    let counts = counts_of(routes);
     write_totals(w, json, routes)?;
-    write_feeds(w, style, routes)?;
-    write_lengths(w, json, routes)
+    write_feeds(w, style, &counts.feeds)?;
+    write_lengths(w, json, &counts.lengths)
+}
+
+/// Counts the routes of each feed, and those to prefixes of each length.
+fn counts_of(routes: &[Route]) -> Counts
+    ensures feeds { (feed : ℕ) → feed ≤ MAX_FEEDS → get_or result.feeds feed 0 ≡ count_of feed routes.now }
+    ensures lengths { (len : ℕ) → len ≤ MAX_BITS → get_or result.lengths len 0 ≡ length_count len routes.now }
+{
+    let mut feeds = [0; MAX_FEEDS + 2];
+    let mut lengths = [0; MAX_BITS + 1];
+    for route in routes {
+        let feed = (route.feed as usize).min(MAX_FEEDS + 1);
+        let len = route.prefix.len() as usize;
+        feeds[feed] += 1;
+        lengths[len] += 1;
+    }
+    Counts { feeds, lengths }
 }
 
 /// Writes the number of routes, and of their prefixes.
@@ -39,27 +66,27 @@ fn write_totals<W: Write>(w: &mut W, json: bool, routes: &[Route]) -> io::Result
 }
 
 /// Writes the number of routes of each feed that has one.
-fn write_feeds<W: Write>(w: &mut W, style: &Style, routes: &[Route]) -> io::Result<()>
+fn write_feeds<W: Write>(
+    w: &mut W,
+    style: &Style,
+    counts: &[usize; MAX_FEEDS + 2],
+) -> io::Result<()>
     ensures { WritesText (W.contents w.old) (W.contents w.new)
-        (each_below (λ feed. count_as style.now.json (codes "feed") (label_of style.now.labels feed) (count_of feed routes.now)) 65) result }
+        (each_below (λ feed. count_as style.now.json (codes "feed") (label_of style.now.labels feed) (get_or counts.now feed 0)) (MAX_FEEDS + 1)) result }
 {
-    let mut feed = 0;
-    while feed <= MAX_FEEDS as u32 {
-        put_feed(w, style, feed, count_of(routes, feed))?;
-        feed += 1;
+    for feed in 0..=MAX_FEEDS {
+        put_feed(w, style, feed as u32, counts[feed])?;
     }
     Ok(())
 }
 
 /// Writes the number of routes to prefixes of each length that has one.
-fn write_lengths<W: Write>(w: &mut W, json: bool, routes: &[Route]) -> io::Result<()>
+fn write_lengths<W: Write>(w: &mut W, json: bool, counts: &[usize; MAX_BITS + 1]) -> io::Result<()>
     ensures { WritesText (W.contents w.old) (W.contents w.new)
-        (each_below (λ len. count_as json (codes "length") (decimal len) (length_count len routes.now)) 33) result }
+        (each_below (λ len. count_as json (codes "length") (decimal len) (get_or counts.now len 0)) (MAX_BITS + 1)) result }
 {
-    let mut len = 0;
-    while len <= MAX_BITS {
-        put_length(w, json, len, length_count(routes, len))?;
-        len += 1;
+    for len in 0..=MAX_BITS {
+        put_length(w, json, len as u8, counts[len])?;
     }
     Ok(())
 }
@@ -125,28 +152,6 @@ fn prefix_count(routes: &[Route]) -> usize
             count += 1;
         }
         rest = behind;
-    }
-    count
-}
-
-/// Returns the number of the feed's routes.
-fn count_of(routes: &[Route], feed: u32) -> usize
-    ensures { result ≡ count_of feed routes.now }
-{
-    let mut count = 0;
-    for route in routes {
-        count += usize::from(route.feed == feed);
-    }
-    count
-}
-
-/// Returns the number of routes to prefixes of this length.
-fn length_count(routes: &[Route], len: u8) -> usize
-    ensures { result ≡ length_count len routes.now }
-{
-    let mut count = 0;
-    for route in routes {
-        count += usize::from(route.prefix.len() == len);
     }
     count
 }
