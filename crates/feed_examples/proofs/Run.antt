@@ -55,8 +55,8 @@ use Rattle.rt_print.specs.Styles.{StyleContents, row_as, found_as, all_found_as,
 use Rattle.rt_print.specs.Counts.{totals_as, count_as, counts_as}
 use Rattle.rt_run.specs.TableText.{answers_text, all_answers_text, routes_text, counts_text, was_full, was_existing, was_missing, faults_of, tally_of}
 use Rattle.rt_run.specs.TableText.{has_refused, has_rejected, tallies_status, LeavesTable, question_text, named_in, said_in, IsQueryOutput, IsAnswer}
-use Rattle.rt_run.specs.declared.lookup_addresses.LookupAddresses.{LookupAddresses}
-use Rattle.rt_run.specs.declared.asked_routes.AskedRoutes.{AskedRoutes}
+use Rattle.rt_run.specs.declared.question.LookupAddresses.{LookupAddresses}
+use Rattle.rt_run.specs.declared.question.AskedRoutes.{AskedRoutes}
 use Rattle.rt_run.specs.declared.question.Question.TheVariants as ask
 use Rattle.rt_run.specs.SameTable.{table_alone, LeavesAlone, IsUnion, IsAnsweredAlone}
 use Rattle.rt_run.specs.ChosenFeeds.{is_selected, is_left_out, texts_kept, routes_of_selected}

@@ -15,6 +15,7 @@ use Rattle.rt_run.specs.declared.comparisons.DiffSummary.{DiffSummary}
 use Rattle.rt_run.specs.RunContents.{RunContents}
 use Rattle.rt_run.specs.TableText.{LeavesTable}
 use Rattle.rt_run.specs.DiffText.{renumbered_new, differ_status, IsDiffText}
+use Rattle.rt_run.specs.inside.Outputs.{IsEmpty}
 use Rattle.rt_run.specs.inside.Comparisons.{IsFirstFrom, IsFirstOf, lines_of, compared_status, IsSoFar}
 
 -- an absent difference is `None`
@@ -80,23 +81,14 @@ module _ (asked : DiffContents) (old new : List Route) where
       let (rest, is) = text_so_far text d far in
       subst (AppendsBeginning a c) (sym is) (begins_longer a c (text ++ difference_as asked d) rest (begins_after a b c text (difference_as asked d) written begun))
 
-  -- without a first difference there is no line
-  pub lines-none : IsFirstOf asked old new None → lines_of asked old new ≡ []
-  lines-none is = sym (all_so_far [] (none_so_far None is))
-
-  -- with a first difference there is a line
-  pub lines-some : (d : Difference) → IsFirstOf asked old new (Some d) → 0 < length (lines_of asked old new)
-  lines-some d is =
+  -- there is a line if and only if there is a first difference
+  pub lines-empty : (first : Option Difference) (empty : Bool) → is_some first ≡ not empty → IsFirstOf asked old new first → IsEmpty empty (lines_of asked old new)
+  lines-empty None true e is = sym (all_so_far [] (none_so_far None is))
+  lines-empty None false e is = absurd cc
+  lines-empty (Some d) true e is = absurd cc
+  lines-empty (Some d) false e is =
       let (rest, same) = text_so_far [] d (none_so_far (Some d) is) in
       subst (λ (t : List ℕ). 0 < length t) (sym same) (range-some asked.old.json d _ _ rest)
-
-  -- hence there is a first difference if and only if there is a line
-  pub empty_by_first : (first : Option Difference) (empty : Bool) → is_some first ≡ not empty → IsFirstOf asked old new first
-      → (empty ≡ true → lines_of asked old new ≡ []) × (empty ≡ false → 0 < length (lines_of asked old new))
-  empty_by_first None true e is = (λ same. lines-none is, λ same. absurd cc)
-  empty_by_first None false e is = absurd cc
-  empty_by_first (Some d) true e is = absurd cc
-  empty_by_first (Some d) false e is = (λ same. absurd cc, λ same. lines-some d is)
 
   -- the status from the first difference is the status from the list
   pub status_by_first : (first : Option Difference) (m n : ℕ) → IsFirstOf asked old new first

@@ -46,12 +46,12 @@ entries_by feed [] = All-nil (λ (e : Entry). e.feed ≡ feed)
 entries_by feed (p ∷ visit) = All-cons (λ (e : Entry). e.feed ≡ feed) (entry_by feed p) (entries feed visit) refl (entries_by feed visit)
 
 -- the table that a lawful journal leaves
-abbrev WritesOrFails : ℕ → TableState → List Entry → Type 0
-WritesOrFails limit table journal = IsLawfulJournal limit journal × (table.routes ≡ table_of_journal limit journal)
+abbrev IsLeftBy : ℕ → TableState → List Entry → Type 0
+IsLeftBy limit table journal = IsLawfulJournal limit journal × (table.routes ≡ table_of_journal limit journal)
 
 -- an empty list of commands changes nothing
 pub continues-none : (feed : ℕ) (table : TableState) → Continues feed [] table table
-continues-none feed table = (refl, λ journal lawful left. subst (WritesOrFails table.limit table) (sym (append-nil journal)) (lawful, left))
+continues-none feed table = (refl, λ journal lawful left. subst (IsLeftBy table.limit table) (sym (append-nil journal)) (lawful, left))
 
 -- a command with a reply is one entry
 pub continues-did : (feed : ℕ) (cmd : Cmd) (reply : Reply) (old new : TableState) → Serves old new feed cmd reply
@@ -75,12 +75,12 @@ continues-both feed one two a b c first second = (
   λ journal lawful left.
       let middle = first.1 journal lawful left in
       let front = journal ++ entries feed (visit_of one) in
-      let ended : WritesOrFails b.limit c (front ++ entries feed (visit_of two)) =
+      let ended : IsLeftBy b.limit c (front ++ entries feed (visit_of two)) =
       second.1 front (subst (λ (limit : ℕ). IsLawfulJournal limit front) (sym first.0) middle.0)
       (subst (λ (limit : ℕ). b.routes ≡ table_of_journal limit front) (sym first.0) middle.1) in
       let joined : front ++ entries feed (visit_of two) ≡ journal ++ entries feed (visit_of (one ++ two)) =
       append_assoc journal (entries feed (visit_of one)) (entries feed (visit_of two)) ∙ ap (λ (own : List Entry). journal ++ own) (sym (entries-append feed one two)) in
-      subst (WritesOrFails a.limit c) joined (subst (λ (limit : ℕ). WritesOrFails limit c (front ++ entries feed (visit_of two))) first.0 ended),
+      subst (IsLeftBy a.limit c) joined (subst (λ (limit : ℕ). IsLeftBy limit c (front ++ entries feed (visit_of two))) first.0 ended),
 )
 
 -- before the first line that is read
@@ -248,10 +248,10 @@ leaves_more texts text limit batch feed old new tallies tallies' tally some is s
     let others : NoneBy feed journal =
     All-weaker (λ (e : Entry). (1 ≤ e.feed) × (e.feed ≤ length texts)) (λ (e : Entry). e.feed ≢ feed)
     (λ e of same. absurd (omega (arith, of.1, same, is))) journal so_far.history.no_other in
-    let at_old : WritesOrFails old.limit old journal =
-    subst (λ (l : ℕ). WritesOrFails l old journal) (sym so_far.limited) (so_far.history.lawful, so_far.left) in
-    let now : WritesOrFails limit new (journal ++ own) =
-    subst (λ (l : ℕ). WritesOrFails l new (journal ++ own)) so_far.limited (executed.continued.1 journal at_old.0 at_old.1) in
+    let at_old : IsLeftBy old.limit old journal =
+    subst (λ (l : ℕ). IsLeftBy l old journal) (sym so_far.limited) (so_far.history.lawful, so_far.left) in
+    let now : IsLeftBy limit new (journal ++ own) =
+    subst (λ (l : ℕ). IsLeftBy l new (journal ++ own)) so_far.limited (executed.continued.1 journal at_old.0 at_old.1) in
     record {
       limited = executed.continued.0 ∙ so_far.limited;
       journal = journal ++ own;

@@ -1,6 +1,8 @@
 -- The effect of a run on its writer, from its output.
-use Rattle.std.proofs.Common.{◌≡◌, ℕ, max, false, List, Option, Ok, Err, refl, sym, ap, ◌∙◌}
+use Rattle.std.proofs.Common.{◌≡◌, ℕ, max, false, List, Option, Result, Ok, Err, IfErr, refl, sym, ap, ◌∙◌}
 use Rattle.std.specs.Prelude.{nat_lt}
+use Rattle.std.specs.Io.KnownBytes.{Appends}
+use Rattle.rt_cidr.specs.Output.{AppendsBeginning}
 use Rattle.rt_cidr.specs.declared.address.Addr.{Addr}
 use Rattle.rt_rib.specs.declared.routes.Route.{Route}
 use Rattle.rt_feed.specs.declared.faulty.FaultyLines.{FaultyLines}
@@ -23,6 +25,21 @@ pub leaves_fault : {X : Type 0} (IsSuch : List ℕ → X → Type 0) (old new : 
 leaves_fault IsSuch old new bytes given (Run why) is wrote = (λ same. let other : refusal.Memory ≡ refusal.FeedCount = sym wrote.0 ∙ same in absurd cc, wrote.1)
 leaves_fault IsSuch old new bytes given (Replay why) is wrote = absurd wrote
 leaves_fault IsSuch old new bytes given Write is wrote = (bytes, given, is, wrote)
+
+-- what was written, by the result
+pub writes_ok : (text : List ℕ) (old new : Option (List ℕ)) (result : Result (Unit {0}) AppFault) (done : Unit {0}) → result ≡ Ok done → Writes text old new result
+    → Appends old new text
+writes_ok text old new result done is wrote = rw is at wrote
+
+pub writes_err : (text : List ℕ) (old new : Option (List ℕ)) (result : Result (Unit {0}) AppFault) (fault : AppFault) → result ≡ Err fault → Writes text old new result
+    → Writes text old new (Err fault)
+writes_err text old new result fault is wrote = rw is at wrote
+
+pub writes_begun : (text : List ℕ) (old new : Option (List ℕ)) (result : Result (Unit {0}) AppFault) (fault : AppFault) → result ≡ Err fault
+    → IfErr result (λ f. f ≡ Write) → Writes text old new result → AppendsBeginning old new text
+writes_begun text old new result Write is only wrote = rw is at wrote
+writes_begun text old new result (Run why) is only wrote = let other : Run why ≡ Write = rw is at only in absurd cc
+writes_begun text old new result (Replay why) is only wrote = let other : Replay why ≡ Write = rw is at only in absurd cc
 
 -- the summary of a query
 abbrev answered : RunSummary → FaultyLines → QuerySummary

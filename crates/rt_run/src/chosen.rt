@@ -1,10 +1,10 @@
 //! Runs without some of their feeds. The other feeds keep their numbers.
-ghost use Rattle.std.specs.Prelude.{◌≡◌, ◌≤◌, if◌then◌else◌, [], length};
+ghost use Rattle.std.specs.Prelude.{◌≡◌, ◌≤◌, if◌then◌else◌, [], length, map};
+ghost use Rattle.rt_rib.specs.Book.{IsLimit};
 ghost use Rattle.rt_rib.specs.declared.limits.TheConstants.{MAX_FEEDS};
 ghost use Rattle.rt_run.specs.ChosenFeeds.{is_one_of, is_selected, is_left_out, texts_kept};
 ghost use Rattle.rt_run.specs.LeftOut.{AreWithout};
 
-use crate::run_input::RunInput;
 use std::marker::Model;
 
 /// Selects the feeds that take part in a run: those that are selected, except those that are left out.
@@ -75,15 +75,28 @@ impl<'a> Model for ChosenTexts<'a> {
 }
 
 impl<'a> ChosenTexts<'a> {
-    /// Returns these texts, without those of the feeds that the choice leaves out.
-    pub fn new(feeds: &RunInput<'a>, choice: FeedChoice<'a>) -> ChosenTexts<'a>
-        ensures texts { result ≡ record feeds.now { texts = texts_kept (is_left_out choice.entry.only.now choice.entry.without.now) 1 feeds.now.texts } }
-        ensures without { AreWithout (is_left_out choice.entry.only.now choice.entry.without.now) feeds.now.texts result.texts }
+    /// Returns the input of a run of these texts, without those of the feeds that the choice leaves out: the k-th text is
+    /// feed k's; a feed has at most `limit` routes; up to `batch` of its commands may be executed together.
+    pub fn new(
+        texts: &'a [Vec<u8>],
+        limit: u32,
+        batch: usize,
+        choice: FeedChoice<'a>,
+    ) -> ChosenTexts<'a>
+        requires limited { IsLimit limit }
+        requires few { length texts.now ≤ MAX_FEEDS }
+        requires batched { 1 ≤ batch }
+        ensures texts { result ≡ record {
+          texts = texts_kept (is_left_out choice.entry.only.now choice.entry.without.now) 1 (map (λ text. text.items) texts.now);
+          limit = limit;
+          batch = batch;
+        } }
+        ensures without { AreWithout (is_left_out choice.entry.only.now choice.entry.without.now) (map (λ text. text.items) texts.now) result.texts }
     {
         ChosenTexts {
-            texts: feeds.texts,
-            limit: feeds.limit,
-            batch: feeds.batch,
+            texts,
+            limit,
+            batch,
             choice,
         }
     }

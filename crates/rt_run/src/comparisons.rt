@@ -1,21 +1,19 @@
 //! Comparisons of two runs: the addresses for which their final tables give different answers.
-ghost use Rattle.std.specs.Prelude.{◌≡◌, ◌≢◌, ◌↔◌, ◌⊎◌, []};
-ghost use Rattle.rt_run.specs.RunContents.{RunContents};
+ghost use Rattle.std.specs.Prelude.{◌≡◌, ◌↔◌, ◌⊎◌, []};
 ghost use Rattle.rt_run.specs.RunText.{WritesOrFails};
 ghost use Rattle.rt_run.specs.DiffText.{IsDiffText};
-ghost use Rattle.rt_run.specs.TableText.{LeavesTable};
 ghost use Rattle.rt_run.specs.inside.Comparisons.{compared_status, IsFirstOf};
 
 use crate::chosen::ChosenTexts;
 use crate::faults::AppFault;
-use crate::output::{Output, write_output};
+use crate::output::{finish, write_differences};
 use crate::status::Status;
 use crate::tallies::RunSummary;
-use crate::turns::{FinishedQuery, run_in_turn};
+use crate::turns::run_in_turn;
 use rt_cidr::Addr;
 use rt_diff::Difference;
 use rt_feed::RunFault;
-use rt_print::DiffOptions;
+use rt_print::{DiffOptions, OutputBuffer, OutputRoom};
 use rt_rib::Table;
 use std::alloc::Global;
 use std::io::Write;
@@ -35,7 +33,8 @@ pub struct DiffSummary {
 /// range of addresses for which the two tables give different answers, in ascending order and with the given options: a line
 /// `FIRST-LAST OLD -> NEW`, or a JSON object (`write_difference`). Writes nothing else; hence if nothing is written,
 /// both tables give the same answer for every address. Returns the summaries if everything was written. Its errors are
-/// those of `run_texts`: F1 if there is no old text or no new text; F3 also if there is no memory for the tallies.
+/// those of `run_texts`: F1 if there is no old text or no new text; F3 also if there is no memory for the tallies. Leaks the
+/// tables, as `run_texts` does.
 pub fn diff_texts<W: Write>(
     alloc: Global,
     old_asked: &ChosenTexts<'_>,
@@ -51,39 +50,22 @@ pub fn diff_texts<W: Write>(
     }
     let old = run_in_turn(alloc, old_asked)?;
     let new = run_in_turn(alloc, new_asked)?;
-    let compared = compare_runs(alloc, &old, &new, options, w);
-    old.leak_table();
-    new.leak_table();
-    compared
-}
-
-/// Writes the differences between two runs' tables, and returns the summaries.
-fn compare_runs<W: Write>(
-    alloc: Global,
-    old: &FinishedQuery,
-    new: &FinishedQuery,
-    options: &DiffOptions,
-    w: &mut W,
-) -> Result<DiffSummary, AppFault>
-    ensures text { (old_asked new_asked : RunContents) → LeavesTable old_asked old.now.table.routes old.now.summary
-        → LeavesTable new_asked new.now.table.routes new.now.summary
-        → WritesOrFails (IsDiffText options.now old_asked new_asked) (W.contents w.old) (W.contents w.new) result }
-    ensures ran { result ≢ Err (AppFault.Run RunFault.NoText) }
-{
-    let of_old = old.summary(alloc)?;
-    let of_new = new.summary(alloc)?;
     let first = first_difference(&old.table, &new.table, options);
-    let status = status_of(&of_old, &of_new, first);
-    write_output(
-        alloc,
-        Output::Differences(options, &old.table, &new.table, first),
-        w,
-    )?;
-    Ok(DiffSummary {
-        status,
-        old: of_old,
-        new: of_new,
-    })
+    let room = OutputRoom::new(alloc)?;
+    let mut out = OutputBuffer::new(w, room);
+    let written = write_differences(&mut out, options, &old.table, &new.table, first);
+    let written = finish(&mut out, written, first.is_none());
+    let _ = out.into_writer();
+    let old = old.into_summary();
+    let new = new.into_summary();
+    match written {
+        Ok(()) => Ok(DiffSummary {
+            status: status_of(&old, &new, first),
+            old,
+            new,
+        }),
+        Err(fault) => Err(fault),
+    }
 }
 
 /// Returns the first difference between two tables.

@@ -20,32 +20,26 @@
 //! beginning of the output was written; after any other error nothing was.
 #![tactic(auto)]
 
-mod asked_routes;
 mod chosen;
 mod comparisons;
 mod faults;
 mod forwarding;
 pub mod laws;
-mod lookup_addresses;
 mod output;
 mod queries;
 mod question;
 mod replays;
-mod run_input;
 mod runs;
 mod status;
 mod tallies;
 mod turns;
 
-pub use asked_routes::AskedRoutes;
 pub use chosen::{ChosenTexts, FeedChoice};
 pub use comparisons::{DiffSummary, diff_texts};
 pub use faults::AppFault;
-pub use lookup_addresses::LookupAddresses;
 pub use queries::{QuerySummary, show};
-pub use question::Question;
+pub use question::{AskedRoutes, LookupAddresses, Question};
 pub use replays::replay_text;
-pub use run_input::RunInput;
 pub use runs::{MAX_FEED_FILES, run_texts};
 pub use status::Status;
 pub use tallies::{RejectedInput, RunSummary};

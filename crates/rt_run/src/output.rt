@@ -1,12 +1,13 @@
-//! Output: a run's reports and table, the result of a query, the differences between two tables, or a replay. All of it
-//! goes through one buffer.
-ghost use Rattle.std.specs.Prelude.{◌≡◌, ◌++◌, [], ◌<◌, ◌≤◌, true, false, length, IfSome};
+//! Output: the parts of a run's text, the answers to questions, and the differences between two tables. Each part goes to
+//! any writer; `finish` ends the buffer through which the whole output goes.
+ghost use Rattle.std.specs.Prelude.{◌≡◌, ◌++◌, [], ◌≤◌, ℕ, List, Option, length, IfSome, IfErr};
 ghost use Rattle.rt_cidr.specs.Output.{WritesText};
+ghost use Rattle.rt_print.specs.Buffer.{buffered};
 ghost use Rattle.rt_rib.specs.declared.limits.TheConstants.{MAX_FEEDS};
 ghost use Rattle.rt_print.specs.Routes.{table_text};
 ghost use Rattle.rt_run.specs.RunText.{reports_text};
 ghost use Rattle.rt_run.specs.TableText.{answers_text};
-ghost use Rattle.rt_run.specs.inside.Outputs.{IsOutput, matches_text, output_text, Writes};
+ghost use Rattle.rt_run.specs.inside.Outputs.{matches_text, IsEmpty, Writes};
 ghost use Rattle.rt_run.specs.inside.Comparisons.{IsFirstOf, lines_of};
 
 use crate::faults::AppFault;
@@ -16,124 +17,47 @@ use rt_diff::Difference;
 use rt_feed::{Report, write_report};
 use rt_fib::Fib;
 use rt_print::{
-    DiffOptions, OutputBuffer, OutputRoom, Style, write_all_matches, write_counts,
-    write_difference, write_lookup, write_replay, write_routes, write_table,
+    DiffOptions, OutputBuffer, Style, write_all_matches, write_difference, write_lookup,
+    write_table,
 };
 use rt_rib::{Route, Table};
 use std::alloc::Global;
 use std::io::{self, Write};
-use ya_core::Step;
 
 /// The number of addresses that are looked up together.
 const PIECE: usize = 256;
 
-/// An address and all routes that cover it, the best first.
-#[derive(Drop)]
-pub(crate) struct AddressMatches {
-    pub(crate) addr: Addr,
-    pub(crate) routes: Vec<Route>,
-}
-
-/// The output, not yet written.
-#[derive(Clone, Copy)]
-pub(crate) enum Output<'a> {
-    /// The reports, the k-th for feed k, and then the table of these routes.
-    Run(&'a [Report], &'a [Route]),
-    /// The style; then the result of looking up each address in the table, with its forwarding table if there is one.
-    Answers(&'a Style, &'a Table<Global>, &'a Option<Fib<Global>>, &'a [Addr]),
-    /// The style, and all routes that cover each address.
-    Matches(&'a Style, &'a [AddressMatches]),
-    /// The options, the two tables to compare, and their first difference.
-    Differences(&'a DiffOptions, &'a Table<Global>, &'a Table<Global>, Option<Difference>),
-    /// The style, and the routes to list.
-    Routes(&'a Style, &'a [Route]),
-    /// The style, and the routes to count.
-    Counts(&'a Style, &'a [Route]),
-    /// The steps of a replay, and the place that is inside after them.
-    Replay(&'a [Step], Option<usize>),
-}
-
-impl Output<'_> {
-    /// Returns true if there is nothing to write.
-    fn is_empty(&self) -> bool
-        requires { IsOutput self.now }
-        ensures none { result ≡ true → output_text self.now ≡ [] }
-        ensures some { result ≡ false → 0 < length (output_text self.now) }
-    {
-        match self {
-            Output::Run(..) => false,
-            Output::Answers(_, _, _, addresses) => addresses.is_empty(),
-            Output::Matches(_, all) => all.is_empty(),
-            Output::Differences(_, _, _, first) => first.is_none(),
-            Output::Routes(_, routes) => routes.is_empty(),
-            Output::Counts(..) => false,
-            Output::Replay(..) => false,
-        }
-    }
-}
-
-/// Writes the output in few large writes, if there is anything to write.
-pub(crate) fn write_output<W: Write>(
-    alloc: Global,
-    output: Output<'_>,
-    w: &mut W,
+/// Ends the output that was written to a new buffer, with this result: sends the rest of it to the writer below, unless the
+/// output failed or is empty. Doesn't allocate.
+pub(crate) fn finish<W: Write>(
+    buffer: &mut OutputBuffer<'_, W>,
+    written: Result<(), io::Error>,
+    is_empty: bool,
 ) -> Result<(), AppFault>
-    requires { IsOutput output }
-    ensures { Writes (output_text output.entry) (W.contents w.old) (W.contents w.new) result }
+    ensures text { (name : ℕ) (began after : Option (List ℕ)) (text : List ℕ) → IsEmpty is_empty text
+        → WritesText (buffered name began began [])
+        (buffered buffer.old.writer.ghost_name (W.contents buffer.old.began.value) (W.contents buffer.old.writer.now) buffer.old.held) text written
+        → (name ≡ buffer.new.writer.ghost_name → after ≡ W.contents buffer.new.writer.now) → Writes text began after result }
+    ensures fault { IfErr result (λ fault. fault ≡ AppFault.Write) }
 {
-    let room = OutputRoom::new(alloc)?;
-    if output.is_empty() {
+    if let Err(_) = written {
+        return Err(AppFault::Write);
+    }
+    if is_empty {
         return Ok(());
     }
-    match write_buffered(w, room, output) {
+    match buffer.flush() {
         Ok(()) => Ok(()),
         Err(_) => Err(AppFault::Write),
     }
 }
 
-/// Writes the output in few large writes. Doesn't allocate.
-pub(crate) fn write_buffered<W: Write>(
-    w: &mut W,
-    room: OutputRoom,
-    output: Output<'_>,
-) -> Result<(), io::Error>
-    requires empty { room ≡ [] }
-    requires output { IsOutput output }
-    requires some { 0 < length (output_text output) }
-    ensures { WritesText (W.contents w.old) (W.contents w.new) (output_text output.entry) result }
-{
-    let mut buffer = OutputBuffer::new(w, room);
-    if let Err(fault) = write_parts(&mut buffer, output) {
-        let _ = buffer.into_writer();
-        return Err(fault);
-    }
-    let flushed = buffer.flush();
-    let _ = buffer.into_writer();
-    flushed
-}
-
-/// Writes the output part by part.
-fn write_parts<W: Write>(w: &mut W, output: Output<'_>) -> Result<(), io::Error>
-    requires { IsOutput output }
-    ensures { WritesText (W.contents w.old) (W.contents w.new) (output_text output.entry) result }
-{
-    match output {
-        Output::Run(reports, routes) => write_run(w, reports, routes),
-        Output::Answers(style, table, fib, addresses) => {
-            write_answers(w, style, table, fib, addresses)
-        }
-        Output::Matches(style, all) => write_matches(w, style, all),
-        Output::Differences(options, old, new, first) => write_differences(
-            w, options, old, new, first,
-        ),
-        Output::Routes(style, routes) => write_routes(w, style, routes),
-        Output::Counts(style, routes) => write_counts(w, style, routes),
-        Output::Replay(steps, inside) => write_replay(w, steps, inside),
-    }
-}
-
 /// Writes the reports, the k-th for feed k, and then the table.
-fn write_run<W: Write>(w: &mut W, reports: &[Report], routes: &[Route]) -> Result<(), io::Error>
+pub(crate) fn write_run<W: Write>(
+    w: &mut W,
+    reports: &[Report],
+    routes: &[Route],
+) -> Result<(), io::Error>
     requires few { length reports.now ≤ MAX_FEEDS }
     ensures { WritesText (W.contents w.old) (W.contents w.new) (reports_text 1 reports.now ++ table_text routes.now) result }
 {
@@ -152,8 +76,8 @@ fn write_reports<W: Write>(w: &mut W, reports: &[Report]) -> Result<(), io::Erro
     Ok(())
 }
 
-/// Writes the result of looking up each address in the table.
-fn write_answers<W: Write>(
+/// Writes the result of looking up each address in the table, with its forwarding table if there is one.
+pub(crate) fn write_answers<W: Write>(
     w: &mut W,
     style: &Style,
     table: &Table<Global>,
@@ -193,8 +117,15 @@ fn write_piece<W: Write>(
     Ok(())
 }
 
+/// An address and all routes that cover it, the best first.
+#[derive(Drop)]
+pub(crate) struct AddressMatches {
+    pub(crate) addr: Addr,
+    pub(crate) routes: Vec<Route>,
+}
+
 /// Writes all routes that cover each address.
-fn write_matches<W: Write>(
+pub(crate) fn write_matches<W: Write>(
     w: &mut W,
     style: &Style,
     all: &[AddressMatches],
@@ -208,7 +139,7 @@ fn write_matches<W: Write>(
 }
 
 /// Writes the differences between two tables, starting with the given first one.
-fn write_differences<'a, W: Write>(
+pub(crate) fn write_differences<'a, W: Write>(
     w: &mut W,
     options: &'a DiffOptions,
     old: &'a Table<Global>,

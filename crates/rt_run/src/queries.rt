@@ -1,25 +1,25 @@
 //! Queries: a question to the finished table of a run, and the output of the answer.
-ghost use Rattle.std.specs.Prelude.{◌≡◌, ◌≢◌, ◌↔◌, max, nat_lt, false, [], IfOk};
+ghost use Rattle.std.specs.Prelude.{◌≡◌, ◌↔◌, max, nat_lt, false, [], IfOk};
+ghost use Rattle.rt_rib.specs.Selection.{selected};
 ghost use Rattle.rt_print.specs.Styles.{StyleContents};
-ghost use Rattle.rt_run.specs.RunContents.{RunContents};
+ghost use Rattle.rt_run.specs.ChosenFeeds.{routes_of_selected};
 ghost use Rattle.rt_run.specs.RunText.{WritesOrFails, status_where};
-ghost use Rattle.rt_run.specs.TableText.{all_answers_text, question_text, LeavesTable, IsAnswer};
+ghost use Rattle.rt_run.specs.TableText.{all_answers_text, question_text, named_in, said_in, IsAnswer};
+ghost use Rattle.rt_run.specs.inside.LookupAddresses.{IsAsked};
 ghost use Rattle.rt_run.specs.inside.Outputs.{matches_text, Writes};
 
-use crate::asked_routes::routes_asked;
-use crate::chosen::ChosenTexts;
+use crate::chosen::{ChosenTexts, is_selected};
 use crate::faults::AppFault;
 use crate::forwarding::fib_for;
-use crate::lookup_addresses::read_lookup_addresses;
-use crate::output::{AddressMatches, Output, write_output};
-use crate::question::Question;
+use crate::output::{AddressMatches, finish, write_answers, write_matches};
+use crate::question::{AskedRoutes, Question};
 use crate::tallies::{RunSummary, status_where};
-use crate::turns::{FinishedQuery, run_in_turn};
+use crate::turns::run_in_turn;
 use rt_cidr::Addr;
-use rt_feed::{FaultyLines, RunFault};
-use rt_print::Style;
-use rt_rib::{Refused, Table};
-use std::alloc::Global;
+use rt_feed::{AddressText, FaultyLines, RunFault, read_addresses};
+use rt_print::{OutputBuffer, OutputRoom, Style, write_counts, write_routes};
+use rt_rib::{Refused, Route, Table};
+use std::alloc::{AllocError, Global};
 use std::io::Write;
 
 /// The result of a query.
@@ -44,7 +44,8 @@ pub struct QuerySummary {
 ///
 /// Hence, if no command ran out of memory, the bytes are a function of only the texts, the limit and the question
 /// (`laws::shows_union`, `laws::answers_are_deterministic`). Returns the summary if everything was written. Its errors are
-/// those of `run_texts`; F3 also if there is no memory for the addresses, the selected routes or the tallies.
+/// those of `run_texts`; F3 also if there is no memory for the addresses, the selected routes or the tallies. Leaks the
+/// table, as `run_texts` does.
 pub fn show<W: Write>(
     alloc: Global,
     asked: &ChosenTexts<'_>,
@@ -56,28 +57,28 @@ pub fn show<W: Write>(
     ensures no_text { (result ≡ Err (AppFault.Run RunFault.NoText)) ↔ (asked.now.texts ≡ []) }
 {
     let run = run_in_turn(alloc, asked)?;
-    let shown = answer(alloc, &run, style, question, w);
-    run.leak_table();
-    shown
+    let read = read_lookup_addresses(alloc, question)?;
+    let addresses = read.addresses.as_slice();
+    let written = write_answer(alloc, &run.table, style, question, addresses, w);
+    let summary = run.into_summary();
+    match written {
+        Ok(()) => Ok(query_summary(summary, read.faulty)),
+        Err(fault) => Err(fault),
+    }
 }
 
-/// Writes the answer to the question from a run's table, and returns the summary.
-fn answer<W: Write>(
-    alloc: Global,
-    run: &FinishedQuery,
-    style: &Style,
-    question: &Question<'_>,
-    w: &mut W,
-) -> Result<QuerySummary, AppFault>
-    ensures text { (asked : RunContents) → LeavesTable asked run.now.table.routes run.now.summary
-        → WritesOrFails (IsAnswer asked style.now question.now) (W.contents w.old) (W.contents w.new) result }
-    ensures ran { result ≢ Err (AppFault.Run RunFault.NoText) }
+/// Returns all addresses of the question in order, and the faulty lines of its text of addresses.
+fn read_lookup_addresses(alloc: Global, question: &Question<'_>) -> Result<AddressText, AllocError>
+    ensures { IfOk result (λ read. IsAsked (named_in question.now) (said_in question.now) read.addresses.items read.faulty) }
 {
-    let read = read_lookup_addresses(alloc, question)?;
-    let ran = run.summary(alloc)?;
-    let addresses = read.addresses.as_slice();
-    write_answer(alloc, &run.table, style, question, addresses, w)?;
-    Ok(query_summary(ran, read.faulty))
+    let asked = question.addresses();
+    let AddressText {
+        addresses: mut said,
+        faulty,
+    } = read_addresses(alloc, asked.text)?;
+    let mut addresses = asked.named.to_vec(alloc)?;
+    addresses.append(&mut said)?;
+    Ok(AddressText { addresses, faulty })
 }
 
 /// Returns the result of a query, from the run's summary and the faulty lines of the text of addresses.
@@ -92,7 +93,7 @@ fn query_summary(run: RunSummary, faulty: FaultyLines) -> QuerySummary
     }
 }
 
-/// Writes the answer to the question from the table; `addresses` are the ones to look up.
+/// Writes the answer to the question from the table, in few large writes; `addresses` are the ones to look up.
 fn write_answer<W: Write>(
     alloc: Global,
     table: &Table<Global>,
@@ -103,22 +104,41 @@ fn write_answer<W: Write>(
 ) -> Result<(), AppFault>
     ensures { Writes (question_text style.now question.now addresses.now table.now.routes) (W.contents w.old) (W.contents w.new) result }
 {
+    let room = OutputRoom::new(alloc)?;
     match question {
         Question::Best(_) => {
             let fib = fib_for(alloc, table, addresses.len());
-            write_output(alloc, Output::Answers(style, table, &fib, addresses), w)
+            let mut out = OutputBuffer::new(w, room);
+            let written = write_answers(&mut out, style, table, &fib, addresses);
+            let written = finish(&mut out, written, addresses.is_empty());
+            let _ = out.into_writer();
+            written
         }
         Question::All(_) => {
             let matches = matches_of(alloc, table, addresses)?;
-            write_output(alloc, Output::Matches(style, matches.as_slice()), w)
+            let all = matches.as_slice();
+            let mut out = OutputBuffer::new(w, room);
+            let written = write_matches(&mut out, style, all);
+            let written = finish(&mut out, written, all.is_empty());
+            let _ = out.into_writer();
+            written
         }
         Question::Routes(asked) => {
             let routes = routes_asked(alloc, table, asked)?;
-            write_output(alloc, Output::Routes(style, routes.as_slice()), w)
+            let selected = routes.as_slice();
+            let mut out = OutputBuffer::new(w, room);
+            let written = write_routes(&mut out, style, selected);
+            let written = finish(&mut out, written, selected.is_empty());
+            let _ = out.into_writer();
+            written
         }
         Question::Counts(asked) => {
             let routes = routes_asked(alloc, table, asked)?;
-            write_output(alloc, Output::Counts(style, routes.as_slice()), w)
+            let mut out = OutputBuffer::new(w, room);
+            let written = write_counts(&mut out, style, routes.as_slice());
+            let written = finish(&mut out, written, false);
+            let _ = out.into_writer();
+            written
         }
     }
 }
@@ -140,4 +160,24 @@ fn matches_of(
         });
     }
     Ok(all)
+}
+
+/// Returns the routes of the table that are printed, in its order.
+fn routes_asked(
+    alloc: Global,
+    table: &Table<Global>,
+    asked: &AskedRoutes<'_>,
+) -> Result<Vec<Route>, Refused>
+    ensures { IfOk result (λ routes. routes.items ≡ routes_of_selected asked.now.feeds.now (selected asked.now.selection table.now.routes)) }
+{
+    let mut routes = table.select(alloc, &asked.selection)?;
+    keep_selected(&mut routes, asked.feeds);
+    Ok(routes)
+}
+
+/// Keeps the routes of selected feeds, in order.
+fn keep_selected(routes: &mut Vec<Route>, feeds: &[u32])
+    ensures { routes.new.items ≡ routes_of_selected feeds.now routes.old.items }
+{
+    routes.retain(|route| is_selected(feeds, route.feed));
 }

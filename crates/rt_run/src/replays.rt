@@ -4,9 +4,9 @@ ghost use Rattle.ya_core.specs.ArbitrationTree.{HasShape};
 ghost use Rattle.rt_run.specs.Replayed.{LeavesReplay};
 
 use crate::faults::AppFault;
-use crate::output::{Output, write_buffered};
+use crate::output::finish;
 use crate::status::Status;
-use rt_print::{OutputRoom, inside_place};
+use rt_print::{OutputBuffer, OutputRoom, inside_place, write_replay};
 use std::alloc::Global;
 use std::io::Write;
 use ya_core::{ReplayFault, replay};
@@ -34,7 +34,11 @@ pub fn replay_text<W: Write>(
         return Err(AppFault::Replay(ReplayFault::Memory));
     };
     let inside = inside_place(steps.as_slice());
-    match write_buffered(w, room, Output::Replay(steps.as_slice(), inside)) {
+    let mut out = OutputBuffer::new(w, room);
+    let written = write_replay(&mut out, steps.as_slice(), inside);
+    let written = finish(&mut out, written, false);
+    let _ = out.into_writer();
+    match written {
         Ok(()) => Ok(Status::Done as u8),
         Err(_) => Err(AppFault::Write),
     }

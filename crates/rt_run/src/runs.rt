@@ -1,19 +1,18 @@
 //! A run: feed texts in, their reports and the table out.
-ghost use Rattle.std.specs.Prelude.{◌≡◌, ◌≢◌, ◌↔◌, ◌⊎◌, ◌+◌, ◌*◌, ◌^◌, ◌<◌, ◌≤◌, ◌++◌, [], map, length, vec_len, vec_capacity, All, Some, None, IfOk, IsSome};
+ghost use Rattle.std.specs.Prelude.{◌≡◌, ◌↔◌, ◌⊎◌, ◌+◌, ◌*◌, ◌^◌, ◌<◌, ◌≤◌, ◌++◌, [], map, length, vec_len, vec_capacity, All, Some, None, IfOk, IsSome};
 ghost use Rattle.rt_rib.specs.declared.limits.TheConstants.{MAX_FEEDS};
 ghost use Rattle.rt_rib.specs.Book.{IsLimit};
 ghost use Rattle.std.specs.List.{list_any};
 ghost use Rattle.rt_feed.specs.Reports.{has_refusal, has_fault};
-ghost use Rattle.rt_run.specs.RunContents.{RunContents};
 ghost use Rattle.rt_run.specs.RunText.{IsRunText, WritesOrFails, reports_status};
 ghost use Rattle.rt_run.specs.inside.RunResults.{RunOverBook, RunBeforeSettle};
 ghost use Rattle.rt_shared.specs.Table.{ArePassesOf};
 
 use crate::faults::AppFault;
-use crate::output::{Output, write_output};
-use crate::run_input::RunInput;
+use crate::output::{finish, write_run};
 use crate::tallies::status_where;
 use rt_feed::{Feed, Report, RunFault, TableGate, run_feeds};
+use rt_print::{OutputBuffer, OutputRoom};
 use rt_rib::{Book, MAX_FEEDS, Refused};
 use rt_shared::{FeedPass, SharedRib};
 use std::alloc::{AllocError, Global};
@@ -44,11 +43,24 @@ pub fn run_texts<R: Threads + Wait + Sync, W: Write>(
     ensures text { WritesOrFails (IsRunText (map (λ text. text.items) texts.now) limit batch) (W.contents w.old) (W.contents w.new) result }
     ensures no_text { (result ≡ Err (AppFault.Run RunFault.NoText)) ↔ (texts.now ≡ []) }
 {
-    let asked = RunInput::new(texts, limit, batch);
-    let run = run_all(rt, alloc, &asked)?;
-    let written = report_run(alloc, &run, w);
-    run.leak_table();
-    written
+    if texts.is_empty() {
+        return Err(AppFault::Run(RunFault::NoText));
+    }
+    let run = run_in_lowest_tree(rt, alloc, texts, limit, batch)?;
+    let routes = run.book.routes(alloc)?;
+    let room = OutputRoom::new(alloc)?;
+    let mut out = OutputBuffer::new(w, room);
+    let reports = run.reports.as_slice();
+    let written = write_run(&mut out, reports, routes.as_slice());
+    let written = finish(&mut out, written, false);
+    let _ = out.into_writer();
+    let status = status_of(reports);
+    // Freeing the table node by node would take a tenth of a run, and the system takes its pages back at once.
+    mem::forget(run.book);
+    match written {
+        Ok(()) => Ok(status),
+        Err(fault) => Err(fault),
+    }
 }
 
 /// The result of a run: each feed's report, in order, and the book.
@@ -58,47 +70,26 @@ struct FinishedRun {
     book: Book<Global>,
 }
 
-impl FinishedRun {
-    /// Leaks the table: freeing it node by node would take a tenth of a run, and the system takes its pages back at once.
-    fn leak_table(self) {
-        mem::forget(self.book);
-    }
-}
-
-/// Runs the texts over one table. Errors: F1 if there is no text; F3 if memory ran out outside of a command.
-fn run_all<R: Threads + Wait + Sync>(
-    rt: &R,
-    alloc: Global,
-    asked: &RunInput<'_>,
-) -> Result<FinishedRun, RunFault>
-    ensures ran { IfOk result (λ run. RunOverBook asked.now run.reports.items run.book) }
-    ensures refused { result ≢ Err RunFault.FeedCount }
-    ensures no_text { (result ≡ Err RunFault.NoText) ↔ (asked.now.texts ≡ []) }
-{
-    if asked.count() == 0 {
-        return Err(RunFault::NoText);
-    }
-    match run_in_lowest_tree(rt, alloc, asked) {
-        Ok(run) => Ok(run),
-        Err(Refused) => Err(RunFault::Memory),
-    }
-}
-
 /// Runs the texts over one table behind the lowest lock that has a place for each.
 fn run_in_lowest_tree<R: Threads + Wait + Sync>(
     rt: &R,
     alloc: Global,
-    asked: &RunInput<'_>,
+    texts: &[Vec<u8>],
+    limit: u32,
+    batch: usize,
 ) -> Result<FinishedRun, Refused>
-    ensures { IfOk result (λ run. RunOverBook asked.now run.reports.items run.book) }
+    requires limited { IsLimit limit }
+    requires few { length texts.now ≤ MAX_FEEDS }
+    requires batched { 1 ≤ batch }
+    ensures { IfOk result (λ run. RunOverBook (record { texts = map (λ text. text.items) texts.now; limit = limit; batch = batch }) run.reports.items run.book) }
 {
-    match asked.count() {
-        0..=2 => run_in_tree::<_, 1>(rt, alloc, asked),
-        3..=4 => run_in_tree::<_, 2>(rt, alloc, asked),
-        5..=8 => run_in_tree::<_, 3>(rt, alloc, asked),
-        9..=16 => run_in_tree::<_, 4>(rt, alloc, asked),
-        17..=32 => run_in_tree::<_, 5>(rt, alloc, asked),
-        _ => run_in_tree::<_, 6>(rt, alloc, asked),
+    match texts.len() {
+        0..=2 => run_in_tree::<_, 1>(rt, alloc, texts, limit, batch),
+        3..=4 => run_in_tree::<_, 2>(rt, alloc, texts, limit, batch),
+        5..=8 => run_in_tree::<_, 3>(rt, alloc, texts, limit, batch),
+        9..=16 => run_in_tree::<_, 4>(rt, alloc, texts, limit, batch),
+        17..=32 => run_in_tree::<_, 5>(rt, alloc, texts, limit, batch),
+        _ => run_in_tree::<_, 6>(rt, alloc, texts, limit, batch),
     }
 }
 
@@ -106,22 +97,19 @@ fn run_in_lowest_tree<R: Threads + Wait + Sync>(
 fn run_in_tree<R: Threads + Wait + Sync, const L: u32>(
     rt: &R,
     alloc: Global,
-    asked: &RunInput<'_>,
+    texts: &[Vec<u8>],
+    limit: u32,
+    batch: usize,
 ) -> Result<FinishedRun, Refused>
+    requires limited { IsLimit limit }
+    requires batched { 1 ≤ batch }
     requires levels { (1 ≤ L) × (L ≤ 6) }
-    requires placed { length asked.now.texts ≤ 2 ^ L }
-    requires fewest { (L ≡ 1) ⊎ (2 ^ L < 2 * length asked.now.texts) }
-    ensures { IfOk result (λ run. RunOverBook asked.now run.reports.items run.book) }
+    requires placed { length texts.now ≤ 2 ^ L }
+    requires fewest { (L ≡ 1) ⊎ (2 ^ L < 2 * length texts.now) }
+    ensures { IfOk result (λ run. RunOverBook (record { texts = map (λ text. text.items) texts.now; limit = limit; batch = batch }) run.reports.items run.book) }
 {
-    let (table, passes) = SharedRib::<L>::new(alloc, asked.limit)?;
-    let JoinedFeeds { passes, reports } = run_passes(
-        rt,
-        alloc,
-        &table,
-        passes,
-        asked.texts,
-        asked.batch,
-    )?;
+    let (table, passes) = SharedRib::<L>::new(alloc, limit)?;
+    let JoinedFeeds { passes, reports } = run_passes(rt, alloc, &table, passes, texts, batch)?;
     let book = table.settle(rt, passes);
     Ok(FinishedRun { reports, book })
 }
@@ -212,19 +200,6 @@ fn append_passes(passes: &mut Vec<FeedPass>, mut more: Vec<FeedPass>)
     let Ok(()) = passes.append(&mut more) else {
         unreachable!()
     };
-}
-
-/// Writes the result of a run, and returns its status.
-fn report_run<W: Write>(alloc: Global, run: &FinishedRun, w: &mut W) -> Result<u8, AppFault>
-    requires few { length run.now.reports.items ≤ MAX_FEEDS }
-    ensures text { (asked : RunContents) → RunOverBook asked run.now.reports.items run.now.book
-        → WritesOrFails (IsRunText asked.texts asked.limit asked.batch) (W.contents w.old) (W.contents w.new) result }
-    ensures ran { result ≢ Err (AppFault.Run RunFault.NoText) }
-{
-    let routes = run.book.routes(alloc)?;
-    let reports = run.reports.as_slice();
-    write_output(alloc, Output::Run(reports, routes.as_slice()), w)?;
-    Ok(status_of(reports))
 }
 
 /// Returns the status of a run with these reports.

@@ -1,10 +1,8 @@
 //! Runs for callers that print neither journal nor reports: the texts are executed one after another, on the caller's
 //! thread. Only the table and a tally of each text are stored.
-ghost use Rattle.std.specs.Prelude.{◌≡◌, ◌≢◌, ◌↔◌, ◌≤◌, ℕ, List, [], length, map, IfOk};
+ghost use Rattle.std.specs.Prelude.{◌≡◌, ◌≢◌, ◌↔◌, ◌≤◌, ℕ, [], length, map, IfOk};
 ghost use Rattle.rt_rib.specs.declared.limits.TheConstants.{MAX_FEEDS};
-ghost use Rattle.rt_rib.specs.declared.routes.Route.{Route};
 ghost use Rattle.rt_rib.specs.Book.{IsLimit, IsFeed, table_state};
-ghost use Rattle.rt_run.specs.RunContents.{RunContents};
 ghost use Rattle.rt_run.specs.ChosenFeeds.{is_left_out, texts_kept};
 ghost use Rattle.rt_run.specs.TableText.{LeavesTable};
 ghost use Rattle.rt_run.specs.inside.Turns.{ExecutesText, ExecutesLine, ExecutesCommand};
@@ -24,21 +22,14 @@ pub(crate) struct FinishedQuery {
 }
 
 impl FinishedQuery {
-    /// Returns a copy of the summary.
-    pub(crate) fn summary(&self, alloc: Global) -> Result<RunSummary, AllocError>
-        ensures { IfOk result (λ summary. (asked : RunContents) (table : List Route)
-            → LeavesTable asked table self.now.summary → LeavesTable asked table summary) }
+    /// Returns the summary, and leaks the table: freeing it node by node would take a tenth of a run, and the system takes
+    /// its pages back at once.
+    pub(crate) fn into_summary(self) -> RunSummary
+        ensures { result ≡ self.summary }
     {
-        let tallies = self.summary.tallies.as_slice().to_vec(alloc)?;
-        Ok(RunSummary {
-            status: self.summary.status,
-            tallies,
-        })
-    }
-
-    /// Leaks the table, as `FinishedRun::leak_table` does.
-    pub(crate) fn leak_table(self) {
-        mem::forget(self.table);
+        let FinishedQuery { table, summary } = self;
+        mem::forget(table);
+        summary
     }
 }
 

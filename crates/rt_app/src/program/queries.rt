@@ -8,7 +8,7 @@ use super::{Program, ProgramError};
 use command_line::{LookupRequest, PrefixFilterArg, TableRequest};
 use rt_cidr::Addr;
 use rt_rib::{PrefixFilter, Selection};
-use rt_run::{AskedRoutes, ChosenTexts, LookupAddresses, Question, RunInput, RunSummary, show};
+use rt_run::{AskedRoutes, ChosenTexts, LookupAddresses, Question, RunSummary, show};
 use std::alloc::Global;
 use std::io::Write;
 use std::rt::Files;
@@ -31,8 +31,8 @@ impl<R: Files + Threads + Wait + Sync + AllocGlobal, O: Write, E: Write> Program
             Some(name) => self.read_file(name)?,
             None => Vec::new(self.alloc),
         };
-        let asked = RunInput::new(texts.as_slice(), run.limit, run.batch as usize);
-        let asked = ChosenTexts::new(&asked, feeds.choice());
+        let (limit, batch) = (run.limit, run.batch as usize);
+        let asked = ChosenTexts::new(texts.as_slice(), limit, batch, feeds.choice());
         let addresses = LookupAddresses {
             named: named.as_slice(),
             text: text.as_slice(),
@@ -61,8 +61,8 @@ impl<R: Files + Threads + Wait + Sync + AllocGlobal, O: Write, E: Write> Program
         let style = style_of(self.alloc, request.telling, run.files.as_slice())?;
         let feeds = FeedNumbers::of(self.alloc, &request.feeds, run.files.as_slice())?;
         let texts = self.read_feeds(run.files.as_slice(), feeds.choice_of_all())?;
-        let asked = RunInput::new(texts.as_slice(), run.limit, run.batch as usize);
-        let asked = ChosenTexts::new(&asked, feeds.choice_of_all());
+        let (limit, batch) = (run.limit, run.batch as usize);
+        let asked = ChosenTexts::new(texts.as_slice(), limit, batch, feeds.choice_of_all());
         let routes = AskedRoutes {
             selection,
             feeds: feeds.only.as_slice(),
