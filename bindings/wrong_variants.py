@@ -312,8 +312,8 @@ C = {f"{file.partition('.')[0]}: {name}": (file, *texts) for file, wrong in {
         "a full slab isn't used again": ("    if (was_full) link_slab(slab);\n", "    if (was_full) slab->next = NULL;\n"),
         "two threads allocate at once": ("    if (!mine) mine = &parts[__atomic_fetch_add(&threads, 1, __ATOMIC_RELAXED) % PARTS];\n"
                                          "    lock_part(mine);\n", "    mine = &parts[threads];\n"),
-        "a block is freed under another lock": ("    lock_part(part);\n    bool was_full",
-                                                "    lock_part(&parts[(part - parts + 1) % PARTS]);\n    bool was_full"),
+        "a block is freed under another lock": ("    lock_part(part);\n    put_back",
+                                                "    lock_part(&parts[(part - parts + 1) % PARTS]);\n    put_back"),
         "a child of a fork waits": ("pthread_atfork(lock_all, unlock_all, unlock_all)", "pthread_atfork(lock_all, unlock_all, NULL)"),
         "a slab given back isn't used again": ("    chunk->numbers[chunk->unused++] = ", "    chunk->numbers[0] = "),
         "alignment is ignored": ("size_t step = alignment > STEP ? 2 * STEP : STEP;", "size_t step = STEP;\n    alignment = STEP;"),
@@ -321,6 +321,13 @@ C = {f"{file.partition('.')[0]}: {name}": (file, *texts) for file, wrong in {
         "a longer block stays where it is": ("if (slab && size <= slab->size) return", "if (slab && size <= LARGEST) return"),
         "a refusal is a block": ("    return (struct tried){block != NULL, block != NULL ? block : &nothing};\n",
                                  "    return (struct tried){true, block != NULL ? block : &nothing};\n"),
+        "kept blocks are freed twice": ("    if (locked) unlock_part(locked);\n    kept = 0;\n",
+                                        "    if (locked) unlock_part(locked);\n    kept /= 2;\n"),
+        "kept blocks aren't freed": ("    if (kept > 0) free_kept();\n", "    kept = 0;\n"),
+        "blocks are kept for good": ("    if (kept > 0) free_kept();\n    is_keeping = false;\n", "    if (kept > 0) free_kept();\n"),
+        "a kept block is freed under another lock": ("        if (slab->part != locked) {\n", "        if (!locked) {\n"),
+        "a lock isn't left": ("            if (locked) unlock_part(locked);\n", ""),
+        "more blocks are kept than there is room for": ("    if (kept == KEPT) free_kept();\n", "    if (kept == KEPT + 9) free_kept();\n"),
         "small blocks are malloc's": ("if (size <= LARGEST && alignment <= step) block", "if (size > LARGEST && size < LARGEST) block"),
     },
 }.items() for name, texts in wrong.items()}
@@ -544,6 +551,11 @@ C = noticed_by({
     "test_heap calls": (
         "heap: a block is given twice", "heap: two threads allocate at once", "heap: alignment is ignored",
         "heap: a longer block loses its end", "heap: a longer block stays where it is",
+        "heap: kept blocks are freed twice", "heap: a kept block is freed under another lock", "heap: a lock isn't left",
+    ),
+    "test_heap give_back_together": (
+        "heap: kept blocks aren't freed", "heap: blocks are kept for good",
+        "heap: more blocks are kept than there is room for",
     ),
     "test_heap forks": (
         "heap: a block is freed under another lock", "heap: a child of a fork waits",

@@ -151,6 +151,13 @@ static void leave_change(yarib *handle, const yarib *own)
     __atomic_store_n(&handle->inside, own->inside, __ATOMIC_RELEASE);
 }
 
+void free_contents(yarib *table)
+{
+    if (begin_frees) begin_frees();
+    proved_yarib_free(table);
+    if (end_frees) end_frees();
+}
+
 enum yarib_status yarib_new(yarib *table, uint32_t limit, uint32_t kind)
 {
     yarib own;
@@ -164,7 +171,7 @@ enum yarib_status yarib_free(yarib *table)
 {
     yarib own;
     if (!enter_change(table, &own)) return YARIB_BUSY;
-    proved_yarib_free(&own);
+    free_contents(&own);
     leave_change(table, &own);
     return YARIB_DONE;
 }

@@ -6,7 +6,8 @@
  * to the kernel when it has none left.
  *
  * A slab belongs to one of a few parts of the heap, each with a lock of its own. A thread always allocates in the same part, and frees a
- * block in the part that it is from.
+ * block in the part that it is from. A lock takes longer than the rest of a free, so a call that frees a whole table keeps its blocks
+ * for a while, and frees many of them under one lock.
  *
  * With YARIB_NO_SLABS all blocks come from malloc, so that valgrind and sanitizers see them. */
 #define _DEFAULT_SOURCE
@@ -68,6 +69,12 @@ static struct chunk *with_unused;
 static unsigned char is_chunk[((uintptr_t)1 << 47) / CHUNK];
 static unsigned threads;
 static __thread struct part *mine;
+
+/* The blocks that this thread keeps to free them together. */
+enum { KEPT = 64 };
+static __thread void *kept_blocks[KEPT];
+static __thread size_t kept;
+static __thread bool is_keeping;
 static char nothing;
 
 /* Locks a part, unless there is only one thread: only a call of this thread could start another one. */
@@ -196,10 +203,10 @@ static struct slab *slab_of(const void *block)
     return is_chunk[(uintptr_t)block / CHUNK] ? (struct slab *)((uintptr_t)block & ~(SLAB - 1)) : NULL;
 }
 
-static void free_small(struct slab *slab, void *block)
+/* Puts a block back into its slab, whose part is locked. */
+static void put_back(struct slab *slab, void *block)
 {
     struct part *part = slab->part;
-    lock_part(part);
     bool was_full = is_full(slab);
     *(void **)block = slab->free;
     slab->free = block;
@@ -207,9 +214,51 @@ static void free_small(struct slab *slab, void *block)
     if (was_full) link_slab(slab);
     /* The last slab of this size with room stays, for the next block. */
     bool is_unused = slab->used == 0 && (slab->next || slab->place != &part->with_room[slab->size / STEP]);
-    if (is_unused) unlink_slab(slab);
+    if (is_unused) {
+        unlink_slab(slab);
+        give_back(slab);
+    }
+}
+
+static void free_small(struct slab *slab, void *block)
+{
+    struct part *part = slab->part;
+    lock_part(part);
+    put_back(slab, block);
     unlock_part(part);
-    if (is_unused) give_back(slab);
+}
+
+/* Frees the blocks that this thread keeps. A part is locked once for all blocks from it that follow one another. */
+static void free_kept(void)
+{
+    struct part *locked = NULL;
+    for (size_t k = 0; k < kept; k++) {
+        struct slab *slab = slab_of(kept_blocks[k]);
+        if (slab->part != locked) {
+            if (locked) unlock_part(locked);
+            lock_part(locked = slab->part);
+        }
+        put_back(slab, kept_blocks[k]);
+    }
+    if (locked) unlock_part(locked);
+    kept = 0;
+}
+
+static void keep(void *block)
+{
+    kept_blocks[kept++] = block;
+    if (kept == KEPT) free_kept();
+}
+
+void begin_frees(void)
+{
+    is_keeping = !__libc_single_threaded;
+}
+
+void end_frees(void)
+{
+    if (kept > 0) free_kept();
+    is_keeping = false;
 }
 
 struct tried rattle_alloc(size_t size, size_t alignment)
@@ -225,8 +274,9 @@ struct tried rattle_alloc(size_t size, size_t alignment)
 void rattle_dealloc(void *block)
 {
     struct slab *slab = slab_of(block);
-    if (slab) free_small(slab, block);
-    else free(block);
+    if (!slab) free(block);
+    else if (is_keeping) keep(block);
+    else free_small(slab, block);
 }
 
 struct tried rattle_realloc(void *block, size_t kept, size_t size, size_t alignment)

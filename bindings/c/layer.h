@@ -7,6 +7,14 @@
 
 #pragma GCC visibility push(hidden)
 
+/* From begin_frees to end_frees the library's heap keeps some of the blocks that this thread frees, and then frees them together. A heap
+ * that replaces it may lack these. */
+void begin_frees(void) __attribute__((weak));
+void end_frees(void) __attribute__((weak));
+
+/* Frees what a handle holds, as proved_yarib_free does. */
+void free_contents(yarib *table);
+
 /* bindings/build renames the proved calls of these names, and hides them. A proved call must be the only one that uses its handle. */
 uint32_t proved_yarib_new(yarib *table, uint32_t limit, uint32_t kind);
 void proved_yarib_free(yarib *table);

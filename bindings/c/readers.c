@@ -231,7 +231,7 @@ static void end(yarib_concurrent *table, struct sides *sides)
 static void destroy(struct sides *sides)
 {
     if (!sides) return;
-    for (int k = 0; k < 2; k++) proved_yarib_free(&sides->tables[k]);
+    for (int k = 0; k < 2; k++) free_contents(&sides->tables[k]);
     if (sides->room > 0) rattle_dealloc(sides->lacking);
     rattle_dealloc(sides);
 }

@@ -21,6 +21,8 @@ struct tried {
 struct tried rattle_alloc(size_t size, size_t alignment);
 struct tried rattle_realloc(void *block, size_t kept, size_t size, size_t alignment);
 void rattle_dealloc(void *block);
+void begin_frees(void);
+void end_frees(void);
 
 enum { THREADS = 4, SHELVES = 512, CALLS = 200000 };
 
@@ -83,11 +85,15 @@ static void *work(void *seed)
 {
     uint64_t last = (uintptr_t)seed;
     for (int k = 0; k < CALLS; k++) {
-        uint32_t shelf = draw(&last, SHELVES);
+        uint32_t shelf = draw(&last, SHELVES), end = draw(&last, 400);
+        /* Half of the time blocks are kept to be freed together. */
+        if (end == 0) end_frees();
+        if (end == 1) begin_frees();
         pthread_mutex_lock(&locks[shelf]);
         visit(&shelves[shelf], &last);
         pthread_mutex_unlock(&locks[shelf]);
     }
+    end_frees();
     return NULL;
 }
 
@@ -142,11 +148,13 @@ static double seconds(void)
     return now.tv_sec + now.tv_nsec / 1e9;
 }
 
-enum { MANY = 2000000 };
+/* The blocks that are kept at the end are nearly as many as can be. */
+enum { MANY = 64 * 31250 + 63 };
 static void *many[MANY];
 
-/* Frees many small blocks in a random order. The next allocations take less than a millisecond, and the memory is given back. */
-static void give_back(void)
+/* Frees many small blocks in a random order, together if `is_kept`. The next allocations take less than a millisecond, and the memory is
+ * given back. */
+static void give_back_many(bool is_kept)
 {
     uint64_t last = 5;
     for (size_t k = 0; k < MANY; k++) many[k] = NULL;
@@ -163,7 +171,9 @@ static void give_back(void)
         many[other] = one;
     }
     size_t full = taken_bytes(true);
+    if (is_kept) begin_frees();
     for (size_t k = 0; k < MANY; k++) rattle_dealloc(many[k]);
+    if (is_kept) end_frees();
     size_t after = taken_bytes(true);
     double start = seconds();
     for (size_t size = 1024; size <= 1 << 20; size *= 2) {
@@ -176,6 +186,24 @@ static void give_back(void)
     CHECK((full - before) / MANY <= 44);
     CHECK(after <= before + (full - before) / 50);
     CHECK(taken < 1e-3);
+}
+
+static void give_back(void)
+{
+    give_back_many(false);
+}
+
+static void *give_back_kept(void *unused)
+{
+    give_back_many(true);
+    return unused;
+}
+
+/* Blocks are kept only where there is more than one thread. */
+static void give_back_together(void)
+{
+    pthread_t thread;
+    CHECK(pthread_create(&thread, NULL, give_back_kept, NULL) == 0 && pthread_join(thread, NULL) == 0);
 }
 
 /* Allocates until 150 MB more are in use. Refusals leave what is held, and after a free there is memory again. */
@@ -223,7 +251,8 @@ static void call_and_fork(void)
 static const struct {
     const char *name;
     void (*run)(void);
-} tests[] = {{"calls", call_threads}, {"forks", call_and_fork}, {"give_back", give_back}, {"refuse", refuse}};
+} tests[] = {{"calls", call_threads}, {"forks", call_and_fork}, {"give_back", give_back},
+    {"give_back_together", give_back_together}, {"refuse", refuse}};
 
 /* With a word, only the test of this name is run; the status is 2 if there is none. Sanitizers run only the first: they need more
  * memory and time, and report what a child's missing threads held. */
