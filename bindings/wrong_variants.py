@@ -261,6 +261,13 @@ C = {f"{file.partition('.')[0]}: {name}": (file, *texts) for file, wrong in {
         "the sizes are exchanged": ("proved_yarib_view_sizes(&own.handle, blocks, routers)",
                                     "proved_yarib_view_sizes(&own.handle, routers, blocks)"),
         "the blocks are said to be entries": ("view->block_count, view->routers", "view->entry_count, view->routers"),
+        "other calls run during a load": (
+            "    if (status == YARIB_DONE) status = add_lines(file, feed, &adder, loaded);\n    leave_change(table, &own);\n",
+            "    leave_change(table, &own);\n    if (status == YARIB_DONE) status = add_lines(file, feed, &adder, loaded);\n"),
+        "load accepts feed 65 of a forwarding table": (
+            "if (status != YARIB_NOTHING && (feed < 1",
+            "if (status == YARIB_DONE && (feed < 1"),
+        "load accepts feed 0": ("(feed < 1 || feed > YARIB_MAX_FEED)", "(feed > YARIB_MAX_FEED)"),
     },
     "readers.c": {
         "a change is made in the side that readers use": (
@@ -302,6 +309,57 @@ C = {f"{file.partition('.')[0]}: {name}": (file, *texts) for file, wrong in {
         "one side has a forwarding table": ("    for (int k = 0; k < 2 && status == YARIB_DONE; k++) {\n        yarib own",
                                             "    for (int k = 0; k < 1 && status == YARIB_DONE; k++) {\n        yarib own"),
         "one side is counted": ("*bytes = 2 * front;", "*bytes = front;"),
+        "load accepts feed 0 of a concurrent table": ("else if (feed < 1 || feed", "else if (feed"),
+        "a loaded table isn't published": ("    if (loading.is_new) publish(loading.sides);\n", ""),
+        "a load is published at its end only": (
+            "if (loading->is_new && sides->end == KEPT) {",
+            "if (sides->end == 999 * KEPT) {"),
+        "each line is published": ("if (loading->is_new && sides->end == KEPT) {", "if (loading->is_new) {"),
+        "the second side lacks a loaded route": (
+            "    if (status == YARIB_DONE) keep(sides, command, reply);\n    if (status == YARIB_DONE && sides",
+            "    if (status == YARIB_DONE && sides->end < 9) keep(sides, command, reply);\n    if (status == YARIB_DONE && sides"),
+        "a load begins without the change before": (
+            "!(catch_up(sides) && reserve(sides, KEPT))) return",
+            "!reserve(sides, KEPT)) return"),
+    },
+    "files.c": {
+        "a short write isn't noticed": (
+            "return is_written && fflush(file) == 0 ?",
+            "return is_written || fflush(file) == 0 ?"),
+        "what the file refuses at its end isn't noticed": ("return is_written && fflush(file) == 0 ?", "return is_written ?"),
+        "save writes all feeds": (
+            ".feed = feed == 0 ? YARIB_MAX_FEED + 1 : feed}",
+            ".feed = feed <= YARIB_MAX_FEED ? 0 : feed}"),
+        "save writes all feeds for feed 0": ("feed == 0 ? YARIB_MAX_FEED + 1 : feed", "feed"),
+        "save writes only the best routes": ("{.part = YARIB_ALL, ", "{.part = YARIB_ALL, .only_best = 1, "),
+        "save loses its list": ("    if (routes) rattle_dealloc(routes);\n", ""),
+        "a refused list is written": (
+            "        if (!made.ok) return YARIB_NO_MEMORY;\n",
+            "        if (!made.ok) return YARIB_DONE;\n"),
+        "discard is a router": ("if (route->hop == YARIB_VIA && yarib", "if (yarib"),
+        "preference and router are exchanged": ("&command->pref)) return", "&command->via)) return"),
+        "load skips a last line without its end": ("return line->size > 0 || byte != EOF;", "return byte != EOF;"),
+        "load skips what a read error cuts": ("read_line(file, &line) && !ferror(file))", "read_line(file, &line))"),
+        "a read error is the end": (
+            "if (status == YARIB_DONE && ferror(file)) status",
+            "if (status != YARIB_DONE && ferror(file)) status"),
+        "load counts lines from 0": ("if (++loaded->line == 1 &&", "if (loaded->line++ == 1 &&"),
+        "load accepts long comments": ("(line->size <= LONGEST && line->text[0] == '#')", "line->text[0] == '#'"),
+        "load accepts longer lines": ("enum { LONGEST = 128 };", "enum { LONGEST = 129 };"),
+        "load accepts only shorter lines": ("enum { LONGEST = 128 };", "enum { LONGEST = 127 };"),
+        "load accepts a leading zero": (" || (size > 1 && *text == '0')", ""),
+        "load accepts a large preference": ("return read <= UINT32_MAX;", "return true;"),
+        "load accepts discard in version 1": (
+            "if (!has_discard || !is_text(",
+            "if ((!has_discard && left == 0) || !is_text("),
+        "load accepts the version anywhere": ("if (++loaded->line == 1 && is_text", "if (++loaded->line && is_text"),
+        "load accepts further fields": ("spaces != 3 ||", "spaces < 3 ||"),
+        "load accepts other commands": ('is_text(at, cut(&rest, &left), "add")', "cut(&rest, &left)"),
+        "load skips a route that isn't added": (
+            "    if (reply.code != YARIB_ADDED) return YARIB_NOT_ADDED;\n",
+            "    if (reply.code != YARIB_ADDED) return YARIB_DONE;\n"),
+        "load doesn't say why a route isn't added": ("    loaded->code = reply.code;\n", ""),
+        "load adds to the first feed": ("    command.feed = feed;\n", "    command.feed = 1 + 0 * feed;\n"),
     },
     "heap.c": {
         "a slab in use is given back": ("bool is_unused = slab->used == 0 &&", "bool is_unused = slab->used <= 1 &&"),
@@ -562,6 +620,24 @@ C = noticed_by({
     ),
     "test_heap": (
         "heap: a slab given back isn't used again",
+    ),
+    "test_files": (
+        "files: a short write isn't noticed", "files: what the file refuses at its end isn't noticed",
+        "files: save writes all feeds", "files: save writes all feeds for feed 0",
+        "files: save writes only the best routes", "files: save loses its list", "files: a refused list is written",
+        "files: discard is a router", "files: preference and router are exchanged",
+        "files: load skips a last line without its end", "files: load skips what a read error cuts",
+        "files: a read error is the end", "files: load counts lines from 0", "files: load accepts long comments",
+        "files: load accepts longer lines", "files: load accepts only shorter lines",
+        "files: load accepts a leading zero", "files: load accepts a large preference",
+        "files: load accepts discard in version 1", "files: load accepts the version anywhere",
+        "files: load accepts further fields", "files: load accepts other commands",
+        "files: load skips a route that isn't added", "files: load doesn't say why a route isn't added",
+        "files: load adds to the first feed", "handles: other calls run during a load",
+        "handles: load accepts feed 65 of a forwarding table", "handles: load accepts feed 0",
+        "readers: load accepts feed 0 of a concurrent table", "readers: a loaded table isn't published",
+        "readers: a load is published at its end only", "readers: each line is published",
+        "readers: the second side lacks a loaded route", "readers: a load begins without the change before",
     ),
     "test_heap refuse": (
         "heap: a refusal is a block",

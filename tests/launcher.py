@@ -82,7 +82,7 @@ class Copy:
         common = [f"common/{name}.py" for name in ("built", "building", "crates", "prover")]
         for name in ("yarib", "crates.txt", "tools/build", "tools/common.py", *common, "bindings/build",
                      "bindings/c/yarib.map", "bindings/c/yarib.h", "bindings/c/layer.h",
-                     "bindings/c/handles.c", "bindings/c/readers.c", "bindings/c/heap.c"):
+                     "bindings/c/handles.c", "bindings/c/readers.c", "bindings/c/files.c", "bindings/c/heap.c"):
             (self.top / name).parent.mkdir(parents=True, exist_ok=True)
             shutil.copy(TOP / name, self.top / name)
         for path in self.top.rglob("*"):

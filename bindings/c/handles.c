@@ -212,6 +212,24 @@ enum yarib_status yarib_fib_attach(yarib *table)
     return status;
 }
 
+static enum yarib_status add_to_own(void *own, const yarib_command *command, yarib_reply *reply)
+{
+    return proved_yarib_apply(own, command, reply);
+}
+
+enum yarib_status yarib_load(yarib *table, uint32_t feed, FILE *file, yarib_loaded *loaded)
+{
+    yarib own;
+    size_t total;
+    const struct adder adder = {add_to_own, &own};
+    if (!enter_change(table, &own)) return YARIB_BUSY;
+    enum yarib_status status = proved_yarib_count(&own, &total);
+    if (status != YARIB_NOTHING && (feed < 1 || feed > YARIB_MAX_FEED)) status = YARIB_BAD_NUMBER;
+    if (status == YARIB_DONE) status = add_lines(file, feed, &adder, loaded);
+    leave_change(table, &own);
+    return status;
+}
+
 enum yarib_status yarib_look_up(const yarib *table, const uint32_t *addresses, size_t size, yarib_route *answers, size_t room)
 {
     struct own own;
@@ -226,6 +244,17 @@ enum yarib_status yarib_look_up_one(const yarib *table, uint32_t address, yarib_
     struct own own;
     if (!enter_reading(table, &own)) return YARIB_BUSY;
     enum yarib_status status = proved_yarib_look_up_one(&own.handle, address, answer);
+    leave_reading(table, &own);
+    return status;
+}
+
+enum yarib_status yarib_look_up_text(const yarib *table, const char *text, size_t size, yarib_route *answer)
+{
+    struct own own;
+    uint32_t address;
+    if (!enter_reading(table, &own)) return YARIB_BUSY;
+    enum yarib_status status = yarib_address_parse(text, size, &address);
+    if (status == YARIB_DONE) status = proved_yarib_look_up_one(&own.handle, address, answer);
     leave_reading(table, &own);
     return status;
 }
@@ -390,6 +419,6 @@ const char *yarib_version(void)
 const char *yarib_status_text(enum yarib_status status)
 {
     static const char *const texts[] = {"done", "nothing", "bad number", "bad command", "no memory", "bad size", "none left",
-        "bad text", "bad length", "bad bits", "wrong kind", "busy"};
+        "bad text", "bad length", "bad bits", "wrong kind", "busy", "bad file", "not added"};
     return (size_t)status < sizeof texts / sizeof *texts ? texts[status] : "unknown status";
 }

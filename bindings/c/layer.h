@@ -5,7 +5,17 @@
 
 #include "yarib.h"
 
+#include <stdbool.h>
+
 #pragma GCC visibility push(hidden)
+
+/* The library's heap. A refusal isn't `ok`. */
+struct tried {
+    bool ok;
+    void *block;
+};
+struct tried rattle_alloc(size_t size, size_t alignment);
+void rattle_dealloc(void *block);
 
 /* From begin_frees to end_frees the library's heap keeps some of the blocks that this thread frees, and then frees them together. A heap
  * that replaces it may lack these. */
@@ -42,6 +52,15 @@ uint32_t proved_yarib_view_sizes(yarib *table, size_t *blocks, size_t *routers);
 uint32_t proved_yarib_view_write(yarib *table, uint32_t *entries, size_t entry_count, uint32_t *blocks, size_t block_count,
     uint32_t *routers, size_t router_count, size_t *used);
 uint32_t proved_yarib_memory(yarib *table, size_t *bytes);
+
+/* Executes an add in a table, during a change of it. */
+struct adder {
+    enum yarib_status (*add)(void *table, const yarib_command *command, yarib_reply *reply);
+    void *table;
+};
+
+/* Adds the routes of a feed file, as yarib_load does. */
+enum yarib_status add_lines(FILE *file, uint32_t feed, const struct adder *adder, yarib_loaded *loaded);
 
 /* The place of a thread, with a cache line of its own: the handle that a call of the thread reads. A reader of a concurrent table also
  * writes the number of publications that it saw before. */

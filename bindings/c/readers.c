@@ -18,14 +18,13 @@
 #include "layer.h"
 
 #include <sched.h>
-#include <stdbool.h>
 #include <stdlib.h>
 #include <time.h>
 
 /* The mark of a handle that a change, or its release, uses. */
 #define CHANGING ((uintptr_t)1)
 
-/* Room for more commands than this is given back when the back has them. */
+/* Room for more commands than this is given back when the back has them. yarib_concurrent_load publishes so many at once. */
 #define KEPT 1024
 
 struct sides {
@@ -56,14 +55,6 @@ static int turning;
 
 /* How many calls of this thread are counted. */
 static __thread int counted_here;
-
-/* The library's heap. */
-struct tried {
-    bool ok;
-    void *block;
-};
-struct tried rattle_alloc(size_t size, size_t alignment);
-void rattle_dealloc(void *block);
 
 static struct sides *sides_of(void *word)
 {
@@ -320,6 +311,45 @@ enum yarib_status yarib_concurrent_apply_each(yarib_concurrent *table, const yar
     return status;
 }
 
+/* A load of a file: its sides, and whether the back has routes that aren't published. */
+struct loading {
+    yarib_concurrent *table;
+    struct sides *sides;
+    int is_new;
+};
+
+/* Adds a route to the back. If it has the most routes that are published at once, these are published first. */
+static enum yarib_status add_to_back(void *argument, const yarib_command *command, yarib_reply *reply)
+{
+    struct loading *loading = argument;
+    struct sides *sides = loading->sides;
+    if (loading->is_new && sides->end == KEPT) {
+        publish(sides);
+        loading->is_new = 0;
+        if (!wait_for_readers(loading->table, sides->published)) return YARIB_BUSY;
+        sides->published = 0;
+    }
+    if (!loading->is_new && !(catch_up(sides) && reserve(sides, KEPT))) return YARIB_NO_MEMORY;
+    enum yarib_status status = apply_to_back(sides, command, reply);
+    if (status == YARIB_DONE) keep(sides, command, reply);
+    if (status == YARIB_DONE && sides->end > 0) loading->is_new = 1;
+    return status;
+}
+
+enum yarib_status yarib_concurrent_load(yarib_concurrent *table, uint32_t feed, FILE *file, yarib_loaded *loaded)
+{
+    struct loading loading = {.table = table};
+    const struct adder adder = {add_to_back, &loading};
+    enum yarib_status status = YARIB_DONE;
+    if (!begin(table, &loading.sides)) return YARIB_BUSY;
+    if (!loading.sides) status = YARIB_NOTHING;
+    else if (feed < 1 || feed > YARIB_MAX_FEED) status = YARIB_BAD_NUMBER;
+    if (status == YARIB_DONE) status = add_lines(file, feed, &adder, loaded);
+    if (loading.is_new) publish(loading.sides);
+    end(table, loading.sides);
+    return status;
+}
+
 /* Each side gets its forwarding table while it is the back. */
 enum yarib_status yarib_concurrent_fib_attach(yarib_concurrent *table)
 {
@@ -357,6 +387,13 @@ enum yarib_status yarib_concurrent_look_up_one(const yarib_concurrent *table, ui
     enum yarib_status status = proved_yarib_look_up_one(&visit.table, address, answer);
     leave(&visit);
     return status;
+}
+
+enum yarib_status yarib_concurrent_look_up_text(const yarib_concurrent *table, const char *text, size_t size, yarib_route *answer)
+{
+    uint32_t address;
+    enum yarib_status status = yarib_address_parse(text, size, &address);
+    return status == YARIB_DONE ? yarib_concurrent_look_up_one(table, address, answer) : status;
 }
 
 enum yarib_status yarib_concurrent_hops(const yarib_concurrent *table, const uint32_t *addresses, size_t size, uint32_t no_route,
@@ -426,5 +463,35 @@ enum yarib_status yarib_concurrent_memory(const yarib_concurrent *table, size_t 
     enum yarib_status status = proved_yarib_memory(&visit.table, &front);
     leave(&visit);
     if (status == YARIB_DONE) *bytes = 2 * front;
+    return status;
+}
+
+enum yarib_status yarib_concurrent_fib_is_attached(const yarib_concurrent *table, uint32_t *attached)
+{
+    struct visit visit;
+    if (!enter(table, &visit)) return YARIB_NOTHING;
+    enum yarib_status status = proved_yarib_fib_is_attached(&visit.table, attached);
+    leave(&visit);
+    return status;
+}
+
+enum yarib_status yarib_concurrent_view_sizes(const yarib_concurrent *table, size_t *blocks, size_t *routers)
+{
+    struct visit visit;
+    if (!enter(table, &visit)) return YARIB_NOTHING;
+    enum yarib_status status = proved_yarib_view_sizes(&visit.table, blocks, routers);
+    leave(&visit);
+    return status;
+}
+
+enum yarib_status yarib_concurrent_view_write(const yarib_concurrent *table, yarib_view *view)
+{
+    struct visit visit;
+    size_t used_routers = 0;
+    if (!enter(table, &visit)) return YARIB_NOTHING;
+    enum yarib_status status = proved_yarib_view_write(&visit.table, view->entries, view->entry_count, view->blocks,
+        view->block_count, view->routers, view->router_count, &used_routers);
+    leave(&visit);
+    if (status == YARIB_DONE) view->router_count = used_routers;
     return status;
 }

@@ -50,6 +50,8 @@ static void nothing(yarib *empty)
     CHECK(yarib_reserve(empty, 1) == YARIB_NOTHING);
     CHECK(yarib_look_up(empty, &address, 1, &route, 1) == YARIB_NOTHING && is_marked(&route, sizeof route));
     CHECK(yarib_look_up_one(empty, 1, &route) == YARIB_NOTHING && is_marked(&route, sizeof route));
+    CHECK(yarib_look_up_text(empty, "10.0.0.1", 8, &route) == YARIB_NOTHING && is_marked(&route, sizeof route));
+    CHECK(yarib_look_up_text(empty, "10.0.0.1", 7, &route) == YARIB_BAD_TEXT && is_marked(&route, sizeof route));
     CHECK(yarib_hops(empty, &address, 1, 2, 3, &hop, 1) == YARIB_NOTHING && hop == 9);
     CHECK(yarib_look_up_all(empty, 1, 0, &route, 1, &total) == YARIB_NOTHING && is_marked(&route, sizeof route));
     CHECK(yarib_routes(empty, 0, &route, 1, &total) == YARIB_NOTHING && is_marked(&route, sizeof route));
@@ -364,7 +366,8 @@ static void names(void)
     CHECK(yarib_free(&table) == YARIB_DONE && yarib_free(&handle) == YARIB_DONE && yarib_free(&other) == YARIB_DONE);
     CHECK(strcmp(yarib_status_text(YARIB_DONE), "done") == 0 && strcmp(yarib_status_text(YARIB_BUSY), "busy") == 0);
     CHECK(strcmp(yarib_status_text(YARIB_WRONG_KIND), "wrong kind") == 0);
-    CHECK(strcmp(yarib_status_text((enum yarib_status)12), "unknown status") == 0);
+    CHECK(strcmp(yarib_status_text(YARIB_BAD_FILE), "bad file") == 0 && strcmp(yarib_status_text(YARIB_NOT_ADDED), "not added") == 0);
+    CHECK(strcmp(yarib_status_text((enum yarib_status)14), "unknown status") == 0);
 }
 
 /* The feeds of these prefixes are the same in each language's package. */

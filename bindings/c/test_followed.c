@@ -19,7 +19,7 @@ static const size_t ENTRIES = (size_t)1 << 26;
 
 static char *entries;
 static int built;
-static bool is_refusing;
+static bool is_refusing, is_usual;
 
 struct tried {
     bool ok;
@@ -30,7 +30,7 @@ struct tried rattle_alloc(size_t size, size_t alignment)
 {
     (void)alignment;
     if (is_refusing) return (struct tried){false, NULL};
-    if (size != ENTRIES) return (struct tried){true, malloc(size ? size : 1)};
+    if (size != ENTRIES || is_usual) return (struct tried){true, malloc(size ? size : 1)};
     built++;
     entries = mmap(NULL, size, PROT_READ | PROT_WRITE, MAP_PRIVATE | MAP_ANONYMOUS, -1, 0);
     CHECK(entries != MAP_FAILED);
@@ -110,6 +110,43 @@ static void check_followed(yarib *table)
     CHECK(yarib_fib_attach(table) == YARIB_DONE && built == 1);
 }
 
+static yarib_concurrent shared = YARIB_CONCURRENT_EMPTY;
+
+/* Makes a change of the concurrent table. Returns whether its published table is followed then. */
+static bool changed(uint32_t pref)
+{
+    yarib_command command = {.operation = YARIB_REPLACE, .feed = 1, .base = 0x0a000000, .len = 24, .pref = pref, .hop = YARIB_VIA, .via = 9};
+    yarib_reply reply;
+    uint32_t attached = 7;
+    CHECK(yarib_concurrent_apply(&shared, &command, &reply) == YARIB_DONE && reply.code == YARIB_REPLACED);
+    CHECK(yarib_concurrent_fib_is_attached(&shared, &attached) == YARIB_DONE && attached <= 1);
+    return attached == 1;
+}
+
+/* Each of the two tables of a concurrent one is followed as long as memory suffices, and the published one says so. */
+static void follow_concurrent(void)
+{
+    yarib_command add = {.operation = YARIB_ADD, .feed = 1, .base = 0x0a000000, .len = 24, .hop = YARIB_VIA, .via = 9};
+    yarib_reply reply;
+    uint32_t attached = 7;
+    is_usual = true;
+    CHECK(yarib_concurrent_new(&shared, 5) == YARIB_DONE && yarib_concurrent_apply(&shared, &add, &reply) == YARIB_DONE);
+    CHECK(!changed(1) && !changed(2) && yarib_concurrent_fib_attach(&shared) == YARIB_DONE);
+    CHECK(yarib_concurrent_fib_is_attached(&shared, &attached) == YARIB_DONE && attached == 1);
+    for (uint32_t k = 0; k < 4; k++) CHECK(changed(k));
+    is_refusing = true;
+    CHECK(!changed(5));
+    is_refusing = false;
+    /* Only one of the two has lost its forwarding table. */
+    for (uint32_t k = 0; k < 4; k++) CHECK(changed(k) == (k % 2 == 0));
+    is_refusing = true;
+    CHECK(!changed(6) && !changed(7) && yarib_concurrent_fib_attach(&shared) == YARIB_NO_MEMORY);
+    is_refusing = false;
+    CHECK(!changed(8) && !changed(9) && yarib_concurrent_fib_attach(&shared) == YARIB_DONE && changed(1) && changed(2));
+    CHECK(yarib_concurrent_free(&shared) == YARIB_DONE);
+    is_usual = false;
+}
+
 int main(void)
 {
     yarib table = YARIB_EMPTY, other = YARIB_EMPTY;
@@ -140,5 +177,6 @@ int main(void)
     yarib_free(&table);
     CHECK(!entries && yarib_new(&other, 5, YARIB_JOURNALED) == YARIB_DONE && !is_attached(&other));
     yarib_free(&other);
+    follow_concurrent();
     return 0;
 }

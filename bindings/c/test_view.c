@@ -142,6 +142,38 @@ static void compare_tables(uint32_t count, uint32_t routers)
     forget(&changed, other_room);
 }
 
+/* The published one of a concurrent table's two tables answers as its view, after each change. */
+static void compare_concurrent(void)
+{
+    yarib_concurrent table = YARIB_CONCURRENT_EMPTY;
+    yarib model = YARIB_EMPTY;
+    size_t room = 7, blocks = 7;
+    uint32_t attached = 7;
+    edge_count = 0;
+    CHECK(yarib_concurrent_new(&table, 5000) == YARIB_DONE && yarib_new(&model, 5000, YARIB_PLAIN) == YARIB_DONE);
+    CHECK(yarib_concurrent_fib_is_attached(&table, &attached) == YARIB_DONE && attached == 0);
+    CHECK(yarib_concurrent_view_sizes(&table, &blocks, &room) == YARIB_WRONG_KIND && blocks == 7 && room == 7);
+    CHECK(yarib_concurrent_fib_attach(&table) == YARIB_DONE);
+    for (uint32_t k = 0; k < 40; k++) {
+        yarib_command command = {.operation = 1 + (k % 4 == 3) * 2, .feed = 1, .base = (0x0a000000 + (k / 4 << 8)) | (k % 2 ? k : 0),
+            .len = k % 2 ? 32 : 24, .hop = k % 5 ? YARIB_VIA : YARIB_DISCARD, .via = k % 7};
+        yarib_reply reply, right;
+        if (k % 2 == 0) command.base &= 0xffffff00;
+        note_edges(command.base, command.len);
+        CHECK(yarib_concurrent_apply(&table, &command, &reply) == YARIB_DONE && yarib_apply(&model, &command, &right) == YARIB_DONE);
+        CHECK(reply.code == right.code && yarib_concurrent_fib_is_attached(&table, &attached) == YARIB_DONE && attached == 1);
+        CHECK(yarib_concurrent_view_sizes(&table, &blocks, &room) == YARIB_DONE && blocks > 0 && room > 1);
+        yarib_view view = array_of(blocks, room), small = view;
+        small.blocks++;
+        small.block_count--;
+        if (blocks >= 256) CHECK(yarib_concurrent_view_write(&table, &small) == YARIB_BAD_SIZE && small.router_count == room);
+        CHECK(yarib_concurrent_view_write(&table, &view) == YARIB_DONE && view.router_count <= room);
+        compare(&model, &view);
+        forget(&view, room);
+    }
+    CHECK(yarib_concurrent_free(&table) == YARIB_DONE && yarib_free(&model) == YARIB_DONE);
+}
+
 /* Each array one number too small, and what is no forwarding table: nothing is written. */
 static void refuse(void)
 {
@@ -195,6 +227,7 @@ int main(void)
 {
     refuse();
     look_up_in_noise();
+    compare_concurrent();
     for (uint32_t round = 0; round < 6; round++) compare_tables(1 + draw() % 2000, 1 + draw() % 40);
     compare_tables(0, 1);
     /* So many routers that several share a place in which a number is kept. */

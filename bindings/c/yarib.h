@@ -17,9 +17,9 @@
  *
  * Statuses. Every call returns an enum yarib_status, except yarib_version and yarib_status_text, which return strings, and
  * yarib_view_look_up. YARIB_DONE
- * is 0. If a call returns another status, the handles are unchanged and nothing was written. If several statuses apply, the call
- * returns the first of them in this order: YARIB_BUSY (any call with a handle), then the call's Errors as they are listed, from left
- * to right.
+ * is 0. If a call returns another status, the handles are unchanged and nothing was written, except by yarib_save, yarib_load and
+ * the same calls of a concurrent table. If several statuses apply, the call returns the first of them in this order: YARIB_BUSY (any
+ * call with a handle), then the call's Errors as they are listed, from left to right.
  *
  * Ownership. Initialize a handle with YARIB_EMPTY, fill it with yarib_new, yarib_fib_new or yarib_fib_clone, and release it with yarib_free;
  * a second yarib_free is harmless. Never copy a handle: both copies would own its contents. Passing a pointer to it is
@@ -47,6 +47,7 @@
 
 #include <stddef.h>
 #include <stdint.h>
+#include <stdio.h>
 
 #ifdef __cplusplus
 extern "C" {
@@ -91,7 +92,9 @@ enum yarib_status {
     YARIB_BAD_LENGTH = 8,   /* a prefix length is over 32 */
     YARIB_BAD_BITS = 9,     /* a bit of the address past the length is set */
     YARIB_WRONG_KIND = 10,  /* the handle holds something that doesn't support this call */
-    YARIB_BUSY = 11         /* another call uses the handle */
+    YARIB_BUSY = 11,        /* another call uses the handle */
+    YARIB_BAD_FILE = 12,    /* the file can't be read or written */
+    YARIB_NOT_ADDED = 13    /* a file's route isn't added: its feed has one to this prefix, or is at its limit */
 };
 
 /* The compiler warns of a call whose status isn't used. */
@@ -238,6 +241,10 @@ YARIB_STATUS yarib_look_up(const yarib *table, const uint32_t *addresses, size_t
  * Errors: YARIB_NOTHING. */
 YARIB_STATUS yarib_look_up_one(const yarib *table, uint32_t address, yarib_route *answer);
 
+/* Parses an address as yarib_address_parse does, and does for it what yarib_look_up_one does.
+ * Errors: YARIB_BAD_TEXT, YARIB_NOTHING. */
+YARIB_STATUS yarib_look_up_text(const yarib *table, const char *text, size_t size, yarib_route *answer);
+
 /* Writes for each address the router of its best route: `via`, or `discard` if packets are discarded, or `no_route` if no prefix covers
  * the address. Choose two numbers that no route has as `via`. For a forwarding table this is the fastest look-up of many.
  * Errors: YARIB_BAD_SIZE (the sizes differ), YARIB_NOTHING. */
@@ -372,6 +379,28 @@ YARIB_STATUS yarib_view_look_up_each(const yarib_view *view, const uint32_t *add
  * Errors: YARIB_NOTHING. */
 YARIB_STATUS yarib_memory(const yarib *table, size_t *bytes);
 
+/* Writes the feed's routes to the file as a feed file of version 2, which yarib_load and the program read, and flushes the file. Other
+ * calls may use the table while the routes are written: they are copied first, with about 60 bytes of memory for each, which are freed.
+ * Errors: YARIB_NOTHING, YARIB_BAD_NUMBER (the feed), YARIB_WRONG_KIND, YARIB_NO_MEMORY, YARIB_BAD_FILE (a part of the routes may be
+ * written; errno says why). */
+YARIB_STATUS yarib_save(const yarib *table, uint32_t feed, FILE *file);
+
+/* The result of yarib_load. */
+typedef struct yarib_loaded {
+    size_t routes; /* the number of routes that were added */
+    size_t line;   /* the number of the last line that was read, from 1: if a line's route can't be added, the number of this line */
+    uint32_t code; /* YARIB_EXISTS or YARIB_FULL if the call returns YARIB_NOT_ADDED, else of no meaning */
+} yarib_loaded;
+
+/* Adds the routes of a feed file to the feed, from the current position of the file to its end, and writes what it did to `loaded`. Each
+ * line that isn't empty or a comment must be an add. It stops at the first line that can't be added, after which it doesn't read on;
+ * the routes of the lines before it stay. The whole call is one change: meanwhile other calls on the handle are busy, however long the
+ * file takes. Don't cancel its thread. Memory is allocated only for routes, and by the C library for the file.
+ * Errors, without a result: YARIB_NOTHING, YARIB_BAD_NUMBER (the feed), YARIB_WRONG_KIND.
+ * Errors, with a result: YARIB_BAD_FILE (the file can't be read, or its error indicator was set before), YARIB_BAD_TEXT (the line isn't an
+ * add), YARIB_BAD_LENGTH, YARIB_BAD_BITS, YARIB_NO_MEMORY, YARIB_NOT_ADDED. */
+YARIB_STATUS yarib_load(yarib *table, uint32_t feed, FILE *file, yarib_loaded *loaded);
+
 /* A concurrent table: one thread changes it while any number of threads read it. It has no journal.
  *
  * A reading call never waits, never returns YARIB_BUSY, and gets one published table. Whatever runs meanwhile, all answers and
@@ -425,12 +454,20 @@ YARIB_STATUS yarib_concurrent_apply_each(yarib_concurrent *table, const yarib_co
  * Errors: YARIB_NOTHING, YARIB_NO_MEMORY. */
 YARIB_STATUS yarib_concurrent_fib_attach(yarib_concurrent *table);
 
+/* Adds the routes of a feed file, as yarib_load does. It publishes the table at the end, and after each 1,024 routes before. The
+ * whole call is one change: meanwhile other changes are busy. Its errors are those of yarib_load except YARIB_WRONG_KIND. If it returns
+ * YARIB_NO_MEMORY, the line that it reports may be the first one, since no memory is found for the previous change.
+ * YARIB_BUSY comes with a result if a reading call of this thread began before the call. */
+YARIB_STATUS yarib_concurrent_load(yarib_concurrent *table, uint32_t feed, FILE *file, yarib_loaded *loaded);
+
 /* The reading calls. Each does what the call without `concurrent` in its name does to a table, and has its errors except YARIB_BUSY and
  * YARIB_WRONG_KIND. To read all routes of one published table, read them in one call: pages come from the tables that are published
- * when their calls run. yarib_concurrent_memory counts both tables, the second one as large as the published one. */
+ * when their calls run. yarib_concurrent_memory counts both tables, the second one as large as the published one.
+ * yarib_concurrent_save writes the routes of one published table, and a change doesn't wait for the file. */
 YARIB_STATUS yarib_concurrent_look_up(const yarib_concurrent *table, const uint32_t *addresses, size_t size, yarib_route *answers,
     size_t room);
 YARIB_STATUS yarib_concurrent_look_up_one(const yarib_concurrent *table, uint32_t address, yarib_route *answer);
+YARIB_STATUS yarib_concurrent_look_up_text(const yarib_concurrent *table, const char *text, size_t size, yarib_route *answer);
 YARIB_STATUS yarib_concurrent_hops(const yarib_concurrent *table, const uint32_t *addresses, size_t size, uint32_t no_route,
     uint32_t discard, uint32_t *hops, size_t room);
 YARIB_STATUS yarib_concurrent_look_up_all(const yarib_concurrent *table, uint32_t address, size_t skip, yarib_route *routes,
@@ -442,6 +479,19 @@ YARIB_STATUS yarib_concurrent_select(const yarib_concurrent *table, const yarib_
     size_t room, size_t *total);
 YARIB_STATUS yarib_concurrent_count(const yarib_concurrent *table, size_t *total);
 YARIB_STATUS yarib_concurrent_memory(const yarib_concurrent *table, size_t *bytes);
+YARIB_STATUS yarib_concurrent_save(const yarib_concurrent *table, uint32_t feed, FILE *file);
+
+/* Writes 1 to `attached` if a forwarding table is attached to the published table, else 0. It becomes 0 only if a change finds no memory
+ * for the update: then it may be 0 for one of the two tables only, so for every second published table.
+ * Errors: YARIB_NOTHING. */
+YARIB_STATUS yarib_concurrent_fib_is_attached(const yarib_concurrent *table, uint32_t *attached);
+
+/* Do for the published table what yarib_view_sizes and yarib_view_write do. A change may wait until yarib_concurrent_view_write has
+ * written the view. A change between the two calls may make an array too small: then get the sizes again.
+ * Errors: those of yarib_view_sizes and yarib_view_write, except YARIB_BUSY. YARIB_WRONG_KIND means that no forwarding table is attached to
+ * the published table. */
+YARIB_STATUS yarib_concurrent_view_sizes(const yarib_concurrent *table, size_t *blocks, size_t *routers);
+YARIB_STATUS yarib_concurrent_view_write(const yarib_concurrent *table, yarib_view *view);
 
 /* Returns the feed that holds a prefix of a source of more than YARIB_MAX_LIMIT routes: one of `feeds` feeds from `first` on, always the
  * same one. So the table's answers are those of a single feed without its limit. About 1,990,000 routes fit into two feeds before an
@@ -532,6 +582,14 @@ static inline YARIB_STATUS yarib_look_up_one_checked(const yarib *table, uint32_
     return yarib_look_up_one(table, address, answer);
 }
 #define yarib_look_up_one yarib_look_up_one_checked
+
+static inline YARIB_STATUS yarib_look_up_text_checked(const yarib *table, const char *text, size_t size, yarib_route *answer)
+{
+    assert(table != NULL && text != NULL && answer != NULL);
+    assert(yarib_are_apart(text, size, answer, sizeof *answer));
+    return yarib_look_up_text(table, text, size, answer);
+}
+#define yarib_look_up_text yarib_look_up_text_checked
 
 static inline YARIB_STATUS yarib_hops_checked(const yarib *table, const uint32_t *addresses, size_t size, uint32_t no_route,
     uint32_t discard, uint32_t *hops, size_t room)
@@ -723,6 +781,15 @@ static inline YARIB_STATUS yarib_concurrent_look_up_one_checked(const yarib_conc
 }
 #define yarib_concurrent_look_up_one yarib_concurrent_look_up_one_checked
 
+static inline YARIB_STATUS yarib_concurrent_look_up_text_checked(const yarib_concurrent *table, const char *text, size_t size,
+    yarib_route *answer)
+{
+    assert(table != NULL && text != NULL && answer != NULL);
+    assert(yarib_are_apart(text, size, answer, sizeof *answer));
+    return yarib_concurrent_look_up_text(table, text, size, answer);
+}
+#define yarib_concurrent_look_up_text yarib_concurrent_look_up_text_checked
+
 static inline YARIB_STATUS yarib_concurrent_hops_checked(const yarib_concurrent *table, const uint32_t *addresses,
     size_t size, uint32_t no_route, uint32_t discard, uint32_t *hops, size_t room)
 {
@@ -779,6 +846,56 @@ static inline YARIB_STATUS yarib_concurrent_memory_checked(const yarib_concurren
     return yarib_concurrent_memory(table, bytes);
 }
 #define yarib_concurrent_memory yarib_concurrent_memory_checked
+
+static inline YARIB_STATUS yarib_save_checked(const yarib *table, uint32_t feed, FILE *file)
+{
+    assert(table != NULL && file != NULL);
+    return yarib_save(table, feed, file);
+}
+#define yarib_save yarib_save_checked
+
+static inline YARIB_STATUS yarib_load_checked(yarib *table, uint32_t feed, FILE *file, yarib_loaded *loaded)
+{
+    assert(table != NULL && file != NULL && loaded != NULL);
+    return yarib_load(table, feed, file, loaded);
+}
+#define yarib_load yarib_load_checked
+
+static inline YARIB_STATUS yarib_concurrent_save_checked(const yarib_concurrent *table, uint32_t feed, FILE *file)
+{
+    assert(table != NULL && file != NULL);
+    return yarib_concurrent_save(table, feed, file);
+}
+#define yarib_concurrent_save yarib_concurrent_save_checked
+
+static inline YARIB_STATUS yarib_concurrent_load_checked(yarib_concurrent *table, uint32_t feed, FILE *file,
+    yarib_loaded *loaded)
+{
+    assert(table != NULL && file != NULL && loaded != NULL);
+    return yarib_concurrent_load(table, feed, file, loaded);
+}
+#define yarib_concurrent_load yarib_concurrent_load_checked
+
+static inline YARIB_STATUS yarib_concurrent_fib_is_attached_checked(const yarib_concurrent *table, uint32_t *attached)
+{
+    assert(table != NULL && attached != NULL);
+    return yarib_concurrent_fib_is_attached(table, attached);
+}
+#define yarib_concurrent_fib_is_attached yarib_concurrent_fib_is_attached_checked
+
+static inline YARIB_STATUS yarib_concurrent_view_sizes_checked(const yarib_concurrent *table, size_t *blocks, size_t *routers)
+{
+    assert(table != NULL && blocks != NULL && routers != NULL && blocks != routers);
+    return yarib_concurrent_view_sizes(table, blocks, routers);
+}
+#define yarib_concurrent_view_sizes yarib_concurrent_view_sizes_checked
+
+static inline YARIB_STATUS yarib_concurrent_view_write_checked(const yarib_concurrent *table, yarib_view *view)
+{
+    assert(table != NULL && view != NULL && view->entries != NULL && view->blocks != NULL && view->routers != NULL);
+    return yarib_concurrent_view_write(table, view);
+}
+#define yarib_concurrent_view_write yarib_concurrent_view_write_checked
 
 static inline YARIB_STATUS yarib_prefix_parse_checked(const char *text, size_t size, yarib_prefix *prefix)
 {
