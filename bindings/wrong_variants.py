@@ -99,6 +99,11 @@ PYTHON = {
                                         "            return [self.apply_each([one])[0] for one in commands]\n"
                                         "        raw = [command_of(*words) for words in commands]\n"),
     "a replace is an add": (TABLES, "self._put(c.REPLACE, prefix,", "self._put(c.ADD, prefix,"),
+    "every table is followed": (TABLES, "return found.value == 1", "return found.value <= 1"),
+    "the text of an address is cut": (TABLES, "text, size, room.at):\n            check(status_of(calls.yarib_look_up_text",
+                                      "text, size and size - 1, room.at):\n            check(status_of(calls.yarib_look_up_text"),
+    "an invalid text of an address is overlooked": (TABLES, "            check(status_of(calls.yarib_look_up_text, handle, text, size, room.at), address)\n",
+                                                    "            pass\n"),
 }
 
 GO = {name: ("yarib.go", *texts) for name, texts in {
@@ -176,6 +181,8 @@ GO = {name: ("yarib.go", *texts) for name, texts in {
     "a source deals otherwise": ("2654435769", "2654435761"),
     "a source purges its first feed": ("source.first+source.feeds; feed++", "source.first+1; feed++"),
     "a source lists other feeds": ("if source.first <= route.Feed && ", "if "),
+}.items()} | {name: ("yarib.go", *texts) for name, texts in {
+    "every table is followed": ("return attached == 1, err", "return attached < 2, err"),
 }.items()}
 
 RUST = {name: ("src/lib.rs", *texts) for name, texts in {
@@ -235,6 +242,13 @@ RUST = {name: ("src/lib.rs", *texts) for name, texts in {
     "a source deals otherwise": (".wrapping_add(u32::from(prefix.len()))", ".wrapping_add(0)"),
     "a source purges its first feed": ("for feed in self.first..self.first + self.feeds", "for feed in self.first..=self.first"),
     "a source lists other feeds": ("(self.first..self.first + self.feeds).contains", "(1..self.first + self.feeds).contains"),
+    "a source in a concurrent table purges its first feed": (".map(|feed| (feed, Command::Purge))", ".take(1)\n            .map(|feed| (feed, Command::Purge))"),
+    "a source in a concurrent table lists other feeds": ("self.source.feeds().contains", "(1..self.source.feeds().end).contains"),
+    "a source in a concurrent table keeps the old route": (".put(self.source.feed_of(prefix)", ".add(self.source.feed_of(prefix)"),
+    "a source in a concurrent table counts its last purge": ("                count += removed;\n            }\n        }\n        Ok(count)\n    }\n\n    /// Returns the routes of the source in one",
+                                                            "                count = removed;\n            }\n        }\n        Ok(count)\n    }\n\n    /// Returns the routes of the source in one"),
+}.items()} | {name: ("src/raw.rs", *texts) for name, texts in {
+    "every table is followed": ("Ok(attached == 1)", "Ok(attached < 2)"),
 }.items()}
 
 # Of C, the name begins with what is wrong: handles keep calls on one handle apart and pass views on, readers lets readers run

@@ -658,6 +658,7 @@ func TestAZeroTableIsClosed(t *testing.T) {
 		"routes":  func() error { _, err := zero.Routes(); return err },
 		"journal": func() error { _, err := zero.Journal(); return err },
 		"follow":  func() error { return zero.Follow() },
+		"is":      func() error { _, err := zero.IsFollowed(); return err },
 		"forward": func() error { _, err := zero.Forward(); return err },
 		"old":     func() error { _, err := zero.Differences(other, ByHop); return err },
 		"new":     func() error { _, err := other.Differences(&zero, ByHop); return err },
@@ -689,12 +690,22 @@ func resident(t *testing.T) int {
 	return pages * os.Getpagesize()
 }
 
+// isFollowed tests whether a forwarding table is attached.
+func isFollowed(t *testing.T, table interface{ IsFollowed() (bool, error) }, wanted bool) {
+	t.Helper()
+	found, err := table.IsFollowed()
+	must(t, err)
+	same(t, "it is followed", found, wanted)
+}
+
 func TestMemoryIsFreed(t *testing.T) {
 	before := resident(t)
 	for k := 0; k < 12; k++ {
 		one, err := New(5)
 		must(t, err)
+		isFollowed(t, one, false)
 		must(t, one.Follow())
+		isFollowed(t, one, true)
 		bytes, err := one.Memory()
 		must(t, err)
 		if bytes < 1<<26 {

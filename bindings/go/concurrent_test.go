@@ -329,6 +329,7 @@ func TestAZeroConcurrentTableIsClosed(t *testing.T) {
 		"apply":  func() error { _, err := zero.Apply(Command{Operation: Dump, Feed: 1}); return err },
 		"routes": func() error { _, err := zero.Routes(); return err },
 		"follow": func() error { return zero.Follow() },
+		"is":     func() error { _, err := zero.IsFollowed(); return err },
 		"memory": func() error { _, err := zero.Memory(); return err },
 		"page":   func() error { _, err := zero.RoutesFrom(Place{}, 1); return err },
 	} {
@@ -346,7 +347,9 @@ func TestConcurrentTablesAreFreed(t *testing.T) {
 	for k := 0; k < 8; k++ {
 		one, err := NewConcurrent(5)
 		must(t, err)
+		isFollowed(t, one, false)
 		must(t, one.Follow())
+		isFollowed(t, one, true)
 		if k%2 == 0 {
 			one.Close()
 		}

@@ -172,6 +172,13 @@ func (one *handle) count(total *C.size_t) uint32 {
 	return uint32(C.yarib_count(&one.inside, total))
 }
 
+func (one *handle) isFollowed(attached *C.uint32_t) uint32 {
+	if one.isConcurrent {
+		return uint32(C.yarib_concurrent_fib_is_attached(one.concurrent(), attached))
+	}
+	return uint32(C.yarib_fib_is_attached(&one.inside, attached))
+}
+
 func (one *handle) memory(bytes *C.size_t) uint32 {
 	if one.isConcurrent {
 		return uint32(C.yarib_concurrent_memory(one.concurrent(), bytes))

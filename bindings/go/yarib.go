@@ -793,6 +793,14 @@ func (table *common) Follow() error {
 	return table.held.change(table.held.follow)
 }
 
+// IsFollowed returns true if a forwarding table is attached, which look-ups use. After Follow this is false only once a change found
+// no memory to update it. A ConcurrentTable answers for the published one of its two tables.
+func (table *common) IsFollowed() (bool, error) {
+	attached := C.uint32_t(0)
+	err := table.held.read(func() uint32 { return table.held.isFollowed(&attached) })
+	return attached == 1, err
+}
+
 func memory(held *handle) (int, error) {
 	bytes := C.size_t(0)
 	err := held.read(func() uint32 { return held.memory(&bytes) })

@@ -430,7 +430,7 @@ class Given(Limited):
         for reason, call in reasons.items():
             with self.assertRaisesRegex(ValueError, reason):
                 call()
-        for text, call in (("closed", closed.routes), ("support", journaled.follow), ("support", table.journal)):
+        for text, call in (("closed", closed.routes), ("closed", closed.is_followed), ("support", journaled.follow), ("support", table.journal)):
             with self.assertRaisesRegex(yarib.Refused, text):
                 call()
         with self.assertRaisesRegex(MemoryError, "out of memory"):

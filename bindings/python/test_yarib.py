@@ -89,8 +89,10 @@ class Tables(unittest.TestCase):
     def test_a_followed_table_answers_as_before(self):
         table = yarib.Table()
         table.add("10.0.0.0/8", via=1)
+        self.assertIs(table.is_followed(), False)
         table.follow()
         table.follow()
+        self.assertIs(table.is_followed(), True)
         self.assertGreaterEqual(table.memory(), 1 << 26)
         table.add("10.1.0.0/16", via=2)
         table.replace("10.0.0.0/8", via=3)
@@ -371,7 +373,9 @@ class Threads(unittest.TestCase):
                 faults.append(fault)
 
         publish(0)
+        self.assertIs(table.is_followed(), False)
         table.follow()
+        self.assertIs(table.is_followed(), True)
         readers = [threading.Thread(target=read) for _ in range(4)]
         for thread in readers:
             thread.start()

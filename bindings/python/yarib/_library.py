@@ -56,6 +56,7 @@ CALLS: Dict[str, Tuple[Any, ...]] = {
     "yarib_reserve": (POINTER, SIZE),
     "yarib_look_up": (POINTER, POINTER, SIZE, POINTER, SIZE),
     "yarib_look_up_one": (POINTER, NUMBER, POINTER),
+    "yarib_look_up_text": (POINTER, ctypes.c_char_p, SIZE, POINTER),
     "yarib_look_up_all": (POINTER, NUMBER, SIZE, POINTER, SIZE, POINTER),
     "yarib_routes": (POINTER, SIZE, POINTER, SIZE, POINTER),
     "yarib_routes_from": (POINTER, POINTER, POINTER, SIZE, POINTER),
@@ -66,6 +67,7 @@ CALLS: Dict[str, Tuple[Any, ...]] = {
     "yarib_forward": (POINTER, POINTER),
     "yarib_share": (POINTER, POINTER),
     "yarib_follow": (POINTER,),
+    "yarib_fib_is_attached": (POINTER, POINTER),
     "yarib_memory": (POINTER, POINTER),
     "yarib_concurrent_new": (POINTER, NUMBER),
     "yarib_prefix_parse": (ctypes.c_char_p, SIZE, POINTER),
@@ -75,10 +77,10 @@ CALLS: Dict[str, Tuple[Any, ...]] = {
 }
 # Calls without conversions of their arguments, which take half of a short call's time. Each argument must be a number below 1 << 31
 # or, if C reads 32 bits, 1 << 32; a bytes object or a reference.
-PLAIN = ("yarib_apply", "yarib_look_up_one", "yarib_routes_from", "yarib_prefix_parse", "yarib_address_parse")
+PLAIN = ("yarib_apply", "yarib_look_up_one", "yarib_look_up_text", "yarib_routes_from", "yarib_prefix_parse", "yarib_address_parse")
 # The calls for a concurrent table that are declared as those for a table.
-CONCURRENT = ("free", "apply", "apply_each", "look_up", "look_up_one", "look_up_all", "routes", "routes_from", "select", "count",
-              "follow", "memory")
+CONCURRENT = ("free", "apply", "apply_each", "look_up", "look_up_one", "look_up_text", "look_up_all", "routes", "routes_from", "select", "count",
+              "follow", "fib_is_attached", "memory")
 CALLS.update({"yarib_concurrent_" + (name if name != "follow" else "fib_attach"): CALLS["yarib_" + name] for name in CONCURRENT})
 
 

@@ -296,9 +296,16 @@ def ask_one(handle: Any, address: Address, calls: Any = held) -> Optional[Route]
         room = rooms.pop()
     except IndexError:
         room = Room()
-    asked = address_in(room, address)
-    if calls.yarib_look_up_one(handle, asked, room.at):
-        done(calls.yarib_look_up_one, handle, asked, room.at)
+    if type(address) is str:
+        # One call of the library takes less time than two.
+        text = address.encode("utf-8", "surrogateescape")
+        size = len(text) if len(text) < MANY else ctypes.c_size_t(len(text))
+        if calls.yarib_look_up_text(handle, text, size, room.at):
+            check(status_of(calls.yarib_look_up_text, handle, text, size, room.at), address)
+    else:
+        asked = address_in(room, address)
+        if calls.yarib_look_up_one(handle, asked, room.at):
+            done(calls.yarib_look_up_one, handle, asked, room.at)
     base, pref, via, feed, length, hop = ROUTE_FROM(room.bytes)
     rooms.append(room)
     return new(Route, (base, length, feed, pref, via if hop == c.VIA else None)) if hop else None
@@ -482,6 +489,13 @@ class Routes(Handle):
             yield from routes_of(memoryview(page)[:used.value * ROUTE.size])
             base, pref, via, feed, length, hop = ROUTE.unpack_from(page, (PAGE - 1) * ROUTE.size)
             place = ROUTE.pack(base, pref, via, feed + 1, length, hop)
+
+    def is_followed(self) -> bool:
+        """Returns True if a forwarding table is attached, which look-ups use. After `follow` this is False only once a
+        change found no memory to update it. A ConcurrentTable answers for the published one of its two tables."""
+        found = ctypes.c_uint32()
+        done(self._held.yarib_fib_is_attached, self._at, ctypes.byref(found))
+        return found.value == 1
 
     def __iter__(self) -> Iterator[Route]:
         """Iterates over all routes, page by page, like `routes_from`."""

@@ -25,7 +25,7 @@ mod source;
 use raw::Read;
 
 pub use files::FileError;
-pub use source::Source;
+pub use source::{ConcurrentSource, Source};
 
 use std::cmp::Ordering;
 use std::fmt;
@@ -910,6 +910,15 @@ macro_rules! reading_calls {
             /// [`Error::Busy`].
             pub fn memory(&self) -> Result<usize> {
                 self.0.memory().map_err(Error::of)
+            }
+
+            /// Returns true if a forwarding table is attached, which look-ups use. After `follow` this is false only once a change found
+            /// no memory to update it. A concurrent table answers for the published one of its two tables.
+            ///
+            /// # Errors
+            /// [`Error::Busy`].
+            pub fn is_followed(&self) -> Result<bool> {
+                self.0.is_followed().map_err(Error::of)
             }
         }
     };

@@ -161,6 +161,7 @@ extern "C" {
     fn yarib_fib_new(table: *const Handle, forwarding: *mut Handle) -> u32;
     fn yarib_fib_clone(forwarding: *const Handle, other: *mut Handle) -> u32;
     fn yarib_fib_attach(table: *mut Handle) -> u32;
+    fn yarib_fib_is_attached(table: *const Handle, attached: *mut u32) -> u32;
     fn yarib_memory(table: *const Handle, bytes: *mut usize) -> u32;
     fn yarib_concurrent_new(table: *const Concurrent, limit: u32) -> u32;
     fn yarib_concurrent_free(table: *mut Concurrent) -> u32;
@@ -177,6 +178,7 @@ extern "C" {
         room: usize,
     ) -> u32;
     fn yarib_concurrent_fib_attach(table: *const Concurrent) -> u32;
+    fn yarib_concurrent_fib_is_attached(table: *const Concurrent, attached: *mut u32) -> u32;
     fn yarib_concurrent_look_up(
         table: *const Concurrent,
         addresses: *const u32,
@@ -311,10 +313,11 @@ pub trait Read: Debug + Sync {
     fn select(&self, asked: &Selection, routes: &mut [Route]) -> Result<usize, u32>;
     fn count(&self) -> Result<usize, u32>;
     fn memory(&self) -> Result<usize, u32>;
+    fn is_followed(&self) -> Result<bool, u32>;
 }
 
 macro_rules! read_by {
-    ($handle:ty: $look_up:ident, $look_up_one:ident, $look_up_all:ident, $routes:ident, $routes_from:ident, $select:ident,
+    ($handle:ty: $is_attached:ident, $look_up:ident, $look_up_one:ident, $look_up_all:ident, $routes:ident, $routes_from:ident, $select:ident,
         $count:ident, $memory:ident) => {
         impl Read for $handle {
             fn look_up(&self, addresses: &[u32], answers: &mut [Route]) -> Result<(), u32> {
@@ -367,13 +370,20 @@ macro_rules! read_by {
                 told(unsafe { $memory(self, &mut bytes) })?;
                 Ok(bytes)
             }
+
+            fn is_followed(&self) -> Result<bool, u32> {
+                let mut attached = 0;
+                told(unsafe { $is_attached(self, &mut attached) })?;
+                Ok(attached == 1)
+            }
         }
     };
 }
 
-read_by!(Handle: yarib_look_up, yarib_look_up_one, yarib_look_up_all, yarib_routes, yarib_routes_from, yarib_select, yarib_count,
-    yarib_memory);
-read_by!(Concurrent: yarib_concurrent_look_up, yarib_concurrent_look_up_one, yarib_concurrent_look_up_all, yarib_concurrent_routes,
+read_by!(Handle: yarib_fib_is_attached, yarib_look_up, yarib_look_up_one, yarib_look_up_all, yarib_routes, yarib_routes_from,
+    yarib_select, yarib_count, yarib_memory);
+read_by!(Concurrent: yarib_concurrent_fib_is_attached, yarib_concurrent_look_up, yarib_concurrent_look_up_one,
+    yarib_concurrent_look_up_all, yarib_concurrent_routes,
     yarib_concurrent_routes_from, yarib_concurrent_select, yarib_concurrent_count, yarib_concurrent_memory);
 
 // SAFETY, of each call: as above, and a concurrent table may have any calls at once, but for its free.

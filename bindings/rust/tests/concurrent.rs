@@ -4,7 +4,9 @@
 use std::net::Ipv4Addr;
 use std::sync::atomic::{AtomicBool, AtomicU32, Ordering};
 use std::thread;
-use yarib::{Command, ConcurrentTable, Error, Hop, Part, Prefix, Route, Selection, Table};
+use yarib::{
+    Command, ConcurrentTable, Error, Hop, Part, Prefix, Reply, Route, Selection, Source, Table,
+};
 
 const PREFIXES: u32 = 64;
 const CHANGES: u32 = 300;
@@ -265,9 +267,68 @@ fn tables_are_freed() {
     };
     let before = resident();
     for _ in 0..8 {
-        ConcurrentTable::new(5).unwrap().follow().unwrap();
+        let table = ConcurrentTable::new(5).unwrap();
+        assert_eq!(table.is_followed(), Ok(false));
+        table.follow().unwrap();
+        assert_eq!(table.is_followed(), Ok(true));
+        drop(table);
         Table::new(5).unwrap().follow().unwrap();
     }
     // Other tests hold two forwarding tables meanwhile.
     assert!(resident() < before + (6 << 26));
+}
+
+/// A source in a concurrent table does what it does in a table.
+#[test]
+fn a_source_is_the_same_in_both_tables() {
+    let (mut table, shared) = (Table::new(50).unwrap(), ConcurrentTable::new(50).unwrap());
+    let (source, mut state) = (Source::new(3, 4).unwrap(), 1_u64);
+    let own = source.of(&shared);
+    let mut seen = [0; 6];
+    for feed in [1, 2, 7] {
+        table.add(feed, prefix(9, 8), feed, via(1)).unwrap();
+        shared.add(feed, prefix(9, 8), feed, via(1)).unwrap();
+    }
+    for _ in 0..4_000 {
+        state = state
+            .wrapping_mul(6_364_136_223_846_793_005)
+            .wrapping_add(1_442_695_040_888_963_407);
+        let drawn = u32::try_from(state >> 33).unwrap();
+        let (one, pref, hop) = (
+            prefix(drawn % 150, 8 + u8::from(drawn % 7 == 0)),
+            drawn % 11,
+            via(drawn % 13),
+        );
+        let (found, wanted) = match drawn / 1024 % 16 {
+            0..=6 => (
+                own.add(one, pref, hop),
+                source.add(&mut table, one, pref, hop),
+            ),
+            7..=9 => (
+                own.put(one, pref, hop),
+                source.put(&mut table, one, pref, hop),
+            ),
+            10..=11 => (
+                own.replace(one, pref, hop),
+                source.replace(&mut table, one, pref, hop),
+            ),
+            12..=14 => (own.withdraw(one), source.withdraw(&mut table, one)),
+            _ if drawn / 65536 % 8 > 0 => continue,
+            _ => (
+                own.purge().map(Reply::Purged),
+                source.purge(&mut table).map(Reply::Purged),
+            ),
+        };
+        assert_eq!(found, wanted);
+        seen[match found {
+            Ok(Reply::Added) => 0,
+            Ok(Reply::Replaced) => 1,
+            Ok(Reply::Withdrawn) => 2,
+            Ok(Reply::Purged(count)) => 3 + usize::from(count == 0),
+            _ => 5,
+        }] += 1;
+        assert_eq!(shared.routes(), table.routes());
+        assert_eq!(own.routes(), source.routes(&table));
+    }
+    assert!(seen[..4].iter().all(|count| *count > 5), "{seen:?}");
 }

@@ -381,8 +381,9 @@ fn a_followed_table_answers_as_before() {
         },
     );
     let mut table = Table::new(50).unwrap();
-    assert_eq!(table.memory(), Ok(0));
+    assert_eq!((table.memory(), table.is_followed()), (Ok(0), Ok(false)));
     table.follow().unwrap();
+    assert_eq!(table.is_followed(), Ok(true));
     assert!(table.memory().unwrap() >= 1 << 26);
     for _ in 0..300 {
         let (feed, command) = (1 + draw.below(3), draw.command());
