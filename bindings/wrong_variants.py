@@ -444,7 +444,7 @@ PYTHON = noticed_by({
     ),
     "test_calls.Calls.test_each_call_answers_as_the_model": (
         "best is forgotten in within", "numpy's fields are exchanged", "numpy's length and hop are exchanged",
-        "put keeps an old route", "put overlooks a full feed",
+        "put keeps an old route", "put overlooks a full feed", "a replace is an add", "the text of an address is cut",
     ),
     "test_calls.Given.test_numbers_out_of_range": (
         "feed 0 selects all", "routes(feed=0) gives all",
@@ -478,19 +478,23 @@ PYTHON = noticed_by({
         "reasons are exchanged", "closed and unsupported are exchanged",
     ),
     "test_yarib.Tables.test_a_followed_table_answers_as_before": (
-        "the size without what is attached",
+        "the size without what is attached", "every table is followed",
     ),
     "test_calls.Given.test_the_library_is_the_named_one": (
         "another library is loaded",
     ),
     "test_calls.Conventions.test_other_types_and_wide_numbers": (
         "an IPv6 address is read as a number", "a float is read as a number", "a reserve of 1 << 70 succeeds",
+        "an invalid text of an address is overlooked",
     ),
     "test_yarib.Tables.test_what_is_no_number_or_text_is_refused": (
         "a wide length wraps",
     ),
     "test_calls.Conventions.test_saved_tables_load": (
         "load skips a line", "save writes all feeds",
+    ),
+    "test_yarib.Threads.test_they_read_one_published_table": (
+        "one of two tables is counted", "a concurrent table isn't followed", "a batch is published one by one",
     ),
     "test_calls.Conventions.test_with_close_and_repr": (
         "close leaves a forwarding table open",
@@ -502,12 +506,13 @@ GO = noticed_by({
     "TestEveryCallAnswersAsTheModel": (
         "an entry's feed", "an entry's prefix", "an entry's preference", "an entry's hop", "an entry's address",
         "an entry's reply", "only best is forgotten", "the best of a prefix is the shortest",
+        "all matches are cut to the best",
     ),
     "TestWhatIsRefusedIsNamed": (
         "a selection's feed is forgotten", "by route as by hop", "by hop as by route", "an error blames the prefix",
     ),
     "TestBothSidesOfEachDifference": (
-        "the sides are exchanged", "differences end at the first",
+        "the sides are exchanged", "differences end at the first", "a walk over differences doesn't stop",
     ),
     "TestWhatIsRefused": (
         "a faulty command without an error", "mapped prefixes are accepted", "no router is discard",
@@ -515,7 +520,42 @@ GO = noticed_by({
         "parts are called otherwise",
     ),
     "TestListsAtPageBoundaries": (
-        "a page is the last",
+        "a page is the last", "a walk doesn't stop", "the zero place is the second half", "lists are cut at 64",
+        "a page is cut",
+    ),
+    "TestMemoryIsFreed": (
+        "nothing is freed by Close", "nothing is freed by the collector", "every table is followed",
+    ),
+    "TestConcurrentTablesAreFreed": (
+        "a concurrent table isn't freed", "a concurrent table isn't followed",
+    ),
+    "TestAZeroTableIsClosed": (
+        "a zero table panics",
+    ),
+    "TestEveryCallOfAConcurrentTableAnswersAsTheModel": (
+        "all matches in a concurrent table are cut", "one of two tables is counted",
+    ),
+    "TestGoroutinesReadOnePublishedTable": (
+        "a page of a table that grows is cut", "a batch is published one by one", "answers are from several tables",
+    ),
+    "TestEveryReaderOfAConcurrentTableGoesOn": (
+        "readers of a concurrent table wait for a change",
+    ),
+    "TestGoroutinesChangeOneConcurrentTable": (
+        "two changes of a concurrent table at once",
+    ),
+    "TestFilesHoldEveryRoute": (
+        "save writes all feeds", "load skips a last line without its end",
+    ),
+    "TestEveryFaultyLineIsNamed": (
+        "load counts lines from 0", "load accepts long comments",
+        "load accepts other forms of a preference", "load accepts discard in version 1",
+    ),
+    "TestWhereEveryPrefixOfASourceIs": (
+        "a source uses one feed", "a source deals otherwise",
+    ),
+    "TestASourceIsOneFeedInEveryAnswer": (
+        "a source purges its first feed", "a source lists other feeds",
     ),
 }, GO)
 
@@ -564,7 +604,11 @@ RUST = noticed_by({
         "a page that just fits is the last", "a page is given again",
     ),
     "concurrent tables_are_freed": (
-        "nothing is freed", "a concurrent table isn't freed",
+        "nothing is freed", "a concurrent table isn't freed", "every table is followed",
+    ),
+    "concurrent a_source_is_the_same_in_both_tables": (
+        "a source in a concurrent table purges its first feed", "a source in a concurrent table lists other feeds",
+        "a source in a concurrent table keeps the old route", "a source in a concurrent table counts its last purge",
     ),
     "model faulty_lines_are_named": (
         "load skips a last line without its end", "load counts lines from 0", "load accepts long comments",
@@ -574,7 +618,7 @@ RUST = noticed_by({
         "a source uses one feed", "a source deals otherwise",
     ),
     "model a_source_is_one_feed": (
-        "a source purges its first feed",
+        "a source purges its first feed", "a source lists other feeds",
     ),
 }, RUST)
 

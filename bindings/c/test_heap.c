@@ -196,10 +196,11 @@ static void give_back(void)
 static void *give_back_kept(void *unused)
 {
     give_back_many(true);
+    give_back_many(false);
     return unused;
 }
 
-/* Blocks are kept only where there is more than one thread. */
+/* Blocks are kept only if there is more than one thread, and no longer than they are to be. */
 static void give_back_together(void)
 {
     pthread_t thread;
@@ -209,12 +210,12 @@ static void give_back_together(void)
 /* Allocates until 150 MB more are in use. Refusals leave what is held, and after a free there is memory again. */
 static void refuse(void)
 {
-    size_t size = 0, most = taken_bytes(false) + (150u << 20);
+    size_t size = 0, bytes = 0, most = taken_bytes(false) + (150u << 20);
     struct rlimit limit = {.rlim_cur = most, .rlim_max = most};
     CHECK(setrlimit(RLIMIT_AS, &limit) == 0);
     struct tried made;
     for (; (made = rattle_alloc(1 + size % 128, 1)).ok; size++) {
-        CHECK(size < MANY * 10);
+        CHECK((bytes += 1 + size % 128) < most);
         *(unsigned char *)made.block = size;
         if (size < MANY) many[size] = made.block;
     }

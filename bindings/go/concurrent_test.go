@@ -200,7 +200,7 @@ func TestGoroutinesReadOnePublishedTable(t *testing.T) {
 				readPublished(t, one, &last, ended)
 			}()
 		}
-		for k := uint32(1); k <= published; k++ {
+		for k := uint32(1); k <= published && !t.Failed(); k++ {
 			publish(t, one, k)
 			atomic.StoreUint32(&last, k)
 		}

@@ -380,7 +380,8 @@ class Threads(unittest.TestCase):
         for thread in readers:
             thread.start()
         for k in range(1, self.CHANGES + 1):
-            publish(k)
+            if not faults:
+                publish(k)
         ended.set()
         for thread in readers:
             thread.join()

@@ -149,10 +149,12 @@ fn threads_read_one_published_table() {
             }
         };
         thread::scope(|scope| {
-            for _ in 0..4 {
-                scope.spawn(reader);
-            }
+            let readers: Vec<_> = (0..4).map(|_| scope.spawn(reader)).collect();
             for k in 1..=CHANGES {
+                // A reader ends early only by a failed assertion.
+                if readers.iter().any(thread::ScopedJoinHandle::is_finished) {
+                    break;
+                }
                 publish(&table, k);
                 done.store(k, Ordering::SeqCst);
             }
@@ -250,9 +252,11 @@ fn readers_go_on_during_a_change() {
                 }
             });
             is_changing.store(true, Ordering::SeqCst);
-            table.apply_each(&commands).unwrap();
+            // The threads end even if this change fails.
+            let replies = table.apply_each(&commands);
             is_changing.store(false, Ordering::SeqCst);
             ended.store(true, Ordering::SeqCst);
+            replies.unwrap();
         });
         read.load(Ordering::SeqCst) > 1_000
     });
