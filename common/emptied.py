@@ -26,8 +26,8 @@ def module_of(file, src):
 
 def functions(src):
     """Returns the sources below this directory, each with its functions outside traits and their paths as the prover writes
-    them. A method is below its type, wherever its impl is, and one of the trait `Tr<A>` for the type `T` below `TTrA`,
-    except that of `Drop`."""
+    them. A method is below its type, wherever its impl is. One of the trait `Tr<A>` for the type `T` is below `TTrA`,
+    or `TTr` if `A` is `T`, and that of `Drop` below `T`."""
     files = {file: Source(file) for file in src.rglob("*.rt")}
     homes = {item.name: module_of(file, src) for file, one in files.items() for item in one.items
              if item.kind in ("struct", "enum")}
@@ -40,7 +40,8 @@ def functions(src):
                 trait, owner = item.of_impl()
                 trait = None if trait == "Drop" else trait
                 given = re.search(rf"\b{trait}<(?:\w+::)*(\w+)>", " ".join(item.lines)) if trait else None
-                path = (*homes.get(owner, module_of(file, src)), owner + (trait or "") + (given[1] if given else ""))
+                given = given[1] if given and given[1] != owner else ""
+                path = (*homes.get(owner, module_of(file, src)), f"{owner}{trait or ''}{given}")
                 yield from (((*path, one.name), one) for one in item.members() if one.kind == "fn")
 
     return {file: list(found(file)) for file in files}
