@@ -87,11 +87,6 @@ def empty(crate, folder, whole):
 
 # A name of no goal.
 UNKNOWN = "goal-of-no-function"
-ANSWER = """use Rattle.{crate}.proofs.{path}.Goals as every_goal
-{text}
-pub {name} : every_goal.{name}
-{name} c = ?
-"""
 
 
 def ask_no_offers(crate, folder, function):
@@ -101,7 +96,11 @@ def ask_no_offers(crate, folder, function):
     proofs = folder / "proofs"
     is_recursive = proofs.joinpath(*module, f"+{name}").exists()
     path = [*module, f"+{name}" if is_recursive else name]
-    file = proofs.joinpath(*path, "Answers.antt")
+    file, goals = proofs.joinpath(*path, "Answers.antt"), f"Rattle.{crate}.proofs.{'.'.join(path)}.Goals"
     file.parent.mkdir(parents=True, exist_ok=True)
     text = file.read_text() if file.exists() else ""
-    file.write_text(ANSWER.format(crate=crate, path=".".join(path), text=text, name=UNKNOWN))
+    if goals not in text:
+        text = f"use {goals} as goal\n{text}"
+    # A file may import a module only once.
+    if named := re.search(rf"^use {re.escape(goals)} as (\w+)$", text, re.M):
+        file.write_text(f"{text}\npub {UNKNOWN} : {named[1]}.{UNKNOWN}\n{UNKNOWN} c = ?\n")

@@ -1,9 +1,10 @@
 #!/usr/bin/env python3
 """Runs tools/mutants on mutants of a small crate, and checks its verdict on each.
 
-tests/mutants.py, with the toolchain on PATH. Among the mutants are an equivalent one, one that can't be read and is in a
-round with another, and one whose function calls another that is refused in the same round. The kept verdict on a
-refused mutant has to be forgotten if a text changes that the verdict can depend on, and only then.
+tests/mutants.py, with the toolchain on PATH. Among the mutants are an equivalent one, in a function with an answer, one
+that can't be read and is in a round with another, and one whose function calls another that is refused in the same
+round. The kept verdict on a refused mutant has to be forgotten if a text changes that the verdict can depend on, and
+only then.
 """
 import os
 import pathlib
@@ -37,6 +38,14 @@ pub fn four_times(n: u64) -> u64
 {
     twice(twice(n))
 }
+"""
+# An answer to a goal that the prover would prove by itself.
+ANSWERS = """\
+use Rattle.std.proofs.Common.{rules}
+use Rattle.small.proofs.four_times.Goals as goal
+
+pub returns : goal.returns
+returns c = search rules
 """
 # For each mutant: its old and new text, the function in which it has to be refused, and the beginning of its line in
 # the output.
@@ -145,6 +154,8 @@ def main():
         for part in ("src", "must-fail"):
             (folder / part).mkdir(parents=True)
         (folder / "src/lib.rt").write_text(SOURCE)
+        (folder / "proofs/four_times").mkdir(parents=True)
+        (folder / "proofs/four_times/Answers.antt").write_text(ANSWERS)
         sections = [listed(name, *body[:3]) for name, body in sorted(BODIES.items())]
         (folder / "must-fail/mutants.md").write_text("\n".join(["# Wrong bodies\n", *sections]))
         ran = subprocess.run([TOP / "tools/mutants", "--of", room], stdout=subprocess.PIPE, text=True)
