@@ -120,7 +120,7 @@ def refused_commands(yarib):
 # Catches F3 for a look-up of many addresses if the allocation of a forwarding table fails.
 def refused_forwarding(yarib):
     """Look-ups of enough addresses that a forwarding table answers them, with refused memory requests. The last
-    requests are that table's and one for the output: only the last one prevents the answers from being printed."""
+    requests are that table's, and none of them prevents the answers from being printed."""
     refuse = refuser(pathlib.Path.cwd())
     text, asked, answers = many_routes(FORWARDED[1])
     times = FORWARDED[0] // len(asked) + 1
@@ -135,7 +135,7 @@ def refused_forwarding(yarib):
     ends = [run_refused(words, refuse, made - back)[:3] for back in (0, 1, 2, 3, 6, 11, 21)]
     refused = (5, "", "yarib: fault F3\n")
     found = ["whole" if ended == whole else "refused" if ended == refused else "else" for ended in ends]
-    expect("look-ups where a forwarding table is refused", found, ["refused"] + ["whole"] * 6)
+    expect("look-ups where a forwarding table is refused", found, ["whole"] * 7)
 
 
 # Files
