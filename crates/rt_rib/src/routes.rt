@@ -42,7 +42,7 @@ pub enum Reason {
 }
 
 impl Route {
-    /// Returns the reason why the route is not the best one of an address for which this route is.
+    /// Returns the reason why the route is not the best one of an address whose best route is `best`.
     pub fn reason(&self, best: &Route) -> Reason
         ensures { result ≡ reason best.now self.now }
     {
