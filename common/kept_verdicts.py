@@ -16,7 +16,7 @@ from . import kept
 from .crates import CRATES, TOP, below, heads
 from .rust_sources import Source
 
-SCRIPTS = ("tools/mutants", "common/mutant_lists.py", "common/prover.py", "common/emptied.py", "common/rust_sources.py")
+SCRIPTS = ("tools/mutants", "common/mutant_lists.py", "common/prover.py", "common/mutant_copy.py", "common/rust_sources.py")
 CITED = re.compile(r"\bproofs\.([\w.+']+)")
 
 

@@ -1,7 +1,9 @@
-"""Empties the bodies of functions in a copy of a crate, so that the prover has less to check there.
+"""Puts mutants of functions into a copy of a crate, and empties the bodies of other functions, so that one check decides
+about many mutants and the prover has less to check.
 
 A function is proved from its own text and the contracts of what it calls, never from the body of another function. So
-only the bodies in question stay. Every other function waits forever, and its proof is a hole: the prover takes it by its
+further mutants of one function can stand beside it under names of their own, each with a copy of its proof. And only
+the bodies in question stay. Every other function waits forever, and its proof is a hole: the prover takes it by its
 contract. A function stays whole if others see more of it than its contract, if its proof is by hand or for several
 functions, or if another proof cites a part of its proof."""
 import re
@@ -61,6 +63,54 @@ def cited(proofs):
 def is_seen(item):
     """Whether other functions see more of a function than its contract: its value, or the type of its result."""
     return re.search(r"\bconst fn\b|-> *[^{]*\bimpl\b", "\n".join(item.lines[:item.clauses_end()]))
+
+
+def changed_by(body, text):
+    """Returns the function that a mutant changes, as it stands in this source with the mutant."""
+    return Source(None, body.changed(text)).function_at(min(body.places(text))[0])
+
+
+def may_copy(folder, body):
+    """Returns whether a mutant can be a function beside the one that it changes: a function of a module or of a type, and not
+    of a trait, that doesn't call itself, and whose proof is its own."""
+    *path, name = body.function.split("::")
+    text = (folder / body.file).read_text()
+    item, home = changed_by(body, text), folder.joinpath("proofs", *path)
+    around = next(one for one in Source(None, text).items if one.start <= item.start < one.end)
+    is_free = around.kind == "fn" or around.kind == "impl" and not around.of_impl()[0]
+    is_apart = (home / f"+{name}").exists() or (home / name / "Proof.antt").exists() or any(home.rglob(f"fn/{name}"))
+    return is_free and not is_apart and not re.search(rf"\b{name}\(", "\n".join(item.lines[1:]))
+
+
+def plant(folder, file, bodies):
+    """Puts mutants of functions into a source of the copy, and returns the path of each one's function. The first of a
+    function takes its place; the others are below it, each with a name of its own."""
+    text = (folder / file).read_text()
+    lines, places, paths = text.split("\n"), {}, {}
+    for body in bodies:
+        places.setdefault(min(body.places(text))[0], []).append(body)
+    for start, its in sorted(places.items(), reverse=True):
+        written = []
+        for number, body in enumerate(its, 1):
+            item = changed_by(body, text)
+            head, *rest = item.written()
+            name = item.name if number == 1 else f"{item.name}_mutant_{number}"
+            written += item.above() * (number > 1) + [head.replace(f"fn {item.name}", f"fn {name}", 1), *rest]
+            paths[body] = "::".join([*body.function.split("::")[:-1], name])
+        lines[start:Source(None, text).function_at(start).end] = written
+    (folder / file).write_text("\n".join(lines))
+    return paths
+
+
+def copy_proof(folder, function, other):
+    """Gives a function of this copy the proof of another, for a text like the other's."""
+    old, new = (folder.joinpath("proofs", *path.split("::")) for path in (function, other))
+    if old == new or not old.exists():
+        return
+    shutil.copytree(old, new)
+    cited = re.compile(rf"\bproofs\.{re.escape('.'.join(function.split('::')))}(?![\w+'-])")
+    for file in new.rglob("*.antt"):
+        file.write_text(cited.sub(f"proofs.{'.'.join(other.split('::'))}", file.read_text()))
 
 
 def empty(crate, folder, whole):
