@@ -22,7 +22,7 @@
 //! lemmas of `proofs/Promised.antt`, which are part of the crate's promises.
 //!
 //! Tested, not proved: [`Machine::new`] and [`replay`] can allocate if memory is available. The table of steps is the
-//! one in docs/LOCK.md: lock_tests compares with a second machine, written from that table.
+//! one in docs/LOCK.md: `library_tests` compares with a second machine, written from that table.
 #![tactic(auto)]
 
 pub mod laws;
