@@ -143,12 +143,6 @@ def constructors(definition):
     return {match[1] for line in definition.lines[1:] if (match := re.match(r"\s+(\S+) :", line))}
 
 
-def all_definitions(crate):
-    for file in sorted((CRATES / crate / "specs").rglob("*.antt")):
-        module = ".".join(("Rattle", crate, *file.relative_to(CRATES / crate).with_suffix("").parts))
-        yield from spec_module(module)[0].values()
-
-
 def is_type(item, name):
     return item.name == name and item.kind in RUST_TYPES
 

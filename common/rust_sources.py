@@ -159,13 +159,3 @@ def source(file):
 def sources(crate):
     """Returns the sources of a crate. None is for tests: those are in tests/libraries/."""
     return [source(file) for file in sorted((CRATES / crate / "src").rglob("*.rt"))]
-
-
-def root_of(crate):
-    src = CRATES / crate / "src"
-    return src / "lib.rt" if (src / "lib.rt").exists() else src / "main.rt"
-
-
-@functools.cache
-def items_of(crate):
-    return [item for one in sources(crate) for item in one.items]
