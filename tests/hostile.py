@@ -64,8 +64,8 @@ def little_memory(yarib):
     small, own = written("small", row), written("own", many)
     cases = [
         ("one small file", ["run", *small], row, 16_384, 0),
-        ("one long file", ["run", "--batch", "100", *written("long", long)], long, 65_536, 0.005),
-        ("64 files", ["run", *own], many, 65_536, 0.02),
+        ("one long file", ["run", "--batch", "100", *written("long", long)], long, 65_536, 0.02),
+        ("64 files", ["run", *own], many, 65_536, 0.05),
         ("a look-up in 64 files", ["lookup", "--address", "9.2.3.4", *own], None, 65_536, 0.1),
         ("all that covers, in 64 files", ["lookup", "--all", "--address", "9.2.3.4", *own], None, 65_536, 0.1),
         ("the table of 64 files", ["table", *own], None, 65_536, 0.1),
