@@ -130,7 +130,7 @@ def built_benches(*words):
 
 def run(words, **how):
     """Status, standard output and standard error of one call, or that it had no end in time."""
-    how = {"stdout": subprocess.PIPE, "stderr": subprocess.PIPE, "timeout": 120} | how
+    how = {"stdout": subprocess.PIPE, "stderr": subprocess.PIPE, "timeout": 600} | how
     try:
         ended = subprocess.run(words, **how)
     except subprocess.TimeoutExpired:
