@@ -432,7 +432,7 @@ int main(int size, char **words)
     yarib_command one = add(1, 1);
     yarib_reply reply;
     int run = 0;
-    alarm(60);
+    alarm(600);
     CHECK(sem_init(&is_inside, 0, 0) == 0 && sem_init(&may_leave, 0, 0) == 0);
     CHECK(yarib_new(&other, 1, YARIB_PLAIN) == YARIB_DONE && yarib_apply(&other, &one, &reply) == YARIB_DONE);
     for (size_t k = 0; k < sizeof tests / sizeof *tests; k++) {

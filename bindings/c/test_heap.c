@@ -114,7 +114,7 @@ static void fork_meanwhile(void)
         CHECK(child >= 0 && before.ok);
         if (child == 0) {
             void *held[16] = {NULL};
-            alarm(10);
+            alarm(60);
             for (int j = 0; j < 5000; j++) {
                 struct tried one = rattle_alloc(1 + j % 128, 8);
                 CHECK(one.ok);
@@ -260,7 +260,7 @@ static const struct {
 int main(int size, char **words)
 {
     int run = 0;
-    alarm(60);
+    alarm(600);
     for (int k = 0; k < SHELVES; k++) CHECK(pthread_mutex_init(&locks[k], NULL) == 0);
     for (size_t k = 0; k < sizeof tests / sizeof *tests; k++) {
         if (size > 1 && strcmp(words[1], tests[k].name) != 0) continue;
