@@ -7,7 +7,7 @@ use Rattle.rt_cidr.specs.declared.address.Addr.{Addr}
 use Rattle.rt_cidr.specs.declared.prefixes.Prefix.{Prefix}
 use Rattle.rt_cidr.specs.Cidr.{size_of}
 use Rattle.rt_cidr.specs.Prefix.{covers, contains}
-use Rattle.rt_cidr.proofs.Ranges.{same_prefix, size_pos, covers_range}
+use Rattle.rt_cidr.proofs.Ranges.{prefix_by_parts, size_pos, covers_range}
 
 -- a shorter length has larger blocks, each a whole number of the longer one's
 size_grows : (m n : ℕ) → m ≤ n → n ≤ 32 → size_of m ≡ size_of n * 2 ^ (n - m)
@@ -40,7 +40,7 @@ covering_are_same p q a by_p by_q len =
     let blocks : p.base / size_of p.len * size_of p.len ≡ q.base / size_of p.len * size_of p.len = ap (λ n. n * size_of p.len) (sym one ∙ two) in
     let p_clear = p.is_prefix.clear in
     let q_clear = rw (sym len) at q.is_prefix.clear in
-    same_prefix p q (omega (arith, div-add-mod' p.base (size_of p.len), div-add-mod' q.base (size_of p.len))) len
+    prefix_by_parts p q (omega (arith, div-add-mod' p.base (size_of p.len), div-add-mod' q.base (size_of p.len))) len
 
 -- a prefix covers all addresses that a prefix in it covers
 contains_covers : (p q : Prefix) → IsTrue (contains p q) → (a : Addr) → IsTrue (covers q a) → IsTrue (covers p a)

@@ -7,7 +7,7 @@ use Rattle.rt_cidr.specs.declared.prefixes.TextFault.TheVariants.{Text, Length, 
 use Rattle.rt_cidr.specs.Cidr.{IsPrefix}
 use Rattle.rt_cidr.specs.Text.{IsPrefixText, address_text, prefix_text}
 use Rattle.rt_cidr.specs.Reading.{ReadsDecimal, ReadsAddress, ReadsPrefix, AnswersPair}
-use Rattle.rt_cidr.proofs.Ranges.{same_prefix}
+use Rattle.rt_cidr.proofs.Ranges.{prefix_by_parts}
 use Rattle.rt_cidr.proofs.Texts.{decimal_one_number, address_one_number, pair_one_value, decimal_is_decimal, address_text_is_address, prefix_text_is_pair}
 
 pub decimal_one_answer : (text : List ℕ) (one two : Option ℕ) → ReadsDecimal text one →
@@ -42,7 +42,7 @@ no_bits q base len same_base same_len none = none (rw (same_base, same_len) at q
 
 pub pair_one_answer : (base len : ℕ) (one two : Result Prefix TextFault) → AnswersPair base len one →
     AnswersPair base len two → one ≡ two
-pair_one_answer base len (Ok p) (Ok q) one two = ap Ok (same_prefix p q (one.0 ∙ sym two.0) (one.1 ∙ sym two.1))
+pair_one_answer base len (Ok p) (Ok q) one two = ap Ok (prefix_by_parts p q (one.0 ∙ sym two.0) (one.1 ∙ sym two.1))
 pair_one_answer base len (Ok p) (Err Length) one two = absurd (not_too_long p len one.1 two)
 pair_one_answer base len (Ok p) (Err Bits) one two = absurd (no_bits p base len one.0 one.1 two.1)
 pair_one_answer base len (Err Length) (Ok q) one two = absurd (not_too_long q len two.1 one)

@@ -1,8 +1,8 @@
 -- The lemmas of this crate that proofs of the crates above may cite, besides the contracts of its functions. No other
 -- file of this directory is part of its interface.
 
--- a prefix covers some address
-pub use Rattle.rt_cidr.proofs.Ranges.{size_pos}
+-- a prefix covers some address, and two prefixes with the same base and length are equal
+pub use Rattle.rt_cidr.proofs.Ranges.{size_pos, prefix_by_parts}
 -- how a short text grows piece by piece
 pub use Rattle.rt_cidr.proofs.ShortTexts.{prepending}
 -- the maximum lengths of the texts of numbers, addresses and prefixes

@@ -21,8 +21,8 @@ pair_same base len one two = ap (λ (h : IsPrefix base len). let p : Prefix = re
 } in p) (IsPrefix-prop base len one two)
 
 -- two prefixes with the same base and length are equal
-pub same_prefix : (p q : Prefix) → p.base ≡ q.base → p.len ≡ q.len → p ≡ q
-same_prefix p q base len =
+pub prefix_by_parts : (p q : Prefix) → p.base ≡ q.base → p.len ≡ q.len → p ≡ q
+prefix_by_parts p q base len =
     let Base : ℕ → Type 0 = λ b. (h : IsPrefix b p.len) → ◌≡◌ {A = Prefix} p (record { base = b; len = p.len; is_prefix = h }) in
     let Len : ℕ → Type 0 = λ n. (h : IsPrefix q.base n) → ◌≡◌ {A = Prefix} p (record { base = q.base; len = n; is_prefix = h }) in
     subst Len len (subst Base base (λ h. pair_same p.base p.len p.is_prefix h)) q.is_prefix

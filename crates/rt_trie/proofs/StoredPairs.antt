@@ -3,7 +3,7 @@ use Rattle.std.proofs.Common.{◌≡◌, zero, suc, ◌<◌, ◌⊎◌, true, []
 use Rattle.std.specs.Prelude.{Contains, is_some}
 use Rattle.std.proofs.lemmas.Bool.{false≢true}
 use Rattle.rt_cidr.specs.declared.prefixes.Prefix.{Prefix}
-use Rattle.rt_cidr.specs.Laws.{SamePrefix}
+use Rattle.rt_cidr.proofs.Promised.{prefix_by_parts}
 use Rattle.rt_trie.specs.Map.{Pairs, get, IsStored, IsBeforeAll, IsOrdered}
 use Rattle.rt_trie.proofs.PrefixOrder.{rank, same_tells, same_rank, other_rank, rank_of_before}
 use Rattle.rt_trie.proofs.JoinedPairs.{AllKeys-map, IsHigher, IsOther, IsOther-higher, get-none}
@@ -50,15 +50,13 @@ module _ {V : Type 0} where
       let r : rank x < rank p = stored-higher x m p o.0 (stored-contained m p v (k, omega arith, e)) in
       rw (other_rank x p (λ d. absurd (omega arith))) (found-contained m p v o.1 (k, omega arith, e))
 
--- two prefixes with the same base and length are equal
-module _ (equal : SamePrefix) {V : Type 0} where
   pub contained-found : (m : Pairs V) (p : Prefix) (v : V) → get m p ≡ Some v → Contains m (p, v)
   contained-found [] p v h = cc
   contained-found ((x, w) ∷ m) p v h = elim (same_tells x p) [
     | inl s ↦
         let e : Some w ≡ Some v = rw s.0 at h in
         let f : w ≡ v = cc in
-        let d = equal x p s.1 s.2 in
+        let d = prefix_by_parts x p s.1 s.2 in
         (0, omega arith, cc)
     | inr s ↦
         let e : get m p ≡ Some v = rw s.0 at h in
@@ -82,7 +80,7 @@ module _ (equal : SamePrefix) {V : Type 0} where
           | inr t ↦ absurd (omega (arith, stored-higher y n x r.0 s, stored-higher x m y o.0 t))
         ]
         | inl e ↦
-            let d = equal y x e.0 e.1 in
+            let d = prefix_by_parts y x e.0 e.1 in
             let f : Some w ≡ Some u = rw (same_rank x x refl refl, same_rank y x e.0 e.1) at (h x) in
             let g : w ≡ u = cc in
             let t : m ≡ n = one-list m n o.1 r.1 (λ p. elim (same_tells x p) [

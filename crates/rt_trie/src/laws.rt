@@ -4,8 +4,6 @@
 ghost use Rattle.rt_trie.specs.Laws.{PutIsSeen, EraseIsSeen, PutKeepsOrder, EraseKeepsOrder, PairsAreFound, MapHasOneList};
 ghost use Rattle.rt_trie.specs.Laws.{ChildByNextBit};
 
-use rt_cidr::laws::same_prefix;
-
 /// An insertion and a removal only change the value at their own prefix, and keep the pairs in order.
 pub fn changes<V>()
     ensures put { PutIsSeen V }
@@ -18,9 +16,7 @@ pub fn changes<V>()
 pub fn one_list<V>()
     ensures found { PairsAreFound V }
     ensures one { MapHasOneList V }
-{
-    same_prefix();
-}
+{}
 
 /// A longer prefix is in the lower or upper half of a prefix's addresses if and only if it is contained in the prefix
 /// and has the bit 0 or 1, respectively, after the prefix's length. A node's children are such prefixes.

@@ -10,7 +10,7 @@ ghost use Rattle.rt_trie.specs.inside.Lawful.{IsKeyOf};
 ghost use Rattle.rt_trie.specs.inside.Blocks.{is_key, StandsAt};
 ghost use Rattle.rt_trie.specs.inside.Links.{leaf_link, fork_link, full_link, IsVacant, IsNodeView};
 
-use rt_cidr::{Addr, Prefix, laws};
+use rt_cidr::{Addr, Prefix};
 use std::alloc::Allocator;
 
 /// The maximum number of places on a path: one at its top, and one below a node of each length.
@@ -190,7 +190,6 @@ pub(crate) fn position_of(len: u8, base: u32, p: &Prefix) -> Position
             Position::Right
         }
     } else if is_key_of(len, base, p) {
-        laws::same_prefix();
         Position::Here
     } else if p.len() <= len && p.covers(Addr(base)) {
         Position::Above

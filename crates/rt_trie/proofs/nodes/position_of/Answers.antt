@@ -3,6 +3,7 @@ use Rattle.rt_trie.proofs.Blocks.{longer_of, range_of_covers, outside_of_covers,
 use Rattle.rt_trie.proofs.PrefixOrder.{same_tells}
 use Rattle.std.proofs.lemmas.Bool.{cases_lt, false≢true}
 use Rattle.rt_cidr.specs.declared.prefixes.Prefix.{Prefix}
+use Rattle.rt_cidr.proofs.Promised.{prefix_by_parts}
 use Rattle.rt_cidr.specs.Prefix.{covers}
 use Rattle.rt_trie.specs.Halves.{middle, past}
 use Rattle.rt_trie.specs.inside.Lawful.{IsKeyOf}
@@ -40,7 +41,7 @@ returns-else-offset-lt-HALF c = λ q k.
 pub returns-then-is_key_of : goal.returns-then-is_key_of
 returns-then-is_key_of c = λ q k.
     elim (same_tells q c.args.p.now) [
-      | inl e ↦ c.same_prefix.ensures c.args.p.now q (sym e.1) (sym e.2)
+      | inl e ↦ prefix_by_parts c.args.p.now q (sym e.1) (sym e.2)
       | inr n ↦ absurd (false≢true (sym n.0 ∙ sym (c.if-is_key_of.ensures.key q k)))
     ]
 
