@@ -11,7 +11,7 @@ use Rattle.rt_cidr.specs.declared.address.Addr.{Addr}
 use Rattle.rt_cidr.specs.declared.prefixes.Prefix.{Prefix}
 use Rattle.rt_cidr.specs.Cidr.{size_of}
 use Rattle.rt_cidr.specs.Prefix.{covers, same_prefix}
-use Rattle.rt_cidr.specs.Laws.{SamePrefix}
+use Rattle.rt_cidr.proofs.Promised.{prefix_by_parts}
 use Rattle.rt_rib.specs.declared.routes.Route.{Route}
 use Rattle.rt_rib.specs.Table.{below_then, is_better, is_of, precedes, IsTable}
 use Rattle.rt_rib.specs.LookUp.{look_up, best_routes}
@@ -217,7 +217,7 @@ IsTable-best t h =
     record { ordered = AllPairs-filter Ordered is_best t h.ordered; single = AllPairs-filter Apart is_best t h.single }
 
 -- filtering by prefix keeps the best routes of the prefixes that pass
-module _ (same : SamePrefix) (t : Prefix → Bool) where
+module _ (t : Prefix → Bool) where
   -- a table's routes that pass
   abbrev passing : List Route → List Route
   passing table = filter (λ r. t r.prefix) table
@@ -232,7 +232,7 @@ module _ (same : SamePrefix) (t : Prefix → Bool) where
   passes_too : (s r : Route) → surpasses s r ≡ true → t r.prefix ≡ true → t s.prefix ≡ true
   passes_too s r better e =
       let parts = one-parts s r (and_parts (to_one s r) (is_better s r) better).0 in
-      ap t (same s.prefix r.prefix parts.0 parts.1) ∙ e
+      ap t (prefix_by_parts s.prefix r.prefix parts.0 parts.1) ∙ e
 
   pub best_passing : (table : List Route) → IsTable table → best_routes (passing table) ≡ passing (best_routes table)
   best_passing table h =

@@ -7,12 +7,14 @@ use Rattle.std.proofs.lemmas.List.Elements.{All-contains}
 use Rattle.rt_cidr.specs.declared.address.Addr.{Addr}
 use Rattle.rt_cidr.specs.declared.prefixes.Prefix.{Prefix}
 use Rattle.rt_cidr.specs.Prefix.{covers}
+use Rattle.rt_cidr.proofs.Promised.{prefix_by_parts}
 use Rattle.rt_trie.specs.Map.{get}
+use Rattle.rt_trie.proofs.Promised.{pairs-found}
 use Rattle.rt_rib.specs.declared.offers.Offer.{Offer}
 use Rattle.rt_rib.specs.Maps.{outranks, IsRanked, Map, route_by, routes_of, IsMap}
 use Rattle.rt_rib.specs.LookUp.{look_up}
 use Rattle.rt_rib.specs.Laws.{IsBestMatch}
-use Rattle.rt_rib.specs.inside.Maps.{offer_of, MapLaws}
+use Rattle.rt_rib.specs.inside.Maps.{offer_of}
 use Rattle.rt_rib.proofs.Lists.{AllPairs-head}
 use Rattle.rt_rib.proofs.Order.{is_better-itself}
 use Rattle.rt_rib.proofs.OfferLists.{outranks-trans}
@@ -31,7 +33,7 @@ first_best p o rest x h c = elim (Contains-cases o rest x c) [
       both_ways (outranks o o) (is_better-itself (route_by p o)) (outranks-trans o x o order back))
 ]
 
-module _ (laws : MapLaws) (m : Map) (h : IsMap m) (addr : Addr) where
+module _ (m : Map) (h : IsMap m) (addr : Addr) where
   module _ (p : Prefix) (o : Offer) (rest : List Offer) (there : Contains m (p, o ∷ rest)) (covered : covers p addr ≡ true)
       (most : All (λ (y : Prefix × List Offer). IsTrue (covers y.0 addr) → y.0.len ≤ p.len) m) where
     -- the first offer at the longest prefix is the best match
@@ -44,16 +46,16 @@ module _ (laws : MapLaws) (m : Map) (h : IsMap m) (addr : Addr) where
       best = λ s c e len.
           let x = offer_in m s c in
           let base = covers-base s.prefix addr e ∙ ap (base_at addr) len ∙ sym (covers-base p addr covered) in
-          let one = laws.same s.prefix p base len in
-          let at = sym ((laws.found m s.prefix x.0 h.ordered).0 x.1) ∙ ap (get m) one ∙ (laws.found m p (o ∷ rest) h.ordered).0 there in
+          let one = prefix_by_parts s.prefix p base len in
+          let at = sym ((pairs-found m s.prefix x.0 h.ordered).0 x.1) ∙ ap (get m) one ∙ (pairs-found m p (o ∷ rest) h.ordered).0 there in
           let same : x.0 ≡ o ∷ rest = cc in
-          first_best p o rest (offer_of s) (h.each p (o ∷ rest) ((laws.found m p (o ∷ rest) h.ordered).0 there)).ranked
+          first_best p o rest (offer_of s) (h.each p (o ∷ rest) ((pairs-found m p (o ∷ rest) h.ordered).0 there)).ranked
           (subst (λ l. Contains l (offer_of s)) same x.2);
     }
 
     -- hence it is the answer to a look-up
     pub look_up-some : look_up addr (routes_of m) ≡ Some (route_by p o)
-    look_up-some = ((look_up_finds_best addr (routes_of m) (IsTable-map laws m h)).0 (route_by p o)).1 best_match
+    look_up-some = ((look_up_finds_best addr (routes_of m) (IsTable-map m h)).0 (route_by p o)).1 best_match
 
   -- the same, as the code reads the first offer
   pub look_up-first : (p : Prefix) (offers slice : List Offer) (d : Offer) → slice ≡ offers → 0 < length slice
@@ -65,6 +67,6 @@ module _ (laws : MapLaws) (m : Map) (h : IsMap m) (addr : Addr) where
   -- if no prefix covers the address, a look-up finds nothing
   pub look_up-none : All (λ (y : Prefix × List Offer). covers y.0 addr ≡ false) m → look_up addr (routes_of m) ≡ None
   look_up-none none =
-      (look_up_finds_best addr (routes_of m) (IsTable-map laws m h)).1.1 (λ s c.
+      (look_up_finds_best addr (routes_of m) (IsTable-map m h)).1.1 (λ s c.
       let x = offer_in m s c in
       All-contains (λ (y : Prefix × List Offer). covers y.0 addr ≡ false) m (s.prefix, x.0) none x.1)

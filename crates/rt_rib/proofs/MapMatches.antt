@@ -7,12 +7,12 @@ use Rattle.rt_cidr.specs.declared.address.Addr.{Addr}
 use Rattle.rt_cidr.specs.declared.prefixes.Prefix.{Prefix}
 use Rattle.rt_cidr.specs.Prefix.{covers}
 use Rattle.rt_trie.specs.Map.{covering, before, IsBeforeAll, IsOrdered}
-use Rattle.rt_trie.proofs.Promised.{later_is_longer}
+use Rattle.rt_trie.proofs.Promised.{later_is_longer, pairs-found}
 use Rattle.rt_rib.specs.declared.routes.Route.{Route}
 use Rattle.rt_rib.specs.declared.offers.Offer.{Offer}
 use Rattle.rt_rib.specs.Maps.{IsOffers, Map, route_by, routes_of, IsMap}
 use Rattle.rt_rib.specs.LookUp.{look_up_all}
-use Rattle.rt_rib.specs.inside.Maps.{offer_of, routes_backward, MapLaws}
+use Rattle.rt_rib.specs.inside.Maps.{offer_of, routes_backward}
 use Rattle.rt_rib.proofs.Lists.{AllPairs-append}
 use Rattle.rt_rib.proofs.Order.{below_then-true, below_then-less, below_then-same}
 use Rattle.rt_rib.proofs.Covering.{base_at, covers-base}
@@ -85,7 +85,7 @@ module _ (addr : Addr) where
       let less = longer p s.prefix (before-routes p rest s order.0 there) here.1 covered in
       All-map (Beats s) (route_by p) offers (λ k d l. below_then-less p.len s.prefix.len _ less)))
 
-  module _ (laws : MapLaws) (m : Map) (h : IsMap m) where
+  module _ (m : Map) (h : IsMap m) where
     -- the routes of the pairs that cover the address are exactly the matches
     matches_exactly : (r : Route) → Contains (routes_backward (covering m addr)) r ↔ (Contains (routes_of m) r × (covers r.prefix addr ≡ true))
     matches_exactly r = (
@@ -102,10 +102,10 @@ module _ (addr : Addr) where
     -- backward, they are the result of a look-up of all
     pub look_up_all-backward : look_up_all addr (routes_of m) ≡ routes_backward (covering m addr)
     look_up_all-backward =
-        ((look_up_all_finds_matches addr (routes_of m) (IsTable-map laws m h)).0 (routes_backward (covering m addr))).1 (record {
+        ((look_up_all_finds_matches addr (routes_of m) (IsTable-map m h)).0 (routes_backward (covering m addr))).1 (record {
           exactly = matches_exactly;
           ordered =
               ordered_backward (covering m addr) (ordered-filter (pair_covers addr) m h.ordered) (λ p offers c.
               let there = filter-from (pair_covers addr) m (p, offers) c in
-              (h.each p offers ((laws.found m p offers h.ordered).0 there.0), there.1));
+              (h.each p offers ((pairs-found m p offers h.ordered).0 there.0), there.1));
         })

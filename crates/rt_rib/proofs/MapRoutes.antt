@@ -9,13 +9,14 @@ use Rattle.std.proofs.lemmas.List.Folds.{Any-from_list_any}
 use Rattle.std.proofs.lemmas.List.Kept.{AllPairs-cons}
 use Rattle.rt_cidr.specs.declared.prefixes.Prefix.{Prefix}
 use Rattle.rt_cidr.specs.Prefix.{same_prefix}
-use Rattle.rt_cidr.specs.Laws.{SamePrefix}
+use Rattle.rt_cidr.proofs.Promised.{prefix_by_parts}
 use Rattle.rt_trie.specs.Map.{before, get, IsBeforeAll, IsOrdered}
+use Rattle.rt_trie.proofs.Promised.{pairs-found}
 use Rattle.rt_rib.specs.declared.routes.Route.{Route}
 use Rattle.rt_rib.specs.declared.offers.Offer.{Offer}
 use Rattle.rt_rib.specs.Maps.{outranks, is_from, IsOffers, IsRanked, Map, route_by, routes_of, IsMap}
 use Rattle.rt_rib.specs.Table.{precedes, is_better, is_of, below_then, has, IsTable}
-use Rattle.rt_rib.specs.inside.Maps.{offer_of, offers_in, offers_at, HasRoute, MapLaws}
+use Rattle.rt_rib.specs.inside.Maps.{offer_of, offers_in, offers_at, HasRoute}
 use Rattle.rt_rib.proofs.Lists.{AllPairs-append, AllPairs-head, AllPairs-tail, list_any-at, list_any-from_none}
 use Rattle.rt_rib.proofs.Order.{below_then-true, below_then-less, below_then-same, is_of-parts, is_of-from}
 use Rattle.rt_rib.proofs.Sets.{Contains-head, Contains-tail, Contains-cases, Contains-none, one_table_of_set}
@@ -58,9 +59,9 @@ pub All-from_contained : {X : Type 0} (P : X → Type 0) (xs : List X) → ((x :
 All-from_contained P xs h = λ k d l. h (get_or xs k d) (Contains-get_or xs k d l)
 
 -- two prefixes are equal, or the test says that they aren't
-pub one_or_other : SamePrefix → (p q : Prefix) → (p ≡ q) ⊎ (same_prefix p q ≡ false)
-one_or_other same p q = elim (cases_Bool (same_prefix p q)) [
-  | inl one ↦ let parts = and_parts (eqb p.base q.base) (eqb p.len q.len) one in inl (same p q (eqb-true p.base q.base parts.0) (eqb-true p.len q.len parts.1))
+pub one_or_other : (p q : Prefix) → (p ≡ q) ⊎ (same_prefix p q ≡ false)
+one_or_other p q = elim (cases_Bool (same_prefix p q)) [
+  | inl one ↦ let parts = and_parts (eqb p.base q.base) (eqb p.len q.len) one in inl (prefix_by_parts p q (eqb-true p.base q.base parts.0) (eqb-true p.len q.len parts.1))
   | inr other ↦ inr other
 ]
 
@@ -89,20 +90,21 @@ offer_out ((q, others) ∷ rest) p offers o c d = elim (Contains-cases (q, other
   | inr later ↦ Contains-append_right (map (route_by q) others) (routes_of rest) (route_by p o) (offer_out rest p offers o later d)
 ]
 
-module _ (laws : MapLaws) where
-  -- the routes of the map are those that it holds
-  pub there_in : (m : Map) (r : Route) → IsOrdered m → Contains (routes_of m) r → HasRoute m r
-  there_in m r order c =
-      let x = offer_in m r c in
-      subst (λ o. Contains (offers_in o) (offer_of r)) (sym ((laws.found m r.prefix x.0 order).0 x.1)) x.2
+module _ where
 
-  -- the converse
-  pub there_out : (m : Map) (r : Route) → IsOrdered m → HasRoute m r → Contains (routes_of m) r
-  there_out m r order c = by_value (get m r.prefix) refl c where
-    -- by the offers at its prefix
-    by_value : (o : Option (List Offer)) → get m r.prefix ≡ o → Contains (offers_in o) (offer_of r) → Contains (routes_of m) r
-    by_value None e d = absurd (Contains-none (offer_of r) d)
-    by_value (Some offers) e d = offer_out m r.prefix offers (offer_of r) ((laws.found m r.prefix offers order).1 e) d
+-- the routes of the map are those that it holds
+pub there_in : (m : Map) (r : Route) → IsOrdered m → Contains (routes_of m) r → HasRoute m r
+there_in m r order c =
+    let x = offer_in m r c in
+    subst (λ o. Contains (offers_in o) (offer_of r)) (sym ((pairs-found m r.prefix x.0 order).0 x.1)) x.2
+
+-- the converse
+pub there_out : (m : Map) (r : Route) → IsOrdered m → HasRoute m r → Contains (routes_of m) r
+there_out m r order c = by_value (get m r.prefix) refl c where
+  -- by the offers at its prefix
+  by_value : (o : Option (List Offer)) → get m r.prefix ≡ o → Contains (offers_in o) (offer_of r) → Contains (routes_of m) r
+  by_value None e d = absurd (Contains-none (offer_of r) d)
+  by_value (Some offers) e d = offer_out m r.prefix offers (offer_of r) ((pairs-found m r.prefix offers order).1 e) d
 
 -- a prefix before all of the list is before each of it
 before-each : (p : Prefix) (rest : Map) (q : Prefix) (offers : List Offer) → IsBeforeAll p rest → Contains rest (q, offers) → IsTrue (before p q)
@@ -175,16 +177,16 @@ IsTable-routes ((p, offers) ∷ rest) order each =
           (λ s c. apart-by_prefix (route_by p (get_or offers k d)) s (early s c))));
     }
 
-module _ (laws : MapLaws) (m : Map) (h : IsMap m) where
+module _ (m : Map) (h : IsMap m) where
   -- the routes of a map are a table
   pub IsTable-map : IsTable (routes_of m)
-  IsTable-map = IsTable-routes m h.ordered (λ p offers c. h.each p offers ((laws.found m p offers h.ordered).0 c))
+  IsTable-map = IsTable-routes m h.ordered (λ p offers c. h.each p offers ((pairs-found m p offers h.ordered).0 c))
 
   -- a table of exactly the routes that the map holds is the table of the map
   pub table_is : (t : List Route) → IsTable t → ((x : Route) → HasRoute m x ↔ Contains t x) → routes_of m ≡ t
   table_is t table same =
       one_table_of_set (routes_of m) t IsTable-map table
-      (λ x. ((λ c. (same x).0 (there_in laws m x h.ordered c)), (λ c. there_out laws m x h.ordered ((same x).1 c))))
+      (λ x. ((λ c. (same x).0 (there_in m x h.ordered c)), (λ c. there_out m x h.ordered ((same x).1 c))))
 
   -- a feed has a route to a prefix if and only if it has an offer there
   pub has-is : (feed : ℕ) (p : Prefix) → has feed p (routes_of m) ≡ list_any (is_from feed) (offers_at m p)
@@ -192,14 +194,14 @@ module _ (laws : MapLaws) (m : Map) (h : IsMap m) where
     | inl some ↦
         let found = any-contained (is_from feed) (offers_at m p) some in
         let r = route_by p found.0 in
-        let there = there_out laws m r h.ordered found.1 in
+        let there = there_out m r h.ordered found.1 in
         any-from_contained (is_of feed p) (routes_of m) r there (is_of-from feed p r (eqb-true found.0.feed feed found.2) refl refl) ∙ sym some
     | inr none ↦
         list_any-from_none (is_of feed p) (routes_of m) (All-from_contained (λ r. is_of feed p r ≡ false) (routes_of m) (λ r c.
         false_from_ne_true (is_of feed p r) (λ mine.
         let parts = is_of-parts feed p r mine in
-        let one = laws.same r.prefix p parts.1 parts.2 in
-        let there = subst (λ q. Contains (offers_at m q) (offer_of r)) one (there_in laws m r h.ordered c) in
+        let one = prefix_by_parts r.prefix p parts.1 parts.2 in
+        let there = subst (λ q. Contains (offers_at m q) (offer_of r)) one (there_in m r h.ordered c) in
         both_ways (list_any (is_from feed) (offers_at m p)) none
         (any-from_contained (is_from feed) (offers_at m p) (offer_of r) there (eq-eqb r.feed feed parts.0))))) ∙ sym none
   ]

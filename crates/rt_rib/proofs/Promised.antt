@@ -11,3 +11,5 @@ pub use Rattle.rt_rib.proofs.Journals.{table_of_journal-push}
 pub use Rattle.rt_rib.proofs.Journals.{IsTable-after}
 -- lawful journals
 pub use Rattle.rt_rib.proofs.Journals.{IsLawfulJournal-nil, IsLawfulJournal-push}
+-- each two of a list's elements are related: the first and each other one, and each two of the others
+pub use Rattle.rt_rib.proofs.Lists.{AllPairs-head, AllPairs-tail}

@@ -8,6 +8,7 @@ use Rattle.std.proofs.lemmas.List.Sums.{sum_by-cons, sum_by-append}
 use Rattle.rt_cidr.specs.declared.prefixes.Prefix.{Prefix}
 use Rattle.rt_trie.specs.Map.{IsOrdered}
 use Rattle.rt_trie.specs.Retained.{with_pair, IsRetained}
+use Rattle.rt_trie.proofs.Promised.{pairs-found}
 use Rattle.rt_rib.specs.declared.routes.Route.{Route}
 use Rattle.rt_rib.specs.declared.offers.Offer.{Offer}
 use Rattle.rt_rib.specs.declared.offers.Removal.TheVariants.{Missing, Last, Gone}
@@ -16,7 +17,6 @@ use Rattle.rt_rib.specs.Maps.{is_from, IsOffers, Map, route_by, routes_of, IsMap
 use Rattle.rt_rib.specs.inside.Offers.{without, TakesOut}
 use Rattle.rt_rib.specs.inside.Purges.{is_over, AreOthers, IsPurged}
 use Rattle.rt_rib.specs.Table.{count_of, purge}
-use Rattle.rt_rib.specs.inside.Maps.{MapLaws}
 use Rattle.rt_rib.proofs.Counts.{count-both}
 use Rattle.rt_rib.proofs.Lists.{filter-all, list_any-none}
 use Rattle.rt_rib.proofs.Sets.{Contains-tail, Contains-cases, Contains-none}
@@ -117,11 +117,11 @@ purged_offers s t ((p, old) ∷ rest) n h each q offers c = elim h [
       (subst (λ l. Contains l (q, offers)) i.3.new_is c)
 ]
 
-pub purged_map : MapLaws → (s t : Purging) (m n : Map) → IsRetained is_over Purges s t m n → IsMap m → IsOrdered n → IsMap n
-purged_map laws s t m n h is order = record {
+pub purged_map : (s t : Purging) (m n : Map) → IsRetained is_over Purges s t m n → IsMap m → IsOrdered n → IsMap n
+purged_map s t m n h is order = record {
   ordered = order;
-  each = λ p offers e. purged_offers s t m n h (λ q others c. is.each q others ((laws.found m q others is.ordered).0 c)) p offers
-      ((laws.found n p offers order).1 e);
+  each = λ p offers e. purged_offers s t m n h (λ q others c. is.each q others ((pairs-found m q others is.ordered).0 c)) p offers
+      ((pairs-found n p offers order).1 e);
 }
 
 -- the feed has no offer for the prefix

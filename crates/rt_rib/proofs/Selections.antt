@@ -7,7 +7,7 @@ use Rattle.std.proofs.lemmas.List.Elements.{filter-append}
 use Rattle.std.proofs.lemmas.List.{append-nil}
 use Rattle.rt_cidr.specs.declared.prefixes.Prefix.{Prefix}
 use Rattle.rt_cidr.specs.Prefix.{same_prefix}
-use Rattle.rt_cidr.specs.Laws.{SamePrefix}
+use Rattle.rt_cidr.proofs.Promised.{prefix_by_parts}
 use Rattle.rt_trie.specs.Map.{before, IsBeforeAll, IsOrdered}
 use Rattle.rt_rib.specs.declared.routes.Route.{Route}
 use Rattle.rt_rib.specs.declared.offers.Offer.{Offer}
@@ -84,28 +84,27 @@ none_behind : (p : Prefix) (rest : Map) → IsBeforeAll p rest → filter (λ x.
 none_behind p [] h = refl
 none_behind p ((q, offers) ∷ rest) h = rw (another p q h.0) (none_behind p rest h.1)
 
-module _ (same : SamePrefix) where
-  -- the routes to a prefix are those of the offers there
-  pub routes_at : (p : Prefix) (m : Map) → IsOrdered m → filter (λ r. same_prefix r.prefix p) (routes_of m) ≡ map (route_by p) (offers_at m p)
-  routes_at p m order = filter_routes (λ q. same_prefix q p) m ∙ at m order where
-    at : (m : Map) → IsOrdered m → routes_of (filter (λ x. same_prefix x.0 p) m) ≡ map (route_by p) (offers_at m p)
-    at [] order = refl
-    at ((q, offers) ∷ rest) order = elim (cases_Bool (same_prefix q p)) [
-      | inl one ↦
-          let parts = and_parts (eqb q.base p.base) (eqb q.len p.len) one in
-          let is : q ≡ p = same q p (eqb-true q.base p.base parts.0) (eqb-true q.len p.len parts.1) in
-          let none : filter (λ x. same_prefix x.0 p) rest ≡ [] = none_behind p rest (subst (λ x. IsBeforeAll x rest) is order.0) in
-          rw one (rw none (append-nil (map (route_by q) offers) ∙ ap (λ x. map (route_by x) offers) is))
-      | inr other ↦ rw other (at rest order.1)
-    ]
+-- the routes to a prefix are those of the offers there
+pub routes_at : (p : Prefix) (m : Map) → IsOrdered m → filter (λ r. same_prefix r.prefix p) (routes_of m) ≡ map (route_by p) (offers_at m p)
+routes_at p m order = filter_routes (λ q. same_prefix q p) m ∙ at m order where
+  at : (m : Map) → IsOrdered m → routes_of (filter (λ x. same_prefix x.0 p) m) ≡ map (route_by p) (offers_at m p)
+  at [] order = refl
+  at ((q, offers) ∷ rest) order = elim (cases_Bool (same_prefix q p)) [
+    | inl one ↦
+        let parts = and_parts (eqb q.base p.base) (eqb q.len p.len) one in
+        let is : q ≡ p = prefix_by_parts q p (eqb-true q.base p.base parts.0) (eqb-true q.len p.len parts.1) in
+        let none : filter (λ x. same_prefix x.0 p) rest ≡ [] = none_behind p rest (subst (λ x. IsBeforeAll x rest) is order.0) in
+        rw one (rw none (append-nil (map (route_by q) offers) ∙ ap (λ x. map (route_by x) offers) is))
+    | inr other ↦ rw other (at rest order.1)
+  ]
 
-  -- selecting from the part's routes gives the same as selecting from all routes
-  pub selected_of_part : (asked : Selection) (table : List Route) → IsTable table
-      → filter (is_by asked.feed) (if asked.only_best then best_routes (filter (λ r. is_in asked.part r.prefix) table)
-      else filter (λ r. is_in asked.part r.prefix) table) ≡ selected asked table
-  selected_of_part asked table h = by_best asked.only_best where
-    by_best : (only_best : Bool) → filter (is_by asked.feed) (cond only_best (best_routes (filter (λ r. is_in asked.part r.prefix) table)) (filter (λ r. is_in asked.part r.prefix) table))
-        ≡ filter (λ r. is_in asked.part r.prefix && is_by asked.feed r) (cond only_best (best_routes table) table)
-    by_best true = ap (filter (is_by asked.feed)) (best_passing same (is_in asked.part) table h)
-        ∙ filter-filter (λ r. is_in asked.part r.prefix) (is_by asked.feed) (best_routes table)
-    by_best false = filter-filter (λ r. is_in asked.part r.prefix) (is_by asked.feed) table
+-- selecting from the part's routes gives the same as selecting from all routes
+pub selected_of_part : (asked : Selection) (table : List Route) → IsTable table
+    → filter (is_by asked.feed) (if asked.only_best then best_routes (filter (λ r. is_in asked.part r.prefix) table)
+    else filter (λ r. is_in asked.part r.prefix) table) ≡ selected asked table
+selected_of_part asked table h = by_best asked.only_best where
+  by_best : (only_best : Bool) → filter (is_by asked.feed) (cond only_best (best_routes (filter (λ r. is_in asked.part r.prefix) table)) (filter (λ r. is_in asked.part r.prefix) table))
+      ≡ filter (λ r. is_in asked.part r.prefix && is_by asked.feed r) (cond only_best (best_routes table) table)
+  by_best true = ap (filter (is_by asked.feed)) (best_passing (is_in asked.part) table h)
+      ∙ filter-filter (λ r. is_in asked.part r.prefix) (is_by asked.feed) (best_routes table)
+  by_best false = filter-filter (λ r. is_in asked.part r.prefix) (is_by asked.feed) table

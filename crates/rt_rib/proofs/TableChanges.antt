@@ -8,7 +8,7 @@ use Rattle.rt_rib.specs.declared.commands.Cmd.TheVariants.{Add, Purge}
 use Rattle.rt_rib.specs.declared.commands.Reply.TheVariants.{Added, Purged}
 use Rattle.rt_rib.specs.declared.limits.TheConstants.{MAX_FEEDS}
 use Rattle.rt_rib.specs.Table.{has, put_in, take_out, purge, IsTable}
-use Rattle.rt_rib.specs.Maps.{Map, routes_of, IsMap}
+use Rattle.rt_rib.specs.Maps.{Map, routes_of}
 use Rattle.rt_rib.specs.Book.{IsFeed, TableState, TableContents, table_state, Serves, HoldsRoutes}
 use Rattle.rt_rib.specs.inside.TableState.{IsCounted, IsJournalOf}
 use Rattle.rt_rib.specs.declared.commands.Cmd.{Cmd}
@@ -27,7 +27,7 @@ own_index feed is = let low = is.0 in let high = is.1 in (omega arith, omega ari
 
 module _ (limit : ℕ) (counts : List ℕ) (m : Map) (h : IsCounted limit counts m) (many : length counts ≡ MAX_FEEDS) where
   module _ (r : Route) (feed : IsFeed r.feed) (fresh : has r.feed r.prefix (routes_of m) ≡ false) (room : get_or counts (r.feed - 1) 0 < limit) (n : Map)
-      (map : IsMap n) (is : routes_of n ≡ put_in r (routes_of m)) where
+      (is : routes_of n ≡ put_in r (routes_of m)) where
     -- with the route inserted it is a table, and the increased count is right
     pub added_counted : IsCounted limit (set counts (r.feed - 1) (get_or counts (r.feed - 1) 0 + 1)) n
     added_counted =
@@ -36,7 +36,6 @@ module _ (limit : ℕ) (counts : List ℕ) (m : Map) (h : IsCounted limit counts
         subst (λ f. HasMore f (routes_of m) (routes_of n)) own.1 (subst (HasMore r.feed (routes_of m)) (sym is) (HasMore-put_in r (routes_of m))) in
         record {
           limited = h.limited;
-          map = map;
           table = subst IsTable (sym is) (IsTable-put_in r (routes_of m) fresh h.table);
           counted = AreCounts-more limit counts (routes_of m) (routes_of n) (r.feed - 1) own.0 many h.counted more room;
         }
@@ -54,7 +53,7 @@ module _ (limit : ℕ) (counts : List ℕ) (m : Map) (h : IsCounted limit counts
       let own = AreCounts-own limit counts (routes_of m) r.feed h.counted feed in
       sym ((added limit (routes_of m) r fresh (omega arith) (put_in r (routes_of m)) refl).replied)
 
-  module _ (feed : ℕ) (is_feed : IsFeed feed) (p : Prefix) (there : has feed p (routes_of m) ≡ true) (n : Map) (map : IsMap n)
+  module _ (feed : ℕ) (is_feed : IsFeed feed) (p : Prefix) (there : has feed p (routes_of m) ≡ true) (n : Map)
       (is : routes_of n ≡ take_out feed p (routes_of m)) where
     -- without the feed's route it is a table, and the decreased count is right
     pub withdrawn_counted : IsCounted limit (set counts (feed - 1) (get_or counts (feed - 1) 0 - 1)) n
@@ -65,7 +64,6 @@ module _ (limit : ℕ) (counts : List ℕ) (m : Map) (h : IsCounted limit counts
         (subst (λ v. HasMore feed v (routes_of m)) (sym is) (HasMore-take_out feed p (routes_of m) h.table there)) in
         record {
           limited = h.limited;
-          map = map;
           table = subst IsTable (sym is) (IsTable-take_out feed p (routes_of m) h.table);
           counted = AreCounts-less limit counts (routes_of m) (routes_of n) (feed - 1) own.0 many h.counted fewer;
         }
@@ -77,7 +75,7 @@ module _ (limit : ℕ) (counts : List ℕ) (m : Map) (h : IsCounted limit counts
         let more = (HasMore-take_out feed p (routes_of m) h.table there).own in
         omega arith
 
-  module _ (r : Route) (there : has r.feed r.prefix (routes_of m) ≡ true) (n : Map) (map : IsMap n)
+  module _ (r : Route) (there : has r.feed r.prefix (routes_of m) ≡ true) (n : Map)
       (is : routes_of n ≡ put_in r (take_out r.feed r.prefix (routes_of m))) where
     -- with the route replaced it is a table, and the counts are still right
     pub replaced_counted : IsCounted limit counts n
@@ -87,21 +85,19 @@ module _ (limit : ℕ) (counts : List ℕ) (m : Map) (h : IsCounted limit counts
         let more = subst (HasMore r.feed rest) (sym is) (HasMore-put_in r rest) in
         record {
           limited = h.limited;
-          map = map;
           table = subst IsTable (sym is)
               (IsTable-put_in r rest (has-take_out r.feed r.prefix (routes_of m)) (IsTable-take_out r.feed r.prefix (routes_of m) h.table));
           counted = AreCounts-same limit counts (routes_of m) (routes_of n) h.counted (HasMore-both r.feed rest (routes_of m) (routes_of n) less more)
               (more.all ∙ sym less.all);
         }
 
-  module _ (feed : ℕ) (is_feed : IsFeed feed) (n : Map) (map : IsMap n) (is : routes_of n ≡ purge feed (routes_of m)) where
+  module _ (feed : ℕ) (is_feed : IsFeed feed) (n : Map) (is : routes_of n ≡ purge feed (routes_of m)) where
     -- without the feed's routes it is a table, and the feed's count is 0
     pub purged_counted : IsCounted limit (set counts (feed - 1) 0) n
     purged_counted =
         let own = own_index feed is_feed in
         record {
           limited = h.limited;
-          map = map;
           table = subst IsTable (sym is) (IsTable-purge feed (routes_of m) h.table);
           counted = AreCounts-purged limit counts (routes_of m) (routes_of n) (feed - 1) own.0 many h.counted (is ∙ ap (λ f. purge f (routes_of m)) own.1);
         }

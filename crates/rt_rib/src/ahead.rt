@@ -3,7 +3,7 @@
 
 use crate::commands::Cmd;
 use crate::limits::MAX_FEEDS;
-use crate::map::Map;
+use crate::map::OfferMap;
 use crate::offers::Offers;
 use rt_cidr::{Addr, Prefix};
 use rt_trie::LANES;
@@ -16,7 +16,7 @@ pub const READ_AHEAD_COMMANDS: usize = LANES;
 const CACHED: usize = 8_192;
 
 /// Visits what the first few of the commands concern. Changes nothing. Doesn't allocate.
-pub(crate) fn read_ahead<A: Allocator + Copy>(map: &Map<A>, cmds: &[Cmd]) {
+pub(crate) fn read_ahead<A: Allocator + Copy>(map: &OfferMap<A>, cmds: &[Cmd]) {
     if map.nodes() < CACHED {
         return;
     }
@@ -26,7 +26,8 @@ pub(crate) fn read_ahead<A: Allocator + Copy>(map: &Map<A>, cmds: &[Cmd]) {
     for k in 0..count {
         addresses[k] = address_of(cmds[k]);
     }
-    map.longest_many(&addresses[..count], &mut answers[..count]);
+    map.trie
+        .longest_many(&addresses[..count], &mut answers[..count]);
     read_first_offers(&answers[..count]);
 }
 

@@ -1,10 +1,10 @@
 //! Look-ups of rising addresses, one after another: each continues from the path of the previous one.
 ghost use Rattle.std.specs.Prelude.{◌≡◌, ◌≤◌};
 ghost use Rattle.rt_cidr.specs.declared.address.Addr.{Addr};
-ghost use Rattle.rt_rib.specs.Maps.{routes_of, IsMap};
+ghost use Rattle.rt_rib.specs.Maps.{routes_of};
 
 use crate::lookups::best_at;
-use crate::map::Map;
+use crate::map::OfferMap;
 use crate::offers::Offers;
 use crate::routes::Route;
 use rt_cidr::Addr;
@@ -44,11 +44,12 @@ impl<'a, A: Allocator + Copy> fmt::Debug for LookupCursor<'a, A> {
 impl<'a, A: Allocator + Copy> LookupCursor<'a, A> {
     ghost use Rattle.rt_rib.specs.LookUp.{look_up};
 
-    pub(crate) fn new(map: &'a Map<A>) -> LookupCursor<'a, A>
-        requires { IsMap map.now.pairs }
+    pub(crate) fn new(map: &'a OfferMap<A>) -> LookupCursor<'a, A>
         ensures { result ≡ routes_of map.now.pairs }
     {
-        LookupCursor { map: map.matches() }
+        LookupCursor {
+            map: map.trie.matches(),
+        }
     }
 
     /// Returns the answer to a look-up of the address and a last address: every address from the given one to the last

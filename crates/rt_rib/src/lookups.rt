@@ -7,7 +7,7 @@ ghost use Rattle.rt_rib.specs.LookUp.{look_up, look_up_all};
 ghost use Rattle.rt_rib.specs.Maps.{Map, route_by, routes_of, IsMap};
 ghost use Rattle.rt_rib.specs.inside.Maps.{route_at, look_up_each};
 
-use crate::map::{Map, map_laws, route_by};
+use crate::map::{OfferMap, route_by};
 use crate::offers::{Offer, Offers};
 use crate::refused::Refused;
 use crate::routes::Route;
@@ -20,7 +20,6 @@ pub(crate) fn best_at<A: Allocator + Copy>(longest: Option<(Prefix, &Offers<A>)>
     ensures { (m : Map) (addr : Addr) → IsMap m → IsLongest m addr (pair_copied longest.entry)
         → result ≡ look_up addr (routes_of m) }
 {
-    map_laws::<A>();
     match longest {
         None => None,
         Some((prefix, offers)) => Some(route_by(prefix, &offers.as_slice()[0])),
@@ -28,25 +27,22 @@ pub(crate) fn best_at<A: Allocator + Copy>(longest: Option<(Prefix, &Offers<A>)>
 }
 
 /// Returns the best route of the longest prefix that covers the address.
-pub(crate) fn best_of<A: Allocator + Copy>(map: &Map<A>, addr: Addr) -> Option<Route>
-    requires { IsMap map.now.pairs }
+pub(crate) fn best_of<A: Allocator + Copy>(map: &OfferMap<A>, addr: Addr) -> Option<Route>
     ensures { result ≡ look_up addr (routes_of map.now.pairs) }
 {
-    best_at(map.longest(addr))
+    best_at(map.trie.longest(addr))
 }
 
 /// Returns the routes of all prefixes that cover the address, the best first.
 pub(crate) fn all_of<A: Allocator + Copy>(
-    map: &Map<A>,
+    map: &OfferMap<A>,
     alloc: A,
     addr: Addr,
 ) -> Result<Vec<Route, A>, Refused>
-    requires { IsMap map.now.pairs }
     ensures { IfOk result (λ routes. routes.items ≡ look_up_all addr (routes_of map.now.pairs)) }
 {
-    map_laws::<A>();
     let mut routes = Vec::new(alloc);
-    for (prefix, offers) in map.covering(addr) {
+    for (prefix, offers) in map.trie.covering(addr) {
         append_backward(&mut routes, prefix, offers.as_slice())?;
     }
     // The descent finds the shortest prefix first, which has to be the last.
@@ -70,11 +66,10 @@ fn append_backward<A: Allocator + Copy>(
 
 /// Replaces each answer by `best_of` of the address with the same index.
 pub(crate) fn best_of_each<A: Allocator + Copy>(
-    map: &Map<A>,
+    map: &OfferMap<A>,
     addresses: &[Addr],
     answers: &mut [Option<Route>],
 )
-    requires map { IsMap map.now.pairs }
     requires size { length answers.old ≡ length addresses.now }
     ensures { answers.new ≡ look_up_each addresses.now (routes_of map.now.pairs) }
 {
@@ -88,13 +83,12 @@ pub(crate) fn best_of_each<A: Allocator + Copy>(
 
 /// Computes the answers for `size` addresses from `start` on, with their descents done together.
 fn best_of_chunk<A: Allocator + Copy>(
-    map: &Map<A>,
+    map: &OfferMap<A>,
     addresses: &[Addr],
     answers: &mut [Option<Route>],
     start: usize,
     size: usize,
 )
-    requires map { IsMap map.now.pairs }
     requires chunk { size ≤ LANES }
     requires within { start + size ≤ length addresses.now }
     requires size { length answers.old ≡ length addresses.now }
@@ -103,7 +97,8 @@ fn best_of_chunk<A: Allocator + Copy>(
     ensures rest { (k : ℕ) → k < start → route_at answers.new k ≡ route_at answers.old k }
 {
     let mut longest = [None; LANES];
-    map.longest_many(&addresses[start..start + size], &mut longest[..size]);
+    map.trie
+        .longest_many(&addresses[start..start + size], &mut longest[..size]);
     for k in 0..size {
         answers[start + k] = best_at(longest[k]);
     }

@@ -1,28 +1,38 @@
 //! The map from prefixes to their offers: the routes that it represents, and how they change.
-ghost use Rattle.std.specs.Prelude.{◌≡◌, ◌++◌, false, IsTrue, IfOk, OnOk, OnErr, map};
+ghost use Rattle.std.specs.Prelude.{◌≡◌, ◌++◌, false, [], IsTrue, IfOk, OnOk, OnErr, map};
+ghost use Rattle.rt_trie.specs.Lawful.{IsLawful};
 ghost use Rattle.rt_rib.specs.Table.{has, put_in, take_out};
 ghost use Rattle.rt_rib.specs.Maps.{routes_of, route_by, IsMap};
-ghost use Rattle.rt_rib.specs.inside.Maps.{offer_of, MapLaws};
+ghost use Rattle.rt_rib.specs.inside.Maps.{offer_of};
 
 use crate::offers::{Offer, Offers, Removal};
 use crate::refused::Refused;
 use crate::routes::Route;
 use rt_cidr::Prefix;
-use rt_cidr::laws::same_prefix;
-use rt_trie::laws::{changes, one_list};
 use rt_trie::{Trie, Walk};
 use std::alloc::Allocator;
+use std::marker::Model;
 
-/// A map from prefixes to their offers.
-pub(crate) type Map<A> = Trie<Offers<A>, A>;
+/// A map from prefixes to their offers: each prefix once, with at least one offer, its offers in order. Contracts see
+/// the trie that stores it.
+#[derive(Drop)]
+pub(crate) struct OfferMap<A: Allocator + Copy> {
+    pub(crate) trie: Trie<Offers<A>, A>,
+}
 
-/// Makes known to a proof the theorems about maps and prefixes, for maps of offers. Does nothing.
-pub(crate) fn map_laws<A: Allocator + Copy>()
-    ensures { MapLaws }
-{
-    changes::<Offers<A>>();
-    one_list::<Offers<A>>();
-    same_prefix();
+impl<A: Allocator + Copy> Model for OfferMap<A> {
+    ghost use Rattle.std.specs.Coded.{codes};
+    ghost use Rattle.rt_trie.specs.inside.TreeCode.{tree_code};
+    ghost use Rattle.rt_rib.specs.Book.{OfferTrie};
+    ghost use Rattle.rt_rib.specs.Maps.{IsMap};
+
+    ghost Value = { OfferTrie };
+
+    ghost coded = { Prim.hlevel (codes, tree_code) };
+
+    ghost view = { λ m. m.trie };
+
+    ghost invariant = { λ m. IsMap m.trie.pairs };
 }
 
 /// Returns the route of an offer for a prefix.
@@ -48,86 +58,98 @@ pub(crate) fn offer_of(route: &Route) -> Offer
     }
 }
 
-/// Returns true if the feed has a route to the prefix.
-pub(crate) fn has<A: Allocator + Copy>(map: &Map<A>, feed: u32, prefix: Prefix) -> bool
-    requires { IsMap map.now.pairs }
-    ensures { result ≡ has feed prefix (routes_of map.now.pairs) }
-{
-    map_laws::<A>();
-    match map.get(prefix) {
-        None => false,
-        Some(offers) => offers.has(feed),
-    }
-}
-
-/// Inserts the route unless its feed has one to its prefix; returns true if the feed already had one. Fails if memory
-/// runs out; the feed then has no route to the prefix, and the map is unchanged.
-pub(crate) fn put_in<A: Allocator + Copy>(
-    map: &mut Map<A>,
-    alloc: A,
-    route: Route,
-) -> Result<bool, Refused>
-    requires { IsMap map.old.pairs }
-    ensures had { IfOk result (λ had. had ≡ has route.feed route.prefix (routes_of map.old.pairs)) }
-    ensures kept { IfOk result (λ had. IsTrue had → map.new.pairs ≡ map.old.pairs) }
-    ensures more { IfOk result (λ had. had ≡ false → routes_of map.new.pairs ≡ put_in route (routes_of map.old.pairs)) }
-    ensures refused { OnErr result (map.new ≡ map.old) }
-    ensures wanted { OnErr result (has route.feed route.prefix (routes_of map.old.pairs) ≡ false) }
-    ensures map { IsMap map.new.pairs }
-{
-    map_laws::<A>();
-    let offer = offer_of(&route);
-    if let Some(offers) = map.get_mut(route.prefix) {
-        if offers.has(route.feed) {
-            return Ok(true);
+impl<A: Allocator + Copy> OfferMap<A> {
+    /// Returns the empty map. Doesn't allocate.
+    pub(crate) fn new(alloc: A) -> OfferMap<A>
+        ensures { result.pairs ≡ [] }
+    {
+        OfferMap {
+            trie: Trie::new(alloc),
         }
-        offers.put(alloc, offer)?;
-        return Ok(false);
     }
-    match map.insert(route.prefix, Offers::one(offer)) {
-        Ok(_) => Ok(false),
-        Err(_) => Err(Refused),
-    }
-}
 
-/// Replaces the feed's route to the prefix by this one, if there is one; returns true if there is one. Doesn't
-/// allocate.
-pub(crate) fn replace<A: Allocator + Copy>(map: &mut Map<A>, route: Route) -> bool
-    requires { IsMap map.old.pairs }
-    ensures had { result ≡ has route.feed route.prefix (routes_of map.old.pairs) }
-    ensures replaced { IsTrue result → routes_of map.new.pairs
-        ≡ put_in route (take_out route.feed route.prefix (routes_of map.old.pairs)) }
-    ensures kept { result ≡ false → map.new.pairs ≡ map.old.pairs }
-    ensures map { IsMap map.new.pairs }
-{
-    map_laws::<A>();
-    let offer = offer_of(&route);
-    match map.get_mut(route.prefix) {
-        None => false,
-        Some(offers) => offers.replace(offer),
+    /// Returns the number of nodes of the trie, which is lawful.
+    pub(crate) fn nodes(&self) -> usize
+        ensures nodes { result ≡ self.now.nodes }
+        ensures lawful { IsLawful self.now }
+        ensures map { IsMap self.now.pairs }
+    {
+        self.trie.nodes()
     }
-}
 
-/// Removes the feed's route to the prefix, if there is one; returns true if there was one. A prefix whose last offer is
-/// removed is removed too. Doesn't allocate.
-pub(crate) fn take_out<A: Allocator + Copy>(map: &mut Map<A>, feed: u32, prefix: Prefix) -> bool
-    requires { IsMap map.old.pairs }
-    ensures had { result ≡ has feed prefix (routes_of map.old.pairs) }
-    ensures gone { IsTrue result → routes_of map.new.pairs ≡ take_out feed prefix (routes_of map.old.pairs) }
-    ensures kept { result ≡ false → map.new.pairs ≡ map.old.pairs }
-    ensures map { IsMap map.new.pairs }
-{
-    map_laws::<A>();
-    let removal = match map.get_mut(prefix) {
-        None => return false,
-        Some(offers) => offers.take_out(feed),
-    };
-    match removal {
-        Removal::Missing => false,
-        Removal::Gone => true,
-        Removal::Last => {
-            map.remove(prefix);
-            true
+    /// Returns the routes that the map represents. Allocates room for `count` of them at once.
+    pub(crate) fn routes(&self, alloc: A, count: usize) -> Result<Vec<Route, A>, Refused>
+        ensures { IfOk result (λ routes. routes.items ≡ routes_of self.now.pairs) }
+    {
+        routes(self.trie.walk(), alloc, count)
+    }
+
+    /// Returns true if the feed has a route to the prefix.
+    pub(crate) fn has(&self, feed: u32, prefix: Prefix) -> bool
+        ensures { result ≡ has feed prefix (routes_of self.now.pairs) }
+    {
+        match self.trie.get(prefix) {
+            None => false,
+            Some(offers) => offers.has(feed),
+        }
+    }
+
+    /// Inserts the route unless its feed has one to its prefix; returns true if the feed already had one. Fails if
+    /// memory runs out; the feed then has no route to the prefix, and the map is unchanged.
+    pub(crate) fn put_in(&mut self, alloc: A, route: Route) -> Result<bool, Refused>
+        ensures had { IfOk result (λ had. had ≡ has route.feed route.prefix (routes_of self.old.pairs)) }
+        ensures kept { IfOk result (λ had. IsTrue had → self.new.pairs ≡ self.old.pairs) }
+        ensures more { IfOk result (λ had. had ≡ false → routes_of self.new.pairs ≡ put_in route (routes_of self.old.pairs)) }
+        ensures refused { OnErr result (self.new ≡ self.old) }
+        ensures wanted { OnErr result (has route.feed route.prefix (routes_of self.old.pairs) ≡ false) }
+    {
+        let offer = offer_of(&route);
+        if let Some(offers) = self.trie.get_mut(route.prefix) {
+            if offers.has(route.feed) {
+                return Ok(true);
+            }
+            offers.put(alloc, offer)?;
+            return Ok(false);
+        }
+        match self.trie.insert(route.prefix, Offers::one(offer)) {
+            Ok(_) => Ok(false),
+            Err(_) => Err(Refused),
+        }
+    }
+
+    /// Replaces the feed's route to the prefix by this one, if there is one; returns true if there is one. Doesn't
+    /// allocate.
+    pub(crate) fn replace(&mut self, route: Route) -> bool
+        ensures had { result ≡ has route.feed route.prefix (routes_of self.old.pairs) }
+        ensures replaced { IsTrue result → routes_of self.new.pairs
+            ≡ put_in route (take_out route.feed route.prefix (routes_of self.old.pairs)) }
+        ensures kept { result ≡ false → self.new.pairs ≡ self.old.pairs }
+    {
+        let offer = offer_of(&route);
+        let Some(offers) = self.trie.get_mut(route.prefix) else {
+            return false;
+        };
+        offers.replace(offer)
+    }
+
+    /// Removes the feed's route to the prefix, if there is one; returns true if there was one. A prefix whose last offer
+    /// is removed is removed too. Doesn't allocate.
+    pub(crate) fn take_out(&mut self, feed: u32, prefix: Prefix) -> bool
+        ensures had { result ≡ has feed prefix (routes_of self.old.pairs) }
+        ensures gone { IsTrue result → routes_of self.new.pairs ≡ take_out feed prefix (routes_of self.old.pairs) }
+        ensures kept { result ≡ false → self.new.pairs ≡ self.old.pairs }
+    {
+        let removal = match self.trie.get_mut(prefix) {
+            None => return false,
+            Some(offers) => offers.take_out(feed),
+        };
+        match removal {
+            Removal::Missing => false,
+            Removal::Gone => true,
+            Removal::Last => {
+                self.trie.remove(prefix);
+                true
+            }
         }
     }
 }

@@ -1,10 +1,10 @@
 //! Iterating over the routes in dump order, from a position on.
 ghost use Rattle.std.specs.Prelude.{◌≡◌, false, map};
 ghost use Rattle.rt_trie.specs.Map.{before};
-ghost use Rattle.rt_rib.specs.Maps.{routes_of, route_by, IsMap, IsRanked};
+ghost use Rattle.rt_rib.specs.Maps.{routes_of, route_by, IsRanked};
 ghost use Rattle.rt_rib.specs.Places.{from_place};
 
-use crate::map::{Map, offer_of, route_by};
+use crate::map::{OfferMap, offer_of, route_by};
 use crate::offers::{Offer, Offers, insertion_index};
 use crate::routes::Route;
 use rt_cidr::Prefix;
@@ -36,11 +36,10 @@ impl<'a, A: Allocator + Copy> Model for RoutesFrom<'a, A> {
 
 impl<'a, A: Allocator + Copy> RoutesFrom<'a, A> {
     /// Returns an iterator that starts at the position of the route.
-    pub(crate) fn new(map: &'a Map<A>, from: &Route) -> RoutesFrom<'a, A>
-        requires { IsMap map.now.pairs }
+    pub(crate) fn new(map: &'a OfferMap<A>, from: &Route) -> RoutesFrom<'a, A>
         ensures { result ≡ from_place from.now (routes_of map.now.pairs) }
     {
-        let mut walk = map.walk_from(from.prefix);
+        let mut walk = map.trie.walk_from(from.prefix);
         match walk.next() {
             None => RoutesFrom {
                 prefix: from.prefix,

@@ -1,10 +1,10 @@
 //! Removing all of a feed's routes from the map in a single walk.
 ghost use Rattle.std.specs.Prelude.{◌≡◌};
 ghost use Rattle.rt_rib.specs.Table.{count_of, purge};
-ghost use Rattle.rt_rib.specs.Maps.{routes_of, IsMap};
+ghost use Rattle.rt_rib.specs.Maps.{routes_of};
 ghost use Rattle.rt_rib.specs.inside.Purges.{is_over, IsPurged};
 
-use crate::map::{Map, map_laws};
+use crate::map::OfferMap;
 use crate::offers::{Offers, Removal};
 use rt_cidr::Prefix;
 use rt_trie::RetainFilter;
@@ -43,16 +43,13 @@ impl<A: Allocator + Copy> RetainFilter<Offers<A>> for Purging {
 }
 
 /// Removes all routes of the feed, `count` of them. Visits nothing after the last of them. Doesn't allocate.
-pub(crate) fn purge<A: Allocator + Copy>(map: &mut Map<A>, feed: u32, count: u32)
-    requires map { IsMap map.old.pairs }
-    requires count { count ≡ count_of feed (routes_of map.old.pairs) }
-    ensures gone { routes_of map.new.pairs ≡ purge feed (routes_of map.old.pairs) }
-    ensures map { IsMap map.new.pairs }
+pub(crate) fn purge<A: Allocator + Copy>(map: &mut OfferMap<A>, feed: u32, count: u32)
+    requires { count ≡ count_of feed (routes_of map.old.pairs) }
+    ensures { routes_of map.new.pairs ≡ purge feed (routes_of map.old.pairs) }
 {
-    map_laws::<A>();
     let mut purge = Purging {
         feed,
         remaining: count,
     };
-    map.retain(&mut purge);
+    map.trie.retain(&mut purge);
 }

@@ -1,12 +1,12 @@
 //! Selecting routes of a table: each part of its prefixes is found by a single descent.
 ghost use Rattle.std.specs.Prelude.{◌≡◌, filter, if◌then◌else◌, IfOk};
-ghost use Rattle.rt_rib.specs.Maps.{routes_of, IsMap};
+ghost use Rattle.rt_rib.specs.Maps.{routes_of};
 ghost use Rattle.rt_rib.specs.LookUp.{best_routes};
 ghost use Rattle.rt_rib.specs.Selection.{is_in, is_by};
 ghost use Rattle.rt_rib.specs.Table.{IsTable};
 ghost use Rattle.rt_cidr.specs.Prefix.{contains, same_prefix};
 
-use crate::map::{self, Map, append, map_laws};
+use crate::map::{OfferMap, append, routes};
 use crate::refused::Refused;
 use crate::routes::{Route, keep_best};
 use rt_cidr::Prefix;
@@ -38,17 +38,16 @@ pub struct Selection {
 
 /// Returns the routes to the prefixes in the part, in dump order. The whole map has `count` routes.
 pub(crate) fn routes_in<A: Allocator + Copy>(
-    map: &Map<A>,
+    map: &OfferMap<A>,
     alloc: A,
     count: usize,
     part: PrefixFilter,
 ) -> Result<Vec<Route, A>, Refused>
-    requires { IsMap map.now.pairs }
     ensures { IfOk result (λ routes. routes.items ≡ filter (λ r. is_in part r.prefix) (routes_of map.now.pairs)) }
 {
     match part {
-        PrefixFilter::All => map::routes(map.walk(), alloc, count),
-        PrefixFilter::Within(prefix) => map::routes(map.within(prefix), alloc, 0),
+        PrefixFilter::All => map.routes(alloc, count),
+        PrefixFilter::Within(prefix) => routes(map.trie.within(prefix), alloc, 0),
         PrefixFilter::Covering(prefix) => routes_covering(map, alloc, prefix),
         PrefixFilter::Exact(prefix) => routes_to(map, alloc, prefix),
     }
@@ -56,14 +55,14 @@ pub(crate) fn routes_in<A: Allocator + Copy>(
 
 /// Returns the routes to the prefix and to the shorter ones that contain it.
 fn routes_covering<A: Allocator + Copy>(
-    map: &Map<A>,
+    map: &OfferMap<A>,
     alloc: A,
     prefix: Prefix,
 ) -> Result<Vec<Route, A>, Refused>
     ensures { IfOk result (λ routes. routes.items ≡ filter (λ r. contains r.prefix prefix) (routes_of map.now.pairs)) }
 {
     let mut routes = Vec::new(alloc);
-    for (stored, offers) in map.containing(prefix) {
+    for (stored, offers) in map.trie.containing(prefix) {
         append(&mut routes, stored, offers.as_slice())?;
     }
     Ok(routes)
@@ -71,16 +70,14 @@ fn routes_covering<A: Allocator + Copy>(
 
 /// Returns the routes to the prefix.
 fn routes_to<A: Allocator + Copy>(
-    map: &Map<A>,
+    map: &OfferMap<A>,
     alloc: A,
     prefix: Prefix,
 ) -> Result<Vec<Route, A>, Refused>
-    requires { IsMap map.now.pairs }
     ensures { IfOk result (λ routes. routes.items ≡ filter (λ r. same_prefix r.prefix prefix) (routes_of map.now.pairs)) }
 {
-    map_laws::<A>();
     let mut routes = Vec::new(alloc);
-    match map.get(prefix) {
+    match map.trie.get(prefix) {
         None => {}
         Some(offers) => append(&mut routes, prefix, offers.as_slice())?,
     }

@@ -7,21 +7,18 @@ ghost use Rattle.rt_rib.specs.Places.{from_place};
 ghost use Rattle.rt_rib.specs.Table.{count_of, IsTable};
 ghost use Rattle.rt_rib.specs.LookUp.{look_up, look_up_all};
 ghost use Rattle.rt_rib.specs.Book.{IsLimit, IsFeed, table_state, Serves, HoldsRoutes};
-ghost use Rattle.rt_rib.specs.Maps.{routes_of, IsMap};
 ghost use Rattle.rt_rib.specs.Selection.{selected};
 
 use crate::answers::LookupCursor;
 use crate::commands::{Cmd, Reply};
 use crate::limits::MAX_FEEDS;
-use crate::map::{self, Map};
+use crate::map::OfferMap;
 use crate::places::RoutesFrom;
 use crate::refused::Refused;
 use crate::routes::Route;
 use crate::selection::{Selection, keep_selected, routes_in};
 use crate::{lookups, purge};
-use rt_cidr::laws::same_prefix;
 use rt_cidr::{Addr, Prefix};
-use rt_trie::Trie;
 use std::alloc::Allocator;
 use std::fmt;
 use std::marker::Model;
@@ -35,7 +32,7 @@ pub struct Table<A: Allocator + Copy> {
     /// The number of routes of each feed, starting with feed 1.
     counts: [u32; MAX_FEEDS],
     /// The routes, as the offers for each prefix.
-    map: Map<A>,
+    map: OfferMap<A>,
     alloc: A,
 }
 
@@ -74,7 +71,7 @@ impl<A: Allocator + Copy> Table<A> {
         Table {
             limit,
             counts,
-            map: Trie::new(alloc),
+            map: OfferMap::new(alloc),
             alloc,
         }
     }
@@ -116,7 +113,7 @@ impl<A: Allocator + Copy> Table<A> {
         ensures table { IsTable self.now.routes }
     {
         let count = self.len();
-        map::routes(self.map.walk(), alloc, count as usize)
+        self.map.routes(alloc, count as usize)
     }
 
     /// Returns the best route of the longest prefix that covers the address, or `None` if no prefix covers it: the answer
@@ -169,7 +166,6 @@ impl<A: Allocator + Copy> Table<A> {
         ensures { IfOk result (λ routes. routes.items ≡ selected asked.now self.now.routes) }
     {
         let count = self.len();
-        same_prefix();
         let mut routes = routes_in(&self.map, alloc, count as usize, asked.part)?;
         keep_selected(&mut routes, asked);
         Ok(routes)
@@ -186,10 +182,8 @@ impl<A: Allocator + Copy> Table<A> {
     }
 
     /// Returns the map of the table's routes, for reading only.
-    pub(crate) fn map(&self) -> &Map<A>
-        ensures trie { result.now ≡ self.now.trie }
-        ensures map { IsMap result.now.pairs }
-        ensures routes { routes_of result.now.pairs ≡ self.now.routes }
+    pub(crate) fn map(&self) -> &OfferMap<A>
+        ensures { result.now ≡ self.now.trie }
     {
         &self.map
     }
@@ -236,12 +230,12 @@ impl<A: Allocator + Copy> Table<A> {
     {
         let own = (route.feed - 1) as usize;
         if self.counts[own] >= self.limit {
-            if map::has(&self.map, route.feed, route.prefix) {
+            if self.map.has(route.feed, route.prefix) {
                 return Ok(Reply::Exists);
             }
             return Ok(Reply::Full);
         }
-        if map::put_in(&mut self.map, self.alloc, route)? {
+        if self.map.put_in(self.alloc, route)? {
             return Ok(Reply::Exists);
         }
         self.counts[own] += 1;
@@ -254,7 +248,7 @@ impl<A: Allocator + Copy> Table<A> {
         ensures { let cmd = Replace route.prefix route.pref route.hop in
             Serves (table_state self.old) (table_state self.new) route.feed cmd result }
     {
-        if !map::replace(&mut self.map, route) {
+        if !self.map.replace(route) {
             return Reply::Missing;
         }
         Reply::Replaced
@@ -265,7 +259,7 @@ impl<A: Allocator + Copy> Table<A> {
         requires { IsFeed feed }
         ensures { Serves (table_state self.old) (table_state self.new) feed (Withdraw prefix) result }
     {
-        if !map::take_out(&mut self.map, feed, prefix) {
+        if !self.map.take_out(feed, prefix) {
             return Reply::Missing;
         }
         self.counts[(feed - 1) as usize] -= 1;

@@ -1,11 +1,9 @@
--- The offers at a prefix, and the theorems about maps that proofs use.
+-- The offers at a prefix, and the answers to several look-ups.
 use Rattle.std.specs.Prelude.{ℕ, List, [], ◌∷◌, ◌++◌, Option, Some, None, map, slice_index_or}
 use Rattle.std.specs.List.{Contains}
 use Rattle.rt_cidr.specs.declared.address.Addr.{Addr}
 use Rattle.rt_cidr.specs.declared.prefixes.Prefix.{Prefix}
-use Rattle.rt_cidr.specs.Laws.{SamePrefix}
 use Rattle.rt_trie.specs.Map.{get}
-use Rattle.rt_trie.specs.Laws.{PutIsSeen, EraseIsSeen, PutKeepsOrder, EraseKeepsOrder, PairsAreFound, MapHasOneList}
 use Rattle.rt_rib.specs.declared.routes.Route.{Route}
 use Rattle.rt_rib.specs.declared.offers.Offer.{Offer}
 use Rattle.rt_rib.specs.LookUp.{look_up}
@@ -40,13 +38,3 @@ routes_backward ((p, offers) ∷ rest) = routes_backward rest ++ map (route_by p
 -- the map holds the route: the offers at its prefix contain its offer
 abbrev pub HasRoute : Map → Route → Type 0
 HasRoute m r = Contains (offers_at m r.prefix) (offer_of r)
-
--- the theorems of rt_trie for maps of offers, and of rt_cidr for equal prefixes
-pub record MapLaws : Type 0 where
-  pub put : PutIsSeen (List Offer)
-  pub erase : EraseIsSeen (List Offer)
-  pub put_in_order : PutKeepsOrder (List Offer)
-  pub erase_in_order : EraseKeepsOrder (List Offer)
-  pub found : PairsAreFound (List Offer)
-  pub one : MapHasOneList (List Offer)
-  pub same : SamePrefix

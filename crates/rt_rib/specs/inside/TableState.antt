@@ -5,7 +5,7 @@ use Rattle.rt_rib.specs.declared.routes.Route.{Route}
 use Rattle.rt_rib.specs.declared.commands.Entry.{Entry}
 use Rattle.rt_rib.specs.declared.limits.TheConstants.{MAX_FEEDS}
 use Rattle.rt_rib.specs.Table.{count_of, IsTable}
-use Rattle.rt_rib.specs.Maps.{Map, routes_of, IsMap}
+use Rattle.rt_rib.specs.Maps.{Map, routes_of}
 use Rattle.rt_rib.specs.Sequential.{table_of_journal, IsLawfulJournal}
 use Rattle.rt_rib.specs.Book.{IsLimit, IsFeed, TableState}
 
@@ -16,10 +16,9 @@ pub record AreCounts (limit : ℕ) (counts : List ℕ) (routes : List Route) : T
   pub within : (i : ℕ) → i < MAX_FEEDS → slice_index counts i ≤ limit
   pub all : sum counts ≡ length routes
 
--- the invariant of `Table`: a valid limit, a map whose offers are in order and whose routes are a table, and its counts
+-- the invariant of `Table`: a valid limit, a map whose routes are a table, and its counts
 pub record IsCounted (limit : ℕ) (counts : List ℕ) (m : Map) : Type 0 where
   pub limited : IsLimit limit
-  pub map : IsMap m
   pub table : IsTable (routes_of m)
   pub counted : AreCounts limit counts (routes_of m)
 

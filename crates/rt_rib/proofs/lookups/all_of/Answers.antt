@@ -15,7 +15,7 @@ gone_down done more all ahead rest p offers same before first is appended =
     ∙ sym (append_assoc (routes_backward rest) (map (route_by p) offers) done) ∙ ap (λ m. routes_backward m ++ done) (sym first) ∙ before
 
 pub loop-prefix-init : goal.loop-prefix-init
-loop-prefix-init g c = search rules
+loop-prefix-init g c = rw (← c.map.view_is) (search rules)
 
 pub loop-prefix-preserved : goal.loop-prefix-preserved
 loop-prefix-preserved g c =
@@ -26,4 +26,4 @@ loop-prefix-preserved g c =
 pub returns : goal.returns
 returns g c =
     c.reverse.ensures.items ∙ ap (λ n. routes_backward n ++ reverse c.loop-prefix.routes.items) (sym c.in-None.ensures.steps.0) ∙ c.loop-prefix.invariant
-    ∙ sym (look_up_all-backward c.args.addr c.map_laws.ensures c.args.map.now.pairs c.requires)
+    ∙ rw (← c.map.view_is) (sym (look_up_all-backward c.args.addr c.map.inside.trie.pairs c.map.invariant))

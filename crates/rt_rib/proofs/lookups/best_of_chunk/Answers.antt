@@ -6,6 +6,7 @@ use Rattle.std.proofs.lemmas.List.{get_or-take, get_or-drop, get_or_append_left,
 use Rattle.rt_cidr.specs.declared.address.Addr.{Addr}
 use Rattle.rt_cidr.specs.declared.prefixes.Prefix.{Prefix}
 use Rattle.rt_trie.specs.Map.{Pairs, pair_copied, IsLongest, AreLongest, address_at, answer_at}
+use Rattle.rt_rib.specs.Book.{OfferTrie}
 use Rattle.rt_rib.specs.LookUp.{look_up}
 use Rattle.rt_rib.specs.Maps.{routes_of}
 use Rattle.rt_rib.specs.inside.Maps.{route_at}
@@ -30,19 +31,20 @@ loop-k-preserved g c =
     let i = c.loop-k.invariant in
     let k = c.loop-k.k in
     let start = c.args.start in
-    let m = c.args.map.now.pairs in
+    let m = c.map.inside.trie.pairs in
     let addresses = c.args.addresses.now in
     let answers = c.loop-k.answers in
     let answer = c.best_at.result in
     let longest = longest_at m addresses start c.args.size k c.longest_many.new.answers _ c.index-longest-k.result c.requires.within c.loop-k-test.true
     (c.longest_many.auto.answers ∙ length-take-le c.args.size _ c.requires.chunk) c.longest_many.ensures in
-    let here = c.best_at.ensures m (address_at addresses (start + k)) c.requires.map longest in
+    let here = subst (λ (trie : OfferTrie). answer ≡ look_up (address_at addresses (start + k)) (routes_of trie.pairs)) c.map.view_is
+    (c.best_at.ensures m (address_at addresses (start + k)) c.map.invariant longest) in
     record {
       each = λ j h. elim (cases_lt j k) [
         | inl lt ↦ get_or-set_other answers (start + k) (start + j) answer None (λ e. omega arith) ∙ i.each j lt
         | inr ge ↦
             let e : k ≡ j = omega arith in
-            subst (λ n. route_at (set answers (start + k) answer) (start + n) ≡ look_up (address_at addresses (start + n)) (routes_of m)) e
+            subst (λ n. route_at (set answers (start + k) answer) (start + n) ≡ look_up (address_at addresses (start + n)) (routes_of c.args.map.now.pairs)) e
             (get_or-set_same answers (start + k) answer None (omega (arith, c.requires.within, i.long)) ∙ here)
       ];
       rest = λ n h. get_or-set_other answers (start + k) n answer None (λ e. omega arith) ∙ i.rest n h;

@@ -8,7 +8,7 @@ use Rattle.rt_rib.proofs.Selections.{filter_routes}
 use Rattle.rt_rib.proofs.selection.routes_covering.Goals as goal
 
 pub loop-stored-init : goal.loop-stored-init
-loop-stored-init g c = search rules
+loop-stored-init g c = rw (← c.map.view_is) (search rules)
 
 pub loop-stored-preserved : goal.loop-stored-preserved
 loop-stored-preserved g c =

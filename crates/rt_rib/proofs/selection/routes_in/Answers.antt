@@ -8,11 +8,10 @@ use Rattle.rt_rib.proofs.selection.routes_in.Goals as goal
 pub returns-in-All : goal.returns-in-All
 returns-in-All g c =
     rw c.in-All.is
-    (subst (λ all. IfOk c.routes.result (λ routes. routes.items ≡ all)) (ap routes_of c.walk.ensures.pairs ∙ sym (in_all (routes_of c.args.map.now.pairs)))
-    c.routes.ensures)
+    (subst (λ all. IfOk c.routes.result (λ routes. routes.items ≡ all)) (sym (in_all (routes_of c.args.map.now.pairs))) c.routes.ensures)
 
 pub returns-in-Within : goal.returns-in-Within
 returns-in-Within g c =
-    rw c.in-Within.is
+    rw (← c.map.view_is, c.in-Within.is)
     (subst (λ all. IfOk c.routes-in-Within.result (λ routes. routes.items ≡ all))
-    (ap routes_of c.within.ensures.pairs ∙ sym (filter_routes (contains c.in-Within.prefix) c.args.map.now.pairs)) c.routes-in-Within.ensures)
+    (ap routes_of c.within.ensures.pairs ∙ sym (filter_routes (contains c.in-Within.prefix) c.map.inside.trie.pairs)) c.routes-in-Within.ensures)

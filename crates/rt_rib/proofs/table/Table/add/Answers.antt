@@ -7,9 +7,6 @@ use Rattle.rt_rib.proofs.CommandCases.{exists, full}
 use Rattle.rt_rib.proofs.MapChanges.{err_from}
 use Rattle.rt_rib.proofs.table.Table.add.Goals as goal
 
-pub has-requires : goal.has-requires
-has-requires g c = c.self.invariant.map
-
 pub returns-then-has-clause-ok : goal.returns-then-has-clause-ok
 returns-then-has-clause-ok g c =
     rw (← c.self.view_is) (exists c.self.inside.limit (routes_of c.self.inside.map.pairs) c.args.route (sym c.has.ensures ∙ c.if-has.true))
@@ -24,12 +21,9 @@ returns-then-self-own-clause-ok g c =
 pub returns-then-self-own-clause-wanted : goal.returns-then-self-own-clause-wanted
 returns-then-self-own-clause-wanted g c = tt
 
-pub put_in-requires : goal.put_in-requires
-put_in-requires g c = c.self.invariant.map
-
 pub invariant_of-self : goal.invariant_of-self
 invariant_of-self g c =
-    kept_counted c.self.inside.limit c.self.inside.counts c.self.inside.map.pairs c.put_in.new.map.pairs c.self.invariant
+    kept_counted c.self.inside.limit c.self.inside.counts c.self.inside.map.pairs c.put_in.new.self.pairs c.self.invariant
     (ap (λ (m : OfferTrie). m.pairs) c.in_err-put_in.ensures.refused)
 
 pub returns-in_err-put_in-clause-err : goal.returns-in_err-put_in-clause-err
@@ -47,24 +41,24 @@ returns-in_err-put_in-clause-wanted g c =
 
 pub invariant_of-self-then-branch : goal.invariant_of-self-then-branch
 invariant_of-self-then-branch g c =
-    kept_counted c.self.inside.limit c.self.inside.counts c.self.inside.map.pairs c.put_in.new.map.pairs c.self.invariant
+    kept_counted c.self.inside.limit c.self.inside.counts c.self.inside.map.pairs c.put_in.new.self.pairs c.self.invariant
     (c.in_ok-put_in.ensures.kept c.if-branch.true)
 
 pub returns-then-branch-clause-ok : goal.returns-then-branch-clause-ok
 returns-then-branch-clause-ok g c =
     rw (← c.self.view_is)
-    (kept_serves c.self.inside.limit c.self.inside.map.pairs c.put_in.new.map.pairs _ _ _ (c.in_ok-put_in.ensures.kept c.if-branch.true)
+    (kept_serves c.self.inside.limit c.self.inside.map.pairs c.put_in.new.self.pairs _ _ _ (c.in_ok-put_in.ensures.kept c.if-branch.true)
     (exists c.self.inside.limit (routes_of c.self.inside.map.pairs) c.args.route (sym c.in_ok-put_in.ensures.had ∙ c.if-branch.true)))
 
 pub invariant_of-self-2 : goal.invariant_of-self-2
 invariant_of-self-2 g c =
     added_counted c.self.inside.limit c.self.inside.counts c.self.inside.map.pairs c.self.invariant c.self.told
-    c.args.route c.requires (sym c.in_ok-put_in.ensures.had ∙ c.if-branch.false) c.if-self-own.false c.put_in.new.map.pairs c.put_in.ensures.map
+    c.args.route c.requires (sym c.in_ok-put_in.ensures.had ∙ c.if-branch.false) c.if-self-own.false c.put_in.new.self.pairs
     (c.in_ok-put_in.ensures.more c.if-branch.false)
 
 pub returns-clause-ok : goal.returns-clause-ok
 returns-clause-ok g c =
     rw (← c.self.view_is)
     (added_serves c.self.inside.limit c.self.inside.counts c.self.inside.map.pairs c.self.invariant c.self.told
-    c.args.route c.requires (sym c.in_ok-put_in.ensures.had ∙ c.if-branch.false) c.if-self-own.false c.put_in.new.map.pairs c.put_in.ensures.map
+    c.args.route c.requires (sym c.in_ok-put_in.ensures.had ∙ c.if-branch.false) c.if-self-own.false c.put_in.new.self.pairs
     (c.in_ok-put_in.ensures.more c.if-branch.false))

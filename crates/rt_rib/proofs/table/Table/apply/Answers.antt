@@ -1,18 +1,14 @@
 use Rattle.rt_rib.specs.Maps.{routes_of}
 use Rattle.rt_rib.proofs.CommandCases.{found, unfound, dumped}
 use Rattle.rt_rib.proofs.table.Table.apply.Goals as goal
-use Rattle.rt_rib.proofs.table.Table.apply.Goals.{in-Some, in-None}
-
-pub best_of-requires : goal.best_of-requires
-best_of-requires g c = c.self.invariant.map
 
 pub returns-after-best_of-clause-ok : goal.returns-after-best_of-clause-ok
 returns-after-best_of-clause-ok g c =
     elim c.match-best_of.branch [
-      | in-Some w ↦
+      | goal.in-Some w ↦
           rw (← c.self.view_is, c.in-Lookup.is, w.result-is)
           (found c.self.inside.limit (routes_of c.self.inside.map.pairs) c.args.feed c.in-Lookup.addr w.in-Some.route w.in-Some.ensures)
-      | in-None w ↦
+      | goal.in-None w ↦
           rw (← c.self.view_is, c.in-Lookup.is, w.result-is)
           (unfound c.self.inside.limit (routes_of c.self.inside.map.pairs) c.args.feed c.in-Lookup.addr w.in-None.ensures)
     ]

@@ -3,20 +3,17 @@ use Rattle.rt_rib.proofs.TableChanges.{purged_counted, purged_serves}
 use Rattle.rt_rib.specs.Maps.{routes_of}
 use Rattle.rt_rib.proofs.table.Table.purge.Goals as goal
 
-pub purge-requires-clause-map : goal.purge-requires-clause-map
-purge-requires-clause-map g c = c.self.invariant.map
-
-pub purge-requires-clause-count : goal.purge-requires-clause-count
-purge-requires-clause-count g c =
+pub purge-requires : goal.purge-requires
+purge-requires g c =
     AreCounts-own c.self.inside.limit c.self.inside.counts (routes_of c.self.inside.map.pairs) c.args.feed c.self.invariant.counted c.requires
 
 pub invariant_of-self : goal.invariant_of-self
 invariant_of-self g c =
     purged_counted c.self.inside.limit c.self.inside.counts c.self.inside.map.pairs c.self.invariant c.self.told
-    c.args.feed c.requires c.purge.new.map.pairs c.purge.ensures.map c.purge.ensures.gone
+    c.args.feed c.requires c.purge.new.map.pairs c.purge.ensures
 
 pub returns : goal.returns
 returns g c =
     rw (← c.self.view_is)
     (purged_serves c.self.inside.limit c.self.inside.counts c.self.inside.map.pairs c.self.invariant c.self.told
-    c.args.feed c.requires c.purge.new.map.pairs c.purge.ensures.map c.purge.ensures.gone)
+    c.args.feed c.requires c.purge.new.map.pairs c.purge.ensures)

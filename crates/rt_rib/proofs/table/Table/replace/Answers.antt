@@ -6,20 +6,20 @@ use Rattle.rt_rib.proofs.table.Table.replace.Goals as goal
 
 pub invariant_of-self : goal.invariant_of-self
 invariant_of-self g c =
-    kept_counted c.self.inside.limit c.self.inside.counts c.self.inside.map.pairs c.replace.new.map.pairs c.self.invariant (c.if-not-replace.ensures.kept refl)
+    kept_counted c.self.inside.limit c.self.inside.counts c.self.inside.map.pairs c.replace.new.self.pairs c.self.invariant (c.if-not-replace.ensures.kept refl)
 
 pub returns-then-not-replace : goal.returns-then-not-replace
 returns-then-not-replace g c = rw (← c.self.view_is)
-    (kept_serves c.self.inside.limit c.self.inside.map.pairs c.replace.new.map.pairs _ _ _ (c.if-not-replace.ensures.kept refl)
+    (kept_serves c.self.inside.limit c.self.inside.map.pairs c.replace.new.self.pairs _ _ _ (c.if-not-replace.ensures.kept refl)
     (unreplaced c.self.inside.limit (routes_of c.self.inside.map.pairs) c.args.route (sym c.if-not-replace.ensures.had)))
 
 pub invariant_of-self-2 : goal.invariant_of-self-2
 invariant_of-self-2 g c =
     replaced_counted c.self.inside.limit c.self.inside.counts c.self.inside.map.pairs c.self.invariant c.self.told
-    c.args.route (sym c.if-not-replace.ensures.had) c.replace.new.map.pairs c.replace.ensures.map (c.if-not-replace.ensures.replaced refl)
+    c.args.route (sym c.if-not-replace.ensures.had) c.replace.new.self.pairs (c.if-not-replace.ensures.replaced refl)
 
 pub returns : goal.returns
 returns g c =
     rw (← c.self.view_is)
-    (replaced c.self.inside.limit (routes_of c.self.inside.map.pairs) c.args.route (sym c.if-not-replace.ensures.had) (routes_of c.replace.new.map.pairs)
+    (replaced c.self.inside.limit (routes_of c.self.inside.map.pairs) c.args.route (sym c.if-not-replace.ensures.had) (routes_of c.replace.new.self.pairs)
     (c.if-not-replace.ensures.replaced refl))

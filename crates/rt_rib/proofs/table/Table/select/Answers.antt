@@ -13,7 +13,7 @@ use Rattle.rt_rib.proofs.table.Table.select.Goals as goal
 pub keep_selected-requires : goal.keep_selected-requires
 keep_selected-requires g c =
     subst IsTable (sym c.in_ok-routes.ensures)
-    (IsTable-passing c.same_prefix.ensures (is_in c.args.asked.now.part) (routes_of c.self.inside.map.pairs) c.self.invariant.table)
+    (IsTable-passing (is_in c.args.asked.now.part) (routes_of c.self.inside.map.pairs) c.self.invariant.table)
 
 pub returns : goal.returns
 returns g c =
@@ -21,4 +21,4 @@ returns g c =
     let kept : List Route → List Route = λ routes. filter (is_by asked.feed) (if asked.only_best then best_routes routes else routes) in
     rw (← c.self.view_is)
     (c.keep_selected.ensures ∙ ap kept c.in_ok-routes.ensures
-    ∙ selected_of_part c.same_prefix.ensures asked (routes_of c.self.inside.map.pairs) c.self.invariant.table)
+    ∙ selected_of_part asked (routes_of c.self.inside.map.pairs) c.self.invariant.table)

@@ -6,12 +6,12 @@ use Rattle.rt_rib.proofs.table.Table.withdraw.Goals as goal
 
 pub invariant_of-self : goal.invariant_of-self
 invariant_of-self g c =
-    kept_counted c.self.inside.limit c.self.inside.counts c.self.inside.map.pairs c.take_out.new.map.pairs c.self.invariant
+    kept_counted c.self.inside.limit c.self.inside.counts c.self.inside.map.pairs c.take_out.new.self.pairs c.self.invariant
     (c.if-not-take_out.ensures.kept refl)
 
 pub returns-then-not-take_out : goal.returns-then-not-take_out
 returns-then-not-take_out g c = rw (← c.self.view_is)
-    (kept_serves c.self.inside.limit c.self.inside.map.pairs c.take_out.new.map.pairs _ _ _ (c.if-not-take_out.ensures.kept refl)
+    (kept_serves c.self.inside.limit c.self.inside.map.pairs c.take_out.new.self.pairs _ _ _ (c.if-not-take_out.ensures.kept refl)
     (unwithdrawn c.self.inside.limit (routes_of c.self.inside.map.pairs) c.args.feed c.args.prefix (sym c.if-not-take_out.ensures.had)))
 
 pub overflow_sub-self : goal.overflow_sub-self
@@ -21,18 +21,18 @@ pub overflow_sub-self-2 : goal.overflow_sub-self-2
 overflow_sub-self-2 g c =
     let one =
     withdrawn_one c.self.inside.limit c.self.inside.counts c.self.inside.map.pairs c.self.invariant c.self.told
-    c.args.feed c.requires c.args.prefix (sym c.if-not-take_out.ensures.had) c.take_out.new.map.pairs c.take_out.ensures.map
+    c.args.feed c.requires c.args.prefix (sym c.if-not-take_out.ensures.had) c.take_out.new.self.pairs
     (c.if-not-take_out.ensures.gone refl) in
     omega arith
 
 pub invariant_of-self-2 : goal.invariant_of-self-2
 invariant_of-self-2 g c =
     withdrawn_counted c.self.inside.limit c.self.inside.counts c.self.inside.map.pairs c.self.invariant c.self.told
-    c.args.feed c.requires c.args.prefix (sym c.if-not-take_out.ensures.had) c.take_out.new.map.pairs c.take_out.ensures.map
+    c.args.feed c.requires c.args.prefix (sym c.if-not-take_out.ensures.had) c.take_out.new.self.pairs
     (c.if-not-take_out.ensures.gone refl)
 
 pub returns : goal.returns
 returns g c =
     rw (← c.self.view_is)
     (withdrawn c.self.inside.limit (routes_of c.self.inside.map.pairs) c.args.feed c.args.prefix (sym c.if-not-take_out.ensures.had)
-    (routes_of c.take_out.new.map.pairs) (c.if-not-take_out.ensures.gone refl))
+    (routes_of c.take_out.new.self.pairs) (c.if-not-take_out.ensures.gone refl))
