@@ -1,6 +1,6 @@
 -- Examples that test the definitions of rt_cidr, each under a line with the definition's name. Both sides are computed;
 -- a relation or a theorem is spelled out for some values.
-use Rattle.std.proofs.Common.{map, ◌/◌, ◌≡◌, ℕ, ◌+◌, ◌<◌, Bool, true, false, List}
+use Rattle.std.proofs.Common.{map, ◌≡◌, ℕ, ◌<◌, Bool, true, false, List}
 use Rattle.std.proofs.Common.{[], ◌∷◌, ◌++◌, ◌||◌, Some, Ok, Err, codes, take, eqb, refl, ap, subst, ◌∙◌}
 use Rattle.std.proofs.Common.{arith}
 use Rattle.std.proofs.lemmas.Bool.{eq-eqb, or_right}

@@ -17,7 +17,7 @@ use Rattle.rt_trie.specs.inside.Lawful.{IsFilled}
 use Rattle.rt_trie.specs.Nodes.{IsNodeAt, CountsNodes}
 use Rattle.rt_trie.specs.TrieContents.{TrieContents}
 use Rattle.rt_trie.specs.TrieLends.{contents_with}
-use Rattle.rt_trie.specs.inside.Links.{own_pair, pairs, count}
+use Rattle.rt_trie.specs.inside.Links.{own_pair}
 
 -- 10.1.0.0/16 and 10.128.0.0/9
 abbrev ten_1_16 : Prefix
