@@ -1,7 +1,7 @@
 //! The table of one side, with its feeds renumbered.
 ghost use Rattle.std.specs.Prelude.{◌≡◌, ◌≤◌};
 ghost use Rattle.rt_cidr.specs.declared.address.Addr.{Addr};
-ghost use Rattle.rt_diff.specs.Answers.{own_numbers, renumbered_route, renumbered_look_up};
+ghost use Rattle.rt_diff.specs.Answers.{own_numbers, renumbered, renumbered_route, renumbered_look_up};
 
 use rt_cidr::Addr;
 use rt_rib::{LookupCursor, Route};
@@ -61,9 +61,16 @@ impl<'a, A: Allocator + Copy> RenumberedLookups<'a, A> {
 fn renumbered_route(numbers: &[u32], route: Route) -> Route
     ensures { result ≡ renumbered_route numbers.now route }
 {
-    let feed = match numbers.get(route.feed.saturating_sub(1) as usize) {
-        Some(number) => *number,
-        None => route.feed,
-    };
+    let feed = renumbered(numbers, route.feed);
     Route { feed, ..route }
+}
+
+/// Returns the new number of the feed.
+fn renumbered(numbers: &[u32], feed: u32) -> u32
+    ensures { result ≡ renumbered numbers.now feed }
+{
+    match numbers.get(feed.saturating_sub(1) as usize) {
+        Some(number) => *number,
+        None => feed,
+    }
 }

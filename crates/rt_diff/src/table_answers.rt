@@ -2,7 +2,6 @@
 ghost use Rattle.std.specs.Prelude.{◌≡◌, ◌↔◌, IsTrue};
 ghost use Rattle.rt_diff.specs.Answers.{answer_by};
 
-use rt_cidr::laws::same_prefix;
 use rt_rib::{Hop, Route};
 
 /// The part of an answer that is compared.
@@ -40,6 +39,5 @@ pub(crate) fn answer_by(by: CompareBy, found: Option<Route>) -> TableAnswer
 pub(crate) fn is_same(one: &TableAnswer, other: &TableAnswer) -> bool
     ensures { IsTrue result ↔ (one.now ≡ other.now) }
 {
-    same_prefix();
     one == other
 }
