@@ -20,7 +20,7 @@ use Rattle.rt_rib.specs.LookUp.{look_up, look_up_all}
 use Rattle.table_examples.proofs.Rib.{entry, at_10_1_2_3, at_10_9_0_1, ten_1_16, ten_9_16, via_192_0_2, route_via}
 use Rattle.table_examples.proofs.Cidr.{ten_8}
 use Rattle.table_examples.proofs.Rib.{tutorial, the_journal_of_the_tutorial, the_table_of_the_tutorial}
-use Rattle.rt_shared.specs.Visits.{IsContiguousIn, NoneBy, Since, visit_of, entries}
+use Rattle.rt_shared.specs.JournalVisits.{IsContiguousIn, NoneBy, Since, visit_of, entries}
 use Rattle.rt_shared.specs.declared.outcome.Outcome.{Outcome}
 use Rattle.rt_shared.specs.declared.outcome.Outcome.TheVariants.{Did, Refused}
 use Rattle.rt_feed.specs.declared.parse.LineFault.TheVariants as fault
@@ -43,7 +43,7 @@ use Rattle.table_examples.proofs.Diff.{a_table_and_itself_have_none}
 use Rattle.rt_run.specs.DiffText.{differ_status, IsDiffText}
 use Rattle.rt_run.specs.declared.comparisons.DiffSummary.{DiffSummary}
 use Rattle.ya_lock.specs.Lock.{LockId}
-use Rattle.rt_shared.specs.Table.{SharedId, HeldPass, Settles}
+use Rattle.rt_shared.specs.SharedTable.{SharedId, HeldPass, Settles}
 use Rattle.rt_run.specs.declared.faults.AppFault.TheVariants.{Run, Replay, Write}
 use Rattle.rt_run.specs.RunContents.{RunContents}
 use Rattle.rt_run.specs.RunText.{Explains, ExplainsFrom, IsJournalOfRun, reports_of, reports_text, some_refused, status_where, reports_status, IsRunText, WritesOrFails}

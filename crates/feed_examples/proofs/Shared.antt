@@ -24,8 +24,8 @@ use Rattle.table_examples.proofs.Rib.{at_10_1_2_3, route_via, entry, empty_book,
 use Rattle.rt_rib.proofs.Promised.{IsLawfulJournal-nil, IsLawfulJournal-push}
 use Rattle.rt_shared.specs.declared.lent.Lent.{Lent}
 use Rattle.rt_shared.specs.declared.outcome.Outcome.TheVariants.{Did, Refused}
-use Rattle.rt_shared.specs.Visits.{AllBy, NoneBy, Since, AnsweredBatch, reply_to, visit_of, entries, answered, CommitsBatch, IsContiguousIn}
-use Rattle.rt_shared.specs.Table.{SharedId, HeldPass, feed_of, HasSameBounds, GrowsByOthers, GrowsByFeed}
+use Rattle.rt_shared.specs.JournalVisits.{AllBy, NoneBy, Since, AnsweredBatch, reply_to, visit_of, entries, answered, CommitsBatch, IsContiguousIn}
+use Rattle.rt_shared.specs.SharedTable.{SharedId, HeldPass, feed_of, HasSameBounds, GrowsByOthers, GrowsByFeed}
 use Rattle.rt_shared.specs.Headline.{Act, entry_of, journal_of, IsSequential, IsRunTo, NoTwoInside, HasAllMade, FindsBest}
 use Rattle.rt_shared.specs.Moments.{Moment, BookInSlot, IsAtRest, MeetsHeadline}
 

@@ -7,8 +7,8 @@ use Rattle.rt_rib.specs.declared.commands.Entry.{Entry}
 use Rattle.rt_shared.specs.declared.outcome.Outcome.{Outcome}
 use Rattle.std.specs.declared.result.Result.{Result}
 use Rattle.std.specs.Prelude.{IfOk, OnOk, OnErr, Ok, Err}
-use Rattle.rt_shared.specs.Table.{HeldPass}
-use Rattle.rt_shared.specs.Visits.{IsContiguousIn, AnsweredBatch, visit_of, entries, CommitsBatch}
+use Rattle.rt_shared.specs.SharedTable.{HeldPass}
+use Rattle.rt_shared.specs.JournalVisits.{IsContiguousIn, AnsweredBatch, visit_of, entries, CommitsBatch}
 use Rattle.rt_shared.proofs.Promised.{uncut_visit, uncut_by_visit}
 
 -- a visit to the shared table is uncut after the others

@@ -3,7 +3,7 @@ use Rattle.std.proofs.Common.{◌≡◌, List, [], ◌∷◌, ◌++◌, length, 
 use Rattle.std.proofs.Common.{Result, Ok, Err, OnErr}
 use Rattle.rt_rib.specs.declared.commands.Cmd.{Cmd}
 use Rattle.rt_shared.specs.declared.outcome.Outcome.{Outcome}
-use Rattle.rt_shared.specs.Visits.{AnsweredBatch, reply_to, visit_of}
+use Rattle.rt_shared.specs.JournalVisits.{AnsweredBatch, reply_to, visit_of}
 use Rattle.rt_feed.specs.Visits.{concatenated}
 
 -- one more visit is joined after the others

@@ -15,7 +15,7 @@ use Rattle.rt_feed.specs.declared.versions.Version.TheVariants.{One, Two}
 use Rattle.rt_feed.specs.Lines.{IsBody, CutsLine, LineOutcome, skipped, faulty, asked, reading, TextYields}
 use Rattle.rt_feed.specs.Lines.{heading, command_answer, line_answer, numbered, report_lines, command_of, commands_of}
 use Rattle.rt_feed.specs.Grammar.{AnswersLine}
-use Rattle.rt_shared.specs.Visits.{AnsweredBatch, visit_of}
+use Rattle.rt_shared.specs.JournalVisits.{AnsweredBatch, visit_of}
 use Rattle.rt_feed.specs.Visits.{Gains, concatenated, piece_of, AnswersBatch}
 use Rattle.rt_feed.specs.inside.Filling.{filled}
 use Rattle.rt_feed.specs.FeedRuns.{RunsFeed, RunsPrefixOf, IsTold}

@@ -6,7 +6,7 @@ use Rattle.rt_feed.specs.declared.report.Line.{Line}
 use Rattle.rt_feed.specs.Lines.{CutsLine, LineOutcome, LinesYield, TextYields, reading, line_answer, report_lines, commands_of}
 use Rattle.rt_feed.specs.declared.versions.Version.{Version}
 use Rattle.rt_feed.specs.Grammar.{AnswersLine}
-use Rattle.rt_shared.specs.Visits.{AnsweredBatch, visit_of}
+use Rattle.rt_shared.specs.JournalVisits.{AnsweredBatch, visit_of}
 use Rattle.rt_feed.specs.Visits.{Gains, IsSplitInto}
 
 -- the text's first lines had these outcomes, and the gate executed their commands in pieces of `batch`, with a visit

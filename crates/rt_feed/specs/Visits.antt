@@ -2,7 +2,7 @@
 use Rattle.std.specs.Prelude.{◌≡◌, ℕ, ◌<◌, List, [], ◌∷◌, ◌++◌, All, length, zip}
 use Rattle.rt_rib.specs.declared.commands.Cmd.{Cmd}
 use Rattle.rt_shared.specs.declared.outcome.Outcome.{Outcome}
-use Rattle.rt_shared.specs.Visits.{AnsweredBatch, visit_of}
+use Rattle.rt_shared.specs.JournalVisits.{AnsweredBatch, visit_of}
 
 -- a gate that held some visits holds these after them
 abbrev pub Gains : {G : Type 0} → (G → List AnsweredBatch → Type 0) → G → G → List AnsweredBatch → Type 0

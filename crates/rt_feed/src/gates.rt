@@ -1,6 +1,6 @@
 //! The gates that answer a feed's commands: any gate, and the one to the shared table.
 ghost use Rattle.std.specs.Prelude.{◌≡◌, List, [], ◌∷◌, IfOk, OnOk, OnErr};
-ghost use Rattle.rt_shared.specs.Visits.{AnsweredBatch};
+ghost use Rattle.rt_shared.specs.JournalVisits.{AnsweredBatch};
 ghost use Rattle.rt_feed.specs.Visits.{Gains, AnswersBatch, AreOneList};
 
 use rt_rib::{Cmd, Refused, Reply};
@@ -58,7 +58,7 @@ pub struct TableGate<'a, const L: u32> {
 
 impl<'a, const L: u32> Model for TableGate<'a, L> {
     ghost use Rattle.std.specs.Prelude.{◌≡◌};
-    ghost use Rattle.rt_shared.specs.Table.{HeldPass};
+    ghost use Rattle.rt_shared.specs.SharedTable.{HeldPass};
 
     ghost Value = { HeldPass };
 
@@ -94,8 +94,8 @@ impl<'a, const L: u32> fmt::Debug for TableGate<'a, L> {
 
 impl<'a, const L: u32> Gate for TableGate<'a, L> {
     ghost use Rattle.std.specs.Prelude.{◌≡◌, ℕ, map};
-    ghost use Rattle.rt_shared.specs.Table.{SharedId};
-    ghost use Rattle.rt_shared.specs.Visits.{IsContiguousIn, entries};
+    ghost use Rattle.rt_shared.specs.SharedTable.{SharedId};
+    ghost use Rattle.rt_shared.specs.JournalVisits.{IsContiguousIn, entries};
     ghost use Rattle.rt_feed.specs.inside.HeldVisits.{visits_in, one_list};
 
     ghost Name = { SharedId × ℕ };

@@ -12,7 +12,7 @@ use Rattle.rt_rib.specs.Sequential.{reply_of, table_after, table_of_journal, IsA
 use Rattle.rt_rib.proofs.Promised.{table_of_journal-push, IsLawfulJournal-nil, IsLawfulJournal-push}
 use Rattle.rt_shared.specs.declared.outcome.Outcome.{Outcome}
 use Rattle.rt_shared.specs.declared.outcome.Outcome.TheVariants.{Did}
-use Rattle.rt_shared.specs.Visits.{AllBy, NoneBy, IsContiguousIn, AnsweredBatch, reply_to, visit_of, entries}
+use Rattle.rt_shared.specs.JournalVisits.{AllBy, NoneBy, IsContiguousIn, AnsweredBatch, reply_to, visit_of, entries}
 use Rattle.rt_shared.proofs.Promised.{uncut_since}
 use Rattle.rt_feed.specs.declared.versions.Version.{Version}
 use Rattle.rt_feed.specs.declared.versions.Version.TheVariants.{One, Two}

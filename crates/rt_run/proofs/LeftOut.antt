@@ -13,7 +13,7 @@ use Rattle.rt_rib.specs.declared.commands.Reply.TheVariants.{Added}
 use Rattle.rt_rib.specs.Sequential.{table_of_journal}
 use Rattle.rt_rib.specs.Laws.{FeedsStandAlone, feed_entries, feed_routes}
 use Rattle.rt_shared.specs.declared.outcome.Outcome.{Outcome}
-use Rattle.rt_shared.specs.Visits.{AnsweredBatch, entries}
+use Rattle.rt_shared.specs.JournalVisits.{AnsweredBatch, entries}
 use Rattle.std.specs.Prelude.{codes}
 use Rattle.rt_feed.specs.declared.versions.Version.{Version}
 use Rattle.rt_feed.specs.declared.versions.Version.TheVariants.{One, Two}

@@ -26,7 +26,7 @@ use Rattle.rt_feed.specs.Laws.{TextHasOneReading}
 use Rattle.rt_feed.specs.declared.report.Line.{Line}
 use Rattle.rt_feed.specs.Lines.{LineOutcome, skipped, faulty, asked, reading, TextYields, commands_of, report_lines}
 use Rattle.rt_feed.specs.Reports.{is_refusal, has_refusal, has_fault}
-use Rattle.rt_shared.specs.Visits.{AnsweredBatch, reply_to, visit_of, entries}
+use Rattle.rt_shared.specs.JournalVisits.{AnsweredBatch, reply_to, visit_of, entries}
 use Rattle.rt_feed.specs.Visits.{concatenated}
 use Rattle.rt_print.specs.Routes.{table_text}
 use Rattle.rt_run.specs.declared.tallies.RejectedInput.{RejectedInput}

@@ -9,8 +9,8 @@ use Rattle.std.proofs.lemmas.List.Elements.{All-nil}
 use Rattle.std.proofs.lemmas.Option.{slice_get-get_or, slice_get_within, same_Some}
 use Rattle.rt_rib.specs.declared.commands.Entry.{Entry}
 use Rattle.rt_rib.specs.Book.{BookContents, table_of}
-use Rattle.rt_shared.specs.Table.{SharedId, HeldPass, ArePassesOf, Settles}
-use Rattle.rt_shared.specs.Visits.{Since, IsContiguousIn, AnsweredBatch, visit_of, entries}
+use Rattle.rt_shared.specs.SharedTable.{SharedId, HeldPass, ArePassesOf, Settles}
+use Rattle.rt_shared.specs.JournalVisits.{Since, IsContiguousIn, AnsweredBatch, visit_of, entries}
 use Rattle.rt_feed.specs.declared.report.Line.{Line}
 use Rattle.rt_feed.specs.declared.feeds.Feed.{Feed}
 use Rattle.rt_feed.specs.Lines.{LineOutcome, report_lines}

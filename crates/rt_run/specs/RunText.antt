@@ -7,7 +7,7 @@ use Rattle.rt_rib.specs.declared.commands.Cmd.{Cmd}
 use Rattle.rt_rib.specs.declared.commands.Entry.{Entry}
 use Rattle.rt_rib.specs.Sequential.{IsLawfulJournal, table_of_journal}
 use Rattle.rt_shared.specs.declared.outcome.Outcome.{Outcome}
-use Rattle.rt_shared.specs.Visits.{IsContiguousIn, visit_of, entries}
+use Rattle.rt_shared.specs.JournalVisits.{IsContiguousIn, visit_of, entries}
 use Rattle.rt_feed.specs.declared.report.Line.{Line}
 use Rattle.rt_feed.specs.Lines.{LineOutcome, TextYields, commands_of, report_lines}
 use Rattle.rt_feed.specs.Visits.{IsSplitInto}

@@ -6,7 +6,7 @@ ghost use Rattle.std.specs.List.{list_any};
 ghost use Rattle.rt_feed.specs.Reports.{has_refusal, has_fault};
 ghost use Rattle.rt_run.specs.RunText.{IsRunText, WritesOrFails, reports_status};
 ghost use Rattle.rt_run.specs.inside.RunResults.{RunOverBook, RunBeforeSettle};
-ghost use Rattle.rt_shared.specs.Table.{ArePassesOf};
+ghost use Rattle.rt_shared.specs.SharedTable.{ArePassesOf};
 
 use crate::faults::AppFault;
 use crate::output::{finish, write_run};

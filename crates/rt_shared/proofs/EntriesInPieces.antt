@@ -8,10 +8,10 @@ use Rattle.rt_rib.specs.declared.commands.Reply.{Reply}
 use Rattle.rt_rib.specs.Book.{Applies, Refuses}
 use Rattle.rt_shared.specs.declared.outcome.Outcome.{Outcome}
 use Rattle.rt_shared.specs.declared.outcome.Outcome.TheVariants.{Did, Refused}
-use Rattle.rt_shared.specs.Visits.{answered, AllBy}
+use Rattle.rt_shared.specs.JournalVisits.{answered, AllBy}
 use Rattle.rt_shared.specs.inside.ServedBatch.{AreServed}
 use Rattle.rt_shared.specs.declared.lent.Lent.{Lent}
-use Rattle.rt_shared.specs.Table.{feed_of, GrowsByFeed}
+use Rattle.rt_shared.specs.SharedTable.{feed_of, GrowsByFeed}
 
 -- the entries of two pieces are those of the first, and then those of the second
 pub answered_append : (feed : ℕ) (xs ys : List Cmd) (os ps : List Outcome) → length os ≡ length xs

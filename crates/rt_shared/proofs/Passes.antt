@@ -4,11 +4,11 @@ use Rattle.std.proofs.lemmas.List.Elements.{All-map, All-nil, All-cons, All-head
 use Rattle.std.proofs.lemmas.List.{get_or-map, length-map}
 use Rattle.std.proofs.lemmas.Option.{slice_get-get_or, slice_get_within}
 use Rattle.rt_rib.specs.declared.commands.Entry.{Entry}
-use Rattle.rt_shared.specs.Visits.{Since}
+use Rattle.rt_shared.specs.JournalVisits.{Since}
 use Rattle.ya_lock.specs.Lock.{LockId, IdlePass, ArePassesInOrder, new_pass}
 use Rattle.rt_rib.specs.Sequential.{IsLawfulJournal}
 use Rattle.rt_shared.specs.declared.lent.Lent.{Lent}
-use Rattle.rt_shared.specs.Table.{SharedId, HeldPass, ArePassesOf, feed_of, GrowsByOthers}
+use Rattle.rt_shared.specs.SharedTable.{SharedId, HeldPass, ArePassesOf, feed_of, GrowsByOthers}
 use Rattle.rt_shared.specs.inside.PassModel.{of_feed, held_pass, HoldsLockPass}
 
 -- the place of a pass of the lock belongs to a feed

@@ -13,7 +13,7 @@ use Rattle.rt_rib.specs.declared.commands.Entry.{Entry}
 use Rattle.rt_rib.specs.LookUp.{look_up}
 use Rattle.rt_rib.specs.Sequential.{reply_of, table_of_journal, IsLawfulJournal}
 use Rattle.rt_rib.specs.Laws.{LawfulByEntry, TableByEntry, LookUpFindsBest, feed_entries}
-use Rattle.rt_shared.specs.Table.{feed_of}
+use Rattle.rt_shared.specs.SharedTable.{feed_of}
 use Rattle.rt_shared.specs.Headline.{Act, entry_of, journal_of, IsSequential, FindsBest}
 
 -- entries that follow a lawful journal, each answered by the sequential table, leave it lawful

@@ -6,7 +6,7 @@ use Rattle.rt_rib.specs.declared.commands.Cmd.{Cmd}
 use Rattle.rt_rib.specs.declared.commands.Entry.{Entry}
 use Rattle.rt_rib.specs.Laws.{feed_entries}
 use Rattle.rt_shared.specs.declared.outcome.Outcome.{Outcome}
-use Rattle.rt_shared.specs.Visits.{AllBy, NoneBy, Since, answered, CommitsBatch, IsContiguousIn}
+use Rattle.rt_shared.specs.JournalVisits.{AllBy, NoneBy, Since, answered, CommitsBatch, IsContiguousIn}
 use Rattle.rt_shared.specs.inside.LentLaws.{since_others}
 use Rattle.rt_shared.specs.inside.VisitEntries.{no_entries}
 use Rattle.rt_shared.proofs.EntriesInPieces.{all_answered}

@@ -10,7 +10,7 @@ use Rattle.rt_rib.specs.declared.commands.Reply.TheVariants.{Found}
 use Rattle.rt_rib.specs.declared.commands.Entry.{Entry}
 use Rattle.rt_rib.specs.Sequential.{table_of_journal, IsAnswered}
 use Rattle.rt_rib.specs.Laws.{feed_entries, IsBestMatch}
-use Rattle.rt_shared.specs.Table.{feed_of}
+use Rattle.rt_shared.specs.SharedTable.{feed_of}
 
 -- a command with its reply
 abbrev pub Act : Type 0

@@ -5,8 +5,8 @@ use Rattle.rt_rib.specs.declared.commands.Cmd.{Cmd}
 use Rattle.rt_rib.specs.declared.commands.Entry.{Entry}
 use Rattle.rt_rib.specs.Laws.{feed_entries}
 use Rattle.rt_shared.specs.declared.outcome.Outcome.{Outcome}
-use Rattle.rt_shared.specs.Table.{SharedId, HeldPass, ArePassesOf}
-use Rattle.rt_shared.specs.Visits.{AllBy, Since, answered, CommitsBatch, IsContiguousIn}
+use Rattle.rt_shared.specs.SharedTable.{SharedId, HeldPass, ArePassesOf}
+use Rattle.rt_shared.specs.JournalVisits.{AllBy, Since, answered, CommitsBatch, IsContiguousIn}
 
 -- two changes by others in a row are one such change
 abbrev pub SinceAgain : Type 0

@@ -1,5 +1,5 @@
-pub mod Visits
-pub mod Table
+pub mod JournalVisits
+pub mod SharedTable
 pub mod Laws
 pub mod Headline
 pub mod Moments

@@ -9,8 +9,8 @@ use Rattle.rt_rib.specs.Book.{HoldsTable}
 use Rattle.rt_rib.specs.Sequential.{IsLawfulJournal}
 use Rattle.rt_shared.specs.declared.lent.Lent.{Lent}
 use Rattle.rt_shared.specs.Headline.{FindsBest}
-use Rattle.rt_shared.specs.Table.{feed_of}
-use Rattle.rt_shared.specs.Visits.{Since}
+use Rattle.rt_shared.specs.SharedTable.{feed_of}
+use Rattle.rt_shared.specs.JournalVisits.{Since}
 
 -- the words, the slot of the lent book, and the views of all seats
 abbrev pub Moment : Type 0

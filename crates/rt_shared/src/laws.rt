@@ -6,7 +6,7 @@ ghost use Rattle.rt_rib.specs.Table.{IsTable};
 ghost use Rattle.ya_core.specs.Worlds.{World};
 ghost use Rattle.rt_shared.specs.Headline.{Act, IsRunTo, journal_of, NoTwoInside, HasAllMade, FindsBest};
 ghost use Rattle.ya_lock.specs.Rule.{Rule};
-ghost use Rattle.rt_shared.specs.Table.{GrowsByOthers};
+ghost use Rattle.rt_shared.specs.SharedTable.{GrowsByOthers};
 ghost use Rattle.rt_shared.specs.Moments.{Moment, MeetsHeadline};
 ghost use Rattle.rt_shared.specs.Laws.{SinceAgain, AnsweredInPieces, UncutAtFirst, UncutSince, UncutByVisit, EntriesOfVisits, EntriesSince, PassesKept};
 

@@ -26,7 +26,7 @@ pub struct Lent {
 }
 
 impl Kept for Lent {
-    ghost use Rattle.rt_shared.specs.Table.{GrowsByOthers, GrowsByFeed};
+    ghost use Rattle.rt_shared.specs.SharedTable.{GrowsByOthers, GrowsByFeed};
     ghost use Rattle.rt_shared.specs.inside.LentLaws.{others_add_nothing, feed_adds_nothing, grows_by_others};
 
     ghost since = { λ place a b. GrowsByOthers place a b };
@@ -43,9 +43,9 @@ impl Kept for Lent {
 impl Lent {
     ghost use Rattle.std.specs.Prelude.{ℕ, ◌+◌, ◌<◌, IfOk, OnErr, [], ◌∷◌, ◌++◌, vec_len, vec_capacity, length};
     ghost use Rattle.rt_rib.specs.Book.{Applies, Refuses, IsLimit};
-    ghost use Rattle.rt_shared.specs.Visits.{answered};
+    ghost use Rattle.rt_shared.specs.JournalVisits.{answered};
     ghost use Rattle.rt_shared.specs.inside.ServedBatch.{AreServed};
-    ghost use Rattle.rt_shared.specs.Table.{HasSameBounds};
+    ghost use Rattle.rt_shared.specs.SharedTable.{HasSameBounds};
 
     /// Returns an empty book for `feeds` feeds. M1: `Refused` if memory runs out.
     pub(crate) fn new(alloc: Global, limit: u32, feeds: u32) -> Result<Lent, Refused>

@@ -4,8 +4,8 @@ ghost use Rattle.rt_rib.specs.declared.limits.TheConstants.{MAX_FEEDS};
 ghost use Rattle.rt_rib.specs.Book.{IsLimit};
 ghost use Rattle.ya_core.specs.ArbitrationTree.{HasShape};
 ghost use Rattle.rt_rib.specs.Sequential.{table_of_journal, IsLawfulJournal};
-ghost use Rattle.rt_shared.specs.Visits.{Since, CommitsBatch, MakesVisitWith};
-ghost use Rattle.rt_shared.specs.Table.{ArePassesOf, Settles, feed_of};
+ghost use Rattle.rt_shared.specs.JournalVisits.{Since, CommitsBatch, MakesVisitWith};
+ghost use Rattle.rt_shared.specs.SharedTable.{ArePassesOf, Settles, feed_of};
 ghost use Rattle.rt_shared.specs.inside.PassModel.{shared_id, of_feed};
 
 use crate::lent::Lent;
@@ -30,7 +30,7 @@ pub struct FeedPass {
 }
 
 impl Model for FeedPass {
-    ghost use Rattle.rt_shared.specs.Table.{HeldPass};
+    ghost use Rattle.rt_shared.specs.SharedTable.{HeldPass};
 
     ghost Value = { HeldPass };
 
@@ -90,7 +90,7 @@ pub struct SharedRib<const L: u32> {
 
 impl<const L: u32> Model for SharedRib<L> {
     ghost use Rattle.std.specs.Prelude.{◌^◌};
-    ghost use Rattle.rt_shared.specs.Table.{SharedId};
+    ghost use Rattle.rt_shared.specs.SharedTable.{SharedId};
 
     ghost Value = { SharedId };
 

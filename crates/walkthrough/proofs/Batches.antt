@@ -5,8 +5,8 @@ use Rattle.rt_rib.specs.declared.commands.Entry.{Entry}
 use Rattle.rt_rib.specs.declared.routes.Route.{Route}
 use Rattle.rt_rib.specs.Sequential.{IsLawfulJournal, table_of_journal}
 use Rattle.rt_shared.specs.declared.outcome.Outcome.{Outcome}
-use Rattle.rt_shared.specs.Table.{SharedId, HeldPass, Settles}
-use Rattle.rt_shared.specs.Visits.{Since, CommitsBatch, IsContiguousIn, answered}
+use Rattle.rt_shared.specs.SharedTable.{SharedId, HeldPass, Settles}
+use Rattle.rt_shared.specs.JournalVisits.{Since, CommitsBatch, IsContiguousIn, answered}
 use Rattle.rt_shared.specs.Laws.{UncutAtFirst, UncutByVisit, UncutSince}
 use Rattle.walkthrough.specs.Shared.{AreBothUnseen, AreRoutesOfBoth}
 

@@ -5,7 +5,7 @@ use Rattle.std.proofs.lemmas.List.Elements.{All-head, All-tail}
 use Rattle.rt_rib.specs.declared.commands.Cmd.{Cmd}
 use Rattle.rt_rib.specs.declared.commands.Reply.{Reply}
 use Rattle.rt_rib.specs.declared.commands.Entry.{Entry}
-use Rattle.rt_shared.specs.Visits.{entries}
+use Rattle.rt_shared.specs.JournalVisits.{entries}
 use Rattle.walkthrough.specs.inside.JournalTold.{told}
 
 -- as entries of feed 1, its commands and replies are the journal

@@ -5,7 +5,7 @@ use Rattle.rt_rib.specs.declared.commands.Entry.{Entry}
 use Rattle.rt_shared.specs.declared.outcome.Outcome.{Outcome}
 use Rattle.rt_feed.specs.declared.report.Line.{Line}
 use Rattle.rt_feed.specs.Lines.{LineOutcome, TextYields, report_lines, commands_of}
-use Rattle.rt_shared.specs.Visits.{AnsweredBatch, visit_of, entries}
+use Rattle.rt_shared.specs.JournalVisits.{AnsweredBatch, visit_of, entries}
 use Rattle.rt_feed.specs.Visits.{IsSplitInto, concatenated}
 
 -- the journal has the commands and replies of these visits, in order, as entries of feed 1

@@ -5,8 +5,8 @@ use Rattle.rt_rib.specs.declared.commands.Cmd.{Cmd}
 use Rattle.rt_rib.specs.declared.commands.Entry.{Entry}
 use Rattle.rt_rib.specs.Sequential.{IsLawfulJournal, table_of_journal}
 use Rattle.rt_shared.specs.declared.outcome.Outcome.{Outcome}
-use Rattle.rt_shared.specs.Table.{SharedId, HeldPass}
-use Rattle.rt_shared.specs.Visits.{IsContiguousIn, answered}
+use Rattle.rt_shared.specs.SharedTable.{SharedId, HeldPass}
+use Rattle.rt_shared.specs.JournalVisits.{IsContiguousIn, answered}
 
 -- the passes of feed 1 and feed 2 before they have seen anything, of a table that has no other feed
 pub record AreBothUnseen (table : SharedId) (first second : HeldPass) : Type 0 where

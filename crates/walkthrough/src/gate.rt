@@ -1,7 +1,7 @@
 //! `rt_feed`: runs a feed's text through a custom gate, here to a book that no other feed shares.
 ghost use Rattle.std.specs.Prelude.{◌≡◌, [], ◌∷◌, ◌++◌, IfOk, All};
 ghost use Rattle.std.proofs.Common.{sym, ◌∙◌, append-nil};
-ghost use Rattle.rt_shared.specs.Visits.{reply_to};
+ghost use Rattle.rt_shared.specs.JournalVisits.{reply_to};
 ghost use Rattle.rt_feed.specs.Visits.{concatenated};
 ghost use Rattle.walkthrough.specs.Gate.{IsRunOf};
 ghost use Rattle.walkthrough.specs.inside.JournalTold.{told};

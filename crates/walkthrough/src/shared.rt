@@ -1,7 +1,7 @@
 //! `rt_shared`: two feeds change the same table, each with a batch, which is contiguous in the journal.
 ghost use Rattle.std.specs.Prelude.{◌≡◌, List, IfOk};
 ghost use Rattle.rt_shared.specs.declared.outcome.Outcome.{Outcome};
-ghost use Rattle.rt_shared.specs.Visits.{CommitsBatch};
+ghost use Rattle.rt_shared.specs.JournalVisits.{CommitsBatch};
 ghost use Rattle.walkthrough.specs.Shared.{AreBothUnseen, AreRoutesOfBoth};
 
 use rt_rib::{Cmd, Route};

@@ -7,7 +7,7 @@ use Rattle.rt_feed.specs.declared.report.Line.{Line}
 use Rattle.rt_feed.specs.declared.report.Answer.TheVariants as answer
 use Rattle.rt_feed.specs.declared.versions.Version.{Version}
 use Rattle.rt_feed.specs.Lines.{CutsLine, LineOutcome, TextYields, heading, report_lines, commands_of}
-use Rattle.rt_shared.specs.Visits.{AnsweredBatch, visit_of}
+use Rattle.rt_shared.specs.JournalVisits.{AnsweredBatch, visit_of}
 use Rattle.rt_feed.specs.Visits.{Gains, concatenated, piece_of}
 use Rattle.rt_feed.specs.inside.Filling.{filled}
 

@@ -9,7 +9,7 @@ use Rattle.rt_rib.specs.declared.commands.Cmd.{Cmd}
 use Rattle.rt_rib.specs.declared.commands.Reply.{Reply}
 use Rattle.rt_rib.specs.declared.commands.Entry.{Entry}
 use Rattle.rt_rib.specs.Laws.{feed_entries}
-use Rattle.rt_shared.specs.Visits.{IsContiguousIn, AnsweredBatch, entries}
+use Rattle.rt_shared.specs.JournalVisits.{IsContiguousIn, AnsweredBatch, entries}
 use Rattle.rt_shared.specs.inside.VisitEntries.{entries_of_visits}
 use Rattle.rt_feed.specs.Visits.{concatenated}
 

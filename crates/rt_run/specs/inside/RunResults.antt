@@ -1,7 +1,7 @@
 -- The result of a run of feeds before its text is written.
 use Rattle.std.specs.Prelude.{◌≡◌, ℕ, List, length}
 use Rattle.rt_rib.specs.Book.{BookContents}
-use Rattle.rt_shared.specs.Table.{SharedId, HeldPass, ArePassesOf, Settles}
+use Rattle.rt_shared.specs.SharedTable.{SharedId, HeldPass, ArePassesOf, Settles}
 use Rattle.rt_feed.specs.declared.report.Line.{Line}
 use Rattle.rt_feed.specs.Lines.{LineOutcome}
 use Rattle.rt_run.specs.RunContents.{RunContents}

@@ -5,7 +5,7 @@ use Rattle.rt_rib.specs.declared.commands.Entry.{Entry}
 use Rattle.rt_rib.specs.Book.{TableState}
 use Rattle.rt_rib.specs.Sequential.{table_of_journal, IsLawfulJournal}
 use Rattle.rt_shared.specs.declared.outcome.Outcome.{Outcome}
-use Rattle.rt_shared.specs.Visits.{visit_of, entries}
+use Rattle.rt_shared.specs.JournalVisits.{visit_of, entries}
 use Rattle.rt_feed.specs.declared.report.Answer.{Answer}
 use Rattle.rt_feed.specs.declared.versions.Version.{Version}
 use Rattle.rt_feed.specs.Grammar.{AnswersLine}

@@ -3,8 +3,8 @@ use Rattle.std.proofs.Common.{◌≡◌, ◌≢◌, ℕ, List, [], ◌++◌, ref
 use Rattle.std.proofs.lemmas.List.Elements.{All-nil, All-append, All-weaker}
 use Rattle.rt_rib.specs.declared.commands.Entry.{Entry}
 use Rattle.rt_shared.specs.declared.lent.Lent.{Lent}
-use Rattle.rt_shared.specs.Visits.{AllBy, NoneBy, Since}
-use Rattle.rt_shared.specs.Table.{feed_of, HasSameBounds, GrowsByOthers, GrowsByFeed}
+use Rattle.rt_shared.specs.JournalVisits.{AllBy, NoneBy, Since}
+use Rattle.rt_shared.specs.SharedTable.{feed_of, HasSameBounds, GrowsByOthers, GrowsByFeed}
 
 -- others may have added nothing
 pub since_same : (feed : ℕ) (journal : List Entry) → Since feed journal journal

@@ -2,7 +2,7 @@
 use Rattle.std.specs.Prelude.{◌≡◌, ℕ, ◌≤◌, [], Option, Some, None}
 use Rattle.ya_lock.specs.Lock.{IdlePass}
 use Rattle.rt_shared.specs.declared.lent.Lent.{Lent}
-use Rattle.rt_shared.specs.Table.{SharedId, HeldPass, feed_of}
+use Rattle.rt_shared.specs.SharedTable.{SharedId, HeldPass, feed_of}
 
 -- the table whose lock lends the book
 abbrev pub shared_id : IdlePass Lent → SharedId

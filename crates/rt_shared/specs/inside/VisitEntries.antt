@@ -7,7 +7,7 @@ use Rattle.std.proofs.lemmas.List.Elements.{All-head, All-tail, filter-append}
 use Rattle.std.proofs.lemmas.Bool.{eq-eqb, ne_eqb}
 use Rattle.rt_rib.specs.declared.commands.Entry.{Entry}
 use Rattle.rt_rib.specs.Laws.{feed_entries}
-use Rattle.rt_shared.specs.Visits.{AllBy, NoneBy, IsContiguousIn}
+use Rattle.rt_shared.specs.JournalVisits.{AllBy, NoneBy, IsContiguousIn}
 
 -- a journal without entries of the feed
 pub no_entries : (feed : ℕ) (journal : List Entry) → NoneBy feed journal → feed_entries feed journal ≡ []

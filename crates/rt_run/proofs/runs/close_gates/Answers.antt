@@ -1,6 +1,6 @@
 use Rattle.std.proofs.Common.{Some, map, sym, ap, ◌∙◌, [], ◌∷◌}
 use Rattle.std.proofs.lemmas.List.{map-append}
-use Rattle.rt_shared.specs.Table.{HeldPass}
+use Rattle.rt_shared.specs.SharedTable.{HeldPass}
 use Rattle.rt_feed.specs.declared.feeds.Feed.{Feed}
 use Rattle.rt_run.proofs.Lists.{map_more}
 use Rattle.rt_run.proofs.runs.close_gates.Goals as goal

@@ -1,5 +1,5 @@
 use Rattle.std.proofs.Common.{None, ap}
-use Rattle.rt_shared.specs.Table.{HeldPass}
+use Rattle.rt_shared.specs.SharedTable.{HeldPass}
 use Rattle.rt_feed.specs.declared.feeds.Feed.{Feed}
 use Rattle.rt_run.proofs.Lists.{map_more}
 use Rattle.rt_run.proofs.runs.open_gates.Goals as goal

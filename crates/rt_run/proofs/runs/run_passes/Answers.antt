@@ -3,7 +3,7 @@ use Rattle.std.proofs.Common.{◌≡◌, ◌≤◌, ◌<◌, ◌++◌, ℕ, List
 use Rattle.std.proofs.lemmas.List.{length-map, length-take-le}
 use Rattle.std.specs.declared.vec.Vec.{Vec}
 use Rattle.std.specs.declared.alloc.Global.{Global}
-use Rattle.rt_shared.specs.Table.{HeldPass, Settles}
+use Rattle.rt_shared.specs.SharedTable.{HeldPass, Settles}
 use Rattle.rt_shared.proofs.Promised.{pass_send, rib_sync}
 use Rattle.rt_feed.specs.declared.feeds.Feed.{Feed}
 use Rattle.rt_feed.specs.FeedRuns.{RunsOne}

@@ -1,5 +1,5 @@
 use Rattle.std.proofs.Common.{[], ap, sym, ◌∙◌}
-use Rattle.rt_shared.specs.Visits.{entries}
+use Rattle.rt_shared.specs.JournalVisits.{entries}
 use Rattle.walkthrough.specs.inside.JournalTold.{told}
 use Rattle.walkthrough.proofs.JournalTold.{told_by_1}
 use Rattle.walkthrough.proofs.gate.run_alone.Goals as goal

@@ -1,6 +1,6 @@
 use Rattle.std.proofs.Common.{◌≡◌, ◌∙◌, ap, ◌∷◌, [], List, ℕ, subst}
 use Rattle.rt_rib.specs.Sequential.{table_of_journal}
-use Rattle.rt_shared.specs.Table.{HeldPass, Settles}
+use Rattle.rt_shared.specs.SharedTable.{HeldPass, Settles}
 use Rattle.walkthrough.specs.Shared.{AreRoutesOfBoth}
 use Rattle.walkthrough.specs.declared.shared.TheConstants.{LIMIT}
 use Rattle.std.proofs.lemmas.Result.{IfOk-weaker}

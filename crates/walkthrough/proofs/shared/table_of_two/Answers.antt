@@ -1,5 +1,5 @@
 use Rattle.std.proofs.Common.{◌≡◌, ◌∙◌, ◌∷◌, [], All, refl, subst, arith}
-use Rattle.rt_shared.specs.Table.{HeldPass, ArePassesOf}
+use Rattle.rt_shared.specs.SharedTable.{HeldPass, ArePassesOf}
 use Rattle.rt_shared.proofs.Promised.{both_popped}
 use Rattle.walkthrough.proofs.shared.table_of_two.Goals as goal
 

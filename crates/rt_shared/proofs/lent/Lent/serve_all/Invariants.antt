@@ -1,6 +1,6 @@
 use Rattle.std.proofs.Common.{◌+◌, ◌≤◌, take, length, vec_len, vec_capacity}
 use Rattle.rt_shared.specs.inside.ServedBatch.{AreServed}
-use Rattle.rt_shared.specs.Table.{HasSameBounds}
+use Rattle.rt_shared.specs.SharedTable.{HasSameBounds}
 use Rattle.rt_shared.proofs.lent.Lent.serve_all.Given as goal
 
 abbrev pub invariant-loop-index : goal.invariant-loop-index

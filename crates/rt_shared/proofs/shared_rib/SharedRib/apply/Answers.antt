@@ -1,7 +1,7 @@
 use Rattle.std.proofs.Common.{◌≡◌, Some, ◌∙◌, sym, ap, subst, rules}
 use Rattle.ya_lock.specs.Lock.{OpenGuard}
 use Rattle.rt_shared.specs.declared.lent.Lent.{Lent}
-use Rattle.rt_shared.specs.Table.{feed_of, GrowsByFeed}
+use Rattle.rt_shared.specs.SharedTable.{feed_of, GrowsByFeed}
 use Rattle.rt_shared.specs.inside.PassModel.{HoldsLockPass}
 use Rattle.rt_shared.proofs.EntriesInPieces.{adds_applied}
 use Rattle.rt_shared.proofs.Passes.{lock_of, spaced}

@@ -3,8 +3,8 @@ use Rattle.rt_rib.specs.declared.commands.Entry.{Entry}
 use Rattle.rt_rib.specs.Sequential.{IsLawfulJournal}
 use Rattle.ya_lock.specs.Lock.{OpenGuard}
 use Rattle.rt_shared.specs.declared.lent.Lent.{Lent}
-use Rattle.rt_shared.specs.Visits.{AllBy, answered}
-use Rattle.rt_shared.specs.Table.{HeldPass, feed_of}
+use Rattle.rt_shared.specs.JournalVisits.{AllBy, answered}
+use Rattle.rt_shared.specs.SharedTable.{HeldPass, feed_of}
 use Rattle.rt_shared.specs.inside.PassModel.{HoldsLockPass}
 use Rattle.rt_shared.specs.inside.LentLaws.{since_same}
 use Rattle.rt_shared.proofs.EntriesInPieces.{all_answered, nothing_answered}

@@ -4,7 +4,7 @@ use Rattle.std.specs.Vec.Iter.{into_iter_items}
 use Rattle.ya_lock.specs.Lock.{IdlePass}
 use Rattle.std.proofs.lemmas.List.{nil_from_length}
 use Rattle.rt_shared.specs.declared.lent.Lent.{Lent}
-use Rattle.rt_shared.specs.Table.{HeldPass, SharedId, ArePassesOf}
+use Rattle.rt_shared.specs.SharedTable.{HeldPass, SharedId, ArePassesOf}
 use Rattle.rt_shared.specs.inside.PassModel.{of_feed}
 use Rattle.rt_shared.proofs.Passes.{HasFeed, in_range, are_dealt, have_seen}
 use Rattle.rt_shared.proofs.shared_rib.SharedRib.new.Goals as goal

@@ -8,8 +8,8 @@ use Rattle.ya_lock.specs.Lock.{IdlePass, OpenGuard, guard_of}
 use Rattle.rt_shared.specs.inside.PassModel.{shared_id}
 use Rattle.rt_shared.proofs.Passes.{all_amid, last_of, since_of, all_front, spaced}
 use Rattle.rt_shared.specs.declared.lent.Lent.{Lent}
-use Rattle.rt_shared.specs.Visits.{Since}
-use Rattle.rt_shared.specs.Table.{HeldPass, SharedId, HasSameBounds, Settles}
+use Rattle.rt_shared.specs.JournalVisits.{Since}
+use Rattle.rt_shared.specs.SharedTable.{HeldPass, SharedId, HasSameBounds, Settles}
 use Rattle.rt_shared.proofs.shared_rib.SharedRib.settle.Goals as goal
 
 -- the journal that the pass has seen is a prefix of this one, with no entry of its feed after it

@@ -1,6 +1,6 @@
 use Rattle.std.proofs.Common.{◌≡◌, ◌++◌, List, All, vec_len}
-use Rattle.rt_shared.specs.Visits.{Since}
-use Rattle.rt_shared.specs.Table.{HeldPass}
+use Rattle.rt_shared.specs.JournalVisits.{Since}
+use Rattle.rt_shared.specs.SharedTable.{HeldPass}
 use Rattle.rt_shared.proofs.shared_rib.SharedRib.settle.Given as goal
 
 abbrev pub invariant-loop-pass : goal.invariant-loop-pass

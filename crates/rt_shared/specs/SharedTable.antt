@@ -4,7 +4,7 @@ use Rattle.rt_rib.specs.declared.commands.Entry.{Entry}
 use Rattle.rt_rib.specs.Sequential.{IsLawfulJournal}
 use Rattle.ya_lock.specs.Lock.{LockId}
 use Rattle.rt_shared.specs.declared.lent.Lent.{Lent}
-use Rattle.rt_shared.specs.Visits.{AllBy, Since}
+use Rattle.rt_shared.specs.JournalVisits.{AllBy, Since}
 
 -- the identity of a table: its lock, the maximum number of routes of a feed, and the number of feeds
 pub record SharedId : Type 0 where
