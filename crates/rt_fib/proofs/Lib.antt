@@ -4,6 +4,8 @@ pub mod Reading
 pub mod Renewing
 pub mod Marks
 pub mod Outside
+pub mod Others
+pub mod Changing
 pub mod Withdrawing
 pub mod Crossing
 pub mod Shown

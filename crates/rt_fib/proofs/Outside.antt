@@ -19,7 +19,7 @@ use Rattle.rt_rib.specs.Laws.{PutInAdds, TakeOutLeavesOthers, LookUpFindsBest, I
 use Rattle.rt_rib.proofs.Promised.{IsTable-after}
 use Rattle.rt_fib.specs.Laws.{KeepsOutside}
 
-not_both : {b : Bool} → b ≡ false → b ≡ true → ⊥
+pub not_both : {b : Bool} → b ≡ false → b ≡ true → ⊥
 not_both is_false is_true = let e : false ≡ true = sym is_false ∙ is_true in cc
 
 pub either : (b : Bool) → (b ≡ true) ⊎ (b ≡ false)
@@ -30,19 +30,19 @@ pub first_part : (a b : Bool) → (a && b) ≡ true → a ≡ true
 first_part true b h = refl
 first_part false b h = h
 
-second_part : (a b : Bool) → (a && b) ≡ true → b ≡ true
+pub second_part : (a b : Bool) → (a && b) ≡ true → b ≡ true
 second_part true b h = h
 second_part false b h = absurd (not_both refl h)
 
 -- the same prefix covers the same addresses
-same_covers : (p q : Prefix) (addr : Addr) → same_prefix p q ≡ true → covers p addr ≡ covers q addr
+pub same_covers : (p q : Prefix) (addr : Addr) → same_prefix p q ≡ true → covers p addr ≡ covers q addr
 same_covers p q addr same =
     let base : p.base ≡ q.base = eqb-true _ _ (first_part (p.base == q.base) (p.len == q.len) same) in
     let len : p.len ≡ q.len = eqb-true _ _ (second_part (p.base == q.base) (p.len == q.len) same) in
     ap (λ (b : ℕ). (addr.0 / size_of p.len) == (b / size_of p.len)) base ∙ ap (λ (l : ℕ). (addr.0 / size_of l) == (q.base / size_of l)) len
 
 -- both tables contain the same of the routes whose prefix covers the address
-abbrev CoverAlike : Addr → List Route → List Route → Type 0
+abbrev pub CoverAlike : Addr → List Route → List Route → Type 0
 CoverAlike addr t u = (x : Route) → covers x.prefix addr ≡ true → Contains t x ↔ Contains u x
 
 itself : (addr : Addr) (t : List Route) → CoverAlike addr t t
@@ -62,7 +62,7 @@ best_in_both addr t u r alike is = record {
 }
 
 -- and a look-up finds the same
-found_alike : (addr : Addr) (t u : List Route) → LookUpFindsBest → IsTable t → IsTable u → CoverAlike addr t u → look_up addr t ≡ look_up addr u
+pub found_alike : (addr : Addr) (t u : List Route) → LookUpFindsBest → IsTable t → IsTable u → CoverAlike addr t u → look_up addr t ≡ look_up addr u
 found_alike addr t u finds of_t of_u alike =
     let in_t = finds addr t of_t in
     let in_u = finds addr u of_u in

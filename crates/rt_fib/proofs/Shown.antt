@@ -1,15 +1,15 @@
 -- How numbers of next hops lead where the numbers of answers led.
-use Rattle.std.proofs.Common.{◌≡◌, ℕ, ◌+◌, ◌*◌, ◌-◌, ◌/◌, ◌%◌, ◌^◌, ◌<◌, ◌≤◌, inl, inr, List, [], ◌∷◌, ◌++◌, length, take, get_or, get_or-take, Option, Some, None, subst, sym, ap, ◌∙◌, arith}
+use Rattle.std.proofs.Common.{◌≡◌, ℕ, ◌+◌, ◌*◌, ◌/◌, ◌%◌, ◌<◌, ◌≤◌, inl, inr, List, [], ◌∷◌, ◌++◌, length, take, get_or, get_or-take, Option, Some, None, subst, sym, ap, ◌∙◌, arith}
 use Rattle.std.proofs.lemmas.Bool.{cases_lt}
 use Rattle.std.proofs.lemmas.List.{length-take, get_or_append_left, get_or_push, length_push}
-use Rattle.rt_cidr.specs.declared.address.Addr.{Addr}
 use Rattle.rt_rib.specs.declared.routes.Hop.{Hop}
 use Rattle.rt_rib.specs.declared.routes.Hop.TheVariants.{Via, Discard}
 use Rattle.rt_rib.specs.declared.routes.Route.{Route}
 use Rattle.rt_rib.specs.LookUp.{look_up}
-use Rattle.rt_fib.specs.Views.{IsHopNumber, IsAnswerNumber, IsNumber, LeadsToNumber, ViewShows}
+use Rattle.rt_fib.specs.Views.{IsHopNumber, IsAnswerNumber, IsNumber, ViewShows}
+use Rattle.rt_fib.specs.declared.cells.Block.{Block}
 use Rattle.rt_fib.specs.inside.Pools.{Places}
-use Rattle.rt_fib.specs.inside.Entries.{at, AreAll}
+use Rattle.rt_fib.specs.inside.Entries.{AreAll}
 use Rattle.rt_fib.specs.inside.Shown.{Extends, IsHopOf, AreHopsOf, AreShownEntries, IsShownBlock, AreShownBlocks}
 use Rattle.rt_fib.specs.inside.Spans.{ArePut}
 use Rattle.rt_fib.proofs.Reading.{entry_leads}
@@ -46,15 +46,15 @@ hops_push old new numbers answers n number answer more are is there = record {
 }
 
 -- one more block
-pub blocks_more : (numbers : List ℕ) (blocks : List (List ℕ)) (old shown next block : List ℕ) (b : ℕ) → AreShownBlocks numbers blocks old shown b
-    → IsShownBlock numbers block shown next (b * 256) 256 → ((d : List ℕ) → get_or blocks b d ≡ block) → AreShownBlocks numbers blocks old next (b + 1)
+pub blocks_more : (numbers : List ℕ) (blocks : List Block) (old shown next : List ℕ) (block : Block) (b : ℕ) → AreShownBlocks numbers blocks old shown b
+    → IsShownBlock numbers block.numbers shown next (b * 256) 256 → ((d : Block) → get_or blocks b d ≡ block) → AreShownBlocks numbers blocks old next (b + 1)
 blocks_more numbers blocks old shown next block b are is there = record {
   size = is.size ∙ are.size;
   each = λ j k d below low. elim (cases_lt j b) [
     | inl before ↦ is.before (j * 256 + k) (omega (arith, before, low)) ∙ are.each j k d before low
     | inr from ↦
         let last : j ≡ b = omega (arith, below, from) in
-        rw last (is.each k low ∙ ap (λ (l : List ℕ). get_or numbers (get_or l k 0) 0) (sym (there d)))
+        rw last (is.each k low ∙ ap (λ (l : Block). get_or numbers (get_or l.numbers k 0) 0) (sym (there d)))
   ];
 }
 
@@ -68,7 +68,7 @@ put_extends old new list fits put = record {
 }
 
 -- what is written leads each address to the number of its answer
-pub view_shows : (entries shown old more numbers list routers : List ℕ) (blocks : Places (List ℕ)) (answers : Places (Option Route)) (since : ℕ) (table : List Route)
+pub view_shows : (entries shown old more numbers list routers : List ℕ) (blocks : Places Block) (answers : Places (Option Route)) (since : ℕ) (table : List Route)
     → AreAll entries blocks answers since table → AreHopsOf list numbers answers.values (length answers.values) → Extends list routers
     → AreShownEntries numbers entries shown (length entries) → AreShownBlocks numbers blocks.values old more (length blocks.values)
     → length blocks.values * 256 ≤ length old → ViewShows shown more routers table
@@ -97,11 +97,11 @@ view_shows entries shown old more numbers list routers blocks answers since tabl
         | inr names ↦
             let same : get_or shown i 0 ≡ get_or entries i 0 = there.long (omega (arith, names.long)) in
             let block = names.named.is_used.within in
-            let hop = number (get_or names.numbers k 0) names.number.is_used.within names.number.there in
-            let read : get_or more (names.block * 256 + k) 0 ≡ get_or numbers (get_or names.numbers k 0) 0 =
-            put.each names.block k names.numbers block low ∙ ap (λ (b : List ℕ). get_or numbers (get_or b k 0) 0) (names.named.there names.numbers) in
+            let hop = number (get_or names.block.numbers k 0) names.number.is_used.within names.number.there in
+            let read : get_or more (names.place * 256 + k) 0 ≡ get_or numbers (get_or names.block.numbers k 0) 0 =
+            put.each names.place k names.block block low ∙ ap (λ (b : Block). get_or numbers (get_or b.numbers k 0) 0) (names.named.there names.block) in
             inr (record {
-              block = names.block;
+              block = names.place;
               long = same ∙ names.long;
               within = omega (arith, block, low, fits, put.size);
               number = subst (λ (x : ℕ). IsAnswerNumber routers x answer) (sym read) hop.is;

@@ -4,3 +4,4 @@ pub mod Pieces
 pub mod Spans
 pub mod Pools
 pub mod Shown
+pub mod Changes

@@ -14,14 +14,26 @@ use std::snapshot::Snapshot;
 /// An entry from this number on names a block. A lower one is the number of an answer.
 pub(crate) const LONG: u32 = 1 << 31;
 
-/// Holds the blocks and the answers. A block has the number of an answer for each of an entry's 256 addresses.
+/// Holds the number of an answer for each of an entry's 256 addresses, and which entry it is: no other one names the block.
+#[derive(Clone, Copy)]
+pub(crate) struct Block {
+    pub(crate) numbers: [u32; 256],
+    pub(crate) owner: u32,
+}
+
+/// Holds the blocks and the answers.
 #[derive(Drop)]
 pub(crate) struct Pools<A: Allocator + Copy> {
-    pub(crate) blocks: Pool<[u32; 256], A>,
+    pub(crate) blocks: Pool<Block, A>,
     pub(crate) answers: Pool<Option<Route>, A>,
     /// The counts of what was seen in use in this round. No clause mentions them.
     pub(crate) seen: Seen,
+    /// The number that an answer got last, by its prefix's length. No clause mentions them.
+    pub(crate) kept: [u32; KEPT_LENGTHS],
 }
+
+/// Says how many lengths there are: those of prefixes, and one for no route.
+pub(crate) const KEPT_LENGTHS: usize = 34;
 
 /// Counts blocks, and runs of one answer's number. New cells would have as many answers, or fewer.
 #[derive(Clone, Copy)]
@@ -90,7 +102,7 @@ pub(crate) struct Cells<A: Allocator + Copy, B: Allocator + Copy> {
 const AT_ONCE: usize = 16;
 
 /// Says how many bytes a block takes, with its stamp.
-pub(crate) const BLOCK_BYTES: usize = 1028;
+pub(crate) const BLOCK_BYTES: usize = 1032;
 
 /// Says how many bytes an answer takes, with its stamp.
 pub(crate) const ANSWER_BYTES: usize = 32;
@@ -114,7 +126,7 @@ impl<A: Allocator + Copy, B: Allocator + Copy> Cells<A, B> {
             return self.pools.answers.values[entry as usize];
         }
         let block = &self.pools.blocks.values[(entry - LONG) as usize];
-        let number = block[(addr.0 % 256) as usize];
+        let number = block.numbers[(addr.0 % 256) as usize];
         self.pools.answers.values[number as usize]
     }
 
@@ -191,6 +203,7 @@ impl<A: Allocator + Copy, B: Allocator + Copy> Cells<A, B> {
                 blocks,
                 answers,
                 seen: self.pools.seen,
+                kept: self.pools.kept,
             },
             since: self.since,
             marked: self.marked,

@@ -3,18 +3,21 @@ ghost use Rattle.std.specs.Prelude.{◌≡◌, ◌≢◌, ◌≤◌, ◌^◌, tr
 ghost use Rattle.rt_rib.specs.declared.commands.Cmd.TheVariants.{Purge};
 ghost use Rattle.rt_rib.specs.Book.{table_state, IsFeed, Serves};
 ghost use Rattle.rt_rib.specs.LookUp.{look_up};
-ghost use Rattle.rt_fib.specs.Tables.{PreservesLookupsOutside};
-ghost use Rattle.rt_fib.specs.Laws.{KeepsOutside};
+ghost use Rattle.rt_rib.specs.Table.{IsTable};
+ghost use Rattle.rt_fib.specs.Tables.{PreservesLookupsOutside, PreservesOtherRoutes};
+ghost use Rattle.rt_fib.specs.Laws.{KeepsOtherRoutes, KeepsOutside};
 ghost use Rattle.rt_fib.specs.Views.{ViewShows};
 
 use crate::cells::{ANSWER_BYTES, BLOCK_BYTES, Cells};
 use crate::filling::{all_cells, put_entries, renew_cells};
+use crate::following::{Change, change_entries, number_for, own_answer};
 use crate::marking::keep_pace;
 use crate::pools::bytes_reserved;
 use crate::purging::{prefixes_to_withdraw, purge_rest, withdraw_each};
 use crate::spans::{ENTRIES, span_of};
 use crate::views::{ViewSizes, hop_numbers, show_blocks, show_entries};
 use rt_cidr::{Addr, Prefix};
+use rt_rib::laws::look_up_finds_best;
 use rt_rib::{Cmd, Refused, Reply, Route, Table};
 use std::alloc::Allocator;
 use std::fmt;
@@ -143,6 +146,53 @@ impl<A: Allocator + Copy, B: Allocator + Copy> Fib<A, B> {
             Cmd::Lookup { .. } => Ok(()),
             Cmd::Dump => Ok(()),
             Cmd::Purge => self.build_anew(table),
+        }
+    }
+
+    /// Renews the answers of the prefix's addresses if only routes to this prefix changed.
+    fn renew_prefix(&mut self, table: &Table<B>, prefix: Prefix) -> Result<(), Refused>
+        requires once { IsTable self.old }
+        requires others { PreservesOtherRoutes prefix self.old table.now.routes }
+        ensures ok { OnOk result (self.new ≡ table.now.routes) }
+        ensures err { OnErr result (self.new ≡ self.old) }
+    {
+        look_up_finds_best();
+        table.holds();
+        let entries = span_of(&prefix);
+        let Some(own) = own_answer(&self.cells, table, &prefix, entries) else {
+            return self.renew(table, prefix);
+        };
+        if own.is_same {
+            let same = Snapshot::of(table);
+            self.cells.table = same;
+            return Ok(());
+        }
+        let number = number_for(&mut self.cells, Addr(prefix.base()), own.addr, own.answer)?;
+        let change = Change {
+            len: prefix.len(),
+            answer: own.answer,
+            number,
+        };
+        change_entries(&mut self.cells, table, &change, entries);
+        keep_pace(&mut self.cells);
+        Ok(())
+    }
+
+    /// Follows the last command that the table has answered, as `follow` does, but in less time: it asks the table once for the
+    /// prefix's answer, and then changes only entries of its addresses that no longer prefix covers. The law
+    /// `commands_preserve_other_routes` says that each command of a table may be followed so. M1: `Refused` if memory ran out, and
+    /// then it answers as before.
+    pub fn follow_command(&mut self, table: &Table<B>, cmd: &Cmd) -> Result<(), Refused>
+        requires once { IsTable self.old }
+        requires others { KeepsOtherRoutes cmd.now self.old table.now.routes }
+        ensures ok { OnOk result (self.new ≡ table.now.routes) }
+        ensures err { OnErr result (self.new ≡ self.old) }
+    {
+        match cmd {
+            Cmd::Add { prefix, .. } => self.renew_prefix(table, *prefix),
+            Cmd::Replace { prefix, .. } => self.renew_prefix(table, *prefix),
+            Cmd::Withdraw { prefix } => self.renew_prefix(table, *prefix),
+            Cmd::Lookup { .. } | Cmd::Dump | Cmd::Purge => self.follow(table, cmd),
         }
     }
 

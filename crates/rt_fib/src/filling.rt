@@ -6,7 +6,9 @@ ghost use Rattle.rt_fib.specs.inside.Entries.{AreCells, AreFrom, IsEntry};
 ghost use Rattle.rt_fib.specs.inside.Pieces.{IsNumberedFrom, IsNumberedAt, AreNumbers};
 ghost use Rattle.rt_fib.specs.inside.Spans.{ArePut, AreRenewed};
 
-use crate::cells::{ANSWER_BYTES, BLOCK_BYTES, Cells, LONG, Pools, Seen, most_waste};
+use crate::cells::{
+    ANSWER_BYTES, BLOCK_BYTES, Block, Cells, KEPT_LENGTHS, LONG, Pools, Seen, most_waste,
+};
 use crate::pools::{empty_pool, is_used, put, reserve, take_back, touch};
 use crate::spans::{ENTRIES, Span};
 use rt_cidr::Addr;
@@ -31,7 +33,7 @@ fn is_same_route(one: &Route, other: &Route) -> bool
 }
 
 /// Returns true if two answers are the same.
-fn is_same(one: Option<Route>, other: Option<Route>) -> bool
+pub(crate) fn is_same(one: Option<Route>, other: Option<Route>) -> bool
     ensures { IsTrue result ↔ (one ≡ other) }
 {
     match (one, other) {
@@ -67,11 +69,21 @@ pub(crate) fn is_again<A: Allocator + Copy>(
     true
 }
 
-/// Returns the number of the answer: one of these two, if it is that answer's, or else one that was free.
-fn number_of<A: Allocator + Copy>(
+/// Returns the place at which the number of such an answer is kept: the length of its prefix, or the last place for no route.
+fn kept_place(found: &Option<Route>) -> usize
+    ensures { result < KEPT_LENGTHS }
+{
+    match found {
+        Some(route) => (route.prefix.len() as usize).min(KEPT_LENGTHS - 2),
+        None => KEPT_LENGTHS - 1,
+    }
+}
+
+/// Returns the number of the answer: the last one of an answer as long, or this one, if it is that answer's, or else one that was
+/// free. So the answer of a prefix has one number between the longer prefixes within it.
+pub(crate) fn number_of<A: Allocator + Copy>(
     pools: &mut Pools<A>,
     since: u32,
-    last: u32,
     before: u32,
     found: Option<Route>,
 ) -> Result<u32, Refused>
@@ -81,17 +93,39 @@ fn number_of<A: Allocator + Copy>(
     ensures short { IfOk result (λ number. number < 2 ^ 31) }
     ensures number { IfOk result (λ number. Has (places pools.new.answers) (since + 1) number found) }
 {
-    if is_again(pools, since, last, found) {
-        return Ok(last);
+    let place = kept_place(&found);
+    let kept = pools.kept[place];
+    if is_again(pools, since, kept, found) {
+        return Ok(kept);
     }
     if is_again(pools, since, before, found) {
+        pools.kept[place] = before;
         return Ok(before);
     }
-    put(&mut pools.answers, since, found)
+    let number = put(&mut pools.answers, since, found)?;
+    pools.kept[place] = number;
+    Ok(number)
+}
+
+/// Keeps the number of an answer, as that which such an answer got last.
+pub(crate) fn keep_number<A: Allocator + Copy>(pools: &mut Pools<A>, number: u32)
+    ensures blocks { pools.new.blocks ≡ pools.old.blocks }
+    ensures answers { pools.new.answers ≡ pools.old.answers }
+{
+    let i = number as usize;
+    if i >= pools.answers.values.len() {
+        return;
+    }
+    let found = pools.answers.values[i];
+    pools.kept[kept_place(&found)] = number;
 }
 
 /// Returns the number that the entries lead the address to, or a number without an answer.
-fn number_before<A: Allocator + Copy>(entries: &[u32], pools: &Pools<A>, addr: Addr) -> u32 {
+pub(crate) fn number_before<A: Allocator + Copy>(
+    entries: &[u32],
+    pools: &Pools<A>,
+    addr: Addr,
+) -> u32 {
     let i = (addr.0 / 256) as usize;
     if i >= entries.len() {
         return LONG;
@@ -104,7 +138,7 @@ fn number_before<A: Allocator + Copy>(entries: &[u32], pools: &Pools<A>, addr: A
     if block >= pools.blocks.values.len() {
         return LONG;
     }
-    pools.blocks.values[block][(addr.0 % 256) as usize]
+    pools.blocks.values[block].numbers[(addr.0 % 256) as usize]
 }
 
 /// Returns the table's piece at the address.
@@ -113,7 +147,6 @@ fn piece_at<A: Allocator + Copy, B: Allocator + Copy>(
     entries: &[u32],
     pools: &mut Pools<A>,
     since: u32,
-    last: u32,
     addr: Addr,
 ) -> Result<Piece, Refused>
     requires { since + 1 < 2 ^ 32 }
@@ -124,7 +157,7 @@ fn piece_at<A: Allocator + Copy, B: Allocator + Copy>(
 {
     let (found, to) = table.lookup_range(addr);
     let before = number_before(entries, pools, addr);
-    let number = number_of(pools, since, last, before, found)?;
+    let number = number_of(pools, since, before, found)?;
     Ok(Piece { number, last: to })
 }
 
@@ -147,7 +180,7 @@ fn piece_on<A: Allocator + Copy, B: Allocator + Copy>(
     if addr.0 <= piece.last.0 {
         return Ok(piece);
     }
-    piece_at(table, entries, pools, since, piece.number, addr)
+    piece_at(table, entries, pools, since, addr)
 }
 
 /// Holds the answers to the 256 addresses of an entry, and the piece that contains the last of them.
@@ -192,57 +225,57 @@ pub(crate) struct Run {
     pub(crate) piece: Piece,
 }
 
-/// Returns true if two blocks have the same numbers.
-fn are_same_numbers(one: &[u32; 256], other: &[u32; 256]) -> bool
+/// Returns true if two blocks are the same.
+fn is_same_block(one: &Block, other: &Block) -> bool
     ensures { IsTrue result → one.now ≡ other.now }
 {
-    one == other
+    one.owner == other.owner && one.numbers == other.numbers
 }
 
-/// Returns true if this is the number of a block of those numbers: then it is in use from the next round on.
+/// Returns true if this is the place of that block: then it is in use from the next round on.
 fn is_block_again<A: Allocator + Copy>(
     pools: &mut Pools<A>,
     since: u32,
-    block: u32,
-    numbers: &[u32; 256],
+    place: u32,
+    block: &Block,
 ) -> bool
     requires { since + 1 < 2 ^ 32 }
     ensures kept { pools.new.answers ≡ pools.old.answers }
     ensures fills { Fills since (filling pools.old.blocks) (filling pools.new.blocks) }
-    ensures short { IsTrue result → block < 2 ^ 31 }
-    ensures number { IsTrue result → Has (places pools.new.blocks) (since + 1) block numbers.now }
+    ensures short { IsTrue result → place < 2 ^ 31 }
+    ensures block { IsTrue result → Has (places pools.new.blocks) (since + 1) place block.now }
 {
-    if block >= LONG {
+    if place >= LONG {
         return false;
     }
-    if !is_used(&pools.blocks, since, block) {
+    if !is_used(&pools.blocks, since, place) {
         return false;
     }
-    let one = &pools.blocks.values[block as usize];
-    if !are_same_numbers(one, numbers) {
+    let one = &pools.blocks.values[place as usize];
+    if !is_same_block(one, block) {
         return false;
     }
-    touch(&mut pools.blocks, block, since);
+    touch(&mut pools.blocks, place, since);
     true
 }
 
-/// Returns the number of a block of those numbers: this one, if it is that, and else one that was free.
-fn block_of<A: Allocator + Copy>(
+/// Returns the place of the block: this one, if it is that block's, and else one that was free.
+fn place_of_block<A: Allocator + Copy>(
     pools: &mut Pools<A>,
     since: u32,
     before: u32,
-    numbers: [u32; 256],
+    block: Block,
 ) -> Result<u32, Refused>
     requires { since + 1 < 2 ^ 32 }
     ensures answers { pools.new.answers ≡ pools.old.answers }
     ensures fills { Fills since (filling pools.old.blocks) (filling pools.new.blocks) }
-    ensures short { IfOk result (λ block. block < 2 ^ 31) }
-    ensures there { IfOk result (λ block. Has (places pools.new.blocks) (since + 1) block numbers) }
+    ensures short { IfOk result (λ place. place < 2 ^ 31) }
+    ensures there { IfOk result (λ place. Has (places pools.new.blocks) (since + 1) place block) }
 {
-    if is_block_again(pools, since, before, &numbers) {
+    if is_block_again(pools, since, before, &block) {
         return Ok(before);
     }
-    put(&mut pools.blocks, since, numbers)
+    put(&mut pools.blocks, since, block)
 }
 
 /// Returns the block that the entry names, or a number without a block.
@@ -293,9 +326,11 @@ fn run_of<A: Allocator + Copy, B: Allocator + Copy>(
         });
     }
     let numbered = numbers_from(table, entries, pools, since, piece, first)?;
-    let block = block_of(pools, since, block_before(entries, i), numbered.numbers)?;
+    let numbers = numbered.numbers;
+    let block = Block { numbers, owner: i };
+    let place = place_of_block(pools, since, block_before(entries, i), block)?;
     Ok(Run {
-        entry: LONG + block,
+        entry: LONG + place,
         end: i + 1,
         piece: numbered.piece,
     })
@@ -322,7 +357,8 @@ fn span_entries<A: Allocator + Copy, B: Allocator + Copy>(
     let mut entries = Vec::with_capacity(alloc, (span.end - span.first) as usize)?;
     let first = span.first * 256;
     let left = number_before(old, pools, Addr(first.saturating_sub(1)));
-    let mut piece = piece_at(table, old, pools, since, left, Addr(first))?;
+    keep_number(pools, left);
+    let mut piece = piece_at(table, old, pools, since, Addr(first))?;
     let mut i = span.first;
     'entries: while i < span.end {
         let run = run_of(table, old, pools, since, piece, i, span.end)?;
@@ -363,6 +399,7 @@ pub(crate) fn all_cells<A: Allocator + Copy, B: Allocator + Copy>(
         blocks: empty_pool(alloc),
         answers: empty_pool(alloc),
         seen: Seen::none(),
+        kept: [LONG; KEPT_LENGTHS],
     };
     let all = Span {
         first: 0,

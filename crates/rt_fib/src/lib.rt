@@ -24,6 +24,7 @@
 mod cells;
 mod fib;
 mod filling;
+mod following;
 pub mod laws;
 mod marking;
 mod pools;

@@ -53,7 +53,7 @@ fn mark_entry<A: Allocator + Copy>(pools: &mut Pools<A>, since: u32, last: u32, 
     if block as usize >= pools.blocks.values.len() {
         return entry;
     }
-    let numbers = pools.blocks.values[block as usize];
+    let numbers = pools.blocks.values[block as usize].numbers;
     touch(&mut pools.blocks, block, since);
     pools.seen.see_block();
     'numbers: for k in 0..256usize {

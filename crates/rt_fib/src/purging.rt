@@ -6,7 +6,7 @@ ghost use Rattle.rt_rib.specs.Table.{purge};
 ghost use Rattle.rt_rib.specs.Book.{IsFeed};
 
 use crate::fib::Fib;
-use crate::laws::commands_preserve_lookups_outside_prefix;
+use crate::laws::commands_preserve_other_routes;
 use crate::spans::span_of;
 use rt_cidr::Prefix;
 use rt_rib::{Cmd, Hop, Refused, Route, Table};
@@ -92,10 +92,10 @@ fn withdraw<A: Allocator + Copy, B: Allocator + Copy>(
     ensures rest { purge feed table.new.routes ≡ purge feed table.old.routes }
 {
     let cmd = Cmd::Withdraw { prefix };
-    commands_preserve_lookups_outside_prefix();
+    commands_preserve_other_routes();
     table.holds();
     table.apply(feed, cmd)?;
-    fib.follow(table, &cmd)
+    fib.follow_command(table, &cmd)
 }
 
 /// Withdraws the feed's routes to the prefixes from the table, and follows. Error M1 (`Refused`) if memory runs out.

@@ -1,5 +1,7 @@
 //! The entries that a prefix's addresses have.
-ghost use Rattle.rt_fib.specs.inside.Spans.{AreEntriesOf};
+ghost use Rattle.std.specs.Prelude.{◌≡◌, ◌+◌, ◌*◌, IsTrue};
+ghost use Rattle.rt_cidr.specs.Cidr.{size_of};
+ghost use Rattle.rt_fib.specs.inside.Spans.{AreEntriesOf, IsWholly};
 
 use rt_cidr::Prefix;
 
@@ -23,4 +25,13 @@ pub(crate) fn span_of(prefix: &Prefix) -> Span
         first: (base / 256) as u32,
         end: ((base + size + 255) / 256).min(ENTRIES as u64) as u32,
     }
+}
+
+/// Returns true if all addresses of the entries are the prefix's.
+pub(crate) fn is_whole(prefix: &Prefix, span: Span) -> bool
+    ensures { IsTrue result → IsWholly prefix.now span }
+{
+    let base = u64::from(prefix.base());
+    let size = 1u64 << (32 - prefix.len());
+    u64::from(span.first) * 256 == base && u64::from(span.end) * 256 == base + size
 }

@@ -4,7 +4,7 @@ ghost use Rattle.rt_rib.specs.declared.routes.Hop.TheVariants.{Via};
 ghost use Rattle.rt_fib.specs.Views.{IsHopNumber};
 ghost use Rattle.rt_fib.specs.inside.Shown.{Extends, IsHopOf, AreHopsOf, AreShownEntries, IsShownBlock, AreShownBlocks};
 
-use crate::cells::LONG;
+use crate::cells::{Block, LONG};
 use rt_cidr::Addr;
 use rt_rib::{Hop, Refused, Route};
 use std::alloc::Allocator;
@@ -143,11 +143,11 @@ fn show_block(block: &[u32; 256], numbers: &[u32], shown: &mut [u32], first: usi
 }
 
 /// Writes the numbers of next hops of all blocks, one block after another.
-pub(crate) fn show_blocks(blocks: &[[u32; 256]], numbers: &[u32], shown: &mut [u32])
+pub(crate) fn show_blocks(blocks: &[Block], numbers: &[u32], shown: &mut [u32])
     requires { length blocks.now * 256 ≤ length shown.old }
     ensures { AreShownBlocks numbers.now blocks.now shown.old shown.new (length blocks.now) }
 {
     'each: for b in 0..blocks.len() {
-        show_block(&blocks[b], numbers, shown, b * 256);
+        show_block(&blocks[b].numbers, numbers, shown, b * 256);
     }
 }

@@ -3,6 +3,7 @@ use Rattle.std.specs.Prelude.{◌≡◌, ℕ, ◌+◌, ◌*◌, ◌/◌, ◌^◌
 use Rattle.rt_cidr.specs.declared.address.Addr.{Addr}
 use Rattle.rt_rib.specs.declared.routes.Route.{Route}
 use Rattle.rt_rib.specs.LookUp.{look_up}
+use Rattle.rt_fib.specs.declared.cells.Block.{Block}
 use Rattle.rt_fib.specs.inside.Pools.{Places, Has}
 
 -- the address of this number
@@ -18,46 +19,47 @@ pub record IsWhole (answers : Places (Option Route)) (since entry : ℕ) (answer
   pub short : entry < 2 ^ 31
   pub number : Has answers since entry answer
 
--- the entry names a block that has the number of the answer at this place
-pub record NamesBlock (blocks : Places (List ℕ)) (answers : Places (Option Route)) (since entry k : ℕ) (answer : Option Route) : Type 0 where
-  pub block : ℕ
-  pub numbers : List ℕ
-  pub long : entry ≡ 2 ^ 31 + block
-  pub named : Has blocks since block numbers
-  pub place : k < length numbers
-  pub number : Has answers since (get_or numbers k 0) answer
+-- the i-th entry names its own block, which has the number of the answer at this place
+pub record NamesBlock (blocks : Places Block) (answers : Places (Option Route)) (since i entry k : ℕ) (answer : Option Route) : Type 0 where
+  pub place : ℕ
+  pub block : Block
+  pub long : entry ≡ 2 ^ 31 + place
+  pub named : Has blocks since place block
+  pub own : block.owner ≡ i
+  pub within : k < length block.numbers
+  pub number : Has answers since (get_or block.numbers k 0) answer
 
--- the entry leads to the answer at this place
-abbrev pub Leads : Places (List ℕ) → Places (Option Route) → ℕ → ℕ → ℕ → Option Route → Type 0
-Leads blocks answers since entry k answer = IsWhole answers since entry answer ⊎ NamesBlock blocks answers since entry k answer
+-- the i-th entry leads to the answer at this place
+abbrev pub Leads : Places Block → Places (Option Route) → ℕ → ℕ → ℕ → ℕ → Option Route → Type 0
+Leads blocks answers since i entry k answer = IsWhole answers since entry answer ⊎ NamesBlock blocks answers since i entry k answer
 
 -- the entry leads to what the table answers each of the 256 addresses whose first 24 bits are i
-abbrev pub IsEntry : List Route → Places (List ℕ) → Places (Option Route) → ℕ → ℕ → ℕ → Type 0
+abbrev pub IsEntry : List Route → Places Block → Places (Option Route) → ℕ → ℕ → ℕ → Type 0
 IsEntry table blocks answers since i entry =
-    (k : ℕ) → k < 256 → Leads blocks answers since entry k (look_up (at (i * 256 + k)) table)
+    (k : ℕ) → k < 256 → Leads blocks answers since i entry k (look_up (at (i * 256 + k)) table)
 
 -- the entries are those of so many first 24 bits, from these on
-pub record AreFrom (first : ℕ) (entries : List ℕ) (blocks : Places (List ℕ)) (answers : Places (Option Route)) (since : ℕ) (table : List Route) (count : ℕ) : Type 0 where
+pub record AreFrom (first : ℕ) (entries : List ℕ) (blocks : Places Block) (answers : Places (Option Route)) (since : ℕ) (table : List Route) (count : ℕ) : Type 0 where
   pub size : length entries ≡ count
   pub each : (i : ℕ) → i < count → IsEntry table blocks answers since (first + i) (get_or entries i 0)
 
 -- the first so many entries lead to what is in use since this round
-pub record AreUpTo (entries : List ℕ) (blocks : Places (List ℕ)) (answers : Places (Option Route)) (since : ℕ) (table : List Route) (count : ℕ) : Type 0 where
+pub record AreUpTo (entries : List ℕ) (blocks : Places Block) (answers : Places (Option Route)) (since : ℕ) (table : List Route) (count : ℕ) : Type 0 where
   pub each : (i : ℕ) → i < count → IsEntry table blocks answers since i (get_or entries i 0)
 
 -- the entries are those of all addresses
-pub record AreAll (entries : List ℕ) (blocks : Places (List ℕ)) (answers : Places (Option Route)) (since : ℕ) (table : List Route) : Type 0 where
+pub record AreAll (entries : List ℕ) (blocks : Places Block) (answers : Places (Option Route)) (since : ℕ) (table : List Route) : Type 0 where
   pub size : length entries ≡ 2 ^ 24
   pub all : AreUpTo entries blocks answers since table (2 ^ 24)
 
 -- and the first of them lead to what was marked in this round
-pub record AreCells (entries : List ℕ) (blocks : Places (List ℕ)) (answers : Places (Option Route)) (since marked : ℕ) (table : List Route) : Type 0 where
+pub record AreCells (entries : List ℕ) (blocks : Places Block) (answers : Places (Option Route)) (since marked : ℕ) (table : List Route) : Type 0 where
   pub all : AreAll entries blocks answers since table
   pub first : AreUpTo entries blocks answers (since + 1) table marked
   pub within : marked ≤ 2 ^ 24
   pub rounds : since + 1 < 2 ^ 32
 
 -- wherever the one entry led, the other leads to what is in use in the next round too
-abbrev pub LeadsOn : Places (List ℕ) → Places (Option Route) → Places (List ℕ) → Places (Option Route) → ℕ → ℕ → ℕ → Type 0
+abbrev pub LeadsOn : Places Block → Places (Option Route) → Places Block → Places (Option Route) → ℕ → ℕ → ℕ → Type 0
 LeadsOn blocks answers more longer since entry next =
-    (k : ℕ) (answer : Option Route) → k < 256 → Leads blocks answers since entry k answer → Leads more longer (since + 1) next k answer
+    (i k : ℕ) (answer : Option Route) → k < 256 → Leads blocks answers since i entry k answer → Leads more longer (since + 1) i next k answer

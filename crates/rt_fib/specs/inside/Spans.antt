@@ -2,7 +2,9 @@
 use Rattle.std.specs.Prelude.{◌≡◌, ℕ, ◌+◌, ◌*◌, ◌^◌, ◌<◌, ◌≤◌, ◌⊎◌, false, List, length, get_or, Option}
 use Rattle.rt_cidr.specs.declared.prefixes.Prefix.{Prefix}
 use Rattle.rt_cidr.specs.Prefix.{covers}
+use Rattle.rt_cidr.specs.Cidr.{size_of}
 use Rattle.rt_rib.specs.declared.routes.Route.{Route}
+use Rattle.rt_fib.specs.declared.cells.Block.{Block}
 use Rattle.rt_fib.specs.declared.spans.Span.{Span}
 use Rattle.rt_fib.specs.inside.Pools.{Places}
 use Rattle.rt_fib.specs.inside.Entries.{at, IsEntry}
@@ -13,6 +15,11 @@ pub record AreEntriesOf (prefix : Prefix) (span : Span) : Type 0 where
   pub fits : span.end ≤ 2 ^ 24
   pub outside : (i k : ℕ) → i < 2 ^ 24 → k < 256 → (i < span.first) ⊎ (span.end ≤ i) → covers prefix (at (i * 256 + k)) ≡ false
 
+-- the entries have just the prefix's addresses
+pub record IsWholly (prefix : Prefix) (span : Span) : Type 0 where
+  pub first : span.first * 256 ≡ prefix.base
+  pub end : span.end * 256 ≡ prefix.base + size_of prefix.len
+
 -- so many entries were put from this place on, and the others stayed
 pub record ArePut (old new fresh : List ℕ) (first count : ℕ) : Type 0 where
   pub size : length new ≡ length old
@@ -21,7 +28,7 @@ pub record ArePut (old new fresh : List ℕ) (first count : ℕ) : Type 0 where
   pub behind : (i : ℕ) → first + count ≤ i → get_or new i 0 ≡ get_or old i 0
 
 -- the span's entries are those of the table, and the others stayed
-pub record AreRenewed (old new : List ℕ) (blocks : Places (List ℕ)) (answers : Places (Option Route)) (since : ℕ) (table : List Route) (span : Span) : Type 0 where
+pub record AreRenewed (old new : List ℕ) (blocks : Places Block) (answers : Places (Option Route)) (since : ℕ) (table : List Route) (span : Span) : Type 0 where
   pub size : length new ≡ length old
   pub there : (i : ℕ) → span.first ≤ i → i < span.end → IsEntry table blocks answers since i (get_or new i 0)
   pub before : (i : ℕ) → i < span.first → get_or new i 0 ≡ get_or old i 0

@@ -35,15 +35,15 @@ pub returns-in_err-resize-clause-fills : goal.returns-in_err-resize-clause-fills
 returns-in_err-resize-clause-fills g c = fills_twice _ _ _ _ c.entries.invariant.fills c.run_of.ensures.fills
 
 pub returns-in_err-piece-clause-blocks : goal.returns-in_err-piece-clause-blocks
-returns-in_err-piece-clause-blocks g c = rw c.piece_at.ensures.blocks (fills_same _ _)
+returns-in_err-piece-clause-blocks g c = rw (c.piece_at.ensures.blocks, c.keep_number.ensures.blocks) (fills_same _ _)
 
 pub entries-init : goal.entries-init
 entries-init g c = record {
   onward = omega arith;
   within = omega arith;
   kept = c.piece_at.ensures.kept;
-  blocks = rw c.piece_at.ensures.blocks (fills_same _ _);
-  fills = c.piece_at.ensures.fills;
+  blocks = rw (c.piece_at.ensures.blocks, c.keep_number.ensures.blocks) (fills_same _ _);
+  fills = rw c.keep_number.ensures.answers at c.piece_at.ensures.fills;
   made = record { size = omega (arith, c.in_ok-entries.ensures.len); each = λ i below. absurd (omega (arith, below)) };
   piece = c.in_ok-piece.ensures.piece.there;
 }

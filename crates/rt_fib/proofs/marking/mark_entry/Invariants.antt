@@ -1,5 +1,6 @@
-use Rattle.std.proofs.Common.{ℕ, ◌+◌, ◌<◌, List, Option, get_or}
+use Rattle.std.proofs.Common.{ℕ, ◌+◌, ◌<◌, Option, get_or}
 use Rattle.rt_rib.specs.declared.routes.Route.{Route}
+use Rattle.rt_fib.specs.declared.cells.Block.{Block}
 use Rattle.rt_fib.specs.inside.Pools.{places, Has, Keeps}
 use Rattle.rt_fib.proofs.marking.mark_entry.Given as goal
 
@@ -8,7 +9,7 @@ abbrev pub invariant-numbers : goal.invariant-numbers
 invariant-numbers g l = record {
   blocks : Keeps l.since (places l.fn.pools.blocks) (places l.pools.blocks);
   keeps : Keeps l.since (places l.fn.pools.answers) (places l.pools.answers);
-  block : (value : List ℕ) → Has (places l.fn.pools.blocks) l.since l.block value → Has (places l.pools.blocks) (l.since + 1) l.block value;
+  block : (value : Block) → Has (places l.fn.pools.blocks) l.since l.block value → Has (places l.pools.blocks) (l.since + 1) l.block value;
   on : (i : ℕ) (value : Option Route) → i < l.k → Has (places l.fn.pools.answers) l.since (get_or l.numbers i 0) value
       → Has (places l.pools.answers) (l.since + 1) (get_or l.numbers i 0) value;
 }

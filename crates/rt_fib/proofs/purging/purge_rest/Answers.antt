@@ -1,5 +1,5 @@
-use Rattle.std.proofs.Common.{ap, sym, ◌∙◌}
-use Rattle.rt_rib.specs.Book.{TableState, table_state}
+use Rattle.std.proofs.Common.{sym, ◌∙◌}
+use Rattle.rt_rib.specs.Book.{table_state}
 use Rattle.rt_fib.proofs.Withdrawing.{none_purged, purged_limit, purged_routes}
 use Rattle.rt_fib.proofs.purging.purge_rest.Goals as goal
 

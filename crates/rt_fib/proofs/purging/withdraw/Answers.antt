@@ -3,11 +3,13 @@ use Rattle.rt_rib.specs.Book.{TableState, table_state}
 use Rattle.rt_fib.proofs.Withdrawing.{withdrawn_rest}
 use Rattle.rt_fib.proofs.purging.withdraw.Goals as goal
 
-pub follow-requires : goal.follow-requires
-follow-requires g c =
+pub follow_command-requires-clause-once : goal.follow_command-requires-clause-once
+follow_command-requires-clause-once g c = rw c.requires.same c.holds.ensures.once
+
+pub follow_command-requires-clause-others : goal.follow_command-requires-clause-others
+follow_command-requires-clause-others g c =
     rw c.requires.same
-    (c.commands_preserve_lookups_outside_prefix.ensures (table_state c.args.table.now) (table_state c.apply.new.self) c.args.feed _ _
-    c.holds.ensures.once c.in_ok-apply.ensures.ok)
+    (c.commands_preserve_other_routes.ensures (table_state c.args.table.now) (table_state c.apply.new.self) c.args.feed _ _ c.in_ok-apply.ensures.ok)
 
 pub returns-clause-limit : goal.returns-clause-limit
 returns-clause-limit g c = ap (λ (s : TableState). s.limit) c.in_ok-apply.ensures.ok.changed

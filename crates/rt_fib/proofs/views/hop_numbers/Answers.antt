@@ -1,4 +1,4 @@
-use Rattle.std.proofs.Common.{length, sym, arith}
+use Rattle.std.proofs.Common.{sym, arith}
 use Rattle.std.proofs.lemmas.List.{get_or_read}
 use Rattle.rt_fib.proofs.Shown.{hops_push}
 use Rattle.rt_fib.proofs.views.hop_numbers.Goals as goal

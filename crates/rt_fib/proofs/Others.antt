@@ -1,0 +1,236 @@
+-- What a command leaves of the routes to other prefixes, and what follows for look-ups: the answers of longer prefixes stay, and all
+-- other addresses of the prefix have one answer.
+use Rattle.std.proofs.Common.{◌≡◌, ℕ, ◌+◌, ◌*◌, ◌^◌, ◌<◌, ◌≤◌, ◌≢◌, ◌==◌, Bool, true, false, inl, inr, List, Option, None, Some, eqb, nat_le, if◌then◌else◌, subst, sym, refl, ap, ◌∙◌, arith}
+use Rattle.std.proofs.lemmas.Bool.{cases_lt, and_from, eq-eqb, eqb-true, ltb-true, ltb-false, cond-true, cond-false}
+use Rattle.std.specs.List.{Contains}
+use Rattle.rt_cidr.specs.declared.address.Addr.{Addr}
+use Rattle.rt_cidr.specs.declared.prefixes.Prefix.{Prefix}
+use Rattle.rt_cidr.specs.Prefix.{covers, contains, same_prefix}
+use Rattle.rt_cidr.specs.Laws.{CoversItsRange, ContainsWhatItCovers, CoveringAreNested}
+use Rattle.rt_rib.specs.declared.routes.Route.{Route}
+use Rattle.rt_rib.specs.declared.commands.Cmd.{Cmd}
+use Rattle.rt_rib.specs.declared.commands.Cmd.TheVariants.{Add, Replace, Withdraw, Lookup, Dump, Purge}
+use Rattle.rt_rib.specs.declared.commands.Reply.{Reply}
+use Rattle.rt_rib.specs.Table.{has, count_of, put_in, take_out, is_of, IsTable}
+use Rattle.rt_rib.specs.LookUp.{look_up}
+use Rattle.rt_rib.specs.Sequential.{table_after}
+use Rattle.rt_rib.specs.Book.{TableState, Serves}
+use Rattle.rt_rib.specs.Laws.{PutInAdds, TakeOutLeavesOthers, LookUpFindsBest, IsBestMatch}
+use Rattle.rt_fib.specs.declared.spans.Span.{Span}
+use Rattle.rt_fib.specs.Tables.{PreservesLookupsOutside, PreservesOtherRoutes}
+use Rattle.rt_fib.specs.Laws.{KeepsOtherRoutes}
+use Rattle.rt_fib.specs.inside.Entries.{at}
+use Rattle.rt_fib.specs.inside.Spans.{AreEntriesOf, IsWholly}
+use Rattle.rt_fib.specs.inside.Changes.{is_longer, answer_after, AnswerAlike, IsChange}
+use Rattle.rt_fib.proofs.Outside.{either, not_both, second_part, same_covers, found_alike, CoverAlike}
+
+-- a prefix is the same as itself
+same_itself : (p : Prefix) → same_prefix p p ≡ true
+same_itself p = and_from (eqb p.base p.base) (eqb p.len p.len) (eq-eqb p.base p.base refl) (eq-eqb p.len p.len refl)
+
+module _ (prefix : Prefix) (t : List Route) where
+  -- a route put in
+  put_others : (r : Route) → PutInAdds → same_prefix r.prefix prefix ≡ true → PreservesOtherRoutes prefix t (put_in r t)
+  put_others r adds same x other = (
+    (λ c. (adds r x t).1 (inl c)),
+    (λ c. elim ((adds r x t).0 c) [
+      | inl there ↦ there
+      | inr is ↦ absurd (not_both other (ap (λ (y : Route). same_prefix y.prefix prefix) (sym is) ∙ same))
+    ]),
+  )
+
+  -- a route taken out
+  taken_others : (feed : ℕ) → TakeOutLeavesOthers → PreservesOtherRoutes prefix t (take_out feed prefix t)
+  taken_others feed leaves x other =
+      let another : is_of feed prefix x ≡ false = elim (either (is_of feed prefix x)) [
+        | inl is ↦ absurd (not_both other (second_part (x.feed == feed) (same_prefix x.prefix prefix) is))
+        | inr apart ↦ apart
+      ] in
+      ((λ c. (leaves feed prefix x t).1 (c, another)), (λ c. ((leaves feed prefix x t).0 c).0))
+
+  itself : PreservesOtherRoutes prefix t t
+  itself x other = ((λ c. c), (λ c. c))
+
+  -- whichever of two tables it is
+  of_two : (b : Bool) (u v : List Route) → PreservesOtherRoutes prefix t u → PreservesOtherRoutes prefix t v
+      → PreservesOtherRoutes prefix t (if b then u else v)
+  of_two true u v one other = one
+  of_two false u v one other = other
+
+  and_then : (u v : List Route) → PreservesOtherRoutes prefix t u → PreservesOtherRoutes prefix u v → PreservesOtherRoutes prefix t v
+  and_then u v one two x other = ((λ c. (two x other).0 ((one x other).0 c)), (λ c. (one x other).1 ((two x other).1 c)))
+
+-- what each command of a table keeps
+command_keeps : (limit : ℕ) (t : List Route) (feed : ℕ) (cmd : Cmd) → PutInAdds → TakeOutLeavesOthers
+    → KeepsOtherRoutes cmd t (table_after limit t feed cmd)
+unfolding table_after
+command_keeps limit t feed (Add prefix pref hop) adds leaves =
+    let r : Route = record { prefix = prefix; feed = feed; pref = pref; hop = hop } in
+    of_two prefix t (has feed prefix t) t _ (itself prefix t)
+    (of_two prefix t (nat_le limit (count_of feed t)) t _ (itself prefix t) (put_others prefix t r adds (same_itself prefix)))
+command_keeps limit t feed (Replace prefix pref hop) adds leaves =
+    let r : Route = record { prefix = prefix; feed = feed; pref = pref; hop = hop } in
+    let left : List Route = take_out feed prefix t in
+    of_two prefix t (has feed prefix t) _ t
+    (and_then prefix t left _ (taken_others prefix t feed leaves) (put_others prefix left r adds (same_itself prefix))) (itself prefix t)
+command_keeps limit t feed (Withdraw prefix) adds leaves =
+    of_two prefix t (has feed prefix t) _ t (taken_others prefix t feed leaves) (itself prefix t)
+command_keeps limit t feed (Lookup addr) adds leaves = refl
+command_keeps limit t feed Dump adds leaves = refl
+command_keeps limit t feed Purge adds leaves = tt
+
+-- and so each command that a table answers
+pub served_others : (old new : TableState) (feed : ℕ) (cmd : Cmd) (reply : Reply) → PutInAdds → TakeOutLeavesOthers
+    → Serves old new feed cmd reply → KeepsOtherRoutes cmd old.routes new.routes
+served_others old new feed cmd reply adds leaves serves =
+    let after : new.routes ≡ table_after old.limit old.routes feed cmd = ap (λ (s : TableState). s.routes) serves.changed in
+    subst (KeepsOtherRoutes cmd old.routes) (sym after) (command_keeps old.limit old.routes feed cmd adds leaves)
+
+-- a prefix of another length is another
+another_length : (p q : Prefix) → p.len ≢ q.len → same_prefix p q ≡ false
+another_length p q differ = elim (either (same_prefix p q)) [
+  | inl same ↦ absurd (differ (eqb-true _ _ (second_part (p.base == q.base) (p.len == q.len) same)))
+  | inr other ↦ other
+]
+
+module _ (prefix : Prefix) (t u : List Route) (finds : LookUpFindsBest) (of_t : IsTable t) (of_u : IsTable u) (others : PreservesOtherRoutes prefix t u) where
+  -- the same routes cover an address that the prefix doesn't
+  outside_alike : (addr : Addr) → covers prefix addr ≡ false → CoverAlike addr t u
+  outside_alike addr misses x covering = elim (either (same_prefix x.prefix prefix)) [
+    | inl same ↦ absurd (not_both misses (sym (same_covers x.prefix prefix addr same) ∙ covering))
+    | inr other ↦ others x other
+  ]
+
+  -- so its answer stays
+  pub outside_stays : PreservesLookupsOutside prefix t u
+  outside_stays addr misses = found_alike addr t u finds of_t of_u (outside_alike addr misses)
+
+  -- a best match that is longer than the prefix
+  best_stays : (addr : Addr) (r : Route) → prefix.len < r.prefix.len → IsBestMatch addr t r → IsBestMatch addr u r
+  best_stays addr r long is =
+      let other : same_prefix r.prefix prefix ≡ false = another_length r.prefix prefix (λ e. omega (arith, e, long)) in
+      record {
+        contained = (others r other).0 is.contained;
+        covering = is.covering;
+        longest = λ s there covering. elim (either (same_prefix s.prefix prefix)) [
+          | inl same ↦
+              let e : s.prefix.len ≡ prefix.len = eqb-true _ _ (second_part (s.prefix.base == prefix.base) (s.prefix.len == prefix.len) same) in
+              omega (arith, e, long)
+          | inr apart ↦ is.longest s ((others s apart).1 there) covering
+        ];
+        best = λ s there covering alike.
+            let apart : same_prefix s.prefix prefix ≡ false = another_length s.prefix prefix (λ e. omega (arith, e, alike, long)) in
+            is.best s ((others s apart).1 there) covering alike;
+      }
+
+  -- so the answer of a longer prefix stays
+  pub longer_stays : (addr : Addr) → is_longer prefix.len (look_up addr t) ≡ true → look_up addr u ≡ look_up addr t
+  longer_stays addr =
+      let P : Option Route → Type 0 = λ v. look_up addr t ≡ v → is_longer prefix.len v ≡ true → look_up addr u ≡ v in
+      let at_each : (v : Option Route) → look_up addr t ≡ v → is_longer prefix.len v ≡ true → look_up addr u ≡ v = λ v. elim v as P [
+        | Some r ↦ λ e long. ((finds addr u of_u).0 r).1 (best_stays addr r (ltb-true _ _ long) (((finds addr t of_t).0 r).0 e))
+        | None ↦ λ e long. absurd (not_both refl long)
+      ] in
+      at_each (look_up addr t) refl
+
+module _ (prefix : Prefix) (t : List Route) (finds : LookUpFindsBest) (of_t : IsTable t) (covering_nest : CoveringAreNested) (covers_all : ContainsWhatItCovers) where
+  -- where the answer isn't of a longer prefix, no longer one covers the address
+  none_longer : (addr : Addr) → is_longer prefix.len (look_up addr t) ≡ false → (x : Route) → Contains t x → covers x.prefix addr ≡ true
+      → x.prefix.len ≤ prefix.len
+  none_longer addr =
+      let Q : Type 0 = (x : Route) → Contains t x → covers x.prefix addr ≡ true → x.prefix.len ≤ prefix.len in
+      let P : Option Route → Type 0 = λ v. look_up addr t ≡ v → is_longer prefix.len v ≡ false → Q in
+      let at_each : (v : Option Route) → look_up addr t ≡ v → is_longer prefix.len v ≡ false → Q = λ v. elim v as P [
+        | Some r ↦ λ e short x there covering.
+            let best = ((finds addr t of_t).0 r).0 e in
+            let low : r.prefix.len ≤ prefix.len = ltb-false _ _ short in
+            omega (arith, low, best.longest x there covering)
+        | None ↦ λ e short x there covering. absurd (not_both ((finds addr t of_t).1.0 e x there) covering)
+      ] in
+      at_each (look_up addr t) refl
+
+  -- so what covers it covers the whole prefix
+  covers_both : (a b : Addr) → b.0 < 2 ^ 32 → covers prefix a ≡ true → covers prefix b ≡ true → is_longer prefix.len (look_up a t) ≡ false
+      → (x : Route) → Contains t x → covers x.prefix a ≡ true → covers x.prefix b ≡ true
+  covers_both a b fits of_a of_b own x there covering =
+      let inside : contains x.prefix prefix ≡ true = covering_nest x.prefix prefix a covering of_a (none_longer a own x there covering) in
+      (covers_all x.prefix prefix).0 inside b fits of_b
+
+  -- and all such addresses have one answer
+  pub own_alike : (a b : Addr) → a.0 < 2 ^ 32 → b.0 < 2 ^ 32 → covers prefix a ≡ true → covers prefix b ≡ true
+      → is_longer prefix.len (look_up a t) ≡ false → is_longer prefix.len (look_up b t) ≡ false → look_up a t ≡ look_up b t
+  own_alike a b fits_a fits_b of_a of_b own_a own_b =
+      let to_b = covers_both a b fits_b of_a of_b own_a in
+      let to_a = covers_both b a fits_a of_b of_a own_b in
+      let P : Option Route → Type 0 = λ v. look_up a t ≡ v → v ≡ look_up b t in
+      let at_each : (v : Option Route) → look_up a t ≡ v → v ≡ look_up b t = λ v. elim v as P [
+        | Some r ↦ λ e.
+            let is = ((finds a t of_t).0 r).0 e in
+            sym (((finds b t of_t).0 r).1 (record {
+              contained = is.contained;
+              covering = to_b r is.contained is.covering;
+              longest = λ s there covering. is.longest s there (to_a s there covering);
+              best = λ s there covering alike. is.best s there (to_a s there covering) alike;
+            }))
+        | None ↦ λ e. sym ((finds b t of_t).1.1 (λ s there. elim (either (covers s.prefix b)) [
+          | inl covering ↦ absurd (not_both ((finds a t of_t).1.0 e s there) (to_a s there covering))
+          | inr misses ↦ misses
+        ]))
+      ] in
+      at_each (look_up a t) refl
+
+-- the answer to each of the prefix's addresses after the change
+after_is : (prefix : Prefix) (t u : List Route) → LookUpFindsBest → CoveringAreNested → ContainsWhatItCovers → IsTable t → IsTable u
+    → PreservesOtherRoutes prefix t u → (own addr : Addr) → own.0 < 2 ^ 32 → addr.0 < 2 ^ 32 → covers prefix own ≡ true → covers prefix addr ≡ true
+    → is_longer prefix.len (look_up own t) ≡ false → look_up addr u ≡ answer_after prefix.len (look_up own u) (look_up addr t)
+after_is prefix t u finds covering_nest covers_all of_t of_u others own addr fits_own fits of_own of_addr is_own =
+    let back : PreservesOtherRoutes prefix u t = λ x apart. ((others x apart).1, (others x apart).0) in
+    let still : (a : Addr) → is_longer prefix.len (look_up a t) ≡ false → is_longer prefix.len (look_up a u) ≡ false =
+    λ a short. elim (either (is_longer prefix.len (look_up a u))) [
+      | inl long ↦
+          let same : look_up a t ≡ look_up a u = longer_stays prefix u t finds of_u of_t back a long in
+          absurd (not_both short (ap (is_longer prefix.len) same ∙ long))
+      | inr stays ↦ stays
+    ] in
+    elim (either (is_longer prefix.len (look_up addr t))) [
+      | inl long ↦
+          longer_stays prefix t u finds of_t of_u others addr long
+          ∙ sym (cond-true (is_longer prefix.len (look_up addr t)) (look_up addr t) (look_up own u) long)
+      | inr short ↦
+          own_alike prefix u finds of_u covering_nest covers_all addr own fits fits_own of_addr of_own (still addr short) (still own is_own)
+          ∙ sym (cond-false (is_longer prefix.len (look_up addr t)) (look_up addr t) (look_up own u) short)
+    ]
+
+-- so the span is changed
+pub span_changes : (prefix : Prefix) (span : Span) (t u : List Route) → LookUpFindsBest → CoveringAreNested → ContainsWhatItCovers → CoversItsRange
+    → IsTable t → IsTable u → PreservesOtherRoutes prefix t u → AreEntriesOf prefix span → IsWholly prefix span → (own : Addr) → own.0 < 2 ^ 32
+    → covers prefix own ≡ true → is_longer prefix.len (look_up own t) ≡ false → IsChange prefix.len (look_up own u) span t u
+span_changes prefix span t u finds covering_nest covers_all range of_t of_u others are wholly own fits of_own is_own = record {
+  within = λ i k from below low.
+      let covered : covers prefix (at (i * 256 + k)) ≡ true =
+      (range prefix (at (i * 256 + k))).1 (omega (arith, from, wholly.first), omega (arith, below, low, wholly.end)) in
+      after_is prefix t u finds covering_nest covers_all of_t of_u others own (at (i * 256 + k)) fits (omega (arith, below, low, are.fits)) of_own covered is_own;
+  outside = λ i k fit low out. outside_stays prefix t u finds of_t of_u others (at (i * 256 + k)) (are.outside i k fit low out);
+}
+
+-- if the new answer is the old one, nothing is changed
+pub nothing_changes : (prefix : Prefix) (span : Span) (t u : List Route) → LookUpFindsBest → CoveringAreNested → ContainsWhatItCovers → CoversItsRange
+    → IsTable t → AreEntriesOf prefix span → IsWholly prefix span → (own : Addr) → own.0 < 2 ^ 32 → covers prefix own ≡ true
+    → is_longer prefix.len (look_up own t) ≡ false → look_up own t ≡ look_up own u → IsChange prefix.len (look_up own u) span t u → AnswerAlike t u
+nothing_changes prefix span t u finds covering_nest covers_all range of_t are wholly own fits of_own is_own same change i k fit low =
+    let addr : Addr = at (i * 256 + k) in
+    elim (cases_lt i span.first) [
+      | inl before ↦ change.outside i k fit low (inl before)
+      | inr from ↦ elim (cases_lt i span.end) [
+        | inr behind ↦ change.outside i k fit low (inr behind)
+        | inl below ↦
+            let covered : covers prefix addr ≡ true = (range prefix addr).1 (omega (arith, from, wholly.first), omega (arith, below, low, wholly.end)) in
+            elim (either (is_longer prefix.len (look_up addr t))) [
+              | inl long ↦
+                  sym (change.within i k from below low ∙ cond-true (is_longer prefix.len (look_up addr t)) (look_up addr t) (look_up own u) long)
+              | inr short ↦
+                  own_alike prefix t finds of_t covering_nest covers_all addr own (omega (arith, fit, low)) fits covered of_own short is_own ∙ same
+                  ∙ sym (change.within i k from below low ∙ cond-false (is_longer prefix.len (look_up addr t)) (look_up addr t) (look_up own u) short)
+            ]
+      ]
+    ]

@@ -1,0 +1,26 @@
+use Rattle.std.proofs.Common.{◌≡◌, ◌<◌, ◌+◌, ◌^◌, length, get_or, ◌∙◌, arith}
+use Rattle.std.proofs.lemmas.List.{get_or_read, length-set}
+use Rattle.rt_fib.proofs.Changing.{until_more}
+use Rattle.rt_fib.proofs.following.change_entries.Goals as goal
+
+pub entries-preserved : goal.entries-preserved
+entries-preserved g c =
+    let v = c.entries.invariant in
+    let made = c.entry_after-last.ensures in
+    let entries = c.entries.cells.entries.items in
+    let i = c.entries.i in
+    let within : i < length entries = omega (arith, v.size, c.entries-test.true, c.requires.fits) in
+    let read : c.index-entry.result.now ≡ get_or entries i 0 = get_or_read entries i c.index-entry.result.now within c.index-entry.ensures 0 in
+    record {
+      since = v.since;
+      marked = v.marked;
+      answers = made.answers ∙ v.answers;
+      size = omega (arith, v.size, length-set entries i c.entry_after-last.result.after);
+      all = rw made.answers
+          (until_more entries _ _ _ c.entries.cells.since c.entries.cells.since _ _ i (2 ^ 24) c.args.change.now c.args.span _ _ c.requires.change
+          c.entries.auto.i c.entries-test.true (omega arith) made.blocks within read made.leads v.all);
+      first = rw made.answers
+          (until_more entries _ _ _ c.entries.cells.since (c.entries.cells.since + 1) _ _ i c.entries.cells.marked c.args.change.now c.args.span _ _ c.requires.change
+          c.entries.auto.i c.entries-test.true (omega arith) made.blocks within read made.leads v.first);
+      last = rw made.answers made.last;
+    }
