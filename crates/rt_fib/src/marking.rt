@@ -12,8 +12,11 @@ use crate::pools::{touch, trim};
 use crate::spans::ENTRIES;
 use std::alloc::Allocator;
 
-/// Marks the number of an answer, and returns it. If the last number is of the same answer, marks and returns that one instead: so
-/// neighbours share an answer, as in new cells.
+/// Says in how many rounds each number is once compared with the last one. The comparison waits for memory.
+const COMPARE_EVERY: u32 = 4;
+
+/// Marks the number of an answer, and returns it. If it is compared, and the last number is of the same answer, marks and returns that
+/// one instead: so neighbours share an answer, as in new cells.
 fn mark_number<A: Allocator + Copy>(pools: &mut Pools<A>, since: u32, last: u32, entry: u32) -> u32
     requires since { since + 1 < 2 ^ 32 }
     requires short { entry < 2 ^ 31 }
@@ -22,7 +25,7 @@ fn mark_number<A: Allocator + Copy>(pools: &mut Pools<A>, since: u32, last: u32,
     ensures leads { LeadsOn (places pools.old.blocks) (places pools.old.answers) (places pools.new.blocks) (places pools.new.answers)
         since entry result }
 {
-    if entry == last {
+    if entry == last || entry % COMPARE_EVERY != since % COMPARE_EVERY {
         touch(&mut pools.answers, entry, since);
         return entry;
     }
