@@ -70,11 +70,12 @@ pub(crate) fn bytes_of(blocks: usize, answers: usize) -> usize {
     blocks.saturating_add(answers.saturating_mul(ANSWER_BYTES))
 }
 
-/// Says how many entries, or numbers of a block, are marked for each byte that is filled.
+/// Says how many entries, or numbers of a block, are marked for each byte of an answer that is filled or of a block that falls out of
+/// use.
 pub(crate) const PACE: usize = 2;
 
-/// Returns how many bytes two rounds may leave unused, with this number of blocks: the bytes that are filled while each entry, and
-/// each number of a block, is marked twice.
+/// Returns how many bytes two rounds may leave unused, with this number of blocks: the bytes for which each entry, and each number of a
+/// block, is marked twice.
 pub(crate) fn most_waste(blocks: usize) -> usize {
     let places = blocks.saturating_mul(256).saturating_add(1 << 24);
     places.saturating_mul(2) / PACE

@@ -427,13 +427,13 @@ pub(crate) fn put_entries(entries: &mut [u32], fresh: &[u32], first: usize)
     }
 }
 
-/// Counts the entries that named a block and are replaced by a fresh entry that doesn't.
+/// Counts the entries that named a block and are replaced by another entry.
 fn blocks_gone(entries: &[u32], fresh: &[u32], first: usize) -> usize
     requires { first + length fresh.now ≤ length entries.now }
 {
     let mut gone = 0usize;
     for k in 0..fresh.len() {
-        if entries[first + k] >= LONG && fresh[k] < LONG {
+        if entries[first + k] >= LONG && fresh[k] != entries[first + k] {
             gone = gone.saturating_add(1);
         }
     }
@@ -478,7 +478,7 @@ pub(crate) fn renew_cells<A: Allocator + Copy, B: Allocator + Copy>(
     ) {
         Ok(fresh) => {
             let gone = blocks_gone(&cells.entries, &fresh, span.first as usize);
-            cells.pools.blocks.due = cells.pools.blocks.due.saturating_add(gone);
+            cells.pools.blocks.due = gone;
             put_entries(
                 cells.entries.as_mut_slice(),
                 fresh.as_slice(),

@@ -118,7 +118,7 @@ fn mark<A: Allocator + Copy, B: Allocator + Copy>(cells: &mut Cells<A, B>, count
     }
 }
 
-/// Marks as many entries as is due for the places that were filled, and always at least some.
+/// Marks as many entries as is due for the answers that were filled and the blocks that fell out of use, and always at least some.
 pub(crate) fn keep_pace<A: Allocator + Copy, B: Allocator + Copy>(cells: &mut Cells<A, B>)
     requires { AreCells cells.old.entries.items (places cells.old.pools.blocks) (places cells.old.pools.answers) cells.old.since
         cells.old.marked cells.old.table.value.routes }

@@ -17,7 +17,8 @@ pub(crate) struct Pool<T: Copy, A: Allocator + Copy> {
     pub(crate) taken: Vec<u32, A>,
     /// The place at which the search for a free one goes on. No clause mentions it.
     pub(crate) next: usize,
-    /// The number of places that were filled since entries were last marked. No clause mentions it.
+    /// The number of places that were filled since entries were last marked, and for blocks the number of those that fell out of use.
+    /// No clause mentions it.
     pub(crate) due: usize,
 }
 
