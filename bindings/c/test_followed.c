@@ -63,13 +63,18 @@ static bool is_attached(const yarib *table)
     return attached == 1;
 }
 
-static uint32_t applied(yarib *table, uint32_t operation, uint32_t feed, uint32_t k)
+static uint32_t applied_to(yarib *table, uint32_t operation, uint32_t feed, uint32_t k, uint8_t len)
 {
-    yarib_command command = {.operation = operation, .feed = feed, .base = 0x0a000000 + 256 * k, .len = 24, .pref = k % 7,
+    yarib_command command = {.operation = operation, .feed = feed, .base = 0x0a000000 + 256 * k, .len = len, .pref = k % 7,
         .hop = YARIB_VIA, .via = k};
     yarib_reply reply;
     CHECK(yarib_apply(table, &command, &reply) == YARIB_DONE);
     return reply.code;
+}
+
+static uint32_t applied(yarib *table, uint32_t operation, uint32_t feed, uint32_t k)
+{
+    return applied_to(table, operation, feed, k, 24);
 }
 
 /* The ways to look up an address. */
@@ -115,7 +120,7 @@ static yarib_concurrent shared = YARIB_CONCURRENT_EMPTY;
 /* Makes a change of the concurrent table. Returns whether its published table is followed then. */
 static bool changed(uint32_t pref)
 {
-    yarib_command command = {.operation = YARIB_REPLACE, .feed = 1, .base = 0x0a000000, .len = 24, .pref = pref, .hop = YARIB_VIA, .via = 9};
+    yarib_command command = {.operation = YARIB_REPLACE, .feed = 1, .base = 0x0a000000, .len = 32, .pref = pref, .hop = YARIB_VIA, .via = 9};
     yarib_reply reply;
     uint32_t attached = 7;
     CHECK(yarib_concurrent_apply(&shared, &command, &reply) == YARIB_DONE && reply.code == YARIB_REPLACED);
@@ -126,7 +131,7 @@ static bool changed(uint32_t pref)
 /* Each of the two tables of a concurrent one is followed as long as memory suffices, and the published one says so. */
 static void follow_concurrent(void)
 {
-    yarib_command add = {.operation = YARIB_ADD, .feed = 1, .base = 0x0a000000, .len = 24, .hop = YARIB_VIA, .via = 9};
+    yarib_command add = {.operation = YARIB_ADD, .feed = 1, .base = 0x0a000000, .len = 32, .hop = YARIB_VIA, .via = 9};
     yarib_reply reply;
     uint32_t attached = 7;
     is_usual = true;
@@ -166,11 +171,14 @@ int main(void)
     CHECK(applied(&table, YARIB_PURGE, 2, 0) == YARIB_PURGED && applied(&table, YARIB_PURGE, 3, 0) == YARIB_PURGED);
     CHECK(applied(&table, YARIB_LOOKUP, 1, 0) == YARIB_FOUND && applied(&table, YARIB_DUMP, 1, 0) == YARIB_DUMPED);
     check_followed(&table);
-    /* Without memory a command that changes nothing leaves it followed, and a change may end that: then is_attached says so. */
+    CHECK(applied_to(&table, YARIB_ADD, 3, 0, 32) == YARIB_ADDED);
+    /* Without memory a command that changes no answer leaves it followed, and a change may end that: then is_attached says so. A
+     * change of a prefix longer than 24 bits always needs memory. */
     is_refusing = true;
     CHECK(applied(&table, YARIB_ADD, 1, 0) == YARIB_EXISTS && applied(&table, YARIB_WITHDRAW, 9, 0) == YARIB_MISSING);
     CHECK(applied(&table, YARIB_REPLACE, 9, 0) == YARIB_MISSING && is_attached(&table) && entries);
-    CHECK(applied(&table, YARIB_REPLACE, 1, 0) == YARIB_REPLACED && !is_attached(&table) && !entries);
+    CHECK(applied(&table, YARIB_REPLACE, 1, 0) == YARIB_REPLACED && is_attached(&table) && entries);
+    CHECK(applied_to(&table, YARIB_REPLACE, 3, 0, 32) == YARIB_REPLACED && !is_attached(&table) && !entries);
     CHECK(yarib_fib_attach(&table) == YARIB_NO_MEMORY && !is_attached(&table));
     is_refusing = false;
     CHECK(yarib_fib_attach(&table) == YARIB_DONE && is_attached(&table) && built == 2);

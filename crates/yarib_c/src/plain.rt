@@ -13,7 +13,7 @@ ghost use Rattle.yarib_c.specs.inside.AttachedFib.{FibHasRoutes, FibMayFollow};
 use crate::sizes::node_bytes;
 use rt_cidr::Addr;
 use rt_fib::Fib;
-use rt_fib::laws::commands_preserve_lookups_outside_prefix;
+use rt_fib::laws::commands_preserve_other_routes;
 use rt_rib::{Cmd, Refused, Reply, Route, Table};
 use std::alloc::Global;
 use std::marker::Model;
@@ -100,7 +100,7 @@ impl PlainTable {
         if !is_change(&reply) {
             return Ok(reply);
         }
-        commands_preserve_lookups_outside_prefix();
+        commands_preserve_other_routes();
         self.beside = followed(self.beside.take(), &self.table, &cmd);
         Ok(reply)
     }
@@ -181,7 +181,7 @@ fn followed(beside: Option<Fib<Global>>, table: &Table<Global>, cmd: &Cmd) -> Op
     ensures { FibHasRoutes result table.now.routes }
 {
     let mut fib = beside?;
-    match fib.follow(table, cmd) {
+    match fib.follow_command(table, cmd) {
         Ok(()) => Some(fib),
         Err(_) => None,
     }
