@@ -1,6 +1,6 @@
 -- The maximum lengths of the parts of a count's text, and the texts of each number.
-use Rattle.std.proofs.Common.{◌≡◌, ◌==◌, ℕ, zero, suc, ◌+◌, ◌<◌, ◌≤◌, inl, inr, Bool, true, false, List, [], ◌++◌, length, codes, decimal, refl, ap, ◌∙◌, arith, rules, length-append, subst, add-one, Option, Result, Err}
-use Rattle.std.specs.Prelude.{◌≢◌}
+use Rattle.std.proofs.Common.{◌≡◌, ◌==◌, ℕ, zero, suc, ◌+◌, ◌<◌, ◌≤◌, inl, inr, Bool, true, false, List, [], ◌++◌, length, codes, decimal, refl, ap, ◌∙◌, arith, rules, length-append, subst, add-one, Option, Result}
+use Rattle.std.specs.Prelude.{◌≢◌, IsErr}
 use Rattle.std.proofs.lemmas.Bool.{cases_lt}
 use Rattle.std.specs.Io.KnownBytes.{Appends}
 use Rattle.rt_cidr.specs.Output.{AppendsBeginning, WritesText}
@@ -8,6 +8,7 @@ use Rattle.rt_cidr.proofs.Promised.{length-decimal, appends_after, begins_after,
 use Rattle.rt_print.specs.Counts.{totals_as, count_as, each_below}
 use Rattle.rt_print.specs.inside.Parts.{either, totals_line, count_tail}
 use Rattle.rt_print.proofs.LineParts.{either_fits}
+use Rattle.rt_print.proofs.Writing.{stops}
 
 pub totals_line_fits : (json : Bool) (routes prefixes : ℕ) → length (totals_line json routes prefixes) ≤ 300
 unfolding totals_line
@@ -72,10 +73,10 @@ each_begins a b c tell n (suc bound) below first second = elim (cases_lt n bound
 ]
 
 -- an error within the text of a number is one within the texts of all numbers below a higher one
-pub each_stops : {T E : Type 0} (a b c : Option (List ℕ)) (tell : ℕ → List ℕ) (n bound : ℕ) (result : Result T E) (fault : E) → result ≡ Err fault → n < bound
+pub each_stops : {T E : Type 0} (a b c : Option (List ℕ)) (tell : ℕ → List ℕ) (n bound : ℕ) (result : Result T E) → IsErr result → n < bound
     → Appends a b (each_below tell n) → AppendsBeginning b c (tell n) → WritesText a c (each_below tell bound) result
-each_stops a b c tell n bound result fault failed below first second =
-    rw failed (record { ok = tt; err = each_begins a b c tell n bound below first second })
+each_stops a b c tell n bound result failed below first second =
+    stops a c (each_below tell bound) result failed (each_begins a b c tell n bound below first second)
 
 -- texts of the same numbers are the same
 pub each_same : (f g : ℕ → List ℕ) (bound : ℕ) → ((n : ℕ) → n < bound → f n ≡ g n) → each_below f bound ≡ each_below g bound

@@ -1,5 +1,6 @@
 -- The contents of a writer after several texts, one after another, also after an error within one of them.
-use Rattle.std.proofs.Common.{◌≡◌, ℕ, ◌+◌, ◌<◌, List, [], ◌∷◌, ◌++◌, length, take, drop, get_or, refl, sym, ap, ◌∙◌, Option, Result, Err}
+use Rattle.std.proofs.Common.{◌≡◌, ℕ, ◌+◌, ◌<◌, List, [], ◌∷◌, ◌++◌, length, take, drop, get_or, refl, sym, ap, ◌∙◌, Option, Result, Ok, Err}
+use Rattle.std.specs.Prelude.{IsErr}
 use Rattle.std.proofs.Common.{arith, append_assoc, append-nil, add-zero, add-one, length-take, take-append-drop}
 use Rattle.std.specs.List.{flat_map}
 use Rattle.std.proofs.Math.Seq.{take-suc}
@@ -9,21 +10,26 @@ use Rattle.std.specs.Io.KnownBytes.{Appends}
 use Rattle.rt_cidr.specs.Output.{AppendsBeginning, WritesText}
 use Rattle.rt_cidr.proofs.Promised.{appends_after, begins_after, begins_longer}
 
-module _ {T E : Type 0} (a b c : Option (List ℕ)) where
+-- an error after an initial part of a text
+pub stops : {T E : Type 0} (a c : Option (List ℕ)) (text : List ℕ) (result : Result T E) → IsErr result → AppendsBeginning a c text → WritesText a c text result
+stops a c text (Ok done) failed begun = absurd cc
+stops a c text (Err fault) failed begun = record { ok = tt; err = begun }
+
+-- an error within the first of two texts
+pub stops_within : {T E : Type 0} (a c : Option (List ℕ)) (result : Result T E) (xs ys : List ℕ) → IsErr result → AppendsBeginning a c xs → WritesText a c (xs ++ ys) result
+stops_within a c result xs ys failed first = stops a c (xs ++ ys) result failed (begins_longer a c xs ys first)
+
+module _ {T E : Type 0} (a b c : Option (List ℕ)) (result : Result T E) where
   -- a whole text, and then the written part of another one
-  pub writes_after : (xs ys : List ℕ) (result : Result T E) → Appends a b xs → WritesText b c ys result → WritesText a c (xs ++ ys) result
-  writes_after xs ys result first second = record {
+  pub writes_after : (xs ys : List ℕ) → Appends a b xs → WritesText b c ys result → WritesText a c (xs ++ ys) result
+  writes_after xs ys first second = record {
     ok = on_ok_weaker result (appends_after a b c xs ys first) second.ok;
     err = on_err_weaker result (begins_after a b c xs ys first) second.err;
   }
 
   -- a whole text, and an error within the second of three
-  pub stops_after : (xs ys zs : List ℕ) (fault : E) → Appends a b xs → AppendsBeginning b c ys → WritesText {T = T} a c (xs ++ (ys ++ zs)) (Err fault)
-  stops_after xs ys zs fault first second = record { ok = tt; err = begins_after a b c xs (ys ++ zs) first (begins_longer b c ys zs second) }
-
--- an error within a text is an error within a longer one
-pub stops_within : {T E : Type 0} (a c : Option (List ℕ)) (xs ys : List ℕ) (fault : E) → AppendsBeginning a c xs → WritesText {T = T} a c (xs ++ ys) (Err fault)
-stops_within a c xs ys fault first = record { ok = tt; err = begins_longer a c xs ys first }
+  pub stops_after : (xs ys zs : List ℕ) → IsErr result → Appends a b xs → AppendsBeginning b c ys → WritesText a c (xs ++ (ys ++ zs)) result
+  stops_after xs ys zs failed first second = stops a c (xs ++ (ys ++ zs)) result failed (begins_after a b c xs (ys ++ zs) first (begins_longer b c ys zs second))
 
 -- a text in front of the empty text is the whole text
 pub alone : {new old : List ℕ} (text : List ℕ) → new ≡ text ++ old → old ≡ [] → new ≡ text
@@ -70,6 +76,9 @@ module _ {X : Type 0} (one : ℕ → X → List ℕ) (all : ℕ → List X → L
       begins_all second =
           let (rest, whole) = all-rest in
           rw whole (begins_longer a c _ rest (begins_after a b c _ (one (k + 1) x) first second))
+
+      pub stops_all : {T E : Type 0} (result : Result T E) → IsErr result → AppendsBeginning b c (one (k + 1) x) → WritesText a c (all 1 xs) result
+      stops_all result failed second = stops a c (all 1 xs) result failed (begins_all second)
 
 -- an error within the text of one item leaves a prefix of the texts of all
 pub stops_in_one : {X T E : Type 0} (text : X → List ℕ) (xs : List X) (i : ℕ) (default x : X) → i < length xs → x ≡ get_or xs i default

@@ -1,5 +1,5 @@
 //! The numbers of routes: in all, of each feed, and to prefixes of each length.
-ghost use Rattle.std.specs.Prelude.{◌≡◌, ℕ, ◌+◌, ◌≤◌, ◌++◌, length, get_or, codes, decimal};
+ghost use Rattle.std.specs.Prelude.{◌≡◌, ℕ, ◌+◌, ◌≤◌, List, ◌++◌, length, get_or, map};
 ghost use Rattle.rt_rib.specs.declared.limits.TheConstants.{MAX_FEEDS};
 ghost use Rattle.rt_print.specs.declared.counts.TheConstants.{MAX_BITS};
 ghost use Rattle.rt_cidr.specs.Output.{WritesText};
@@ -7,8 +7,9 @@ ghost use Rattle.rt_cidr.specs.ShortText.{FitsInShortText};
 ghost use Rattle.rt_rib.specs.Table.{count_of};
 ghost use Rattle.rt_print.specs.Counts.{prefix_count, length_count, totals_as, count_as, each_below, counts_as};
 ghost use Rattle.rt_print.specs.Styles.{label_of};
-ghost use Rattle.rt_print.specs.inside.Parts.{totals_line, count_tail};
+ghost use Rattle.rt_print.specs.inside.Parts.{label_pairs, totals_line, count_tail};
 
+use crate::labels::{FeedLabel, label_in};
 use crate::parts::put_parts;
 use crate::style::{Style, either};
 use rt_cidr::{ShortText, put};
@@ -35,8 +36,22 @@ pub fn write_counts<W: Write>(w: &mut W, style: &Style, routes: &[Route]) -> io:
     let json = style.is_json();
     let counts = counts_of(routes);
     write_totals(w, json, routes)?;
-    write_feeds(w, style, &counts.feeds)?;
-    write_lengths(w, json, &counts.lengths)
+    write_each(
+        w,
+        json,
+        b"feed",
+        style.labels(),
+        &counts.feeds,
+        MAX_FEEDS as u32 + 1,
+    )?;
+    write_each(
+        w,
+        json,
+        b"length",
+        &[],
+        &counts.lengths,
+        MAX_BITS as u32 + 1,
+    )
 }
 
 /// Counts the routes of each feed, and those to prefixes of each length.
@@ -65,55 +80,44 @@ fn write_totals<W: Write>(w: &mut W, json: bool, routes: &[Route]) -> io::Result
     put(w, text.as_bytes())
 }
 
-/// Writes the number of routes of each feed that has one.
-fn write_feeds<W: Write>(
+/// Writes the number of routes of this kind under each number below `bound` that has some, with the number's label.
+fn write_each<W: Write>(
     w: &mut W,
-    style: &Style,
-    counts: &[usize; MAX_FEEDS + 2],
+    json: bool,
+    kind: &[u8],
+    labels: &[FeedLabel],
+    counts: &[usize],
+    bound: u32,
+) -> io::Result<()>
+    requires { bound ≤ length counts.now }
+    ensures { WritesText (W.contents w.old) (W.contents w.new)
+        (each_below (λ n. count_as json kind.now (label_of (label_pairs labels.now) n) (get_or counts.now n 0)) bound) result }
+{
+    for number in 0..bound {
+        put_number(w, json, kind, labels, number, counts[number as usize])?;
+    }
+    Ok(())
+}
+
+/// Writes the number of routes of this kind under a number, with the number's label, unless it is 0.
+#[tactic(auto, using(crate::proofs::CountParts::number_fits))]
+fn put_number<W: Write>(
+    w: &mut W,
+    json: bool,
+    kind: &[u8],
+    labels: &[FeedLabel],
+    number: u32,
+    count: usize,
 ) -> io::Result<()>
     ensures { WritesText (W.contents w.old) (W.contents w.new)
-        (each_below (λ feed. count_as style.now.json (codes "feed") (label_of style.now.labels feed) (get_or counts.now feed 0)) (MAX_FEEDS + 1)) result }
+        (count_as json kind.now (label_of (label_pairs labels.now) number) count) result }
 {
-    for feed in 0..=MAX_FEEDS {
-        put_feed(w, style, feed as u32, counts[feed])?;
+    if let Some(label) = label_in(labels, number) {
+        return put_count(w, json, kind, label, count);
     }
-    Ok(())
-}
-
-/// Writes the number of routes to prefixes of each length that has one.
-fn write_lengths<W: Write>(w: &mut W, json: bool, counts: &[usize; MAX_BITS + 1]) -> io::Result<()>
-    ensures { WritesText (W.contents w.old) (W.contents w.new)
-        (each_below (λ len. count_as json (codes "length") (decimal len) (get_or counts.now len 0)) (MAX_BITS + 1)) result }
-{
-    for len in 0..=MAX_BITS {
-        put_length(w, json, len as u8, counts[len])?;
-    }
-    Ok(())
-}
-
-/// Writes the number of routes of a feed, unless it is 0.
-#[tactic(auto, using(crate::proofs::CountParts::number_fits))]
-fn put_feed<W: Write>(w: &mut W, style: &Style, feed: u32, count: usize) -> io::Result<()>
-    ensures { WritesText (W.contents w.old) (W.contents w.new)
-        (count_as style.now.json (codes "feed") (label_of style.now.labels feed) count) result }
-{
-    let json = style.is_json();
-    if let Some(label) = style.label(feed) {
-        return put_count(w, json, b"feed", label, count);
-    }
-    let mut number = ShortText::new();
-    number.prepend_decimal(u64::from(feed));
-    put_count(w, json, b"feed", number.as_bytes(), count)
-}
-
-/// Writes the number of routes to prefixes of a length, unless it is 0.
-#[tactic(auto, using(crate::proofs::CountParts::number_fits))]
-fn put_length<W: Write>(w: &mut W, json: bool, len: u8, count: usize) -> io::Result<()>
-    ensures { WritesText (W.contents w.old) (W.contents w.new) (count_as json (codes "length") (decimal len) count) result }
-{
-    let mut number = ShortText::new();
-    number.prepend_decimal(u64::from(len));
-    put_count(w, json, b"length", number.as_bytes(), count)
+    let mut digits = ShortText::new();
+    digits.prepend_decimal(u64::from(number));
+    put_count(w, json, kind, digits.as_bytes(), count)
 }
 
 /// Writes the number of routes of this kind and name, unless it is 0.

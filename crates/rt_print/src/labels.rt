@@ -5,6 +5,7 @@ ghost use Rattle.std.specs.List.{flat_map};
 ghost use Rattle.rt_rib.specs.declared.limits.TheConstants.{MAX_FEEDS};
 ghost use Rattle.rt_print.specs.Json.{escaped, json_string};
 ghost use Rattle.rt_print.specs.Styles.{label_of};
+ghost use Rattle.rt_print.specs.inside.Parts.{label_pairs};
 ghost use Rattle.rt_print.specs.Labels.{base_name, feed_name, label_by, labelled, labels_by, paired_number};
 
 use crate::format::Format;
@@ -28,28 +29,11 @@ pub(crate) fn labels_by(
     paths: &[&str],
 ) -> Result<Vec<FeedLabel>, AllocError>
     requires few { (length first.now ≤ MAX_FEEDS) × (length paths.now ≤ MAX_FEEDS) }
-    ensures { IfOk result (λ labels. map {B = ℕ × List ℕ} (λ label. (label.number, label.text.items)) labels.items
-        ≡ labels_by format (map (λ path. path.now) first.now) (map (λ path. path.now) paths.now)) }
+    ensures { IfOk result (λ labels. label_pairs labels.items ≡ labels_by format (map (λ path. path.now) first.now) (map (λ path. path.now) paths.now)) }
 {
-    match format {
-        Format::Numbers => Ok(Vec::new(alloc)),
-        Format::Names | Format::Json | Format::JsonWithNames => {
-            every_label(alloc, format, first, paths)
-        }
+    if let Format::Numbers = format {
+        return Ok(Vec::new(alloc));
     }
-}
-
-/// Returns the label of each feed of these paths.
-fn every_label(
-    alloc: Global,
-    format: Format,
-    first: &[&str],
-    paths: &[&str],
-) -> Result<Vec<FeedLabel>, AllocError>
-    requires few { (length first.now ≤ MAX_FEEDS) × (length paths.now ≤ MAX_FEEDS) }
-    ensures { IfOk result (λ labels. map {B = ℕ × List ℕ} (λ label. (label.number, label.text.items)) labels.items
-        ≡ labelled (λ feed path. (paired_number (map (λ path. path.now) first.now) feed path, label_by format feed path)) 1 (map (λ path. path.now) paths.now)) }
-{
     let mut labels = Vec::with_capacity(alloc, paths.len())?;
     for (index, path) in paths.iter().enumerate() {
         let feed = index as u32 + 1;
@@ -63,8 +47,8 @@ fn every_label(
 
 /// Returns the label of the feed with this number, if it has one of these.
 pub(crate) fn label_in(labels: &[FeedLabel], feed: u32) -> Option<&[u8]>
-    ensures some { IfSome result (λ label. label.now ≡ label_of (map {B = ℕ × List ℕ} (λ label. (label.number, label.text.items)) labels.now) feed) }
-    ensures none { result ≡ None → label_of (map {B = ℕ × List ℕ} (λ label. (label.number, label.text.items)) labels.now) feed ≡ decimal feed }
+    ensures some { IfSome result (λ label. label.now ≡ label_of (label_pairs labels.now) feed) }
+    ensures none { result ≡ None → label_of (label_pairs labels.now) feed ≡ decimal feed }
 {
     let mut rest = labels;
     while let [label, behind @ ..] = rest {

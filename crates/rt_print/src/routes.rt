@@ -6,6 +6,7 @@ ghost use Rattle.rt_print.specs.Routes.{route_text, count_text, table_text};
 ghost use Rattle.rt_print.specs.Styles.{label_of, rows_as};
 ghost use Rattle.rt_print.specs.inside.Parts.{hop_as, route_front, route_back, route_open};
 
+use crate::labels::label_in;
 use crate::parts::put_parts;
 use crate::style::{Style, either};
 use rt_cidr::{ShortText, put};
@@ -64,7 +65,7 @@ pub(crate) fn put_route<W: Write>(
     let json = style.is_json();
     text.clear();
     text.prepend(tail);
-    let Some(label) = style.label(route.feed) else {
+    let Some(label) = label_in(style.labels(), route.feed) else {
         prepend_open(text, json, route);
         text.prepend(head);
         return put(w, text.as_bytes());

@@ -1,11 +1,11 @@
 //! The style of printed routes: lines or JSON objects, and the labels of the feeds.
-ghost use Rattle.std.specs.Prelude.{◌≡◌, ◌≤◌, [], length, map, decimal, None, IfOk, IfSome};
+ghost use Rattle.std.specs.Prelude.{◌≡◌, ◌≤◌, ℕ, List, [], length, map, IfOk};
 ghost use Rattle.rt_rib.specs.declared.limits.TheConstants.{MAX_FEEDS};
-ghost use Rattle.rt_print.specs.Styles.{style_of, label_of};
-ghost use Rattle.rt_print.specs.inside.Parts.{either};
+ghost use Rattle.rt_print.specs.Styles.{style_of};
+ghost use Rattle.rt_print.specs.inside.Parts.{either, label_pairs};
 
 use crate::format::Format;
-use crate::labels::{FeedLabel, label_in, labels_by};
+use crate::labels::{FeedLabel, labels_by};
 use std::alloc::{AllocError, Global};
 use std::marker::Model;
 
@@ -18,12 +18,12 @@ pub struct Style {
 }
 
 impl Model for Style {
-    ghost use Rattle.std.specs.Prelude.{map};
     ghost use Rattle.rt_print.specs.Styles.{StyleContents};
+    ghost use Rattle.rt_print.specs.inside.Parts.{label_pairs};
 
     ghost Value = { StyleContents };
 
-    ghost view = { λ s. record { json = s.json; labels = map (λ label. (label.number, label.text.items)) s.labels.items } };
+    ghost view = { λ s. record { json = s.json; labels = label_pairs s.labels.items } };
 }
 
 impl Style {
@@ -60,12 +60,11 @@ impl Style {
         self.json
     }
 
-    /// Returns the label of the feed with this number. A feed without one is printed by its number.
-    pub(crate) fn label(&self, feed: u32) -> Option<&[u8]>
-        ensures some { IfSome result (λ label. label.now ≡ label_of self.now.labels feed) }
-        ensures none { result ≡ None → label_of self.now.labels feed ≡ decimal feed }
+    /// Returns the label of each feed that has one. A feed without one is printed by its number.
+    pub(crate) fn labels(&self) -> &[FeedLabel]
+        ensures { label_pairs result.now ≡ self.now.labels }
     {
-        label_in(self.labels.as_slice(), feed)
+        self.labels.as_slice()
     }
 }
 

@@ -1,5 +1,5 @@
 -- The parts of a text in a style, on both sides of a feed's label.
-use Rattle.std.specs.Prelude.{ℕ, ◌+◌, ◌==◌, Bool, true, false, if◌then◌else◌, List, [], ◌∷◌, ◌++◌, codes, decimal}
+use Rattle.std.specs.Prelude.{ℕ, ◌+◌, ◌==◌, Bool, true, false, if◌then◌else◌, List, [], ◌∷◌, ◌++◌, map, codes, decimal}
 use Rattle.rt_cidr.specs.declared.address.Addr.{Addr}
 use Rattle.rt_cidr.specs.Text.{address_text, prefix_text}
 use Rattle.rt_rib.specs.declared.routes.Hop.{Hop}
@@ -7,6 +7,7 @@ use Rattle.rt_rib.specs.declared.routes.Hop.TheVariants.{Via, Discard}
 use Rattle.rt_rib.specs.declared.routes.Route.{Route}
 use Rattle.rt_rib.specs.LookUp.{reason}
 use Rattle.rt_diff.specs.declared.comparison.Difference.{Difference}
+use Rattle.rt_print.specs.declared.labels.FeedLabel.{FeedLabel}
 use Rattle.rt_print.specs.Routes.{hop_text}
 use Rattle.rt_print.specs.Json.{hop_members}
 use Rattle.rt_print.specs.DifferenceText.{way_text}
@@ -16,6 +17,10 @@ use Rattle.rt_print.specs.Styles.{reason_text, also_line, also_object}
 abbrev pub either : Bool → List ℕ → List ℕ → List ℕ
 either false line object = line
 either true line object = object
+
+-- each label with its number
+abbrev pub label_pairs : List FeedLabel → List (ℕ × List ℕ)
+label_pairs labels = map (λ label. (label.number, label.text.items)) labels
 
 -- a next hop
 abbrev pub hop_as : Bool → Hop → List ℕ

@@ -1,5 +1,4 @@
 use Rattle.std.proofs.Common.{◌≡◌, [], ◌∷◌, rules}
-use Rattle.std.proofs.lemmas.Result.{err_from_is_err_and}
 use Rattle.rt_print.specs.Styles.{label_of}
 use Rattle.rt_print.proofs.LineParts.{none_in, no_others_parts, others_parts}
 use Rattle.rt_print.proofs.Writing.{stops_within, stops_after, writes_after}
@@ -13,20 +12,18 @@ returns-in_default g c =
 
 pub returns-in_err-put_best : goal.returns-in_err-put_best
 returns-in_err-put_best g c =
-    let fault = err_from_is_err_and c.from_residual.result c.from_residual.ensures.1 in
     let style = c.args.style.now in
     let cut : c.args.found.now ≡ c.in-Some.first.now ∷ c.in-Some.others.now = search rules in
     let begun = rw (c.either.ensures, c.is_json-json.ensures) at c.in_err-put_best.ensures.err in
-    rw (fault.1, cut, ← others_parts style.json (label_of style.labels) c.args.addr c.in-Some.first.now c.in-Some.others.now) (stops_within _ _ _ _ _ begun)
+    rw (cut, ← others_parts style.json (label_of style.labels) c.args.addr c.in-Some.first.now c.in-Some.others.now) (stops_within _ _ _ _ _ c.from_residual.ensures.0 begun)
 
 pub returns-in_err-write_others : goal.returns-in_err-write_others
 returns-in_err-write_others g c =
-    let fault = err_from_is_err_and c.from_residual-in_err-write_others.result c.from_residual-in_err-write_others.ensures.1 in
     let style = c.args.style.now in
     let cut : c.args.found.now ≡ c.in-Some.first.now ∷ c.in-Some.others.now = search rules in
     let first = rw (c.either.ensures, c.is_json-json.ensures) at c.in_ok-put_best.ensures.ok in
-    rw (fault.1, cut, ← others_parts style.json (label_of style.labels) c.args.addr c.in-Some.first.now c.in-Some.others.now)
-    (stops_after _ _ _ _ _ _ _ first c.in_err-write_others.ensures.err)
+    rw (cut, ← others_parts style.json (label_of style.labels) c.args.addr c.in-Some.first.now c.in-Some.others.now)
+    (stops_after _ _ _ _ _ _ _ c.from_residual-in_err-write_others.ensures.0 first c.in_err-write_others.ensures.err)
 
 pub returns : goal.returns
 returns g c =

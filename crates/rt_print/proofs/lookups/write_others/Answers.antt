@@ -1,21 +1,16 @@
 use Rattle.std.proofs.Common.{refl}
-use Rattle.std.proofs.lemmas.Result.{err_from_is_err_and}
 use Rattle.rt_print.specs.Styles.{label_of}
 use Rattle.rt_print.specs.inside.Parts.{comma, other_as, others_as}
-use Rattle.rt_print.proofs.Writing.{begins_all, appends_next}
+use Rattle.rt_print.proofs.Writing.{stops_all, appends_next}
 use Rattle.rt_print.proofs.lookups.write_others.Goals as goal
 
 pub returns-in_err-put_other : goal.returns-in_err-put_other
 returns-in_err-put_other g c =
-    let fault = err_from_is_err_and c.from_residual.result c.from_residual.ensures.1 in
     let best = c.args.best.now in
     let label = label_of best.style.now.labels in
     let begun = rw c.comma.ensures at c.in_err-put_other.ensures.err in
-    rw fault.1 (record {
-      ok = tt;
-      err = begins_all (λ n r. other_as best.style.now.json label best.addr best.route (comma n) r) (others_as best.style.now.json label best.addr best.route)
-          (λ n. refl) (λ n x xs. refl) c.args.others.now c.loop-index.index _ c.loop-index-test.true c.index-others-index.is _ _ _ c.loop-index.invariant begun;
-    })
+    stops_all (λ n r. other_as best.style.now.json label best.addr best.route (comma n) r) (others_as best.style.now.json label best.addr best.route)
+    (λ n. refl) (λ n x xs. refl) c.args.others.now c.loop-index.index _ c.loop-index-test.true c.index-others-index.is _ _ _ c.loop-index.invariant _ c.from_residual.ensures.0 begun
 
 pub loop-index-preserved : goal.loop-index-preserved
 loop-index-preserved g c =

@@ -1,16 +1,14 @@
 use Rattle.std.proofs.Common.{refl, append-nil}
-use Rattle.std.proofs.lemmas.Result.{err_from_is_err_and}
 use Rattle.std.proofs.lemmas.List.{get_or_default, take_all}
 use Rattle.rt_print.specs.ReplayText.{step_text, steps_text}
-use Rattle.rt_print.proofs.Writing.{begins_all, appends_next, stops_within, writes_after}
+use Rattle.rt_print.proofs.Writing.{appends_next, begins_all, stops_within, writes_after}
 use Rattle.rt_print.proofs.replays.write_replay.Goals as goal
 
 pub returns-in_err-put : goal.returns-in_err-put
 returns-in_err-put g c =
-    let fault = err_from_is_err_and c.from_residual.result c.from_residual.ensures.1 in
     let begun = rw (c.as_bytes.ensures, c.prepend_step.ensures, c.clear.ensures, append-nil) at c.in_err-put.ensures.err in
-    rw fault.1 (stops_within _ _ _ _ _ (begins_all step_text steps_text (λ n. refl) (λ n x xs. refl) c.args.steps.now c.loop-index.index _ c.loop-index-test.true (get_or_default _ _ _ _ c.loop-index-test.true)
-    _ _ _ c.loop-index.invariant begun))
+    stops_within _ _ _ _ _ c.from_residual.ensures.0 (begins_all step_text steps_text (λ n. refl) (λ n x xs. refl) c.args.steps.now c.loop-index.index _ c.loop-index-test.true (get_or_default _ _ _ _ c.loop-index-test.true)
+    _ _ _ c.loop-index.invariant begun)
 
 pub loop-index-preserved : goal.loop-index-preserved
 loop-index-preserved g c =

@@ -1,7 +1,7 @@
 use Rattle.std.proofs.Common.{ℕ, List, [], arith, rules, map}
 use Rattle.rt_print.specs.Labels.{label_by, paired_number}
 use Rattle.rt_print.proofs.FeedLabels.{labels_more}
-use Rattle.rt_print.proofs.labels.every_label.Goals as goal
+use Rattle.rt_print.proofs.labels.labels_by.Goals as goal
 
 pub loop-index-preserved : goal.loop-index-preserved
 loop-index-preserved c = record {

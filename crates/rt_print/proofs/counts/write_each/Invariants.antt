@@ -1,0 +1,12 @@
+use Rattle.std.proofs.Common.{get_or}
+use Rattle.std.specs.Io.KnownBytes.{Appends}
+use Rattle.rt_print.specs.Counts.{count_as, each_below}
+use Rattle.rt_print.specs.Styles.{label_of}
+use Rattle.rt_print.specs.inside.Parts.{label_pairs}
+use Rattle.rt_print.proofs.counts.write_each.Given as goal
+
+-- those below this number were written
+abbrev pub invariant-loop-number : goal.invariant-loop-number
+invariant-loop-number g l =
+    Appends (g.W.Write.contents l.initial.w) (g.W.Write.contents l.w)
+    (each_below (λ n. count_as l.json l.kind (label_of (label_pairs l.labels) n) (get_or l.counts n 0)) l.number)
