@@ -18,7 +18,7 @@ use Rattle.rt_print.specs.declared.format.Format.{Format}
 use Rattle.rt_print.specs.declared.format.Format.TheVariants.{Numbers, Names, Json, JsonWithNames}
 use Rattle.rt_print.specs.Buffer.{buffered}
 use Rattle.rt_print.specs.Routes.{hop_text, route_text, row_text, count_text, rows_text, table_text}
-use Rattle.rt_print.specs.Json.{escaped, json_string, hop_members, route_object}
+use Rattle.rt_print.specs.Routes.{escaped, json_string, hop_members, route_object}
 use Rattle.rt_print.specs.Labels.{is_json, has_names, base_name, without_feed, feed_name, label_by, labelled, number_in, paired_number, labels_by}
 use Rattle.rt_print.specs.Styles.{StyleContents, label_of, row_as, address_head, found_as, reason_text, also_line, all_found_as}
 use Rattle.rt_print.specs.DifferenceText.{way_text, DiffContents, diff_of, answered_as, range_as, difference_as, differences_as}

@@ -6,7 +6,7 @@ use Rattle.ya_core.specs.declared.word.Word.TheVariants.{C, T, P}
 use Rattle.ya_core.specs.declared.step.Mark.TheVariants.{Plain, Inside, Out}
 use Rattle.ya_core.specs.declared.step.Step.{Step}
 use Rattle.rt_print.specs.ReplayText.{level_text, word_text, mark_text, sign_text, step_text, steps_text, inside_text, replay_text_of}
-use Rattle.rt_print.specs.inside.ReplayText.{wins_root, inside_after}
+use Rattle.rt_print.specs.inside.Parts.{wins_root, inside_after}
 
 -- level_text
 a_letter_a_level_and_a_place : level_text (codes "P") 1 0 ≡ codes "P1.0"

@@ -1,9 +1,6 @@
 pub mod Promised
-pub mod Buffers
 pub mod Writing
 pub mod Replaying
-pub mod WhoIsInside
 pub mod LineParts
-pub mod CountParts
 pub mod Counting
 pub mod FeedLabels

@@ -13,8 +13,7 @@ use Rattle.rt_rib.specs.LookUp.{reason}
 use Rattle.rt_diff.specs.declared.table_answers.TableAnswer.TheVariants as answered
 use Rattle.rt_diff.specs.declared.comparison.Difference.{Difference}
 use Rattle.rt_print.specs.DifferenceText.{DiffContents, way_text, answered_as, answer_as, range_as, difference_as}
-use Rattle.rt_print.specs.Routes.{hop_text, route_text, count_text}
-use Rattle.rt_print.specs.Json.{route_object}
+use Rattle.rt_print.specs.Routes.{hop_text, route_text, count_text, route_object}
 use Rattle.rt_print.specs.Styles.{reason_text, also_line, also_object, address_head, row_as, found_as, all_found_as}
 use Rattle.rt_print.specs.inside.Parts.{either, hop_as, route_front, route_back, route_open, asked_head, reason_end, comma, other_as, others_as, range_front, way_as}
 
@@ -194,13 +193,13 @@ route_open_fits json r =
     let back = route_back_fits json r in
     simp length-append (omega arith)
 
-pub asked_head_fits : (json : Bool) (addr : Addr) (word : List ℕ) → length word ≤ 20 → length (asked_head json addr word) ≤ 100
+pub asked_head_fits : (json : Bool) (addr : Addr) (word : List ℕ) → length (asked_head json addr word) ≤ 40 + length word
 unfolding asked_head
-asked_head_fits json addr word short =
+asked_head_fits json addr word =
     let address = length-address_text addr.0 in
     let front = either_fits json [] (codes "{\"address\":\"") in
     let back = either_fits json word (codes "\",\"route\":") in
-    simp length-append (omega (arith, short))
+    simp length-append (omega arith)
 
 pub reason_end_fits : (json : Bool) (best r : Route) → length (reason_end json best r) ≤ 100
 unfolding reason_end

@@ -10,8 +10,7 @@ use Rattle.rt_diff.specs.declared.table_answers.TableAnswer.TheVariants as answe
 use Rattle.rt_diff.specs.declared.comparison.Difference.{Difference}
 use Rattle.rt_print.specs.declared.format.Format.{Format}
 use Rattle.rt_print.specs.Labels.{has_names, labelled, paired_number}
-use Rattle.rt_print.specs.Routes.{route_line}
-use Rattle.rt_print.specs.Json.{hop_members, route_object}
+use Rattle.rt_print.specs.Routes.{route_line, hop_members, route_object}
 use Rattle.rt_print.specs.Styles.{StyleContents, style_of, label_of}
 
 -- the next hop: `via ADDR`, or `discard`

@@ -4,7 +4,7 @@ use Rattle.std.specs.List.{list_any}
 use Rattle.rt_cidr.specs.Text.{slash}
 use Rattle.rt_print.specs.declared.format.Format.{Format}
 use Rattle.rt_print.specs.declared.format.Format.TheVariants.{Numbers, Names, Json, JsonWithNames}
-use Rattle.rt_print.specs.Json.{json_string}
+use Rattle.rt_print.specs.Routes.{json_string}
 
 -- a path's part after its last slash, or all of it
 abbrev pub base_name : List ℕ → List ℕ

@@ -1,7 +1,6 @@
 pub mod Buffer
 pub mod Counts
 pub mod DifferenceText
-pub mod Json
 pub mod Labels
 pub mod ReplayText
 pub mod Routes

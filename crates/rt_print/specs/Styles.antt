@@ -9,8 +9,7 @@ use Rattle.rt_rib.specs.declared.routes.Reason.TheVariants.{Shorter, Preference,
 use Rattle.rt_rib.specs.LookUp.{reason}
 use Rattle.rt_print.specs.declared.format.Format.{Format}
 use Rattle.rt_print.specs.Labels.{is_json, labels_by}
-use Rattle.rt_print.specs.Routes.{route_line}
-use Rattle.rt_print.specs.Json.{route_object}
+use Rattle.rt_print.specs.Routes.{route_line, route_object}
 
 -- routes are printed as JSON objects, else as lines; and the labels of feeds, each with the number that identifies the
 -- feed

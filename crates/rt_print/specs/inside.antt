@@ -1,3 +1,2 @@
 -- Definitions that no public clause uses, for private contracts, invariants and proofs.
 pub mod Parts
-pub mod ReplayText

@@ -71,7 +71,7 @@ fn counts_of(routes: &[Route]) -> Counts
 }
 
 /// Writes the number of routes, and of their prefixes.
-#[tactic(auto, using(crate::proofs::CountParts::totals_line_fits))]
+#[tactic(auto, using(crate::proofs::Counting::totals_line_fits))]
 fn write_totals<W: Write>(w: &mut W, json: bool, routes: &[Route]) -> io::Result<()>
     ensures { WritesText (W.contents w.old) (W.contents w.new) (totals_as json (length routes.now) (prefix_count routes.now)) result }
 {
@@ -100,7 +100,7 @@ fn write_each<W: Write>(
 }
 
 /// Writes the number of routes of this kind under a number, with the number's label, unless it is 0.
-#[tactic(auto, using(crate::proofs::CountParts::number_fits))]
+#[tactic(auto, using(crate::proofs::Counting::number_fits))]
 fn put_number<W: Write>(
     w: &mut W,
     json: bool,
@@ -121,7 +121,7 @@ fn put_number<W: Write>(
 }
 
 /// Writes the number of routes of this kind and name, unless it is 0.
-#[tactic(auto, using(crate::proofs::CountParts::count_tail_fits))]
+#[tactic(auto, using(crate::proofs::Counting::count_tail_fits))]
 fn put_count<W: Write>(
     w: &mut W,
     json: bool,

@@ -34,7 +34,7 @@ pub fn write_difference<W: Write>(
 }
 
 /// Writes a text, and after it the answer for an address.
-#[tactic(auto, using(crate::proofs::LineParts::fits))]
+#[tactic(auto, using(crate::proofs::LineParts::fits, crate::proofs::LineParts::no_answer_parts, crate::proofs::LineParts::route_parts))]
 fn put_answer<W: Write>(
     w: &mut W,
     style: &Style,

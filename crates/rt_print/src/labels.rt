@@ -3,7 +3,7 @@ ghost use Rattle.std.specs.Prelude.{◌≡◌, ℕ, List, ◌<◌, ◌≤◌, �
 ghost use Rattle.std.specs.Char.{digit_char};
 ghost use Rattle.std.specs.List.{flat_map};
 ghost use Rattle.rt_rib.specs.declared.limits.TheConstants.{MAX_FEEDS};
-ghost use Rattle.rt_print.specs.Json.{escaped, json_string};
+ghost use Rattle.rt_print.specs.Routes.{escaped, json_string};
 ghost use Rattle.rt_print.specs.Styles.{label_of};
 ghost use Rattle.rt_print.specs.inside.Parts.{label_pairs};
 ghost use Rattle.rt_print.specs.Labels.{base_name, feed_name, label_by, labelled, labels_by, paired_number};
@@ -131,6 +131,7 @@ pub fn feed_name(path: &[u8]) -> &[u8]
 }
 
 /// Returns the part of a path after its last slash.
+#[tactic(auto, using(crate::proofs::FeedLabels::starts))]
 fn base_name(path: &[u8]) -> &[u8]
     ensures { result.now ≡ base_name path.now }
 {
@@ -146,6 +147,7 @@ fn base_name(path: &[u8]) -> &[u8]
 }
 
 /// Appends the number's decimal.
+#[tactic(auto, using(crate::proofs::Counting::number_fits))]
 fn push_number(text: &mut Vec<u8>, number: u64) -> Result<(), AllocError>
     ensures { OnOk result (text.new.items ≡ text.old.items ++ decimal number) }
 {
@@ -155,7 +157,7 @@ fn push_number(text: &mut Vec<u8>, number: u64) -> Result<(), AllocError>
 }
 
 /// Appends a member of a JSON object: its comma, name and colon, and its value, the string of these bytes.
-#[tactic(auto, using(std::proofs::Common::append_assoc), unfolding(crate::specs::Json::json_string))]
+#[tactic(auto, using(std::proofs::Common::append_assoc), unfolding(crate::specs::Routes::json_string))]
 fn push_member(text: &mut Vec<u8>, name: &[u8], value: &[u8]) -> Result<(), AllocError>
     ensures { OnOk result (text.new.items ≡ text.old.items ++ (name.now ++ json_string value.now)) }
 {

@@ -22,6 +22,7 @@ struct Best<'a> {
 
 /// Writes the result of a look-up of the address, in the style: `ADDR route PREFIX feed F pref P via HOP`, or
 /// `ADDR no route`, and LF, or a JSON object. Errors and memory are as for `write_routes`.
+#[tactic(auto, using(crate::proofs::LineParts::found_parts, crate::proofs::LineParts::none_parts))]
 pub fn write_lookup<W: Write>(
     w: &mut W,
     style: &Style,

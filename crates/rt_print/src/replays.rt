@@ -6,7 +6,7 @@ ghost use Rattle.ya_core.specs.Steps.{State, opening};
 ghost use Rattle.ya_core.specs.Machines.{ReplaysTo};
 ghost use Rattle.ya_core.specs.Worlds.{ReportsInside};
 ghost use Rattle.rt_print.specs.ReplayText.{level_text, word_text, mark_text, sign_text, step_text, inside_text, replay_text_of};
-ghost use Rattle.rt_print.specs.inside.ReplayText.{inside_next};
+ghost use Rattle.rt_print.specs.inside.Parts.{inside_next};
 
 use rt_cidr::{ShortText, put};
 use std::io::{self, Write};

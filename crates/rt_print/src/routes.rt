@@ -90,7 +90,7 @@ fn prepend_count(text: &mut ShortText, count: usize)
 }
 
 /// Prepends the route as a line without its LF, `PREFIX feed F pref P via HOP`.
-#[tactic(auto, unfolding(crate::specs::Routes::route_text))]
+#[tactic(auto, using(crate::proofs::LineParts::line_open))]
 pub fn prepend_route(text: &mut ShortText, route: &Route)
     requires room { FitsInShortText (route_text route.now) text.old }
     ensures { text.new ≡ route_text route.now ++ text.old }

@@ -1,5 +1,5 @@
--- The parts of a text in a style, on both sides of a feed's label.
-use Rattle.std.specs.Prelude.{ℕ, ◌+◌, ◌==◌, Bool, true, false, if◌then◌else◌, List, [], ◌∷◌, ◌++◌, map, codes, decimal}
+-- The parts of a text in a style, on both sides of a feed's label; and the place that is inside after the steps of a replay.
+use Rattle.std.specs.Prelude.{ℕ, ◌+◌, ◌==◌, Bool, true, false, if◌then◌else◌, List, [], ◌∷◌, ◌++◌, map, codes, decimal, fold, Option, None, Some}
 use Rattle.rt_cidr.specs.declared.address.Addr.{Addr}
 use Rattle.rt_cidr.specs.Text.{address_text, prefix_text}
 use Rattle.rt_rib.specs.declared.routes.Hop.{Hop}
@@ -8,10 +8,13 @@ use Rattle.rt_rib.specs.declared.routes.Route.{Route}
 use Rattle.rt_rib.specs.LookUp.{reason}
 use Rattle.rt_diff.specs.declared.comparison.Difference.{Difference}
 use Rattle.rt_print.specs.declared.labels.FeedLabel.{FeedLabel}
-use Rattle.rt_print.specs.Routes.{hop_text}
-use Rattle.rt_print.specs.Json.{hop_members}
+use Rattle.rt_print.specs.Routes.{hop_text, hop_members}
 use Rattle.rt_print.specs.DifferenceText.{way_text}
 use Rattle.rt_print.specs.Styles.{reason_text, also_line, also_object}
+use Rattle.std.specs.Option.{option_map_or}
+use Rattle.ya_core.specs.declared.step.Mark.{Mark}
+use Rattle.ya_core.specs.declared.step.Mark.TheVariants.{Plain, Inside, Out}
+use Rattle.ya_core.specs.declared.step.Step.{Step}
 
 -- the first text for lines, the second for objects
 abbrev pub either : Bool → List ℕ → List ℕ → List ℕ
@@ -89,3 +92,22 @@ totals_line json routes prefixes =
 -- the end of the text of a number of routes
 unfoldable pub count_tail : Bool → ℕ → List ℕ
 count_tail json count = either json (codes " routes ") (codes ",\"routes\":") ++ (decimal count ++ either json (codes "\n") (codes "}\n"))
+
+-- the step won the root
+abbrev pub wins_root : Mark → Bool
+wins_root Plain = false
+wins_root Inside = true
+wins_root Out = false
+
+-- this place is the one that is inside
+abbrev pub is_the_one_inside : Option ℕ → ℕ → Bool
+is_the_one_inside inside place = option_map_or (λ p. p == place) inside false
+
+-- the place that is inside after the step: the step's place, if it won the root; none, if it is a later step of the
+-- place that was inside
+abbrev pub inside_next : Option ℕ → Step → Option ℕ
+inside_next inside step = if wins_root step.mark then Some step.place else if is_the_one_inside inside step.place then None else inside
+
+-- the place that is inside after these steps: the last that won the root, unless it made a later step
+abbrev pub inside_after : List Step → Option ℕ
+inside_after steps = fold inside_next None steps

@@ -2,7 +2,7 @@ use Rattle.std.proofs.Common.{append-nil}
 use Rattle.std.proofs.KnownBytes.{Appends-nil}
 use Rattle.rt_print.specs.inside.Parts.{count_tail}
 use Rattle.rt_print.proofs.Writing.{alone}
-use Rattle.rt_print.proofs.CountParts.{count_parts, count_none}
+use Rattle.rt_print.proofs.Counting.{count_parts, count_none}
 use Rattle.rt_print.proofs.counts.put_count.Goals as goal
 
 pub returns-then-count-eq0 : goal.returns-then-count-eq0

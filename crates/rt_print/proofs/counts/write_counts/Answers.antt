@@ -3,7 +3,7 @@ use Rattle.rt_rib.specs.Table.{count_of}
 use Rattle.rt_print.specs.Counts.{prefix_count, length_count, totals_as, count_as, each_below, counts_as}
 use Rattle.rt_print.specs.Styles.{label_of}
 use Rattle.rt_print.proofs.Writing.{stops_within, stops_after, writes_after}
-use Rattle.rt_print.proofs.CountParts.{each_same}
+use Rattle.rt_print.proofs.Counting.{each_same}
 use Rattle.rt_print.proofs.counts.write_counts.Goals as goal
 
 -- the texts of the numbers that were counted

@@ -2,7 +2,7 @@ use Rattle.std.proofs.Common.{length}
 use Rattle.rt_print.specs.Counts.{prefix_count}
 use Rattle.rt_print.specs.inside.Parts.{totals_line}
 use Rattle.rt_print.proofs.Writing.{alone}
-use Rattle.rt_print.proofs.CountParts.{totals_parts}
+use Rattle.rt_print.proofs.Counting.{totals_parts}
 use Rattle.rt_print.proofs.counts.write_totals.Goals as goal
 
 pub returns : goal.returns

@@ -1,6 +1,6 @@
 use Rattle.std.proofs.Common.{◌≡◌, ◌++◌, take}
 use Rattle.std.specs.List.{flat_map}
-use Rattle.rt_print.specs.Json.{escaped}
+use Rattle.rt_print.specs.Routes.{escaped}
 use Rattle.rt_print.proofs.labels.push_escaped.Given as goal
 
 -- the escaped bytes so far were appended to the text

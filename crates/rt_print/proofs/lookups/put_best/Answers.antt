@@ -7,9 +7,4 @@ use Rattle.rt_print.proofs.lookups.put_best.Goals as goal
 pub put_route-requires-clause-head : goal.put_route-requires-clause-head
 put_route-requires-clause-head g c =
     let head = alone (asked_head c.is_json.result c.args.best.now.addr (codes " route ")) c.prepend_asked.ensures c.new-head.ensures in
-    rw (c.as_bytes.ensures, head) (asked_head_fits c.is_json.result c.args.best.now.addr (codes " route ") (omega arith))
-
-pub returns : goal.returns
-returns g c =
-    let head = alone (asked_head c.is_json.result c.args.best.now.addr (codes " route ")) c.prepend_asked.ensures c.new-head.ensures in
-    rw (c.as_bytes.ensures, head, c.is_json.ensures) at c.put_route.ensures
+    rw (c.as_bytes.ensures, head) (omega (arith, asked_head_fits c.is_json.result c.args.best.now.addr (codes " route ")))

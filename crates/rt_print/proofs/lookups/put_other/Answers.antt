@@ -9,8 +9,8 @@ pub put_route-requires-clause-head : goal.put_route-requires-clause-head
 put_route-requires-clause-head g c =
     let best = c.args.best.now in
     let head = alone (asked_head c.is_json-json.result best.addr (codes " also ")) c.prepend_asked.ensures c.new-head.ensures in
-    let short = asked_head_fits c.is_json-json.result best.addr (codes " also ") (omega arith) in
-    rw (c.either-front.ensures, c.as_bytes.ensures, head) (either_short c.is_json-json.result _ c.args.comma.now short c.requires.comma)
+    let short = asked_head_fits c.is_json-json.result best.addr (codes " also ") in
+    rw (c.either-front.ensures, c.as_bytes.ensures, head) (either_short c.is_json-json.result _ c.args.comma.now (omega (arith, short)) c.requires.comma)
 
 pub put_route-requires-clause-tail : goal.put_route-requires-clause-tail
 put_route-requires-clause-tail g c =

@@ -1,8 +1,8 @@
 use Rattle.std.proofs.Common.{◌≡◌, ◌∙◌, ap, sym, subst}
 use Rattle.std.proofs.lemmas.List.{take_all}
 use Rattle.ya_core.specs.Worlds.{ReportsInside}
-use Rattle.rt_print.specs.inside.ReplayText.{inside_after}
-use Rattle.rt_print.proofs.WhoIsInside.{tells_after}
+use Rattle.rt_print.specs.inside.Parts.{inside_after}
+use Rattle.rt_print.proofs.Replaying.{tells_after}
 use Rattle.rt_print.proofs.replays.inside_place.Goals as goal
 
 pub returns : goal.returns
