@@ -39,11 +39,10 @@ RUN = Page("STATEMENT-RUN.md", "What a run prints", (
         "A run ends in the table of the union of what each text's commands leave by themselves. The same texts and "
         "limit have only one union. A command that concerns only its feed's own routes gets the reply that it would "
         "get without other feeds. Hence two runs of the same texts and limit reject as much input of each text, by "
-        "kind, and end in the same table, for any batches and any interleaving of their threads. `same_tallies` says "
-        "this of their reports, `ends_in_union` and `final_table_is_deterministic` of the bytes and the status of two runs."), (
+        "kind, and end in the same table, for any batches and any interleaving of their threads. `tallies` says "
+        "this of their reports, `run_output` of the bytes and the status of two runs."), (
         "no command ran out of memory, in any of the runs: no status is 5."),
-        ["rt_run::laws::leaves_union", "rt_run::laws::own_replies_are_independent", "rt_run::laws::same_tallies",
-         "rt_run::laws::one_union", "rt_run::laws::ends_in_union", "rt_run::laws::final_table_is_deterministic"]),
+        ["rt_run::laws::union", "rt_run::laws::run_output"]),
 ])
 
 QUERIES = Page("STATEMENT-QUERIES.md", "What queries and comparisons print", (
@@ -56,12 +55,11 @@ QUERIES = Page("STATEMENT-QUERIES.md", "What queries and comparisons print", (
         "the first. A list writes the selected routes of that table, in its order, or their numbers. All output has a "
         "style: lines or JSON objects, with a label for each feed. `Style::new` makes it from a format and the files' "
         "paths. If no command ran out of memory, that table is the union. The bytes, the status and the "
-        "tallies are then a function of the texts, the limit and the query: `shows_union` and `query_output_is_deterministic` say "
-        "this of two runs, `answers_are_deterministic` of two calls of `show`."), (
+        "tallies are then a function of the texts, the limit and the query: `shows` and `same` say this of two runs, "
+        "`answers` of two calls of `show`."), (
         "those of [a run](STATEMENT-RUN.md#a-run-from-bytes-to-bytes); for the last two sentences that no status is "
         "5."),
-        ["rt_run::queries::show", "rt_print::style::Style::new", "rt_run::laws::shows_union",
-         "rt_run::laws::query_output_is_deterministic", "rt_run::laws::answers_are_deterministic"]),
+        ["rt_run::queries::show", "rt_print::style::Style::new", "rt_run::laws::query_output"]),
     Chapter("Comparing two tables", (
         "A comparison runs two sets of texts, each over a table of its own, and writes all ranges of addresses for "
         "which the two tables give different answers. An address is in a range if and only if its two answers differ, "
@@ -69,11 +67,10 @@ QUERIES = Page("STATEMENT-QUERIES.md", "What queries and comparisons print", (
         "tables. `DiffOptions::new` makes the options from a format and the files' paths. If the format prints names, "
         "feeds with the same name are the same. Two tables have only one list of such ranges "
         "(`one_list`). If no command ran out of memory, it is the list of both unions. Two comparisons of "
-        "the same texts and limits then write the same bytes, with the same statuses and tallies: `diffs_unions` and "
-        "`diff_output_is_deterministic`."), (
+        "the same texts and limits then write the same bytes, with the same statuses and tallies: `differs` and `same`."), (
         "those of two runs, as above."),
         ["rt_run::comparisons::diff_texts", "rt_print::diff_options::DiffOptions::new", "rt_diff::laws::one_list",
-         "rt_run::laws::diffs_unions", "rt_run::laws::diff_output_is_deterministic"]),
+         "rt_run::laws::comparison_output"]),
 ])
 
 LOCK = Page("STATEMENT-LOCK.md", "The lock", (

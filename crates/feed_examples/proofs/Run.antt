@@ -45,7 +45,7 @@ use Rattle.rt_run.specs.declared.comparisons.DiffSummary.{DiffSummary}
 use Rattle.ya_lock.specs.Lock.{LockId}
 use Rattle.rt_shared.specs.SharedTable.{SharedId, HeldPass, Settles}
 use Rattle.rt_run.specs.declared.faults.AppFault.TheVariants.{Run, Replay, Write}
-use Rattle.rt_run.specs.RunContents.{RunContents}
+use Rattle.rt_run.specs.RunText.{RunContents}
 use Rattle.rt_run.specs.RunText.{Explains, ExplainsFrom, IsJournalOfRun, reports_of, reports_text, some_refused, status_where, reports_status, IsRunText, WritesOrFails}
 use Rattle.rt_run.proofs.Lists.{cut-joined}
 use Rattle.rt_print.specs.ReplayText.{inside_text}
@@ -60,7 +60,8 @@ use Rattle.rt_run.specs.declared.question.AskedRoutes.{AskedRoutes}
 use Rattle.rt_run.specs.declared.question.Question.TheVariants as ask
 use Rattle.rt_run.specs.SameTable.{table_alone, LeavesAlone, IsUnion, IsAnsweredAlone}
 use Rattle.rt_run.specs.ChosenFeeds.{is_selected, is_left_out, texts_kept, routes_of_selected}
-use Rattle.rt_run.specs.LeftOut.{AreWithout, LosesLeftOut}
+use Rattle.rt_run.specs.ChosenFeeds.{AreWithout}
+use Rattle.rt_run.specs.SameTable.{LosesLeftOut}
 use Rattle.rt_run.proofs.KeptTexts.{are_without}
 use Rattle.rt_rib.specs.declared.selection.PrefixFilter.TheVariants as part
 

@@ -1,13 +1,14 @@
 -- The answers of look-ups, written piece by piece: those of the addresses so far, and then those of the rest. Also all
 -- covering routes of each address, collected one by one.
-use Rattle.std.proofs.Common.{◌≡◌, ℕ, ◌+◌, ◌<◌, List, [], ◌∷◌, ◌++◌, Option, length, map, take, get_or, append_assoc, add-one, refl, sym, ap, subst, ◌∙◌}
+use Rattle.std.proofs.Common.{◌≡◌, ℕ, ◌+◌, ◌<◌, List, [], ◌∷◌, ◌++◌, Option, Result, length, map, take, get_or, append_assoc, add-one, refl, sym, ap, subst, ◌∙◌}
+use Rattle.std.specs.Prelude.{IsErr}
 use Rattle.std.specs.List.{flat_map}
 use Rattle.std.proofs.Math.Seq.{take-suc}
 use Rattle.std.proofs.lemmas.List.{get_or-map, get_or_default}
 use Rattle.std.proofs.lemmas.Grind.{flat_map-append}
 use Rattle.std.specs.Io.KnownBytes.{Appends}
 use Rattle.rt_cidr.specs.declared.address.Addr.{Addr}
-use Rattle.rt_cidr.specs.Output.{AppendsBeginning}
+use Rattle.rt_cidr.specs.Output.{AppendsBeginning, WritesText}
 use Rattle.rt_cidr.proofs.Promised.{begins_after, begins_longer}
 use Rattle.rt_rib.specs.declared.routes.Route.{Route}
 use Rattle.rt_rib.specs.LookUp.{look_up, look_up_all}
@@ -15,7 +16,7 @@ use Rattle.rt_print.specs.Styles.{StyleContents, label_of, found_as, all_found_a
 use Rattle.rt_run.specs.declared.output.AddressMatches.{AddressMatches}
 use Rattle.rt_run.specs.TableText.{answers_text, all_answers_text}
 use Rattle.rt_run.specs.inside.Outputs.{matches_text}
-use Rattle.rt_print.proofs.Promised.{begins_all}
+use Rattle.rt_print.proofs.Promised.{stops_all}
 
 module _ (style : StyleContents) (table : List Route) (all rest piece behind : List Addr) (text : List ℕ)
     (whole : text ++ answers_text style rest table ≡ answers_text style all table) (cut : rest ≡ piece ++ behind) where
@@ -40,12 +41,12 @@ module _ (style : StyleContents) (table : List Route) (piece : List Addr) (answe
   found_at = is ∙ (ap (λ (all : List (Option Route)). get_or all k found) answered ∙ get_or-map (λ addr. look_up addr table) piece k none found here)
 
   -- a fault within its text leaves a beginning of the piece's answers
-  pub answers_stop : (a b c : Option (List ℕ)) → Appends a b (answers_text style (take k piece) table) → AppendsBeginning b c (found_as style.json (label_of style.labels) (get_or piece k none) found)
-      → AppendsBeginning a c (answers_text style piece table)
-  answers_stop a b c written begun =
+  pub answers_stop : {T E : Type 0} (a b c : Option (List ℕ)) (result : Result T E) → Appends a b (answers_text style (take k piece) table) → IsErr result
+      → AppendsBeginning b c (found_as style.json (label_of style.labels) (get_or piece k none) found) → WritesText a c (answers_text style piece table) result
+  answers_stop a b c result written failed begun =
       let one : Addr → List ℕ = λ addr. found_as style.json (label_of style.labels) addr (look_up addr table) in
       let addr = get_or piece k none in
-      begins_all (λ n. one) (λ n. flat_map one) (λ n. refl) (λ n x xs. refl) piece k addr here (get_or_default piece k none addr here) a b c written
+      stops_all (λ n. one) (λ n. flat_map one) (λ n. refl) (λ n x xs. refl) piece k addr here (get_or_default piece k none addr here) a b c written result failed
       (subst (λ (f : Option Route). AppendsBeginning b c (found_as style.json (label_of style.labels) addr f)) found_at begun)
 
 -- all covering routes of one more address

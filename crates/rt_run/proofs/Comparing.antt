@@ -12,11 +12,10 @@ use Rattle.rt_diff.specs.Differences.{AreDifferences}
 use Rattle.rt_diff.proofs.Promised.{at, rest_none, rest_next, rest_there, whole, differences_of, differences_are, is_differences_of}
 use Rattle.rt_print.specs.DifferenceText.{DiffContents, range_as, difference_as, differences_as}
 use Rattle.rt_run.specs.declared.comparisons.DiffSummary.{DiffSummary}
-use Rattle.rt_run.specs.RunContents.{RunContents}
+use Rattle.rt_run.specs.RunText.{RunContents}
 use Rattle.rt_run.specs.TableText.{LeavesTable}
 use Rattle.rt_run.specs.DiffText.{renumbered_new, differ_status, IsDiffText}
-use Rattle.rt_run.specs.inside.Outputs.{IsEmpty}
-use Rattle.rt_run.specs.inside.Comparisons.{IsFirstFrom, IsFirstOf, lines_of, compared_status, IsSoFar}
+use Rattle.rt_run.specs.inside.Outputs.{IsEmpty, IsFirstFrom, IsFirstOf, lines_of, compared_status, IsSoFar}
 
 -- an absent difference is `None`
 pub none_left : (next : Option Difference) → ((d : Difference) → next ≡ Some d → ⊥) → next ≡ None
@@ -93,13 +92,12 @@ module _ (asked : DiffContents) (old new : List Route) where
   -- the status from the first difference is the status from the list
   pub status_by_first : (first : Option Difference) (m n : ℕ) → IsFirstOf asked old new first
       → compared_status m n first ≡ max (differ_status (differences_of asked.by (own_numbers old) (renumbered_new asked new))) (max m n)
+  unfolding none_so_far
   status_by_first None m n is =
       let none = is_differences_of asked.by (own_numbers old) (renumbered_new asked new) [] (whole asked.by (own_numbers old) (renumbered_new asked new) [] (rest_none asked.by (own_numbers old) (renumbered_new asked new) 0 is)) in
       ap (λ list. max (differ_status list) (max m n)) none
   status_by_first (Some d) m n is =
-      let (rest, are) = rest_there asked.by (own_numbers old) (renumbered_new asked new) (d.last.0 + 1) (omega (arith, is.difference.fits)) in
-      let all = is_differences_of asked.by (own_numbers old) (renumbered_new asked new) (d ∷ rest) (whole asked.by (own_numbers old) (renumbered_new asked new) (d ∷ rest) (rest_next asked.by (own_numbers old) (renumbered_new asked new) (at 0) d rest is are)) in
-      ap (λ list. max (differ_status list) (max m n)) all
+      let (rest, all) = list_so_far [] d (none_so_far (Some d) is) in ap (λ list. max (differ_status list) (max m n)) (sym all)
 
 -- the output for two runs is the text of their tables' differences
 pub is_diff : (asked : DiffContents) (old_asked new_asked : RunContents) (old new : List Route) (given : DiffSummary) (first : Option Difference)

@@ -2,6 +2,7 @@
 use Rattle.std.proofs.Common.{◌≡◌, ◌≢◌, ◌⊎◌, inl, inr, ℕ, zero, suc, ◌+◌, ◌<◌, ◌≤◌, Option, List, [], ◌∷◌, ◌++◌, length, map, take, drop}
 use Rattle.std.proofs.Common.{get_or, refl, sym, ap, subst, ◌∙◌, arith, add-one, append_assoc, append-nil, length-append, length-drop, take-append-drop}
 use Rattle.std.proofs.Math.Seq.{take-suc}
+use Rattle.std.proofs.lemmas.Bool.{cases_lt}
 use Rattle.std.proofs.lemmas.List.{map-append, length-map, length-take-le}
 use Rattle.std.proofs.lemmas.List.Elements.{All-nil, All-cons, All-append, All-weaker}
 use Rattle.rt_rib.specs.declared.commands.Cmd.{Cmd}
@@ -25,7 +26,7 @@ use Rattle.rt_run.specs.declared.tallies.RejectedInput.{RejectedInput}
 use Rattle.rt_run.specs.declared.tallies.RunSummary.{RunSummary}
 use Rattle.rt_run.specs.RunText.{Explains, ExplainsFrom, reports_of}
 use Rattle.rt_run.specs.TableText.{tally_of, tallies_status, LeavesTable}
-use Rattle.rt_run.specs.inside.Turns.{Continues, ExecutesText, ExecutesLine, IsExecuting, LeavesSoFar}
+use Rattle.rt_run.specs.inside.Runs.{Continues, ExecutesText, ExecutesLine, IsExecuting, LeavesSoFar}
 use Rattle.rt_run.proofs.Lists.{map_more, cut-joined}
 
 -- a feed's command with its reply as an entry
@@ -38,7 +39,7 @@ visit_of-append [] two = refl
 visit_of-append (asked ∷ one) two =
     ap (λ (v : AnsweredBatch). reply_to asked.0 asked.1 ++ v) (visit_of-append one two) ∙ sym (append_assoc (reply_to asked.0 asked.1) (visit_of one) (visit_of two))
 
-entries-append : (feed : ℕ) (one two : List (Cmd × Outcome)) → entries feed (visit_of (one ++ two)) ≡ entries feed (visit_of one) ++ entries feed (visit_of two)
+pub entries-append : (feed : ℕ) (one two : List (Cmd × Outcome)) → entries feed (visit_of (one ++ two)) ≡ entries feed (visit_of one) ++ entries feed (visit_of two)
 entries-append feed one two = ap (entries feed) (visit_of-append one two) ∙ map-append (entry_by feed) (visit_of one) (visit_of two)
 
 entries_by : (feed : ℕ) (visit : AnsweredBatch) → AllBy feed (entries feed visit)
@@ -138,12 +139,6 @@ ends version feed text rest number old now tally so_far none = record {
   tallied = so_far.tallied;
 }
 
--- one number is below another, or it isn't
-lt_or_le : (m n : ℕ) → (m < n) ⊎ (n ≤ m)
-lt_or_le m zero = inr (omega arith)
-lt_or_le zero (suc n) = inl (omega arith)
-lt_or_le (suc m) (suc n) = elim (lt_or_le m n) [ inl less ↦ inl (omega (arith, less)) | inr more ↦ inr (omega (arith, more)) ]
-
 -- each list can be split into pieces
 abbrev Cut : {X : Type 0} → ℕ → List X → Type 0
 Cut {X} size xs = (pieces : List (List X)) × IsSplitInto size xs pieces
@@ -168,7 +163,7 @@ cut_front {X} size xs more rest = (
 
 cut_within : {X : Type 0} (size : ℕ) → 1 ≤ size → (most : ℕ) (xs : List X) → length xs ≤ most → Cut size xs
 cut_within size some zero xs within = cut_short size xs (omega (arith, some, within))
-cut_within size some (suc most) xs within = elim (lt_or_le (length xs) size) [
+cut_within size some (suc most) xs within = elim (cases_lt (length xs) size) [
   | inl fewer ↦ cut_short size xs fewer
   | inr more ↦ cut_front size xs more (cut_within size some most (drop size xs) (omega (arith, length-drop size xs, within, some, more)))
 ]

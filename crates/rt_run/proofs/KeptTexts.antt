@@ -1,10 +1,8 @@
 -- The texts of a run in which some feeds are left out: as many as all, and one text more.
-use Rattle.std.proofs.Common.{◌≡◌, ℕ, zero, suc, ◌+◌, ◌<◌, Bool, true, false, List, [], ◌∷◌, ◌++◌, length, map, take, get_or, if◌then◌else◌}
-use Rattle.std.proofs.Common.{refl, sym, ap, subst, ◌∙◌, arith}
+use Rattle.std.proofs.Common.{◌≡◌, ℕ, zero, suc, ◌+◌, ◌<◌, Bool, true, false, List, [], ◌∷◌, ◌++◌, length, map, take, get_or, if◌then◌else◌, refl, sym, ap, subst, ◌∙◌, arith}
 use Rattle.std.proofs.lemmas.Bool.{cond-true, cond-false}
 use Rattle.std.proofs.lemmas.List.{length-map}
-use Rattle.rt_run.specs.ChosenFeeds.{texts_kept}
-use Rattle.rt_run.specs.LeftOut.{AreWithout}
+use Rattle.rt_run.specs.ChosenFeeds.{texts_kept, AreWithout}
 use Rattle.rt_run.proofs.InTurn.{texts_count}
 
 pub kept_length : (out : ℕ → Bool) (feed : ℕ) (texts : List (List ℕ)) → length (texts_kept out feed texts) ≡ length texts

@@ -1,7 +1,6 @@
--- The table of a run without some feeds is the table of the whole run without their routes.
-use Rattle.std.proofs.Common.{◌≡◌, ℕ, ◌+◌, inl, inr, true, false, Some, List, [], ◌∷◌, ◌++◌}
-use Rattle.std.proofs.Common.{length, map, get_or, refl, sym, ap, subst, ◌∙◌, arith, eqb-true}
-use Rattle.std.specs.List.{slice_get, Contains}
+-- The table of a run without some feeds is the table of the whole run without their routes; hence so is what is told of it.
+use Rattle.std.proofs.Common.{◌≡◌, ℕ, ◌+◌, inl, inr, true, false, Some, List, [], ◌∷◌, ◌++◌, length, map, get_or, refl, sym, ap, subst, ◌∙◌, arith, eqb-true, Bool}
+use Rattle.std.specs.List.{slice_get, Contains, filter}
 use Rattle.std.specs.Bool.{◌==◌}
 use Rattle.std.proofs.lemmas.Bool.{cases_Bool, eq-eqb, cond-true}
 use Rattle.std.proofs.lemmas.List.Elements.{All-contains, filter_passes}
@@ -11,16 +10,18 @@ use Rattle.rt_rib.specs.declared.commands.Cmd.{Cmd}
 use Rattle.rt_rib.specs.declared.commands.Cmd.TheVariants.{Dump}
 use Rattle.rt_rib.specs.declared.commands.Reply.TheVariants.{Added}
 use Rattle.rt_rib.specs.Sequential.{table_of_journal}
-use Rattle.rt_rib.specs.Laws.{FeedsStandAlone, feed_entries, feed_routes}
+use Rattle.rt_rib.specs.Laws.{FeedsStandAlone, feed_entries, feed_routes, OneTableOfSet}
 use Rattle.rt_shared.specs.declared.outcome.Outcome.{Outcome}
 use Rattle.rt_shared.specs.JournalVisits.{AnsweredBatch, entries}
-use Rattle.std.specs.Prelude.{codes}
+use Rattle.std.specs.Prelude.{codes, not}
 use Rattle.rt_feed.specs.declared.versions.Version.{Version}
 use Rattle.rt_feed.specs.declared.versions.Version.TheVariants.{One, Two}
 use Rattle.rt_feed.specs.Lines.{LineOutcome, CutsLine, IsBody, LinesYield, TextYields, heading, commands_of, lf}
-use Rattle.rt_run.specs.SameTable.{table_alone, LeavesAlone}
-use Rattle.rt_run.specs.LeftOut.{LosesLeftOut}
+use Rattle.rt_run.specs.SameTable.{table_alone, LeavesAlone, LosesLeftOut, ShowsUnion, ShowsRest}
+use Rattle.rt_run.proofs.Lists.{contains_kept, kept_contains}
 use Rattle.rt_run.proofs.SameTables.{commands, alone-commands, did, table-entries, nothing}
+use Rattle.std.proofs.lemmas.List.Kept.{AllPairs-filter}
+use Rattle.rt_rib.specs.Table.{IsTable, precedes, is_of}
 
 -- commands, each with some reply
 abbrev answered : List (Cmd × Outcome) → AnsweredBatch
@@ -124,3 +125,30 @@ loses_left_out alone is_left_out all texts limit union rest without of_all of_re
         ),
       )),
 )
+
+-- a table without some of its routes is a table
+filtered_table : (test : Route → Bool) (table : List Route) → IsTable table → IsTable (filter test table)
+filtered_table test table is = record {
+  ordered = AllPairs-filter (λ r s. precedes r s ≡ true) test table is.ordered;
+  single = AllPairs-filter (λ r s. is_of s.feed s.prefix r ≡ false) test table is.single;
+}
+
+not_true : (b : Bool) → not b ≡ true → b ≡ false
+not_true true e = absurd (cc)
+not_true false e = refl
+
+pub shows_rest : ShowsUnion → LosesLeftOut → OneTableOfSet → ShowsRest
+shows_rest shows loses one is_left_out all union asked text_of bytes summary without of_all is not_refused =
+    let stays : Route → Bool = λ r. not (is_left_out r.feed) in
+    let rest = shows asked text_of bytes summary is not_refused in
+    let same : rest.0 ≡ filter stays union =
+    one rest.0 (filter stays union) rest.1.table (filtered_table stays union of_all.table) (λ r. (
+      (λ c.
+          let both = (loses is_left_out all asked.texts asked.limit union rest.0 without of_all rest.1 r).0 c in
+          contains_kept stays union r both.0 (ap not both.1)),
+      (λ c. (loses is_left_out all asked.texts asked.limit union rest.0 without of_all rest.1 r).1 (
+        kept_contains stays union r c,
+        not_true (is_left_out r.feed) (All-contains (λ x. stays x ≡ true) (filter stays union) r (filter_passes stays union) c),
+      )),
+    )) in
+    rest.2 ∙ ap text_of same

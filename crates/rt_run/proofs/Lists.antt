@@ -1,9 +1,11 @@
--- Lemmas on lists: maps, counts, pieces, and a vector that is written through a slice.
-use Rattle.std.proofs.Common.{◌≡◌, ℕ, ◌+◌, true, false, Bool, List, [], ◌∷◌, ◌++◌, map, length, take, drop}
-use Rattle.std.proofs.Common.{refl, sym, ap, ◌∙◌, arith, zero-add, append-nil, append_assoc}
+-- Lemmas on lists: maps, filters, counts, pieces, and a vector that is written through a slice.
+use Rattle.std.proofs.Common.{◌≡◌, ℕ, suc, ◌+◌, true, false, Bool, List, [], ◌∷◌, ◌++◌, map, length, take, drop, refl, sym, ap, subst, ◌∙◌, arith, zero-add, append-nil, append_assoc}
 use Rattle.std.specs.Prelude.{nat_lt, count_by, cond, ◌||◌}
-use Rattle.std.specs.List.{list_any}
+use Rattle.std.specs.List.{list_any, filter, Contains}
+use Rattle.std.proofs.Math.Seq.{split_at}
+use Rattle.std.proofs.lemmas.Bool.{cond-true}
 use Rattle.std.proofs.lemmas.Bool.Decides.{nat_tests}
+use Rattle.std.proofs.lemmas.List.Elements.{All-contains, All-contains_itself, All-filter, Contains-append_right, filter-append}
 use Rattle.std.proofs.lemmas.List.{map-append, drop_all, take_all}
 use Rattle.std.proofs.lemmas.List.Sums.{sum_by-cons}
 use Rattle.rt_feed.specs.Visits.{concatenated, piece_of}
@@ -13,6 +15,51 @@ pub map_more : {X Y : Type 0} (f : X → Y) (ys ys' : List Y) (xs : List X) (x :
     → ys ≡ map f xs → ys' ≡ ys ++ y ∷ [] → y ≡ f x → ys' ≡ map f (xs ++ x ∷ [])
 map_more f ys ys' xs x y so_far pushed is =
     pushed ∙ (ap (λ t. t ++ y ∷ []) so_far ∙ (ap (λ z. map f xs ++ z ∷ []) is ∙ sym (map-append f xs (x ∷ []))))
+
+-- a list whose images are known in parts, by these parts
+pub map_split : {X Y : Type 0} (f : X → Y) (xs : List X) (ys zs : List Y) (y : Y) → map f xs ≡ ys ++ y ∷ zs
+    → (front back : List X) × (x : X) × (xs ≡ front ++ x ∷ back) × (ys ≡ map f front) × (y ≡ f x)
+map_split f [] [] zs y is = absurd cc
+map_split f [] (z ∷ ys) zs y is = absurd cc
+map_split f (x ∷ xs) [] zs y is = ([], xs, x, refl, refl, cc)
+map_split f (x ∷ xs) (z ∷ ys) zs y is =
+    let (front, back, one, split, before, had) = map_split f xs ys zs y cc in
+    let head : z ≡ f x = cc in
+    (x ∷ front, back, one, ap (λ l. x ∷ l) split, ap (λ l. z ∷ l) before ∙ ap (λ w. w ∷ map f front) head, had)
+
+-- a list whose kept elements are known in parts, by these parts; if the first element is kept or not
+kept_split : {X : Type 0} (test : X → Bool) (xs : List X) → ((ys zs : List X) (y : X) → filter test xs ≡ ys ++ y ∷ zs
+    → (front back : List X) × (xs ≡ front ++ y ∷ back) × (filter test front ≡ ys))
+    → (x : X) (kept : Bool) → test x ≡ kept → (ys zs : List X) (y : X) → cond kept (x ∷ filter test xs) (filter test xs) ≡ ys ++ y ∷ zs
+    → (front back : List X) × (x ∷ xs ≡ front ++ y ∷ back) × (filter test front ≡ ys)
+kept_split test xs later x true is [] zs y parts = ([], xs, (let same : x ≡ y = cc in ap (λ z. z ∷ xs) same), refl)
+kept_split test xs later x true is (z ∷ ys) zs y parts =
+    let (front, back, split, before) = later ys zs y cc in
+    let same : x ≡ z = cc in
+    (x ∷ front, back, ap (λ l. x ∷ l) split, rw is (ap (λ l. x ∷ l) before ∙ ap (λ w. w ∷ ys) same))
+kept_split test xs later x false is ys zs y parts =
+    let (front, back, split, before) = later ys zs y parts in
+    (x ∷ front, back, ap (λ l. x ∷ l) split, rw is before)
+
+pub filter_split : {X : Type 0} (test : X → Bool) (xs ys zs : List X) (y : X) → filter test xs ≡ ys ++ y ∷ zs
+    → (front back : List X) × (xs ≡ front ++ y ∷ back) × (filter test front ≡ ys)
+filter_split test [] [] zs y is = absurd cc
+filter_split test [] (z ∷ ys) zs y is = absurd cc
+filter_split test (x ∷ xs) ys zs y is = kept_split test xs (filter_split test xs) x (test x) refl ys zs y is
+
+-- what a filter keeps
+pub contains_kept : {X : Type 0} (test : X → Bool) (xs : List X) (x : X) → Contains xs x → test x ≡ true → Contains (filter test xs) x
+contains_kept test xs x c passes =
+    let front = take c.0 xs in
+    let back = drop (suc c.0) xs in
+    let split : xs ≡ front ++ x ∷ back = split_at xs c.0 x c.1 ∙ ap (λ y. front ++ y ∷ back) c.2 in
+    let first : Contains (filter test (x ∷ back)) x =
+    subst (λ l. Contains l x) (sym (cond-true (test x) (x ∷ filter test back) (filter test back) passes)) (0, omega arith, refl) in
+    subst (λ l. Contains (filter test l) x) (sym split)
+    (subst (λ l. Contains l x) (sym (filter-append test front (x ∷ back))) (Contains-append_right (filter test front) (filter test (x ∷ back)) x first))
+
+pub kept_contains : {X : Type 0} (test : X → Bool) (xs : List X) (x : X) → Contains (filter test xs) x → Contains xs x
+kept_contains test xs x c = All-contains (Contains xs) (filter test xs) x (All-filter test (Contains xs) xs (All-contains_itself xs)) c
 
 -- a count is above 0 if some element passes the test
 one_is_some : (n : ℕ) → nat_lt 0 (1 + n) ≡ true

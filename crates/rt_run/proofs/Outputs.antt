@@ -1,45 +1,49 @@
--- The effect of a run on its writer, from its output.
-use Rattle.std.proofs.Common.{◌≡◌, ℕ, max, false, List, Option, Result, Ok, Err, IfErr, refl, sym, ap, ◌∙◌}
+-- The effect of a call on its writer, from its output, and which output is empty.
+use Rattle.std.proofs.Common.{◌≡◌, ◌==◌, ℕ, ◌<◌, max, Bool, true, false, List, [], ◌∷◌, ◌++◌, length, Option, Some, None, Result, Ok, Err, IfErr, refl, sym, ap, subst, ◌∙◌, arith, length-append}
+use Rattle.std.proofs.Common.{eqb-true, zero, suc, ◌≤◌}
 use Rattle.std.specs.Prelude.{nat_lt}
-use Rattle.std.specs.Io.KnownBytes.{Appends}
-use Rattle.rt_cidr.specs.Output.{AppendsBeginning}
+use Rattle.std.specs.List.{flat_map}
 use Rattle.rt_cidr.specs.declared.address.Addr.{Addr}
 use Rattle.rt_rib.specs.declared.routes.Route.{Route}
+use Rattle.rt_rib.specs.LookUp.{look_up}
 use Rattle.rt_feed.specs.declared.faulty.FaultyLines.{FaultyLines}
 use Rattle.rt_feed.specs.declared.faults.RunFault.TheVariants as refusal
+use Rattle.rt_print.specs.Routes.{table_text, count_text}
+use Rattle.rt_print.specs.Counts.{prefix_count, totals_as, counts_as}
+use Rattle.rt_print.specs.Styles.{StyleContents, label_of, row_as, rows_as, address_head, found_as, all_found_as}
 use Rattle.rt_run.specs.declared.faults.AppFault.{AppFault}
 use Rattle.rt_run.specs.declared.faults.AppFault.TheVariants.{Run, Replay, Write}
+use Rattle.rt_run.specs.declared.output.AddressMatches.{AddressMatches}
 use Rattle.rt_run.specs.declared.tallies.RunSummary.{RunSummary}
 use Rattle.rt_run.specs.declared.queries.QuerySummary.{QuerySummary}
 use Rattle.rt_run.specs.declared.question.Question.{Question}
-use Rattle.rt_run.specs.RunText.{WritesOrFails, status_where}
-use Rattle.rt_run.specs.RunContents.{RunContents}
-use Rattle.rt_run.specs.TableText.{question_text, named_in, said_in, LeavesTable, IsAnswer}
-use Rattle.rt_print.specs.Styles.{StyleContents}
-use Rattle.rt_run.specs.inside.LookupAddresses.{IsAsked}
-use Rattle.rt_run.specs.inside.Outputs.{Writes}
+use Rattle.rt_run.specs.RunText.{RunContents, WritesOrFails, status_where}
+use Rattle.rt_run.specs.TableText.{answers_text, question_text, named_in, said_in, LeavesTable, IsAnswer}
+use Rattle.rt_run.specs.Replayed.{IsReplayText, LeavesReplay}
+use Rattle.rt_run.specs.inside.Outputs.{IsAsked, Writes, matches_text, IsEmpty}
+use Rattle.ya_core.specs.declared.step.Step.{Step}
+use Rattle.ya_core.specs.Steps.{State, opening}
+use Rattle.ya_core.specs.ArbitrationTree.{HasShape}
+use Rattle.ya_core.specs.Machines.{ReplaysTo, Replays}
+use Rattle.ya_core.specs.Worlds.{ReportsInside}
+use Rattle.rt_print.specs.ReplayText.{replay_text_of}
 
--- after a fault of the writer or out of memory, if the bytes are of the given kind
-pub leaves_fault : {X : Type 0} (IsSuch : List ℕ → X → Type 0) (old new : Option (List ℕ)) (bytes : List ℕ) (given : X) (fault : AppFault) → IsSuch bytes given
-    → Writes bytes old new (Err fault) → WritesOrFails IsSuch old new (Err fault)
-leaves_fault IsSuch old new bytes given (Run why) is wrote = (λ same. let other : refusal.Memory ≡ refusal.FeedCount = sym wrote.0 ∙ same in absurd cc, wrote.1)
-leaves_fault IsSuch old new bytes given (Replay why) is wrote = absurd wrote
-leaves_fault IsSuch old new bytes given Write is wrote = (bytes, given, is, wrote)
+-- the effect of a call that wrote a text of the given kind, with what it returns
+pub writes_or_fails : {X : Type 0} (IsSuch : List ℕ → X → Type 0) (text : List ℕ) (given : X) (old new : Option (List ℕ)) (result : Result X AppFault)
+    → IsSuch text given → Writes text given old new result → WritesOrFails IsSuch old new result
+writes_or_fails IsSuch text given old new (Ok done) is wrote = (text, subst (IsSuch text) (sym wrote.0) is, wrote.1)
+writes_or_fails IsSuch text given old new (Err (Run why)) is wrote =
+    (λ same. let other : refusal.Memory ≡ refusal.FeedCount = sym wrote.0 ∙ same in absurd cc, wrote.1)
+writes_or_fails IsSuch text given old new (Err (Replay why)) is wrote = absurd wrote
+writes_or_fails IsSuch text given old new (Err Write) is wrote = (text, given, is, wrote)
 
--- what was written, by the result
-pub writes_ok : (text : List ℕ) (old new : Option (List ℕ)) (result : Result (Unit {0}) AppFault) (done : Unit {0}) → result ≡ Ok done → Writes text old new result
-    → Appends old new text
-writes_ok text old new result done is wrote = rw is at wrote
-
-pub writes_err : (text : List ℕ) (old new : Option (List ℕ)) (result : Result (Unit {0}) AppFault) (fault : AppFault) → result ≡ Err fault → Writes text old new result
-    → Writes text old new (Err fault)
-writes_err text old new result fault is wrote = rw is at wrote
-
-pub writes_begun : (text : List ℕ) (old new : Option (List ℕ)) (result : Result (Unit {0}) AppFault) (fault : AppFault) → result ≡ Err fault
-    → IfErr result (λ f. f ≡ Write) → Writes text old new result → AppendsBeginning old new text
-writes_begun text old new result Write is only wrote = rw is at wrote
-writes_begun text old new result (Run why) is only wrote = let other : Run why ≡ Write = rw is at only in absurd cc
-writes_begun text old new result (Replay why) is only wrote = let other : Replay why ≡ Write = rw is at only in absurd cc
+-- the same of a replay
+pub leaves_replay : (levels : ℕ) (picks text : List ℕ) (old new : Option (List ℕ)) (result : Result ℕ AppFault) → IsReplayText levels picks text
+    → IfErr result (λ fault. fault ≡ Write) → Writes text 0 old new result → LeavesReplay levels picks old new result
+leaves_replay levels picks text old new (Ok status) is only wrote = (wrote.0, text, is, wrote.1)
+leaves_replay levels picks text old new (Err (Run why)) is only wrote = absurd cc
+leaves_replay levels picks text old new (Err (Replay why)) is only wrote = absurd wrote
+leaves_replay levels picks text old new (Err Write) is only wrote = (text, is, wrote)
 
 -- the summary of a query
 abbrev answered : RunSummary → FaultyLines → QuerySummary
@@ -55,3 +59,78 @@ is_answer asked style question table summary addresses faulty all leaves = recor
   shown = record { table = table; leaves = leaves; shown = ap (λ (these : List Addr). question_text style question these table) all.all };
   is_status = refl;
 }
+
+-- no run's text is empty
+pub run_text-some : (reports : List ℕ) (routes : List Route) → 0 < length (reports ++ table_text routes)
+unfolding count_text
+run_text-some reports routes = simp length-append (omega arith)
+
+-- a list of texts that aren't empty joins to the empty text if and only if the list is empty
+texts-empty : {X : Type 0} (text : X → List ℕ) → ((x : X) → 0 < length (text x)) → (empty : Bool) (xs : List X) → empty ≡ (length xs == 0) → IsEmpty empty (flat_map text xs)
+texts-empty text some true [] is = refl
+texts-empty text some true (x ∷ xs) is = absurd (omega (arith, eqb-true (length (x ∷ xs)) 0 (sym is)))
+texts-empty text some false [] is = absurd cc
+texts-empty text some false (x ∷ xs) is = let first = some x in simp length-append (omega arith)
+
+-- nor is the text of a look-up, in any style
+row_as-some : (json : Bool) (label : ℕ → List ℕ) (route : Route) → 0 < length (row_as json label route)
+unfolding row_as
+row_as-some false label route = simp length-append (omega arith)
+row_as-some true label route = simp length-append (omega arith)
+
+found_as-some : (json : Bool) (label : ℕ → List ℕ) (addr : Addr) (found : Option Route) → 0 < length (found_as json label addr found)
+unfolding found_as address_head
+found_as-some false label addr None = simp length-append (omega arith)
+found_as-some false label addr (Some r) = simp length-append (omega arith)
+found_as-some true label addr None = simp length-append (omega arith)
+found_as-some true label addr (Some r) = simp length-append (omega arith)
+
+all_found_as-some : (json : Bool) (label : ℕ → List ℕ) (addr : Addr) (found : List Route) → 0 < length (all_found_as json label addr found)
+unfolding all_found_as address_head
+all_found_as-some false label addr [] = found_as-some false label addr None
+all_found_as-some false label addr (first ∷ others) = let line = found_as-some false label addr (Some first) in simp length-append (omega arith)
+all_found_as-some true label addr [] = simp length-append (omega arith)
+all_found_as-some true label addr (first ∷ others) = simp length-append (omega arith)
+
+module _ (style : StyleContents) (empty : Bool) where
+  pub rows-empty : (routes : List Route) → empty ≡ (length routes == 0) → IsEmpty empty (rows_as style routes)
+  rows-empty = texts-empty (row_as style.json (label_of style.labels)) (row_as-some style.json (label_of style.labels)) empty
+
+  pub answers-empty : (table : List Route) (addresses : List Addr) → empty ≡ (length addresses == 0) → IsEmpty empty (answers_text style addresses table)
+  answers-empty table =
+      texts-empty (λ addr. found_as style.json (label_of style.labels) addr (look_up addr table))
+      (λ addr. found_as-some style.json (label_of style.labels) addr (look_up addr table)) empty
+
+  pub matches-empty : (all : List AddressMatches) → empty ≡ (length all == 0) → IsEmpty empty (matches_text style all)
+  matches-empty =
+      texts-empty (λ one. all_found_as style.json (label_of style.labels) one.addr one.routes.items)
+      (λ one. all_found_as-some style.json (label_of style.labels) one.addr one.routes.items) empty
+
+-- nor is the text of the counts
+totals-some : (json : Bool) (routes prefixes : ℕ) (rest : List ℕ) → 0 < length (totals_as json routes prefixes ++ rest)
+unfolding totals_as
+totals-some false routes prefixes rest = simp length-append (omega arith)
+totals-some true routes prefixes rest = simp length-append (omega arith)
+
+pub counts-some : (style : StyleContents) (routes : List Route) → 0 < length (counts_as style routes)
+unfolding counts_as
+counts-some style routes = totals-some style.json (length routes) (prefix_count routes) _
+
+-- a tree of some shape has a level
+some_level : (levels : ℕ) → ((HasShape levels → ⊥) → ⊥) → 1 ≤ levels
+some_level zero shaped = absurd (shaped (λ shape. omega (arith, shape.0)))
+some_level (suc levels) shaped = omega arith
+
+-- the text of the steps of a run from the start, and of the place that is inside after them, is its replay text
+pub is_replay_text : (levels : ℕ) (picks : List ℕ) (steps : List Step) (inside : Option ℕ) → ((HasShape levels → ⊥) → ⊥) → Replays levels opening picks steps
+    → ((levels : ℕ) (picks : List ℕ) (last : State) → 1 ≤ levels → ReplaysTo levels opening picks steps last → ReportsInside last inside)
+    → IsReplayText levels picks (replay_text_of steps inside)
+is_replay_text levels picks steps inside shaped run tells =
+    record {
+      steps = steps;
+      last = run.0;
+      taken = run.1;
+      inside = inside;
+      told = tells levels picks run.0 (some_level levels shaped) run.1;
+      printed = refl;
+    }

@@ -1,16 +1,14 @@
 -- The table of a run, and the replies on a feed's own routes, follow from each feed's commands by themselves.
-use Rattle.std.proofs.Common.{◌≡◌, ◌≢◌, ℕ, zero, suc, ◌+◌, ◌-◌, ◌<◌, ◌≤◌, ◌⊎◌, inl, inr, true, false}
-use Rattle.std.proofs.Common.{Option, Some, None, Ok, Err, List, [], ◌∷◌, ◌++◌, Bool, All, length}
-use Rattle.std.proofs.Common.{map, take, drop, refl, sym, ap, subst, ◌∙◌, arith, append_assoc, eqb-true}
+use Rattle.std.proofs.Common.{◌≡◌, ◌≢◌, ℕ, zero, suc, ◌+◌, ◌-◌, ◌<◌, ◌≤◌, ◌⊎◌, inl, inr, true, false, Option, Some, None, Ok, Err, List, [], ◌∷◌, ◌++◌, Bool, All, length}
+use Rattle.std.proofs.Common.{map, get_or, refl, sym, ap, subst, ◌∙◌, arith, append_assoc, eqb-true}
 use Rattle.std.specs.Prelude.{fold, nat_lt, ◌||◌}
 use Rattle.std.specs.declared.result.Result.{Result}
-use Rattle.std.specs.List.{slice_get, list_any, flat_map, filter, Contains}
-use Rattle.std.proofs.lemmas.Bool.{cases_Bool, eq-eqb, cond-true, cond-false, false≢true, or_parts}
+use Rattle.std.specs.List.{slice_get, list_any, flat_map, Contains}
+use Rattle.std.proofs.lemmas.Bool.{eq-eqb, false≢true, or_parts}
 use Rattle.std.specs.Bool.{◌==◌}
 use Rattle.std.proofs.lemmas.List.{map-append}
-use Rattle.std.proofs.lemmas.List.Elements.{All-head, All-contains, All-contains_itself, All-filter, Contains-append_right, filter-append, filter_passes}
-use Rattle.std.proofs.Math.Seq.{split_at}
-use Rattle.std.proofs.lemmas.Option.{slice_get_within}
+use Rattle.std.proofs.lemmas.List.Elements.{All-head, All-filter, filter_passes}
+use Rattle.std.proofs.lemmas.Option.{slice_get_within, slice_get-get_or}
 use Rattle.rt_rib.specs.declared.routes.Route.{Route}
 use Rattle.rt_rib.specs.declared.commands.Cmd.{Cmd}
 use Rattle.rt_rib.specs.declared.commands.Cmd.TheVariants.{Dump}
@@ -26,18 +24,18 @@ use Rattle.rt_feed.specs.Laws.{TextHasOneReading}
 use Rattle.rt_feed.specs.declared.report.Line.{Line}
 use Rattle.rt_feed.specs.Lines.{LineOutcome, skipped, faulty, asked, reading, TextYields, commands_of, report_lines}
 use Rattle.rt_feed.specs.Reports.{is_refusal, has_refusal, has_fault}
-use Rattle.rt_shared.specs.JournalVisits.{AnsweredBatch, reply_to, visit_of, entries}
+use Rattle.rt_shared.specs.JournalVisits.{AnsweredBatch, visit_of, entries}
 use Rattle.rt_feed.specs.Visits.{concatenated}
 use Rattle.rt_print.specs.Routes.{table_text}
 use Rattle.rt_run.specs.declared.tallies.RejectedInput.{RejectedInput}
 use Rattle.rt_run.specs.declared.tallies.RunSummary.{RunSummary}
-use Rattle.rt_run.specs.RunContents.{RunContents}
-use Rattle.rt_run.specs.RunText.{Explains, ExplainsFrom, IsJournalOfRun, reports_of, reports_text, some_refused, status_where, reports_status}
+use Rattle.rt_run.specs.RunText.{RunContents, Explains, ExplainsFrom, IsJournalOfRun, reports_of, reports_text, some_refused, status_where, reports_status}
 use Rattle.rt_run.specs.TableText.{tally_of, has_refused, has_rejected, tallies_status, IsSummary, LeavesTable}
 use Rattle.rt_run.specs.SameTable.{table_alone, IsUnion, IsAnsweredAlone, HaveSameInput, HaveSameSummary}
 use Rattle.rt_run.specs.SameTable.{LeavesUnion, AnswersAlone, HaveSameTallies, HaveOneUnion, EndsInUnion, EndInOneTable, ShowsUnion, ShowOneTable}
-use Rattle.rt_run.proofs.Lists.{counts_some, cut-joined}
-use Rattle.rt_run.proofs.FaultyLines.{some_faulty}
+use Rattle.rt_run.proofs.Lists.{counts_some, cut-joined, map_split, filter_split, contains_kept, kept_contains}
+use Rattle.rt_run.proofs.CountedLines.{some_faulty}
+use Rattle.rt_run.proofs.InTurn.{entries-append}
 
 -- the command of a line follows from the line's text
 abbrev asked_in : Result (Option Cmd) LineFault → List Cmd
@@ -75,18 +73,11 @@ alone-commands limit feed all others same =
     ∙ (ap (λ cmds. fold (λ table cmd. table_after limit table feed cmd) [] cmds) same ∙ sym (alone-commands_from limit feed [] others))
 
 -- the entries of all pieces are the entries of all commands, one after another
-visit_of-append : (xs ys : List (Cmd × Outcome)) → visit_of (xs ++ ys) ≡ visit_of xs ++ visit_of ys
-visit_of-append [] ys = refl
-visit_of-append (one ∷ xs) ys =
-    ap (λ visit. reply_to one.0 one.1 ++ visit) (visit_of-append xs ys) ∙ sym (append_assoc (reply_to one.0 one.1) (visit_of xs) (visit_of ys))
-
 entries-pieces : (feed : ℕ) (pieces : List (List (Cmd × Outcome)))
     → flat_map (λ visit. visit) (map (entries feed) (map visit_of pieces)) ≡ entries feed (visit_of (concatenated pieces))
 entries-pieces feed [] = refl
 entries-pieces feed (piece ∷ pieces) =
-    ap (λ es. entries feed (visit_of piece) ++ es) (entries-pieces feed pieces)
-    ∙ (sym (map-append (λ p. record { feed = feed; cmd = p.0; reply = p.1 }) (visit_of piece) (visit_of (concatenated pieces)))
-    ∙ ap (entries feed) (sym (visit_of-append piece (concatenated pieces))))
+    ap (λ es. entries feed (visit_of piece) ++ es) (entries-pieces feed pieces) ∙ sym (entries-append feed piece (concatenated pieces))
 
 -- hence the journal's entries of a feed are those of its answered commands
 entries_explained : EntriesOfVisits → (batch feed : ℕ) (journal : List Entry) (text : List ℕ) (lines : List LineOutcome)
@@ -120,85 +111,6 @@ all_did number (faulty fault ∷ lines) none = all_did (number + 1) lines none
 all_did number (asked cmd (outcome.Did reply) ∷ lines) none = ap (λ rest. (cmd, outcome.Did reply) ∷ rest) (all_did (number + 1) lines none)
 all_did number (asked cmd outcome.Refused ∷ lines) none = absurd (false≢true (sym none))
 
--- one command among those that have replies
-record IsAmong (visit : AnsweredBatch) (earlier : List (Cmd × Outcome)) (cmd : Cmd) (is : Outcome) : Type 0 where
-  front : AnsweredBatch
-  reply : Reply
-  back : AnsweredBatch
-  split : visit ≡ front ++ (cmd, reply) ∷ back
-  had : is ≡ outcome.Did reply
-  before : earlier ≡ map did front
-
-among : (visit : AnsweredBatch) (earlier later : List (Cmd × Outcome)) (cmd : Cmd) (is : Outcome)
-    → map did visit ≡ earlier ++ (cmd, is) ∷ later → IsAmong visit earlier cmd is
-among [] [] later cmd is e = absurd (cc)
-among [] (one ∷ earlier) later cmd is e = absurd (cc)
-among (p ∷ visit) [] later cmd is e =
-    let head : did p ≡ (cmd, is) = cc in
-    record {
-      front = [];
-      reply = p.1;
-      back = visit;
-      split = ap (λ c. (c, p.1) ∷ visit) (ap (λ (one : Cmd × Outcome). one.0) head);
-      had = sym (ap (λ (one : Cmd × Outcome). one.1) head);
-      before = refl;
-    }
-among (p ∷ visit) (one ∷ earlier) later cmd is e =
-    let head : did p ≡ one = cc in
-    let tail : map did visit ≡ earlier ++ (cmd, is) ∷ later = cc in
-    let rest = among visit earlier later cmd is tail in
-    record {
-      front = p ∷ rest.front;
-      reply = rest.reply;
-      back = rest.back;
-      split = (let parts = rest.split in cc);
-      had = rest.had;
-      before = ap (λ more. one ∷ more) rest.before ∙ ap (λ o. o ∷ map did rest.front) (sym head);
-    }
-
--- an entry of a feed is in the journal, and the feed's entries before it there are those before it among the feed's entries
-record StandsIn (journal : List Entry) (feed : ℕ) (front : List Entry) (e : Entry) : Type 0 where
-  earlier : List Entry
-  later : List Entry
-  split : journal ≡ earlier ++ e ∷ later
-  before : feed_entries feed earlier ≡ front
-
--- if the first entry is the feed's
-stands_own : (x : Entry) (journal : List Entry) (feed : ℕ) → ((es : List Entry) → feed_entries feed (x ∷ es) ≡ x ∷ feed_entries feed es)
-    → ((front back : List Entry) (e : Entry) → feed_entries feed journal ≡ front ++ e ∷ back → StandsIn journal feed front e)
-    → (front back : List Entry) (e : Entry) → x ∷ feed_entries feed journal ≡ front ++ e ∷ back → StandsIn (x ∷ journal) feed front e
-stands_own x journal feed keeps later [] back e is =
-    record { earlier = []; later = journal; split = (let same : x ≡ e = cc in ap (λ f. f ∷ journal) same); before = refl }
-stands_own x journal feed keeps later (y ∷ front) back e is =
-    let tail : feed_entries feed journal ≡ front ++ e ∷ back = cc in
-    let same : x ≡ y = cc in
-    let rest = later front back e tail in
-    record {
-      earlier = x ∷ rest.earlier;
-      later = rest.later;
-      split = ap (λ es. x ∷ es) rest.split;
-      before = keeps rest.earlier ∙ (ap (λ es. x ∷ es) rest.before ∙ ap (λ f. f ∷ front) same);
-    }
-
-stands_in : (journal : List Entry) (feed : ℕ) (front back : List Entry) (e : Entry)
-    → feed_entries feed journal ≡ front ++ e ∷ back → StandsIn journal feed front e
-stands_in [] feed [] back e is = absurd (cc)
-stands_in [] feed (x ∷ front) back e is = absurd (cc)
-stands_in (x ∷ journal) feed front back e is = elim (cases_Bool (x.feed == feed)) [
-  | inl own ↦
-      let keeps = λ (es : List Entry). cond-true (x.feed == feed) (x ∷ feed_entries feed es) (feed_entries feed es) own in
-      stands_own x journal feed keeps (stands_in journal feed) front back e (sym (keeps journal) ∙ is)
-  | inr other ↦
-      let skips = λ (es : List Entry). cond-false (x.feed == feed) (x ∷ feed_entries feed es) (feed_entries feed es) other in
-      let rest = stands_in journal feed front back e (sym (skips journal) ∙ is) in
-      record {
-        earlier = x ∷ rest.earlier;
-        later = rest.later;
-        split = ap (λ es. x ∷ es) rest.split;
-        before = skips rest.earlier ∙ rest.before;
-      }
-]
-
 -- a command was answered from some table; if it concerns only its feed's own routes, it was answered as from the set that
 -- the feed's earlier commands leave by themselves
 pub record IsAnsweredFrom (limit feed : ℕ) (earlier : List (Cmd × Outcome)) (cmd : Cmd) (is : Outcome) : Type 0 where
@@ -216,18 +128,19 @@ pub answered_from : FeedsStandAlone → EntriesOfVisits → (limit batch feed : 
     → Explains batch feed journal text lines → has_refusal (report_lines 1 lines) ≡ false → AreAnsweredFrom limit feed (commands_of lines)
 answered_from alone law limit batch feed journal text lines lawful explains none earlier later cmd is split =
     let visit = visit_of (commands_of lines) in
-    let one = among visit earlier later cmd is (sym (all_did 1 lines none) ∙ split) in
-    let e : Entry = record { feed = feed; cmd = cmd; reply = one.reply } in
-    let parts : feed_entries feed journal ≡ entries feed one.front ++ e ∷ entries feed one.back =
-    entries_explained law batch feed journal text lines explains
-    ∙ (ap (entries feed) one.split ∙ map-append (λ p. record { feed = feed; cmd = p.0; reply = p.1 }) one.front ((cmd, one.reply) ∷ one.back)) in
-    let here = stands_in journal feed (entries feed one.front) (entries feed one.back) e parts in
-    let same_table : table_of_journal limit (feed_entries feed here.earlier) ≡ table_alone limit feed earlier =
-    ap (table_of_journal limit) here.before ∙ (table-entries limit feed one.front ∙ ap (table_alone limit feed) (sym one.before)) in
+    let (front, back, p, split', before, had) = map_split did visit earlier later (cmd, is) (sym (all_did 1 lines none) ∙ split) in
+    let entry : Cmd × Reply → Entry = λ q. record { feed = feed; cmd = q.0; reply = q.1 } in
+    let parts : feed_entries feed journal ≡ entries feed front ++ entry p ∷ entries feed back =
+    entries_explained law batch feed journal text lines explains ∙ (ap (entries feed) split' ∙ map-append entry front (p ∷ back)) in
+    let (ahead, behind, split'', same) = filter_split (λ e. e.feed == feed) journal (entries feed front) (entries feed back) (entry p) parts in
+    let command : p.0 ≡ cmd = ap (λ (one : Cmd × Outcome). one.0) (sym had) in
+    let same_table : table_of_journal limit (feed_entries feed ahead) ≡ table_alone limit feed earlier =
+    ap (table_of_journal limit) same ∙ (table-entries limit feed front ∙ ap (table_alone limit feed) (sym before)) in
     record {
-      table = table_of_journal limit here.earlier;
-      reply = one.had ∙ ap outcome.Did (lawful.answered here.earlier e here.later here.split);
-      alone = λ own. (alone limit feed here.earlier cmd).1 own ∙ ap (λ table. reply_of limit table feed cmd) same_table;
+      table = table_of_journal limit ahead;
+      reply = ap (λ (one : Cmd × Outcome). one.1) had
+          ∙ ap outcome.Did (lawful.answered ahead (entry p) behind split'' ∙ ap (λ c. reply_of limit (table_of_journal limit ahead) feed c) command);
+      alone = λ own. (alone limit feed ahead cmd).1 own ∙ ap (λ table. reply_of limit table feed cmd) same_table;
     }
 
 -- a reply on a feed's own routes follows from the feed's earlier commands by themselves
@@ -277,12 +190,6 @@ as_many batch feed journal [] [] all = refl
 as_many batch feed journal [] (lines ∷ outcomes) all = absurd all
 as_many batch feed journal (text ∷ texts) [] all = absurd all
 as_many batch feed journal (text ∷ texts) (lines ∷ outcomes) all = omega (arith, as_many batch (feed + 1) journal texts outcomes all.1)
-
--- a list has an element at each position below its length
-at_place : {X : Type 0} (xs : List X) (k : ℕ) → k < length xs → (x : X) × (slice_get xs k ≡ Some x)
-at_place [] k within = absurd (omega (arith, within))
-at_place (x ∷ xs) zero within = (x, refl)
-at_place (x ∷ xs) (suc k) within = at_place xs k (omega (arith, within))
 
 -- if no command was refused, no command of one feed was
 none_of_one : (outcomes : List (List LineOutcome)) (k : ℕ) (lines : List LineOutcome)
@@ -344,23 +251,6 @@ has_text journal n feed all (e ∷ own) is =
 pub nothing : (r : Route) → Contains [] r → ⊥
 nothing r c = let within = c.1 in omega arith
 
--- a route of a feed is among the feed's routes
-among_own : (r : Route) (table : List Route) → Contains table r → Contains (feed_routes r.feed table) r
-among_own r table c =
-    let mine : Route → Bool = λ s. s.feed == r.feed in
-    let front = take c.0 table in
-    let back = drop (suc c.0) table in
-    let split : table ≡ front ++ r ∷ back = split_at table c.0 r c.1 ∙ ap (λ s. front ++ s ∷ back) c.2 in
-    let first : Contains (filter mine (r ∷ back)) r =
-    subst (λ l. Contains l r) (sym (cond-true (mine r) (r ∷ filter mine back) (filter mine back) (eq-eqb r.feed r.feed refl))) (0, omega arith, refl) in
-    subst (λ l. Contains (filter mine l) r) (sym split)
-    (subst (λ l. Contains l r) (sym (filter-append mine front (r ∷ back))) (Contains-append_right (filter mine front) (filter mine (r ∷ back)) r first))
-
--- a feed's routes are among all routes
-from_own : (feed : ℕ) (r : Route) (table : List Route) → Contains (feed_routes feed table) r → Contains table r
-from_own feed r table c =
-    All-contains (Contains table) (feed_routes feed table) r (All-filter (λ s. s.feed == feed) (Contains table) table (All-contains_itself table)) c
-
 -- a journal leaves the union of the sets that each text leaves by itself
 pub leaves_union : FeedsStandAlone → TableByEntry → EntriesOfVisits → TextHasOneReading → LeavesUnion
 leaves_union alone by_entry law once texts limit batch journal outcomes history none =
@@ -373,7 +263,7 @@ leaves_union alone by_entry law once texts limit batch journal outcomes history 
       table = by_entry.table limit journal;
       contains = λ r. (
         (λ c.
-            let own : Contains (feed_routes r.feed table) r = among_own r table c in
+            let own : Contains (feed_routes r.feed table) r = contains_kept (λ s. s.feed == r.feed) table r c (eq-eqb r.feed r.feed refl) in
             elim (has_text journal (length texts) r.feed history.no_other (feed_entries r.feed journal) refl) [
               | inl empty ↦
                   absurd (nothing r
@@ -381,15 +271,16 @@ leaves_union alone by_entry law once texts limit batch journal outcomes history 
               | inr within ↦
                   let k = r.feed - 1 in
                   let number : r.feed ≡ k + 1 = omega arith in
-                  let text = at_place texts k (omega arith) in
-                  let here = of_feed k text.0 text.1 in (
+                  let text = get_or texts k [] in
+                  let there = slice_get-get_or texts k [] (omega arith) in
+                  let here = of_feed k text there in (
                     k,
                     (
-                      text.0,
+                      text,
                       here.lines,
-                      text.1,
+                      there,
                       here.explains.becomes,
-                      subst (λ l. Contains l r) (ap (λ f. feed_routes f table) number ∙ routes k text.0 here) own,
+                      subst (λ l. Contains l r) (ap (λ f. feed_routes f table) number ∙ routes k text here) own,
                     ),
                   )
             ]),
@@ -400,7 +291,7 @@ leaves_union alone by_entry law once texts limit batch journal outcomes history 
             let same = one_asking once text some.1.1 here.lines some.1.3 here.explains.becomes in
             let own = subst (λ l. Contains l r)
             (alone-commands limit (k + 1) (commands_of some.1.1) (commands_of here.lines) same ∙ sym (routes k text here)) some.1.4 in
-            from_own (k + 1) r table own),
+            kept_contains (λ s. s.feed == (k + 1)) table r own),
       );
     }
 
@@ -426,11 +317,11 @@ one_union one_table texts limit one other here there =
 pub own_replies_are_independent : FeedsStandAlone → EntriesOfVisits → AnswersAlone
 own_replies_are_independent alone law texts limit batch journal outcomes history none k lines is =
     let within : k < length texts = omega (arith, slice_get_within outcomes k lines is, as_many batch 1 journal texts outcomes history.explained) in
-    let text = at_place texts k within in
-    let here = of_text batch 1 k (k + 1) journal texts outcomes text.0 (omega arith) history.explained text.1 in
+    let text = get_or texts k [] in
+    let here = of_text batch 1 k (k + 1) journal texts outcomes text (omega arith) history.explained (slice_get-get_or texts k [] within) in
     let same : here.lines ≡ lines = (let a = here.stands in cc) in
     subst (λ l. IsAnsweredAlone limit (k + 1) (commands_of l)) same
-    (answered_alone alone law limit batch (k + 1) journal text.0 here.lines history.lawful here.explains (none_of_one outcomes k here.lines none here.stands))
+    (answered_alone alone law limit batch (k + 1) journal text here.lines history.lawful here.explains (none_of_one outcomes k here.lines none here.stands))
 
 pub final_table_is_deterministic : EndsInUnion → HaveOneUnion → HaveSameTallies → EndInOneTable
 final_table_is_deterministic ends one tallies texts limit batch batch' bytes bytes' status status' run run' not not' =

@@ -1,6 +1,5 @@
 -- Two runs of the same texts and limit have the same tallies: a tally depends on only the feed's own commands.
-use Rattle.std.proofs.Common.{◌≡◌, ℕ, ◌+◌, false, inl, inr, Option, Some, None, List, [], ◌∷◌, ◌++◌, Bool, map}
-use Rattle.std.proofs.Common.{refl, sym, ap, subst, ◌∙◌, append_assoc}
+use Rattle.std.proofs.Common.{◌≡◌, ℕ, ◌+◌, false, inl, inr, Option, Some, None, List, [], ◌∷◌, ◌++◌, Bool, map, refl, sym, ap, subst, ◌∙◌, append_assoc}
 use Rattle.std.specs.Prelude.{count_by, cond}
 use Rattle.std.specs.Option.{option_map_or}
 use Rattle.std.proofs.lemmas.Bool.{cases_Bool, or_parts}
@@ -27,7 +26,7 @@ use Rattle.rt_run.specs.declared.tallies.RejectedInput.{RejectedInput}
 use Rattle.rt_run.specs.RunText.{ExplainsFrom, reports_of, some_refused}
 use Rattle.rt_run.specs.TableText.{was_full, was_existing, was_missing, fault_at, tally_of}
 use Rattle.rt_run.specs.SameTable.{HaveSameTallies}
-use Rattle.rt_run.proofs.FaultyLines.{with_fault, faults-line}
+use Rattle.rt_run.proofs.CountedLines.{with_fault, faults-line}
 use Rattle.rt_run.proofs.SameTables.{commands, alone-commands, IsAnsweredFrom, AreAnsweredFrom, answered_from}
 
 -- a tally with one line more in front

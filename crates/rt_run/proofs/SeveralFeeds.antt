@@ -1,10 +1,9 @@
 -- Several feeds over one table: the journal to which the table settles explains their reports.
-use Rattle.std.proofs.Common.{◌≡◌, ◌≢◌, ℕ, zero, suc, ◌+◌, ◌-◌, ◌<◌, ◌≤◌, ◌⊎◌, inl, inr, Option, Some}
-use Rattle.std.proofs.Common.{None, List, [], ◌∷◌, ◌++◌, All, length, map, take, drop, get_or, refl}
+use Rattle.std.proofs.Common.{◌≡◌, ◌≢◌, ℕ, zero, suc, ◌+◌, ◌-◌, ◌<◌, ◌≤◌, ◌⊎◌, inl, inr, Option, Some, None, List, [], ◌∷◌, ◌++◌, All, length, map, take, drop, get_or, refl}
 use Rattle.std.proofs.Common.{sym, ap, subst, ◌∙◌, arith, length-append, length-drop}
 use Rattle.std.specs.Prelude.{MatchOption}
-use Rattle.std.proofs.lemmas.List.{get_or-map, get_or-drop, get_or-append_right, get_or_append_left, length-map}
-use Rattle.std.proofs.lemmas.List.{length-take-le, get_or-take, get_or_default}
+use Rattle.std.proofs.lemmas.Bool.{cases_lt}
+use Rattle.std.proofs.lemmas.List.{get_or-map, get_or-drop, get_or-append_right, get_or_append_left, length-map, length-take-le, get_or-take, get_or_default}
 use Rattle.std.proofs.lemmas.List.Elements.{All-nil}
 use Rattle.std.proofs.lemmas.Option.{slice_get-get_or, slice_get_within, same_Some}
 use Rattle.rt_rib.specs.declared.commands.Entry.{Entry}
@@ -17,9 +16,8 @@ use Rattle.rt_feed.specs.Lines.{LineOutcome, report_lines}
 use Rattle.rt_feed.specs.FeedRuns.{RunsFeed, RunsPrefixOf, RunsOne}
 use Rattle.rt_print.specs.Routes.{table_text}
 use Rattle.rt_shared.proofs.Promised.{uncut_since}
-use Rattle.rt_run.specs.RunContents.{RunContents}
-use Rattle.rt_run.specs.RunText.{Explains, ExplainsFrom, reports_of, reports_text, reports_status, IsRunText}
-use Rattle.rt_run.specs.inside.RunResults.{RunOverBook}
+use Rattle.rt_run.specs.RunText.{RunContents, Explains, ExplainsFrom, reports_of, reports_text, reports_status, IsRunText}
+use Rattle.rt_run.specs.inside.Runs.{RunOverBook}
 
 -- the visits that a gate to the table holds, and its name
 abbrev pub holds : HeldPass → List AnsweredBatch → Type 0
@@ -77,12 +75,6 @@ all_explained items batch feed journal (text ∷ texts) (report ∷ reports) sam
       explained = (head.explains, rest.explained);
       reported = ap (λ (r : List Line). r ∷ reports) head.reported ∙ ap (λ rs. report_lines 1 head.lines ∷ rs) rest.reported;
     }
-
--- one number is at most another, or the other is below it
-le_or_lt : (m n : ℕ) → (m ≤ n) ⊎ (n < m)
-le_or_lt zero n = inl (omega arith)
-le_or_lt (suc m) zero = inr (omega arith)
-le_or_lt (suc m) (suc n) = elim (le_or_lt m n) [ inl le ↦ inl (omega (arith, le)) | inr lt ↦ inr (omega (arith, lt)) ]
 
 -- facts on positions in lists; a tactic sees nothing else here
 below_more : (i m n : ℕ) → i < m → m ≤ n → i < n
@@ -171,9 +163,9 @@ module _ {V : Type 0} (items : V → List ℕ) (texts : List V) (table : SharedI
 
   -- all passes keep their names
   named_back : (i : ℕ) → name (get_or back i no_pass) ≡ name (get_or passes i no_pass)
-  named_back i = elim (le_or_lt (length texts) i) [
-    | inl idle ↦ ap name (idle_back i idle)
-    | inr here ↦ ap name (ran_back i here) ∙ ((ran i (some_text texts i here) no_feed here).named ∙ ap name (gate_before i here))
+  named_back i = elim (cases_lt i (length texts)) [
+    | inr idle ↦ ap name (idle_back i idle)
+    | inl here ↦ ap name (ran_back i here) ∙ ((ran i (some_text texts i here) no_feed here).named ∙ ap name (gate_before i here))
   ]
 
   feed_back : (i : ℕ) → i < length passes → (get_or back i no_pass).feed ≡ i + 1
@@ -205,9 +197,9 @@ module _ {V : Type 0} (items : V → List ℕ) (texts : List V) (table : SharedI
     no_other k d here =
         let of = settled.of_feeds k d here in
         let feed = (get_or journal k d).feed in
-        elim (le_or_lt feed (length texts)) [
-          | inl within ↦ (of.0, within)
-          | inr past ↦
+        elim (cases_lt (length texts) feed) [
+          | inr within ↦ (of.0, within)
+          | inl past ↦
               let i = feed - 1 in
               let next : i + 1 ≡ feed = before_next feed of.0 in
               let within : i < length passes = as_below i _ _ dealt.count (before_below feed table.feeds of.0 of.1) in

@@ -1,5 +1,5 @@
 -- Which feeds take part in a run, and the texts of a run in which the others are left out.
-use Rattle.std.specs.Prelude.{ℕ, ◌+◌, ◌==◌, Bool, true, not, ◌||◌, if◌then◌else◌, List, [], ◌∷◌, filter}
+use Rattle.std.specs.Prelude.{◌≡◌, ℕ, ◌+◌, ◌==◌, Bool, true, false, not, ◌||◌, if◌then◌else◌, List, [], ◌∷◌, length, get_or, filter}
 use Rattle.std.specs.List.{list_any}
 use Rattle.rt_rib.specs.declared.routes.Route.{Route}
 
@@ -20,6 +20,12 @@ is_left_out only without feed = is_one_of without feed || not (is_selected only 
 abbrev pub texts_kept : (ℕ → Bool) → ℕ → List (List ℕ) → List (List ℕ)
 texts_kept leaves_out feed [] = []
 texts_kept leaves_out feed (text ∷ texts) = (if leaves_out feed then [] else text) ∷ texts_kept leaves_out (feed + 1) texts
+
+-- the texts of the feeds, the k-th of feed k, but the text of each feed that is left out is empty
+pub record AreWithout (is_left_out : ℕ → Bool) (all texts : List (List ℕ)) : Type 0 where
+  pub as_many : length texts ≡ length all
+  pub others : (k : ℕ) → is_left_out (k + 1) ≡ false → get_or texts k [] ≡ get_or all k []
+  pub empty : (k : ℕ) → is_left_out (k + 1) ≡ true → get_or texts k [] ≡ []
 
 -- the routes of selected feeds
 abbrev pub routes_of_selected : List ℕ → List Route → List Route

@@ -6,7 +6,7 @@ use Rattle.rt_diff.specs.Answers.{RenumberedTable, own_numbers}
 use Rattle.rt_diff.specs.Differences.{AreDifferences}
 use Rattle.rt_print.specs.DifferenceText.{DiffContents, differences_as}
 use Rattle.rt_run.specs.declared.comparisons.DiffSummary.{DiffSummary}
-use Rattle.rt_run.specs.RunContents.{RunContents}
+use Rattle.rt_run.specs.RunText.{RunContents}
 use Rattle.rt_run.specs.TableText.{LeavesTable}
 
 -- the new table, its feeds identified by these numbers

@@ -1,10 +1,7 @@
-pub mod RunContents
 pub mod ChosenFeeds
 pub mod RunText
 pub mod SameTable
-pub mod LeftOut
 pub mod TableText
 pub mod DiffText
-pub mod SameDiff
 pub mod Replayed
 pub mod inside

@@ -1,5 +1,5 @@
--- The text that a run of feeds writes: one lawful journal explains every reply in it, and the table at its end.
-use Rattle.std.specs.Prelude.{◌≡◌, ◌≢◌, ℕ, ◌+◌, ◌≤◌, Bool, if◌then◌else◌, List, [], ◌∷◌, ◌++◌, All, length, map, Option, Result, Ok, Err}
+-- The input of a run, and the text that a run of feeds writes: one lawful journal explains every reply in it, and the table at its end.
+use Rattle.std.specs.Prelude.{ℕ, List, ◌≡◌, ◌≢◌, ◌+◌, ◌≤◌, Bool, if◌then◌else◌, [], ◌∷◌, ◌++◌, All, length, map, Option, Result, Ok, Err}
 use Rattle.std.specs.List.{list_any}
 use Rattle.std.specs.Io.KnownBytes.{Appends}
 use Rattle.rt_cidr.specs.Output.{AppendsBeginning}
@@ -17,6 +17,13 @@ use Rattle.rt_print.specs.Routes.{table_text}
 use Rattle.rt_feed.specs.declared.faults.RunFault.TheVariants as fault
 use Rattle.rt_run.specs.declared.faults.AppFault.{AppFault}
 use Rattle.rt_run.specs.declared.faults.AppFault.TheVariants.{Run, Replay, Write}
+
+-- the texts of feeds, the maximum number of routes of each feed, and the maximum number of a feed's commands that are
+-- executed together
+pub record RunContents : Type 0 where
+  pub texts : List (List ℕ)
+  pub limit : ℕ
+  pub batch : ℕ
 
 -- the feed's whole text became these lines. Its commands are split into pieces of `batch`: the answered commands of each
 -- piece are in the journal in one piece, in this order, and no other entry of the journal is the feed's

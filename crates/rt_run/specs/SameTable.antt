@@ -1,6 +1,6 @@
 -- The part of a run that doesn't depend on the interleaving of its feeds' visits: the table at its end, the replies to
--- commands that concern only their feed's own routes, and the tally of each text.
-use Rattle.std.specs.Prelude.{◌≡◌, ◌≢◌, ◌↔◌, ℕ, ◌+◌, true, false, List, [], ◌∷◌, ◌++◌, fold, map, Some}
+-- commands that concern only their feed's own routes, the tally of each text, and the output of queries and comparisons.
+use Rattle.std.specs.Prelude.{◌≡◌, ◌≢◌, ◌↔◌, ℕ, ◌+◌, true, false, List, [], ◌∷◌, ◌++◌, fold, map, Some, Bool, not, filter}
 use Rattle.std.specs.List.{slice_get, Contains}
 use Rattle.rt_rib.specs.declared.routes.Route.{Route}
 use Rattle.rt_rib.specs.declared.commands.Cmd.{Cmd}
@@ -16,9 +16,15 @@ use Rattle.rt_print.specs.Styles.{StyleContents}
 use Rattle.rt_run.specs.declared.tallies.RunSummary.{RunSummary}
 use Rattle.rt_run.specs.declared.queries.QuerySummary.{QuerySummary}
 use Rattle.rt_run.specs.declared.question.Question.{Question}
-use Rattle.rt_run.specs.RunContents.{RunContents}
-use Rattle.rt_run.specs.RunText.{IsJournalOfRun, IsRunText, reports_of, reports_text, some_refused}
+use Rattle.rt_run.specs.RunText.{RunContents, IsJournalOfRun, IsRunText, reports_of, reports_text, some_refused}
 use Rattle.rt_run.specs.TableText.{tally_of, IsQueryOutput, IsAnswer}
+use Rattle.rt_run.specs.ChosenFeeds.{AreWithout}
+use Rattle.rt_diff.specs.declared.comparison.Difference.{Difference}
+use Rattle.rt_diff.specs.Answers.{own_numbers}
+use Rattle.rt_diff.specs.Differences.{AreDifferences}
+use Rattle.rt_print.specs.DifferenceText.{DiffContents, differences_as}
+use Rattle.rt_run.specs.declared.comparisons.DiffSummary.{DiffSummary}
+use Rattle.rt_run.specs.DiffText.{renumbered_new, IsDiffText}
 
 -- the set that the feed's commands leave by themselves, whatever their outcomes, with at most `limit` routes
 unfoldable pub table_alone : ℕ → ℕ → List (Cmd × Outcome) → List Route
@@ -112,3 +118,43 @@ AnswerOnce =
     → HaveSameInput asked asked' → IsAnswer asked style question bytes given → IsAnswer asked' style question bytes' given'
     → given.run.status ≢ 5 → given'.run.status ≢ 5
     → (bytes ≡ bytes') × (given.status ≡ given'.status) × (given.faulty ≡ given'.faulty) × HaveSameSummary given.run given'.run
+
+-- the union of the texts without some feeds contains the routes of the union of all texts, except the routes of the feeds
+-- that are left out
+abbrev pub LosesLeftOut : Type 0
+LosesLeftOut =
+    (is_left_out : ℕ → Bool) (all texts : List (List ℕ)) (limit : ℕ) (union rest : List Route) → AreWithout is_left_out all texts
+    → IsUnion all limit union → IsUnion texts limit rest
+    → (r : Route) → Contains rest r ↔ (Contains union r × (is_left_out r.feed ≡ false))
+
+-- and what is told of the table of such a run is told of these routes, if no command was refused for want of memory
+abbrev pub ShowsRest : Type 0
+ShowsRest =
+    (is_left_out : ℕ → Bool) (all : List (List ℕ)) (union : List Route) (asked : RunContents) (text_of : List Route → List ℕ) (bytes : List ℕ) (summary : RunSummary)
+    → AreWithout is_left_out all asked.texts → IsUnion all asked.limit union → IsQueryOutput asked text_of bytes summary → summary.status ≢ 5
+    → bytes ≡ text_of (filter (λ r. not (is_left_out r.feed)) union)
+
+-- the bytes are the lines of all ranges for which the unions of the old and of the new texts give different answers
+pub record TellsUnions (asked : DiffContents) (old new : RunContents) (bytes : List ℕ) : Type 0 where
+  pub old_union : List Route
+  pub new_union : List Route
+  pub of_old : IsUnion old.texts old.limit old_union
+  pub of_new : IsUnion new.texts new.limit new_union
+  pub list : List Difference
+  pub differences : AreDifferences asked.by (own_numbers old_union) (renumbered_new asked new_union) list
+  pub printed : bytes ≡ differences_as asked list
+
+-- this holds if no command ran out of memory
+abbrev pub DiffsUnions : Type 0
+DiffsUnions =
+    (asked : DiffContents) (old new : RunContents) (bytes : List ℕ) (given : DiffSummary)
+    → IsDiffText asked old new bytes given → given.old.status ≢ 5 → given.new.status ≢ 5 → TellsUnions asked old new bytes
+
+-- if no command ran out of memory, two comparisons of the same texts and limits, on the same terms, write the same bytes,
+-- with the same statuses and tallies, for any batches and any interleaving of the threads
+abbrev pub DiffOnce : Type 0
+DiffOnce =
+    (asked : DiffContents) (old old' new new' : RunContents) (bytes bytes' : List ℕ) (given given' : DiffSummary)
+    → HaveSameInput old old' → HaveSameInput new new' → IsDiffText asked old new bytes given → IsDiffText asked old' new' bytes' given'
+    → given.old.status ≢ 5 → given.new.status ≢ 5 → given'.old.status ≢ 5 → given'.new.status ≢ 5
+    → (bytes ≡ bytes') × (given.status ≡ given'.status) × HaveSameSummary given.old given'.old × HaveSameSummary given.new given'.new

@@ -23,9 +23,8 @@ use Rattle.rt_run.specs.declared.tallies.RunSummary.{RunSummary}
 use Rattle.rt_run.specs.declared.queries.QuerySummary.{QuerySummary}
 use Rattle.rt_run.specs.declared.question.Question.{Question}
 use Rattle.rt_run.specs.declared.question.Question.TheVariants as ask
-use Rattle.rt_run.specs.RunContents.{RunContents}
+use Rattle.rt_run.specs.RunText.{RunContents, IsJournalOfRun, reports_of, status_where}
 use Rattle.rt_run.specs.ChosenFeeds.{routes_of_selected}
-use Rattle.rt_run.specs.RunText.{IsJournalOfRun, reports_of, status_where}
 
 -- for each address, in order, the result of looking it up in the table, in the style
 abbrev pub answers_text : StyleContents → List Addr → List Route → List ℕ

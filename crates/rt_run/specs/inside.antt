@@ -1,6 +1,3 @@
 -- What no public clause speaks of: the words of private contracts, of invariants and of proofs.
 pub mod Outputs
-pub mod Comparisons
-pub mod RunResults
-pub mod LookupAddresses
-pub mod Turns
+pub mod Runs

@@ -2,8 +2,7 @@
 ghost use Rattle.std.specs.Prelude.{◌≡◌, ◌≤◌, if◌then◌else◌, [], length, map};
 ghost use Rattle.rt_rib.specs.Book.{IsLimit};
 ghost use Rattle.rt_rib.specs.declared.limits.TheConstants.{MAX_FEEDS};
-ghost use Rattle.rt_run.specs.ChosenFeeds.{is_one_of, is_selected, is_left_out, texts_kept};
-ghost use Rattle.rt_run.specs.LeftOut.{AreWithout};
+ghost use Rattle.rt_run.specs.ChosenFeeds.{is_one_of, is_selected, is_left_out, texts_kept, AreWithout};
 
 use std::marker::Model;
 
@@ -60,7 +59,7 @@ impl<'a> Model for ChosenTexts<'a> {
     ghost use Rattle.std.specs.Prelude.{◌≤◌, length, map};
     ghost use Rattle.rt_rib.specs.declared.limits.TheConstants.{MAX_FEEDS};
     ghost use Rattle.rt_rib.specs.Book.{IsLimit};
-    ghost use Rattle.rt_run.specs.RunContents.{RunContents};
+    ghost use Rattle.rt_run.specs.RunText.{RunContents};
     ghost use Rattle.rt_run.specs.ChosenFeeds.{is_left_out, texts_kept};
 
     ghost Value = { RunContents };

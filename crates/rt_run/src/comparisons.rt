@@ -2,21 +2,22 @@
 ghost use Rattle.std.specs.Prelude.{◌≡◌, ◌↔◌, ◌⊎◌, []};
 ghost use Rattle.rt_run.specs.RunText.{WritesOrFails};
 ghost use Rattle.rt_run.specs.DiffText.{IsDiffText};
-ghost use Rattle.rt_run.specs.inside.Comparisons.{compared_status, IsFirstOf};
+ghost use Rattle.rt_run.specs.inside.Outputs.{compared_status, IsFirstOf};
 
 use crate::chosen::ChosenTexts;
 use crate::faults::AppFault;
-use crate::output::{finish, write_differences};
+use crate::output::{write_differences, write_through};
 use crate::status::Status;
 use crate::tallies::RunSummary;
 use crate::turns::run_in_turn;
 use rt_cidr::Addr;
 use rt_diff::Difference;
 use rt_feed::RunFault;
-use rt_print::{DiffOptions, OutputBuffer, OutputRoom};
+use rt_print::{DiffOptions, OutputRoom};
 use rt_rib::Table;
 use std::alloc::Global;
 use std::io::Write;
+use std::mem;
 
 /// The result of comparing two runs.
 #[derive(Debug, Drop)]
@@ -48,24 +49,17 @@ pub fn diff_texts<W: Write>(
     if new_asked.count() == 0 {
         return Err(AppFault::Run(RunFault::NoText));
     }
-    let old = run_in_turn(alloc, old_asked)?;
-    let new = run_in_turn(alloc, new_asked)?;
-    let first = first_difference(&old.table, &new.table, options);
+    let (old_table, old) = run_in_turn(alloc, old_asked)?;
+    let (new_table, new) = run_in_turn(alloc, new_asked)?;
+    let first = first_difference(&old_table, &new_table, options);
     let room = OutputRoom::new(alloc)?;
-    let mut out = OutputBuffer::new(w, room);
-    let written = write_differences(&mut out, options, &old.table, &new.table, first);
-    let written = finish(&mut out, written, first.is_none());
-    let _ = out.into_writer();
-    let old = old.into_summary();
-    let new = new.into_summary();
-    match written {
-        Ok(()) => Ok(DiffSummary {
-            status: status_of(&old, &new, first),
-            old,
-            new,
-        }),
-        Err(fault) => Err(fault),
-    }
+    let status = status_of(&old, &new, first);
+    let given = DiffSummary { status, old, new };
+    let told = write_through(w, room, first.is_none(), given, |out| {
+        write_differences(out, options, &old_table, &new_table, first)
+    });
+    mem::forget((old_table, new_table));
+    told
 }
 
 /// Returns the first difference between two tables.

@@ -1,128 +1,79 @@
 //! Laws that hold for every run of feeds and every interleaving of its threads. Each function is a theorem: a call makes
-//! its clause known and does nothing. Below, a command is refused if memory ran out for it.
-ghost use Rattle.rt_run.specs.SameDiff.{DiffsUnions, DiffOnce};
-ghost use Rattle.rt_run.specs.LeftOut.{LosesLeftOut, ShowsRest};
-ghost use Rattle.rt_run.specs.SameTable.{LeavesUnion, AnswersAlone, HaveSameTallies, HaveOneUnion, EndsInUnion, EndInOneTable, ShowsUnion, ShowOneTable, AnswerOnce};
+//! its clauses known and does nothing. Each law but `one` of [`union`] and `loses` of [`left_out`] holds if no command was
+//! refused, that is, if memory ran out for none. Two runs may have different batches.
+ghost use Rattle.rt_run.specs.SameTable.{LeavesUnion, AnswersAlone, HaveSameTallies, HaveOneUnion, EndsInUnion, EndInOneTable};
+ghost use Rattle.rt_run.specs.SameTable.{ShowsUnion, ShowOneTable, AnswerOnce, LosesLeftOut, ShowsRest, DiffsUnions, DiffOnce};
 
 use rt_diff::laws::one_list;
 use rt_feed::laws::{one_address_text, one_reading};
 use rt_rib::laws::{feeds_are_independent, one_table_of_set, table_by_entry};
 use rt_shared::laws::visits;
 
-/// If no command was refused, the journal of a run leaves the table of the union, over all its texts, of the sets that
-/// the commands of each text leave by themselves.
-pub fn leaves_union()
-    ensures { LeavesUnion }
+/// The union of a run is the table of the union, over all its texts, of the sets that the commands of each text leave by
+/// themselves.
+///
+/// - `leaves`: the journal of a run leaves its union;
+/// - `one`: the same texts and limit have only one union;
+/// - `alone`: the replies to `add`, `replace`, `withdraw` and `purge` are those that a text gets if no other feed executes
+///   anything;
+/// - `tallies`: the reports of two runs of the same texts and limit have the same tallies of rejected input.
+pub fn union()
+    ensures leaves { LeavesUnion }
+    ensures one { HaveOneUnion }
+    ensures alone { AnswersAlone }
+    ensures tallies { HaveSameTallies }
 {
     feeds_are_independent();
     table_by_entry();
+    one_table_of_set();
     visits();
     one_reading();
 }
 
-/// If no command was refused, the replies to `add`, `replace`, `withdraw` and `purge` are those that a text gets if no
-/// other feed executes anything.
-pub fn own_replies_are_independent()
-    ensures { AnswersAlone }
+/// - `ends`: a run writes its reports and the table of the union;
+/// - `same`: two runs of the same texts and limit end in the same table with the same status.
+pub fn run_output()
+    ensures ends { EndsInUnion }
+    ensures same { EndInOneTable }
 {
-    feeds_are_independent();
-    visits();
+    union();
 }
 
-/// If no command was refused, the reports of two runs of the same texts and limit have the same tallies of rejected input,
-/// for any batches and any interleaving of the threads.
-pub fn same_tallies()
-    ensures { HaveSameTallies }
+/// - `shows`: a query of a run writes its answer for the union. Hence the output of `show` is a function of only the texts,
+///   the limit and the question;
+/// - `same`: two runs of the same texts and limit with the same query write the same bytes, and return the same status and
+///   tallies;
+/// - `answers`: two calls of `show` with the same texts, limit, style and question write the same bytes and return the same
+///   summaries.
+pub fn query_output()
+    ensures shows { ShowsUnion }
+    ensures same { ShowOneTable }
+    ensures answers { AnswerOnce }
 {
-    feeds_are_independent();
-    visits();
-    one_reading();
-}
-
-/// The same texts and limit have only one union.
-pub fn one_union()
-    ensures { HaveOneUnion }
-{
-    one_table_of_set();
-}
-
-/// If the texts of some feeds are empty in a second run and its other texts are those of a first run, its union is the
-/// first run's union without the routes of these feeds.
-pub fn loses_left_out()
-    ensures { LosesLeftOut }
-{
-    feeds_are_independent();
-}
-
-/// If no command was refused, a run writes its reports and the table of the union.
-pub fn ends_in_union()
-    ensures { EndsInUnion }
-{
-    leaves_union();
-}
-
-/// If no command was refused, two runs of the same texts and limit end in the same table with the same status, for any
-/// batches and any interleaving of the threads.
-pub fn final_table_is_deterministic()
-    ensures { EndInOneTable }
-{
-    ends_in_union();
-    one_union();
-    same_tallies();
-}
-
-/// If no command was refused, a query of a run writes its answer for the union. Hence the output of `show` is a
-/// function of only the texts, the limit and the question.
-pub fn shows_union()
-    ensures { ShowsUnion }
-{
-    leaves_union();
-}
-
-/// If no command was refused, the output of a query without some feeds is that for the routes of the other feeds: of the union of
-/// all texts, those that aren't of a feed that is left out.
-pub fn shows_rest()
-    ensures { ShowsRest }
-{
-    shows_union();
-    loses_left_out();
-    one_table_of_set();
-}
-
-/// If no command was refused, two runs of the same texts and limit with the same query write the same bytes, and return
-/// the same status and tallies, for any batches and any interleaving of the threads.
-pub fn query_output_is_deterministic()
-    ensures { ShowOneTable }
-{
-    shows_union();
-    one_union();
-    same_tallies();
-}
-
-/// If no command was refused, two calls of `show` with the same texts, limit, style and question write the same bytes and
-/// return the same summaries.
-pub fn answers_are_deterministic()
-    ensures { AnswerOnce }
-{
-    query_output_is_deterministic();
+    union();
     one_address_text();
 }
 
-/// If no command was refused, `diff_texts` writes the differences between the union of the old texts and the union of the
-/// new texts.
-pub fn diffs_unions()
-    ensures { DiffsUnions }
+/// - `loses`: if the texts of some feeds are empty in a second run and its other texts are those of a first run, its union is
+///   the first run's union without the routes of these feeds;
+/// - `shows`: the output of a query without some feeds is that for the routes of the other feeds: of the union of all texts,
+///   those that aren't of a feed that is left out.
+pub fn left_out()
+    ensures loses { LosesLeftOut }
+    ensures shows { ShowsRest }
 {
-    leaves_union();
+    query_output();
+    feeds_are_independent();
+    one_table_of_set();
 }
 
-/// If no command was refused, two comparisons of the same texts and limits, with the same options, write the same bytes and
-/// return the same statuses and tallies, for any batches and any interleaving of the threads.
-pub fn diff_output_is_deterministic()
-    ensures { DiffOnce }
+/// - `differs`: `diff_texts` writes the differences between the union of the old texts and the union of the new texts;
+/// - `same`: two comparisons of the same texts and limits, with the same options, write the same bytes and return the same
+///   statuses and tallies.
+pub fn comparison_output()
+    ensures differs { DiffsUnions }
+    ensures same { DiffOnce }
 {
-    leaves_union();
-    one_union();
+    union();
     one_list();
-    same_tallies();
 }

@@ -1,14 +1,14 @@
 //! Output: the parts of a run's text, the answers to questions, and the differences between two tables. Each part goes to
-//! any writer; `finish` ends the buffer through which the whole output goes.
+//! any writer; `write_through` writes an output through one buffer.
 ghost use Rattle.std.specs.Prelude.{◌≡◌, ◌++◌, [], ◌≤◌, ℕ, List, Option, length, IfSome, IfErr};
+ghost use Rattle.std.specs.Fn.{FnOnceReturnsAtMut};
 ghost use Rattle.rt_cidr.specs.Output.{WritesText};
 ghost use Rattle.rt_print.specs.Buffer.{buffered};
 ghost use Rattle.rt_rib.specs.declared.limits.TheConstants.{MAX_FEEDS};
 ghost use Rattle.rt_print.specs.Routes.{table_text};
 ghost use Rattle.rt_run.specs.RunText.{reports_text};
 ghost use Rattle.rt_run.specs.TableText.{answers_text};
-ghost use Rattle.rt_run.specs.inside.Outputs.{matches_text, IsEmpty, Writes};
-ghost use Rattle.rt_run.specs.inside.Comparisons.{IsFirstOf, lines_of};
+ghost use Rattle.rt_run.specs.inside.Outputs.{matches_text, IsEmpty, Writes, IsFirstOf, lines_of};
 
 use crate::faults::AppFault;
 use crate::forwarding::look_up_by;
@@ -17,8 +17,8 @@ use rt_diff::Difference;
 use rt_feed::{Report, write_report};
 use rt_fib::Fib;
 use rt_print::{
-    DiffOptions, OutputBuffer, Style, write_all_matches, write_difference, write_lookup,
-    write_table,
+    DiffOptions, OutputBuffer, OutputRoom, Style, write_all_matches, write_difference,
+    write_lookup, write_table,
 };
 use rt_rib::{Route, Table};
 use std::alloc::Global;
@@ -27,27 +27,50 @@ use std::io::{self, Write};
 /// The number of addresses that are looked up together.
 const PIECE: usize = 256;
 
+/// Writes an output through a new buffer over the writer, by one call of `print`, and returns `given` if everything was
+/// written. The room is the buffer's. An empty output never fails. Doesn't allocate.
+pub(crate) fn write_through<
+    W: Write,
+    X: Drop,
+    F: FnOnce(&mut OutputBuffer<'_, W>) -> io::Result<()>,
+>(w: &mut W, room: OutputRoom, is_empty: bool, given: X, print: F) -> Result<X, AppFault>
+    requires new { room ≡ [] }
+    requires called { F.IsAlwaysCallable print }
+    ensures text { (text : List ℕ) → IsEmpty is_empty text → ((old : _) (written : _) (new : _) → FnOnceReturnsAtMut F.FnOnce print old written new
+        → WritesText (buffered old.writer.ghost_name (W.contents old.began.value) (W.contents old.writer.now) old.held)
+        (buffered new.writer.ghost_name (W.contents new.began.value) (W.contents new.writer.now) new.held) text written)
+        → Writes text given (W.contents w.old) (W.contents w.new) result }
+    ensures fault { IfErr result (λ fault. fault ≡ AppFault.Write) }
+{
+    let mut out = OutputBuffer::new(w, room);
+    let written = print(&mut out);
+    let told = finish(&mut out, written, is_empty, given);
+    let _ = out.into_writer();
+    told
+}
+
 /// Ends the output that was written to a new buffer, with this result: sends the rest of it to the writer below, unless the
-/// output failed or is empty. Doesn't allocate.
-pub(crate) fn finish<W: Write>(
+/// output failed or is empty.
+fn finish<W: Write, X: Drop>(
     buffer: &mut OutputBuffer<'_, W>,
-    written: Result<(), io::Error>,
+    written: io::Result<()>,
     is_empty: bool,
-) -> Result<(), AppFault>
+    given: X,
+) -> Result<X, AppFault>
     ensures text { (name : ℕ) (began after : Option (List ℕ)) (text : List ℕ) → IsEmpty is_empty text
         → WritesText (buffered name began began [])
         (buffered buffer.old.writer.ghost_name (W.contents buffer.old.began.value) (W.contents buffer.old.writer.now) buffer.old.held) text written
-        → (name ≡ buffer.new.writer.ghost_name → after ≡ W.contents buffer.new.writer.now) → Writes text began after result }
+        → (name ≡ buffer.new.writer.ghost_name → after ≡ W.contents buffer.new.writer.now) → Writes text given began after result }
     ensures fault { IfErr result (λ fault. fault ≡ AppFault.Write) }
 {
     if let Err(_) = written {
         return Err(AppFault::Write);
     }
     if is_empty {
-        return Ok(());
+        return Ok(given);
     }
     match buffer.flush() {
-        Ok(()) => Ok(()),
+        Ok(()) => Ok(given),
         Err(_) => Err(AppFault::Write),
     }
 }

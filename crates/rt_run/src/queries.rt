@@ -5,22 +5,22 @@ ghost use Rattle.rt_print.specs.Styles.{StyleContents};
 ghost use Rattle.rt_run.specs.ChosenFeeds.{routes_of_selected};
 ghost use Rattle.rt_run.specs.RunText.{WritesOrFails, status_where};
 ghost use Rattle.rt_run.specs.TableText.{all_answers_text, question_text, named_in, said_in, IsAnswer};
-ghost use Rattle.rt_run.specs.inside.LookupAddresses.{IsAsked};
-ghost use Rattle.rt_run.specs.inside.Outputs.{matches_text, Writes};
+ghost use Rattle.rt_run.specs.inside.Outputs.{IsAsked, matches_text, Writes};
 
 use crate::chosen::{ChosenTexts, is_selected};
 use crate::faults::AppFault;
 use crate::forwarding::fib_for;
-use crate::output::{AddressMatches, finish, write_answers, write_matches};
+use crate::output::{AddressMatches, write_answers, write_matches, write_through};
 use crate::question::{AskedRoutes, Question};
 use crate::tallies::{RunSummary, status_where};
 use crate::turns::run_in_turn;
 use rt_cidr::Addr;
 use rt_feed::{AddressText, FaultyLines, RunFault, read_addresses};
-use rt_print::{OutputBuffer, OutputRoom, Style, write_counts, write_routes};
+use rt_print::{OutputRoom, Style, write_counts, write_routes};
 use rt_rib::{Refused, Route, Table};
 use std::alloc::{AllocError, Global};
 use std::io::Write;
+use std::mem;
 
 /// The result of a query.
 #[derive(Debug, Drop)]
@@ -43,9 +43,8 @@ pub struct QuerySummary {
 /// - for `Question::Counts` their numbers (`write_counts`).
 ///
 /// Hence, if no command ran out of memory, the bytes are a function of only the texts, the limit and the question
-/// (`laws::shows_union`, `laws::answers_are_deterministic`). Returns the summary if everything was written. Its errors are
-/// those of `run_texts`; F3 also if there is no memory for the addresses, the selected routes or the tallies. Leaks the
-/// table, as `run_texts` does.
+/// (`laws::query_output`). Returns the summary if everything was written. Its errors are those of `run_texts`; F3 also if
+/// there is no memory for the addresses, the selected routes or the tallies. Leaks the table, as `run_texts` does.
 pub fn show<W: Write>(
     alloc: Global,
     asked: &ChosenTexts<'_>,
@@ -56,15 +55,13 @@ pub fn show<W: Write>(
     ensures text { WritesOrFails (IsAnswer asked.now style.now question.now) (W.contents w.old) (W.contents w.new) result }
     ensures no_text { (result ≡ Err (AppFault.Run RunFault.NoText)) ↔ (asked.now.texts ≡ []) }
 {
-    let run = run_in_turn(alloc, asked)?;
+    let (table, run) = run_in_turn(alloc, asked)?;
     let read = read_lookup_addresses(alloc, question)?;
     let addresses = read.addresses.as_slice();
-    let written = write_answer(alloc, &run.table, style, question, addresses, w);
-    let summary = run.into_summary();
-    match written {
-        Ok(()) => Ok(query_summary(summary, read.faulty)),
-        Err(fault) => Err(fault),
-    }
+    let given = query_summary(run, read.faulty);
+    let told = write_answer(alloc, &table, style, question, addresses, given, w);
+    mem::forget(table);
+    told
 }
 
 /// Returns all addresses of the question in order, and the faulty lines of its text of addresses.
@@ -93,52 +90,59 @@ fn query_summary(run: RunSummary, faulty: FaultyLines) -> QuerySummary
     }
 }
 
-/// Writes the answer to the question from the table, in few large writes; `addresses` are the ones to look up.
+/// Writes the answer to the question from the table, in few large writes, and returns `given`; `addresses` are the ones to
+/// look up.
 fn write_answer<W: Write>(
     alloc: Global,
     table: &Table<Global>,
     style: &Style,
     question: &Question<'_>,
     addresses: &[Addr],
+    given: QuerySummary,
     w: &mut W,
-) -> Result<(), AppFault>
-    ensures { Writes (question_text style.now question.now addresses.now table.now.routes) (W.contents w.old) (W.contents w.new) result }
+) -> Result<QuerySummary, AppFault>
+    ensures { Writes (question_text style.now question.now addresses.now table.now.routes) given (W.contents w.old) (W.contents w.new) result }
 {
     let room = OutputRoom::new(alloc)?;
     match question {
         Question::Best(_) => {
             let fib = fib_for(alloc, table, addresses.len());
-            let mut out = OutputBuffer::new(w, room);
-            let written = write_answers(&mut out, style, table, &fib, addresses);
-            let written = finish(&mut out, written, addresses.is_empty());
-            let _ = out.into_writer();
-            written
+            write_through(w, room, addresses.is_empty(), given, |out| {
+                write_answers(out, style, table, &fib, addresses)
+            })
         }
         Question::All(_) => {
             let matches = matches_of(alloc, table, addresses)?;
             let all = matches.as_slice();
-            let mut out = OutputBuffer::new(w, room);
-            let written = write_matches(&mut out, style, all);
-            let written = finish(&mut out, written, all.is_empty());
-            let _ = out.into_writer();
-            written
+            write_through(
+                w,
+                room,
+                all.is_empty(),
+                given,
+                |out| write_matches(out, style, all),
+            )
         }
         Question::Routes(asked) => {
             let routes = routes_asked(alloc, table, asked)?;
-            let selected = routes.as_slice();
-            let mut out = OutputBuffer::new(w, room);
-            let written = write_routes(&mut out, style, selected);
-            let written = finish(&mut out, written, selected.is_empty());
-            let _ = out.into_writer();
-            written
+            let routes = routes.as_slice();
+            write_through(
+                w,
+                room,
+                routes.is_empty(),
+                given,
+                |out| write_routes(out, style, routes),
+            )
         }
         Question::Counts(asked) => {
             let routes = routes_asked(alloc, table, asked)?;
-            let mut out = OutputBuffer::new(w, room);
-            let written = write_counts(&mut out, style, routes.as_slice());
-            let written = finish(&mut out, written, false);
-            let _ = out.into_writer();
-            written
+            let routes = routes.as_slice();
+            write_through(
+                w,
+                room,
+                false,
+                given,
+                |out| write_counts(out, style, routes),
+            )
         }
     }
 }
@@ -171,13 +175,6 @@ fn routes_asked(
     ensures { IfOk result (λ routes. routes.items ≡ routes_of_selected asked.now.feeds.now (selected asked.now.selection table.now.routes)) }
 {
     let mut routes = table.select(alloc, &asked.selection)?;
-    keep_selected(&mut routes, asked.feeds);
+    routes.retain(|route| is_selected(asked.feeds, route.feed));
     Ok(routes)
-}
-
-/// Keeps the routes of selected feeds, in order.
-fn keep_selected(routes: &mut Vec<Route>, feeds: &[u32])
-    ensures { routes.new.items ≡ routes_of_selected feeds.now routes.old.items }
-{
-    routes.retain(|route| is_selected(feeds, route.feed));
 }

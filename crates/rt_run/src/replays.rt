@@ -4,9 +4,9 @@ ghost use Rattle.ya_core.specs.ArbitrationTree.{HasShape};
 ghost use Rattle.rt_run.specs.Replayed.{LeavesReplay};
 
 use crate::faults::AppFault;
-use crate::output::finish;
+use crate::output::write_through;
 use crate::status::Status;
-use rt_print::{OutputBuffer, OutputRoom, inside_place, write_replay};
+use rt_print::{OutputRoom, inside_place, write_replay};
 use std::alloc::Global;
 use std::io::Write;
 use ya_core::{ReplayFault, replay};
@@ -33,13 +33,8 @@ pub fn replay_text<W: Write>(
     let Ok(room) = OutputRoom::new(alloc) else {
         return Err(AppFault::Replay(ReplayFault::Memory));
     };
-    let inside = inside_place(steps.as_slice());
-    let mut out = OutputBuffer::new(w, room);
-    let written = write_replay(&mut out, steps.as_slice(), inside);
-    let written = finish(&mut out, written, false);
-    let _ = out.into_writer();
-    match written {
-        Ok(()) => Ok(Status::Done as u8),
-        Err(_) => Err(AppFault::Write),
-    }
+    let steps = steps.as_slice();
+    let inside = inside_place(steps);
+    let done = Status::Done as u8;
+    write_through(w, room, false, done, |out| write_replay(out, steps, inside))
 }

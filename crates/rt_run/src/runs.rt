@@ -5,14 +5,14 @@ ghost use Rattle.rt_rib.specs.Book.{IsLimit};
 ghost use Rattle.std.specs.List.{list_any};
 ghost use Rattle.rt_feed.specs.Reports.{has_refusal, has_fault};
 ghost use Rattle.rt_run.specs.RunText.{IsRunText, WritesOrFails, reports_status};
-ghost use Rattle.rt_run.specs.inside.RunResults.{RunOverBook, RunBeforeSettle};
+ghost use Rattle.rt_run.specs.inside.Runs.{RunOverBook, RunBeforeSettle};
 ghost use Rattle.rt_shared.specs.SharedTable.{ArePassesOf};
 
 use crate::faults::AppFault;
-use crate::output::{finish, write_run};
+use crate::output::{write_run, write_through};
 use crate::tallies::status_where;
 use rt_feed::{Feed, Report, RunFault, TableGate, run_feeds};
-use rt_print::{OutputBuffer, OutputRoom};
+use rt_print::OutputRoom;
 use rt_rib::{Book, MAX_FEEDS, Refused};
 use rt_shared::{FeedPass, SharedRib};
 use std::alloc::{AllocError, Global};
@@ -46,42 +46,36 @@ pub fn run_texts<R: Threads + Wait + Sync, W: Write>(
     if texts.is_empty() {
         return Err(AppFault::Run(RunFault::NoText));
     }
-    let run = run_in_lowest_tree(rt, alloc, texts, limit, batch)?;
-    let routes = run.book.routes(alloc)?;
-    let room = OutputRoom::new(alloc)?;
-    let mut out = OutputBuffer::new(w, room);
-    let reports = run.reports.as_slice();
-    let written = write_run(&mut out, reports, routes.as_slice());
-    let written = finish(&mut out, written, false);
-    let _ = out.into_writer();
-    let status = status_of(reports);
+    let (reports, book) = run_in_lowest_tree(rt, alloc, texts, limit, batch)?;
+    let routes = book.routes(alloc)?;
     // Freeing the table node by node would take a tenth of a run, and the system takes its pages back at once.
-    mem::forget(run.book);
-    match written {
-        Ok(()) => Ok(status),
-        Err(fault) => Err(fault),
-    }
+    mem::forget(book);
+    let room = OutputRoom::new(alloc)?;
+    let reports = reports.as_slice();
+    let routes = routes.as_slice();
+    let status = status_of(reports);
+    write_through(
+        w,
+        room,
+        false,
+        status,
+        |out| write_run(out, reports, routes),
+    )
 }
 
-/// The result of a run: each feed's report, in order, and the book.
-#[derive(Drop)]
-struct FinishedRun {
-    reports: Vec<Report>,
-    book: Book<Global>,
-}
-
-/// Runs the texts over one table behind the lowest lock that has a place for each.
+/// Runs the texts over one table behind the lowest lock that has a place for each. Returns each feed's report, in order, and
+/// the book.
 fn run_in_lowest_tree<R: Threads + Wait + Sync>(
     rt: &R,
     alloc: Global,
     texts: &[Vec<u8>],
     limit: u32,
     batch: usize,
-) -> Result<FinishedRun, Refused>
+) -> Result<(Vec<Report>, Book<Global>), Refused>
     requires limited { IsLimit limit }
     requires few { length texts.now ≤ MAX_FEEDS }
     requires batched { 1 ≤ batch }
-    ensures { IfOk result (λ run. RunOverBook (record { texts = map (λ text. text.items) texts.now; limit = limit; batch = batch }) run.reports.items run.book) }
+    ensures { IfOk result (λ run. RunOverBook (record { texts = map (λ text. text.items) texts.now; limit = limit; batch = batch }) run.0.items run.1) }
 {
     match texts.len() {
         0..=2 => run_in_tree::<_, 1>(rt, alloc, texts, limit, batch),
@@ -100,25 +94,17 @@ fn run_in_tree<R: Threads + Wait + Sync, const L: u32>(
     texts: &[Vec<u8>],
     limit: u32,
     batch: usize,
-) -> Result<FinishedRun, Refused>
+) -> Result<(Vec<Report>, Book<Global>), Refused>
     requires limited { IsLimit limit }
     requires batched { 1 ≤ batch }
     requires levels { (1 ≤ L) × (L ≤ 6) }
     requires placed { length texts.now ≤ 2 ^ L }
     requires fewest { (L ≡ 1) ⊎ (2 ^ L < 2 * length texts.now) }
-    ensures { IfOk result (λ run. RunOverBook (record { texts = map (λ text. text.items) texts.now; limit = limit; batch = batch }) run.reports.items run.book) }
+    ensures { IfOk result (λ run. RunOverBook (record { texts = map (λ text. text.items) texts.now; limit = limit; batch = batch }) run.0.items run.1) }
 {
     let (table, passes) = SharedRib::<L>::new(alloc, limit)?;
-    let JoinedFeeds { passes, reports } = run_passes(rt, alloc, &table, passes, texts, batch)?;
-    let book = table.settle(rt, passes);
-    Ok(FinishedRun { reports, book })
-}
-
-/// The passes of a table and the reports, after all threads were joined.
-#[derive(Drop)]
-struct JoinedFeeds {
-    passes: Vec<FeedPass>,
-    reports: Vec<Report>,
+    let (passes, reports) = run_passes(rt, alloc, &table, passes, texts, batch)?;
+    Ok((reports, table.settle(rt, passes)))
 }
 
 /// Runs the texts, the k-th with the k-th of the table's passes. Returns all passes of the table, and the reports.
@@ -129,12 +115,12 @@ fn run_passes<R: Threads + Wait + Sync, const L: u32>(
     passes: Vec<FeedPass>,
     texts: &[Vec<u8>],
     batch: usize,
-) -> Result<JoinedFeeds, AllocError>
+) -> Result<(Vec<FeedPass>, Vec<Report>), AllocError>
     requires dealt { ArePassesOf table.now passes.items }
     requires fresh { All (λ p. p.seen ≡ []) passes.items }
     requires few { length texts.now ≤ length passes.items }
     requires batched { 1 ≤ batch }
-    ensures { IfOk result (λ joined. RunBeforeSettle (map (λ text. text.items) texts.now) batch table.now joined.passes.items joined.reports.items) }
+    ensures { IfOk result (λ joined. RunBeforeSettle (map (λ text. text.items) texts.now) batch table.now joined.0.items joined.1.items) }
 {
     let mut ended = Vec::with_capacity(alloc, passes.len())?;
     let mut reports = Vec::with_capacity(alloc, texts.len())?;
@@ -146,10 +132,7 @@ fn run_passes<R: Threads + Wait + Sync, const L: u32>(
     };
     close_gates(feeds, &mut ended, &mut reports);
     append_passes(&mut ended, idle);
-    Ok(JoinedFeeds {
-        passes: ended,
-        reports,
-    })
+    Ok((ended, reports))
 }
 
 /// Returns a gate to the table for each pass.

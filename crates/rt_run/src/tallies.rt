@@ -28,7 +28,7 @@ impl RejectedInput {
     ghost use Rattle.rt_feed.specs.Lines.{numbered};
     ghost use Rattle.rt_feed.specs.Addresses.{faulty_lines};
     ghost use Rattle.rt_run.specs.TableText.{tally_of, faults_of};
-    ghost use Rattle.rt_run.specs.inside.Turns.{IsBelow};
+    ghost use Rattle.rt_run.specs.inside.Runs.{IsBelow};
 
     /// Returns the tally of a report without lines.
     pub(crate) fn new() -> RejectedInput
@@ -100,45 +100,44 @@ pub(crate) fn summary_of(tallies: Vec<RejectedInput>) -> RunSummary
     ensures tallies { result.tallies ≡ tallies }
     ensures is_status { result.status ≡ tallies_status tallies.items }
 {
-    let status = status_of(tallies.as_slice());
+    let refused = any_refused(tallies.as_slice());
+    let status = status_where(refused, any_rejected(tallies.as_slice()));
     RunSummary { status, tallies }
+}
+
+/// Returns true if some command ran out of memory.
+fn any_refused(tallies: &[RejectedInput]) -> bool
+    ensures { result ≡ list_any has_refused tallies.now }
+{
+    tallies.iter().any(|tally| tally.has_refused())
+}
+
+/// Returns true if some line was faulty or some `add` was over the limit.
+fn any_rejected(tallies: &[RejectedInput]) -> bool
+    ensures { result ≡ list_any has_rejected tallies.now }
+{
+    tallies.iter().any(|tally| tally.has_rejected())
 }
 
 /// Returns true if an `add` was over the limit.
 fn was_full(answer: Answer) -> bool
     ensures { result ≡ was_full answer }
 {
-    match answer {
-        Answer::Did(Reply::Full) => true,
-        _ => false,
-    }
+    matches!(answer, Answer::Did(Reply::Full))
 }
 
 /// Returns true if the feed of an `add` already had a route to its prefix.
 fn was_existing(answer: Answer) -> bool
     ensures { result ≡ was_existing answer }
 {
-    match answer {
-        Answer::Did(Reply::Exists) => true,
-        _ => false,
-    }
+    matches!(answer, Answer::Did(Reply::Exists))
 }
 
 /// Returns true if the feed of a `replace` or `withdraw` had no route to its prefix.
 fn was_missing(answer: Answer) -> bool
     ensures { result ≡ was_missing answer }
 {
-    match answer {
-        Answer::Did(Reply::Missing) => true,
-        _ => false,
-    }
-}
-
-/// Returns the status of a run with these tallies.
-fn status_of(tallies: &[RejectedInput]) -> u8
-    ensures { result ≡ tallies_status tallies.now }
-{
-    status_where(any_refused(tallies), any_left_out(tallies))
+    matches!(answer, Answer::Did(Reply::Missing))
 }
 
 /// Returns the status: `refused` means that some command ran out of memory, `left_out` that other input was rejected.
@@ -152,16 +151,4 @@ pub(crate) fn status_where(refused: bool, left_out: bool) -> u8
     } else {
         Status::Done as u8
     }
-}
-
-fn any_refused(tallies: &[RejectedInput]) -> bool
-    ensures { result ≡ list_any has_refused tallies.now }
-{
-    tallies.iter().any(|tally| tally.has_refused())
-}
-
-fn any_left_out(tallies: &[RejectedInput]) -> bool
-    ensures { result ≡ list_any has_rejected tallies.now }
-{
-    tallies.iter().any(|tally| tally.has_rejected())
 }

@@ -5,39 +5,23 @@ ghost use Rattle.rt_rib.specs.declared.limits.TheConstants.{MAX_FEEDS};
 ghost use Rattle.rt_rib.specs.Book.{IsLimit, IsFeed, table_state};
 ghost use Rattle.rt_run.specs.ChosenFeeds.{is_left_out, texts_kept};
 ghost use Rattle.rt_run.specs.TableText.{LeavesTable};
-ghost use Rattle.rt_run.specs.inside.Turns.{ExecutesText, ExecutesLine, ExecutesCommand};
+ghost use Rattle.rt_run.specs.inside.Runs.{ExecutesText, ExecutesLine, ExecutesCommand};
 
 use crate::chosen::{ChosenTexts, FeedChoice};
 use crate::tallies::{RejectedInput, RunSummary, summary_of};
 use rt_feed::{Answer, RunFault, Version, next_line, parse_line, text_body};
 use rt_rib::{Cmd, Refused, Table};
 use std::alloc::{AllocError, Global};
-use std::mem;
-
-/// The result of a run for a query: the table that all texts leave, and the summary.
-#[derive(Drop)]
-pub(crate) struct FinishedQuery {
-    pub(crate) table: Table<Global>,
-    pub(crate) summary: RunSummary,
-}
-
-impl FinishedQuery {
-    /// Returns the summary, and leaks the table: freeing it node by node would take a tenth of a run, and the system takes
-    /// its pages back at once.
-    pub(crate) fn into_summary(self) -> RunSummary
-        ensures { result ≡ self.summary }
-    {
-        let FinishedQuery { table, summary } = self;
-        mem::forget(table);
-        summary
-    }
-}
 
 /// Executes the texts one after another over one table, the k-th for feed k, and an empty text for each feed that is left out.
-/// This is one of the runs that threads could have made. Errors: F1 if there is no text; F3 if memory ran out outside of a
-/// command.
-pub(crate) fn run_in_turn(alloc: Global, asked: &ChosenTexts<'_>) -> Result<FinishedQuery, RunFault>
-    ensures ran { IfOk result (λ run. LeavesTable asked.now run.table.routes run.summary) }
+/// This is one of the runs that threads could have made. Returns the table that all texts leave, and the summary. Callers
+/// leak the table: freeing it node by node would take a tenth of a run, and the system takes its pages back at once.
+/// Errors: F1 if there is no text; F3 if memory ran out outside of a command.
+pub(crate) fn run_in_turn(
+    alloc: Global,
+    asked: &ChosenTexts<'_>,
+) -> Result<(Table<Global>, RunSummary), RunFault>
+    ensures ran { IfOk result (λ run. LeavesTable asked.now run.0.routes run.1) }
     ensures refused { result ≢ Err RunFault.FeedCount }
     ensures no_text { (result ≡ Err RunFault.NoText) ↔ (asked.now.texts ≡ []) }
 {
@@ -56,7 +40,7 @@ fn execute_texts(
     texts: &[Vec<u8>],
     limit: u32,
     choice: FeedChoice<'_>,
-) -> Result<FinishedQuery, AllocError>
+) -> Result<(Table<Global>, RunSummary), AllocError>
     requires limited { IsLimit limit }
     requires few { length texts.now ≤ MAX_FEEDS }
     ensures { IfOk result (λ run. (batch : ℕ) → 1 ≤ batch
@@ -64,7 +48,7 @@ fn execute_texts(
           texts = texts_kept (is_left_out choice.entry.only.now choice.entry.without.now) 1 (map (λ text. text.items) texts.now);
           limit = limit;
           batch = batch;
-        }) run.table.routes run.summary) }
+        }) run.0.routes run.1) }
 {
     let mut table = Table::new(alloc, limit);
     let mut tallies = Vec::with_capacity(alloc, texts.len())?;
@@ -74,8 +58,7 @@ fn execute_texts(
         let tally = execute_text(&mut table, feed, kept);
         tallies.push_reserved(tally);
     }
-    let summary = summary_of(tallies);
-    Ok(FinishedQuery { table, summary })
+    Ok((table, summary_of(tallies)))
 }
 
 /// Executes the commands of the feed's text in order, and returns the tally of rejected input.

@@ -1,5 +1,6 @@
--- The effect of an output on its writer, and the text of all routes that cover each address.
-use Rattle.std.specs.Prelude.{◌≡◌, ℕ, ◌<◌, Bool, true, false, List, [], length, Option, Result, Ok, Err}
+-- The effect of an output on its writer, the addresses of a look-up, the text of all routes that cover each address, and the
+-- output of a comparison of two tables.
+use Rattle.std.specs.Prelude.{◌≡◌, ℕ, ◌<◌, Bool, true, false, List, [], length, Option, Result, Ok, Err, ◌++◌, ◌-◌, ◌^◌, max, Some, None}
 use Rattle.std.specs.List.{flat_map}
 use Rattle.std.specs.Io.KnownBytes.{Appends}
 use Rattle.rt_cidr.specs.Output.{AppendsBeginning}
@@ -8,19 +9,72 @@ use Rattle.rt_print.specs.Styles.{StyleContents, label_of, all_found_as}
 use Rattle.rt_run.specs.declared.faults.AppFault.{AppFault}
 use Rattle.rt_run.specs.declared.faults.AppFault.TheVariants.{Run, Replay, Write}
 use Rattle.rt_run.specs.declared.output.AddressMatches.{AddressMatches}
+use Rattle.rt_cidr.specs.declared.address.Addr.{Addr}
+use Rattle.rt_feed.specs.declared.faulty.FaultyLines.{FaultyLines}
+use Rattle.rt_feed.specs.Addresses.{SaysAddresses}
+use Rattle.rt_rib.specs.declared.routes.Route.{Route}
+use Rattle.rt_diff.specs.declared.comparison.Difference.{Difference}
+use Rattle.rt_diff.specs.Answers.{own_numbers}
+use Rattle.rt_diff.specs.Differences.{IsFirstDifference, AreDifferences, Compared}
+use Rattle.rt_diff.specs.inside.Rest.{AreRest}
+use Rattle.rt_diff.proofs.Promised.{differences_of}
+use Rattle.rt_print.specs.DifferenceText.{DiffContents, differences_as}
+use Rattle.rt_run.specs.DiffText.{renumbered_new}
 
 -- for each address, in order, all routes that cover it
 abbrev pub matches_text : StyleContents → List AddressMatches → List ℕ
 matches_text style all = flat_map (λ one. all_found_as style.json (label_of style.labels) one.addr one.routes.items) all
 
--- the text was appended to the writer's contents; or nothing, if memory ran out; or a beginning of the text
-abbrev pub Writes : List ℕ → Option (List ℕ) → Option (List ℕ) → Result (Unit {0}) AppFault → Type 0
-Writes text old new (Ok done) = Appends old new text
-Writes text old new (Err (Run refusal)) = (refusal ≡ fault.Memory) × (new ≡ old)
-Writes text old new (Err (Replay fault)) = ⊥
-Writes text old new (Err Write) = AppendsBeginning old new text
+-- the text was appended to the writer's contents, and this was returned; or nothing was written, if memory ran out; or a
+-- beginning of the text
+abbrev pub Writes : {X : Type 0} → List ℕ → X → Option (List ℕ) → Option (List ℕ) → Result X AppFault → Type 0
+Writes text given old new (Ok done) = (done ≡ given) × Appends old new text
+Writes text given old new (Err (Run refusal)) = (refusal ≡ fault.Memory) × (new ≡ old)
+Writes text given old new (Err (Replay fault)) = ⊥
+Writes text given old new (Err Write) = AppendsBeginning old new text
 
 -- true of an empty text, false of a text with a byte
 abbrev pub IsEmpty : Bool → List ℕ → Type 0
 IsEmpty true text = text ≡ []
 IsEmpty false text = 0 < length text
+
+-- the addresses are the named ones and after them those in the text, and these are the faulty lines of the text
+pub record IsAsked (named : List Addr) (text : List ℕ) (addresses : List Addr) (faulty : FaultyLines) : Type 0 where
+  pub said : List Addr
+  pub says : SaysAddresses text said faulty
+  pub all : addresses ≡ named ++ said
+
+-- the comparison of two tables
+abbrev pub compared_of : DiffContents → List Route → List Route → Compared
+compared_of asked old new = record { by = asked.by; old_table = own_numbers old; new_table = renumbered_new asked new }
+
+-- the first difference of all from an address on
+abbrev pub IsFirstFrom : DiffContents → List Route → List Route → Addr → Option Difference → Type 0
+IsFirstFrom asked old new from first = IsFirstDifference asked.by (own_numbers old) (renumbered_new asked new) from first
+
+-- the first of all differences
+abbrev pub IsFirstOf : DiffContents → List Route → List Route → Option Difference → Type 0
+IsFirstOf asked old new first = IsFirstFrom asked old new (record { 0 = 0 }) first
+
+-- the lines of all differences of the two tables
+abbrev pub lines_of : DiffContents → List Route → List Route → List ℕ
+lines_of asked old new = differences_as asked (differences_of asked.by (own_numbers old) (renumbered_new asked new))
+
+-- the maximum of both runs' statuses and, if there is a difference, of 1
+abbrev pub compared_status : ℕ → ℕ → Option Difference → ℕ
+compared_status old new None = max 0 (max old new)
+compared_status old new (Some d) = max 1 (max old new)
+
+-- the number of addresses from the range on
+abbrev pub addresses_from : Option Difference → ℕ
+addresses_from None = 0
+addresses_from (Some d) = 2 ^ 32 - d.first.0
+
+-- this text is the lines of the differences so far, and this is the next difference
+pub record IsSoFar (asked : DiffContents) (old new : List Route) (next : Option Difference) (text : List ℕ) : Type 0 where
+  pub done : List Difference
+  pub printed : text ≡ differences_as asked done
+  pub from : Addr
+  pub first : IsFirstFrom asked old new from next
+  pub whole : (rest : List Difference) → AreRest asked.by (own_numbers old) (renumbered_new asked new) from.0 rest
+      → AreDifferences asked.by (own_numbers old) (renumbered_new asked new) (done ++ rest)

@@ -1,22 +1,18 @@
 use Rattle.std.proofs.Common.{◌≡◌, ◌++◌, sym, take-append-drop, arith}
-use Rattle.std.proofs.lemmas.Result.{err_from_is_err_and}
 use Rattle.std.proofs.lemmas.Grind.{common_steps}
 use Rattle.rt_cidr.proofs.Promised.{appends_after}
+use Rattle.rt_print.proofs.Promised.{breaks_off}
 use Rattle.rt_run.specs.TableText.{answers_text}
 use Rattle.rt_run.proofs.Answering.{answers_grow, answers_begin}
 use Rattle.rt_run.proofs.output.write_answers.Goals as goal
 
 pub returns-in_err-write_piece : goal.returns-in_err-write_piece
 returns-in_err-write_piece g c =
-    let fault = err_from_is_err_and c.from_residual.result c.from_residual.ensures.1 in
     let cut : c.loop-rest.rest.now ≡ c.split_at.result.0.now ++ c.split_at.result.1.now =
     rw (c.split_at.ensures.front, c.split_at.ensures.back) (sym (take-append-drop c.min.result c.loop-rest.rest.now)) in
-    rw fault.1 (record {
-      ok = tt;
-      err = answers_begin c.args.style.now c.args.table.now.routes c.args.addresses.now
-          c.loop-rest.rest.now c.split_at.result.0.now c.split_at.result.1.now c.loop-rest.invariant.text c.loop-rest.invariant.whole
-          cut _ _ _ c.loop-rest.invariant.written c.in_err-write_piece.ensures.err;
-    })
+    breaks_off _ _ _ _ c.from_residual.ensures.0 (answers_begin c.args.style.now c.args.table.now.routes c.args.addresses.now
+    c.loop-rest.rest.now c.split_at.result.0.now c.split_at.result.1.now c.loop-rest.invariant.text c.loop-rest.invariant.whole
+    cut _ _ _ c.loop-rest.invariant.written c.in_err-write_piece.ensures.err)
 
 pub loop-rest-preserved : goal.loop-rest-preserved
 loop-rest-preserved g c =

@@ -1,13 +1,13 @@
 use Rattle.std.proofs.Common.{[], ◌++◌, ◌+◌, ◌^◌, ◌<◌, ◌≤◌, ◌∙◌, List, Option, None, Some, subst, arith}
-use Rattle.std.proofs.lemmas.Result.{err_from_is_err_and}
 use Rattle.std.specs.Io.KnownBytes.{Appends}
 use Rattle.std.proofs.KnownBytes.{Appends-nil}
 use Rattle.rt_cidr.proofs.Promised.{appends_after}
+use Rattle.rt_print.proofs.Promised.{breaks_off}
 use Rattle.rt_print.specs.DifferenceText.{DiffContents, difference_as}
 use Rattle.rt_rib.specs.declared.routes.Route.{Route}
 use Rattle.rt_diff.specs.declared.comparison.Difference.{Difference}
 use Rattle.rt_diff.specs.Differences.{IsFirstDifference}
-use Rattle.rt_run.specs.inside.Comparisons.{IsFirstFrom, addresses_from}
+use Rattle.rt_run.specs.inside.Outputs.{IsFirstFrom, addresses_from}
 use Rattle.rt_run.proofs.output.write_differences.Given.{Over}
 use Rattle.rt_run.proofs.output.write_differences.Goals.{After-difference_after-next}
 use Rattle.rt_run.proofs.Comparing.{none_so_far, none_left, one_more, all_so_far, stops_there}
@@ -23,14 +23,10 @@ loop-next-init g c = record {
 
 pub returns-in_err-write_difference : goal.returns-in_err-write_difference
 returns-in_err-write_difference g c =
-    let fault = err_from_is_err_and c.from_residual.result c.from_residual.ensures.1 in
     let far = c.loop-next.invariant.far in
     let begun = c.in_err-write_difference.ensures.err in
-    rw fault.1 (record {
-      ok = tt;
-      err = stops_there c.args.options.now c.args.old.now.routes c.args.new.now.routes _ _ _ c.loop-next.invariant.text c.in-Some.difference
-          (rw c.in-Some.is at far) c.loop-next.invariant.written begun;
-    })
+    breaks_off _ _ _ _ c.from_residual.ensures.0 (stops_there c.args.options.now c.args.old.now.routes c.args.new.now.routes _ _ _ c.loop-next.invariant.text c.in-Some.difference
+    (rw c.in-Some.is at far) c.loop-next.invariant.written begun)
 
 -- the next difference of the two tables after a range that was written
 first_behind : (g : Over) (c : After-difference_after-next g)

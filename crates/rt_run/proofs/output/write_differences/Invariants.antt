@@ -1,6 +1,6 @@
 use Rattle.std.proofs.Common.{◌≡◌, ℕ, List}
 use Rattle.std.specs.Io.KnownBytes.{Appends}
-use Rattle.rt_run.specs.inside.Comparisons.{compared_of, IsSoFar, addresses_from}
+use Rattle.rt_run.specs.inside.Outputs.{compared_of, IsSoFar, addresses_from}
 use Rattle.rt_run.proofs.output.write_differences.Given as goal
 
 -- the tables stay, and the lines so far were written

@@ -1,25 +1,13 @@
 use Rattle.std.proofs.Common.{ℕ, List, refl}
-use Rattle.std.proofs.lemmas.Result.{err_from_is_err_and}
 use Rattle.rt_print.specs.Styles.{label_of, all_found_as}
 use Rattle.rt_run.specs.declared.output.AddressMatches.{AddressMatches}
 use Rattle.rt_run.specs.inside.Outputs.{matches_text}
-use Rattle.rt_print.proofs.Promised.{begins_all, appends_next}
+use Rattle.rt_print.proofs.Promised.{stops_all}
 use Rattle.rt_run.proofs.output.write_matches.Goals as goal
 
 pub returns-in_err-write_all_matches : goal.returns-in_err-write_all_matches
 returns-in_err-write_all_matches g c =
-    let fault = err_from_is_err_and c.from_residual.result c.from_residual.ensures.1 in
     let text : AddressMatches → List ℕ = λ one. all_found_as c.args.style.now.json (label_of c.args.style.now.labels) one.addr one.routes.items in
-    rw fault.1 (record {
-      ok = tt;
-      err = begins_all (λ n. text) (λ n. matches_text c.args.style.now) (λ n. refl)
-          (λ n x xs. refl) c.args.all.now c.loop-one.one-index c.one-item.result c.loop-one-test.true c.one-item.is _ _ _
-          c.loop-one.invariant (rw (← c.as_slice.ensures.value) c.in_err-write_all_matches.ensures.err);
-    })
-
-pub loop-one-preserved : goal.loop-one-preserved
-loop-one-preserved g c =
-    let text : AddressMatches → List ℕ = λ one. all_found_as c.args.style.now.json (label_of c.args.style.now.labels) one.addr one.routes.items in
-    appends_next (λ n. text) (λ n. matches_text c.args.style.now) (λ n. refl)
+    stops_all (λ n. text) (λ n. matches_text c.args.style.now) (λ n. refl)
     (λ n x xs. refl) c.args.all.now c.loop-one.one-index c.one-item.result c.loop-one-test.true c.one-item.is _ _ _
-    c.loop-one.invariant (rw (← c.as_slice.ensures.value) c.in_ok-write_all_matches.ensures.ok)
+    c.loop-one.invariant _ c.from_residual.ensures.0 (rw (← c.as_slice.ensures.value) c.in_err-write_all_matches.ensures.err)

@@ -1,19 +1,14 @@
 use Rattle.std.proofs.Common.{refl}
-use Rattle.std.proofs.lemmas.Result.{err_from_is_err_and}
 use Rattle.rt_feed.specs.Printed.{report_text}
 use Rattle.rt_run.specs.RunText.{reports_text}
-use Rattle.rt_print.proofs.Promised.{begins_all, appends_next}
+use Rattle.rt_print.proofs.Promised.{stops_all, appends_next}
 use Rattle.rt_run.proofs.output.write_reports.Goals as goal
 
 pub returns-in_err-write_report : goal.returns-in_err-write_report
 returns-in_err-write_report g c =
-    let fault = err_from_is_err_and c.from_residual.result c.from_residual.ensures.1 in
-    rw fault.1 (record {
-      ok = tt;
-      err = begins_all report_text reports_text (λ n. refl)
-          (λ n x xs. refl) c.args.reports.now c.loop-index.index c.index-reports-index.result c.loop-index-test.true c.index-reports-index.is _ _ _
-          c.loop-index.invariant c.in_err-write_report.ensures.err;
-    })
+    stops_all report_text reports_text (λ n. refl)
+    (λ n x xs. refl) c.args.reports.now c.loop-index.index c.index-reports-index.result c.loop-index-test.true c.index-reports-index.is _ _ _
+    c.loop-index.invariant _ c.from_residual.ensures.0 c.in_err-write_report.ensures.err
 
 pub loop-index-preserved : goal.loop-index-preserved
 loop-index-preserved g c =

@@ -1,6 +1,6 @@
 use Rattle.std.proofs.Common.{length}
 use Rattle.rt_rib.specs.Book.{table_state}
-use Rattle.rt_run.specs.inside.Turns.{IsExecuting}
+use Rattle.rt_run.specs.inside.Runs.{IsExecuting}
 use Rattle.rt_run.proofs.turns.execute_text.Given as goal
 
 -- the lines so far were executed

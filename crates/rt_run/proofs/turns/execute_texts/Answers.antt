@@ -2,7 +2,7 @@ use Rattle.std.proofs.Common.{◌≡◌, ◌+◌, ℕ, Bool, [], map, take, sym,
 use Rattle.std.proofs.lemmas.Grind.{common_steps}
 use Rattle.rt_rib.specs.Book.{table_state}
 use Rattle.rt_run.specs.ChosenFeeds.{is_left_out, texts_kept}
-use Rattle.rt_run.specs.inside.Turns.{LeavesSoFar}
+use Rattle.rt_run.specs.inside.Runs.{LeavesSoFar}
 use Rattle.rt_run.proofs.InTurn.{leaves_nothing, leaves_more, leaves_all, texts_more}
 use Rattle.rt_run.proofs.KeptTexts.{kept_more, kept_count}
 use Rattle.rt_run.proofs.turns.execute_texts.Goals as goal
@@ -39,7 +39,7 @@ pub returns : goal.returns
 returns c = λ batch some.
     let out : ℕ → Bool = is_left_out c.args.choice.only.now c.args.choice.without.now in
     let ended : take c.loop-index.index c.args.texts.now ≡ c.args.texts.now = grind (arith, common_steps) in
-    leaves_all (texts_kept out 1 (map (λ text. text.items) c.args.texts.now)) c.args.limit batch (table_state c.loop-index.table) c.loop-index.tallies.items c.summary_of-summary.result
+    leaves_all (texts_kept out 1 (map (λ text. text.items) c.args.texts.now)) c.args.limit batch (table_state c.loop-index.table) c.loop-index.tallies.items c.summary_of.result
     (subst (λ texts. LeavesSoFar (texts_kept out 1 (map (λ text. text.items) texts)) c.args.limit batch (table_state c.loop-index.table) c.loop-index.tallies.items) ended
     (c.loop-index.invariant.left batch some))
-    (ap (λ v. v.items) c.summary_of-summary.ensures.tallies) c.summary_of-summary.ensures.is_status
+    (ap (λ v. v.items) c.summary_of.ensures.tallies) c.summary_of.ensures.is_status

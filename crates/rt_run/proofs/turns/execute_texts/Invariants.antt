@@ -1,7 +1,7 @@
 use Rattle.std.proofs.Common.{◌≡◌, ℕ, ◌≤◌, length, map, take, vec_len, vec_capacity}
 use Rattle.rt_rib.specs.Book.{table_state}
 use Rattle.rt_run.specs.ChosenFeeds.{is_left_out, texts_kept}
-use Rattle.rt_run.specs.inside.Turns.{LeavesSoFar}
+use Rattle.rt_run.specs.inside.Runs.{LeavesSoFar}
 use Rattle.rt_run.proofs.turns.execute_texts.Given as goal
 
 -- the texts so far were executed, for any batch, and there is capacity for the tallies of the others

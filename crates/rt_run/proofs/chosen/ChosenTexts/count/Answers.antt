@@ -1,5 +1,5 @@
 use Rattle.std.proofs.Common.{length, refl, ap, ◌∙◌}
-use Rattle.rt_run.specs.RunContents.{RunContents}
+use Rattle.rt_run.specs.RunText.{RunContents}
 use Rattle.rt_run.specs.ChosenFeeds.{is_left_out}
 use Rattle.rt_run.proofs.KeptTexts.{count_kept}
 use Rattle.rt_run.proofs.chosen.ChosenTexts.count.Goals as goal

@@ -1,18 +1,36 @@
--- Texts that are executed one after another: the effect of a command, a line, a text and the texts so far.
-use Rattle.std.specs.Prelude.{◌≡◌, ℕ, ◌+◌, ◌<◌, ◌≤◌, List, [], ◌∷◌, ◌++◌, length, map, Option}
+-- The result of a run of feeds before its text is written; and texts that are executed one after another: the effect of a
+-- command, a line, a text and the texts so far.
+use Rattle.std.specs.Prelude.{◌≡◌, ℕ, List, length, ◌+◌, ◌<◌, ◌≤◌, [], ◌∷◌, ◌++◌, map, Option}
+use Rattle.rt_rib.specs.Book.{BookContents, TableState}
+use Rattle.rt_shared.specs.SharedTable.{SharedId, HeldPass, ArePassesOf, Settles}
+use Rattle.rt_feed.specs.declared.report.Line.{Line}
+use Rattle.rt_feed.specs.Lines.{LineOutcome, TextYields, LinesYield, reading, command_answer, line_answer, report_lines, command_of, commands_of}
+use Rattle.rt_run.specs.RunText.{RunContents, IsJournalOfRun, reports_of}
 use Rattle.rt_rib.specs.declared.commands.Cmd.{Cmd}
 use Rattle.rt_rib.specs.declared.commands.Entry.{Entry}
-use Rattle.rt_rib.specs.Book.{TableState}
 use Rattle.rt_rib.specs.Sequential.{table_of_journal, IsLawfulJournal}
 use Rattle.rt_shared.specs.declared.outcome.Outcome.{Outcome}
 use Rattle.rt_shared.specs.JournalVisits.{visit_of, entries}
 use Rattle.rt_feed.specs.declared.report.Answer.{Answer}
 use Rattle.rt_feed.specs.declared.versions.Version.{Version}
 use Rattle.rt_feed.specs.Grammar.{AnswersLine}
-use Rattle.rt_feed.specs.Lines.{LineOutcome, TextYields, LinesYield, reading, command_answer, line_answer, report_lines, command_of, commands_of}
 use Rattle.rt_run.specs.declared.tallies.RejectedInput.{RejectedInput}
-use Rattle.rt_run.specs.RunText.{IsJournalOfRun, reports_of}
 use Rattle.rt_run.specs.TableText.{tally_of}
+
+-- the texts were run to their ends, and these are the reports and the book
+pub record RunOverBook (asked : RunContents) (reports : List (List Line)) (book : BookContents) : Type 0 where
+  pub limited : book.limit ≡ asked.limit
+  pub outcomes : List (List LineOutcome)
+  pub history : IsJournalOfRun asked.texts asked.limit asked.batch book.journal outcomes
+  pub reported : reports ≡ reports_of outcomes
+  pub counted : length reports ≡ length asked.texts
+
+-- the texts were run with passes of the table, which have all been returned, and these are the reports: for every book
+-- to which the table settles, the texts were run to their ends with it
+pub record RunBeforeSettle (texts : List (List ℕ)) (batch : ℕ) (table : SharedId) (passes : List HeldPass) (reports : List (List Line)) : Type 0 where
+  pub back : ArePassesOf table passes
+  pub settled : (book : BookContents) → book.limit ≡ table.limit → Settles table passes book.journal
+      → RunOverBook (record { texts = texts; limit = table.limit; batch = batch }) reports book
 
 -- the feed's commands had these outcomes: to each lawful journal that leaves the old routes their entries may be appended, and
 -- it is still lawful and leaves the new routes

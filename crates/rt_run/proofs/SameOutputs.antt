@@ -1,14 +1,33 @@
--- The output of a comparison doesn't depend on the interleaving of the feeds' visits.
-use Rattle.std.proofs.Common.{◌≡◌, max, List, ap, sym, subst, ◌∙◌}
+-- The answers to questions and the output of a comparison don't depend on the interleaving of the feeds' visits.
+use Rattle.std.proofs.Common.{max, false, List, ◌++◌, ap, sym, subst, ◌∙◌, ◌≡◌}
+use Rattle.std.specs.Prelude.{nat_lt}
+use Rattle.rt_cidr.specs.declared.address.Addr.{Addr}
+use Rattle.rt_feed.specs.declared.faulty.FaultyLines.{FaultyLines}
+use Rattle.rt_feed.specs.Laws.{AddressTextHasOneReading}
+use Rattle.rt_run.specs.RunText.{status_where}
+use Rattle.rt_run.specs.TableText.{question_text, named_in, said_in, IsQueryOutput}
+use Rattle.rt_run.specs.SameTable.{ShowOneTable, AnswerOnce, LeavesUnion, HaveOneUnion, HaveSameTallies, DiffsUnions, DiffOnce}
 use Rattle.rt_rib.specs.declared.routes.Route.{Route}
 use Rattle.rt_diff.specs.Answers.{own_numbers}
 use Rattle.rt_diff.specs.Differences.{AreDifferences}
 use Rattle.rt_diff.specs.Laws.{HaveOneList}
 use Rattle.rt_print.specs.DifferenceText.{differences_as}
-use Rattle.rt_run.specs.SameTable.{LeavesUnion, HaveOneUnion, HaveSameTallies}
 use Rattle.rt_run.specs.DiffText.{renumbered_new, differ_status}
-use Rattle.rt_run.specs.SameDiff.{DiffsUnions, DiffOnce}
 use Rattle.rt_run.proofs.SameTables.{left_union, union_of_same, say_the_same}
+
+pub answers_are_deterministic : ShowOneTable → AddressTextHasOneReading → AnswerOnce
+answers_are_deterministic shows once one one' style question bytes bytes' given given' same is is' not not' =
+    let text_of = λ (said : List Addr). question_text style question (named_in question ++ said) in
+    let read = once (said_in question) is.said is'.said given.faulty given'.faulty is.says is'.says in
+    let also = subst (λ (said : List Addr). IsQueryOutput one' (text_of said) bytes' given'.run) (sym read.0) is'.shown in
+    let both = shows one one' (text_of is.said) bytes bytes' given.run given'.run same is.shown also not not' in (
+      both.0,
+      is.is_status
+          ∙ (ap (λ (faulty : FaultyLines). max (status_where false (nat_lt 0 faulty.count)) given.run.status) read.1
+          ∙ (ap (max (status_where false (nat_lt 0 given'.faulty.count))) both.1.0 ∙ sym is'.is_status)),
+      read.1,
+      both.1,
+    )
 
 pub diffs_unions : LeavesUnion → DiffsUnions
 diffs_unions leaves asked old new bytes given is old_not new_not = record {

@@ -1,7 +1,0 @@
-use Rattle.std.proofs.Common.{rules}
-use Rattle.std.proofs.lemmas.Fn.{filter_same}
-use Rattle.rt_run.specs.ChosenFeeds.{is_selected}
-use Rattle.rt_run.proofs.queries.keep_selected.Goals as goal
-
-pub returns : goal.returns
-returns c = filter_same _ (λ r. is_selected c.args.feeds.now r.feed) _ (λ x b f' k. search rules) _ _ c.retain.ensures.filtered
