@@ -1,29 +1,30 @@
 //! The command line: its arguments are parsed into a request.
 //!
-//! [`read`] returns a [`Request`], or the text of a help or of an error. Its type says that limit and batch are at least
-//! 1, and that the limit is at most [`MAX_ROUTES_PER_FEED`]. Everything else is only tested.
+//! [`Arguments::parse`] returns the arguments, or the text of a help or of an error. Their [`Request`] borrows from them.
+//! Its type says that limit and batch are at least 1, and that the limit is at most [`MAX_ROUTES_PER_FEED`]. Everything
+//! else is only tested.
 //!
 //! ```
-//! match read(alloc, words)? {
-//!     Request::Replay(request) => replay(request.levels, request.picks.as_slice()),
+//! let arguments = Arguments::parse(alloc, words)?;
+//! match arguments.request()? {
+//!     Request::Run(request) => run(request.files, request.limit),
 //!     ..
 //! }
 //! ```
 #![tactic(auto)]
 
 mod after_help;
+mod commands;
 mod limits;
 
 ghost use Rattle.std.specs.Prelude.{◌≤◌};
 ghost use Rattle.command_line.specs.declared.limits.TheConstants.{MAX_ROUTES_PER_FEED};
 
-use after_help::{DIFF_NOTES, LOOKUP_NOTES, REPLAY_NOTES, RUN_NOTES, TABLE_NOTES};
-use clap::builder::ValueParser;
 use clap::error::ErrorKind;
-use clap::{Arg, ArgAction, ArgMatches, Command, Error};
-use limits::{DEFAULT_LIMIT, DEFAULT_QUERY_BATCH, DEFAULT_RUN_BATCH, UNSEEN_ROUTES, limits};
+use clap::{ArgMatches, Error};
+use commands::program;
 pub use limits::{MAX_BATCH, MAX_FEED_FILES, MAX_ROUTES_PER_FEED};
-use std::alloc::{AllocError, AllocFailed, Global};
+use std::alloc::{AllocError, Global};
 
 /// The value of `--by` for next hops, the default.
 const HOP: &str = "hop";
@@ -31,14 +32,14 @@ const HOP: &str = "hop";
 /// The value of `--by` for whole routes.
 const ROUTE: &str = "route";
 
-/// The values of `--by`.
-const COMPARED: &[&str] = &[HOP, ROUTE];
-
-/// The help of `--without`.
-const LEFT_OUT: &str = "Leave out feed F, a number or a name; may be given more than once";
-
-/// A parsed command line: one variant for each command.
+/// The arguments of the program, parsed.
 #[derive(Drop)]
+pub struct Arguments<'a> {
+    matches: ArgMatches<'a>,
+}
+
+/// What the arguments ask for: one variant for each command.
+#[derive(Clone, Copy)]
 pub enum Request<'a> {
     /// Run feed files.
     Run(RunRequest<'a>),
@@ -49,60 +50,53 @@ pub enum Request<'a> {
     /// List the addresses for which the tables of two sets of feed files differ.
     Diff(DiffRequest<'a>),
     /// Print the steps of one schedule of the lock.
-    Replay(ReplayRequest),
+    Replay(ReplayRequest<'a>),
 }
 
 /// The feed files to run, with limit and batch.
-#[derive(Drop)]
+#[derive(Clone, Copy)]
 pub struct RunRequest<'a> {
     /// Maximum number of routes per feed, 1 to [`MAX_ROUTES_PER_FEED`].
     pub limit: u32,
     /// Maximum number of commands of a feed that are executed together, 1 to [`MAX_BATCH`].
     pub batch: u32,
     /// The names of the feed files, one or more.
-    pub files: Vec<&'a str>,
+    pub files: &'a [&'a str],
     pub ghost some_routes: { 1 ≤ limit },
     pub ghost few_routes: { limit ≤ MAX_ROUTES_PER_FEED },
     pub ghost batched: { 1 ≤ batch },
 }
 
-/// The output options of `lookup`, `table` and `diff`.
-#[derive(Clone, Copy)]
-pub struct OutputOptions {
-    /// Print a feed's name instead of its number.
-    pub names: bool,
-    /// Print JSON objects instead of plain lines.
-    pub json: bool,
-}
-
 /// Feeds that the command line identifies, each by its number or its name, not yet resolved.
-#[derive(Drop)]
+#[derive(Clone, Copy)]
 pub struct NamedFeeds<'a> {
     /// The selected feeds; if there are none, every feed is selected.
-    pub only: Vec<&'a str>,
+    pub only: &'a [&'a str],
     /// The feeds that are left out.
-    pub without: Vec<&'a str>,
+    pub without: &'a [&'a str],
 }
 
 /// The addresses to look up, and the feed files.
-#[derive(Drop)]
+#[derive(Clone, Copy)]
 pub struct LookupRequest<'a> {
     /// The feed files.
     pub run: RunRequest<'a>,
     /// The feeds that are executed.
     pub feeds: NamedFeeds<'a>,
     /// The arguments of `--address`, not yet parsed.
-    pub addresses: Vec<&'a str>,
+    pub addresses: &'a [&'a str],
     /// The name of the file with further addresses.
     pub more: Option<&'a str>,
     /// Print every route that covers an address.
     pub all: bool,
-    /// The output options.
-    pub telling: OutputOptions,
+    /// Print a feed's name instead of its number.
+    pub names: bool,
+    /// Print JSON objects instead of plain lines.
+    pub json: bool,
 }
 
 /// The routes to list, and the feed files.
-#[derive(Drop)]
+#[derive(Clone, Copy)]
 pub struct TableRequest<'a> {
     /// The feed files.
     pub run: RunRequest<'a>,
@@ -114,8 +108,10 @@ pub struct TableRequest<'a> {
     pub part: PrefixFilterArg<'a>,
     /// Print the number of routes instead of the routes.
     pub count: bool,
-    /// The output options.
-    pub telling: OutputOptions,
+    /// Print a feed's name instead of its number.
+    pub names: bool,
+    /// Print JSON objects instead of plain lines.
+    pub json: bool,
 }
 
 /// A filter on prefixes, with its argument not yet parsed.
@@ -132,20 +128,22 @@ pub enum PrefixFilterArg<'a> {
 }
 
 /// The two sets of feed files to compare.
-#[derive(Drop)]
+#[derive(Clone, Copy)]
 pub struct DiffRequest<'a> {
     /// The old feed files, and the limit and the batch of both runs.
     pub run: RunRequest<'a>,
     /// The old feeds that are executed.
     pub old_feeds: NamedFeeds<'a>,
     /// The names of the new feed files.
-    pub new_files: Vec<&'a str>,
+    pub new_files: &'a [&'a str],
     /// The new feeds that are executed.
     pub new_feeds: NamedFeeds<'a>,
     /// The part of an answer that is compared.
     pub by: ComparedBy,
-    /// The output options. With `names`, feeds with the same name on both sides count as the same feed.
-    pub telling: OutputOptions,
+    /// Print a feed's name instead of its number. Feeds with the same name on both sides then count as the same feed.
+    pub names: bool,
+    /// Print JSON objects instead of plain lines.
+    pub json: bool,
 }
 
 /// The part of an answer that `diff` compares.
@@ -158,58 +156,57 @@ pub enum ComparedBy {
 }
 
 /// The schedule to replay.
-#[derive(Drop)]
-pub struct ReplayRequest {
+#[derive(Clone, Copy)]
+pub struct ReplayRequest<'a> {
     /// The number of levels of the tree.
     pub levels: u32,
-    /// The place that takes each step.
-    pub picks: Vec<u32>,
+    /// The places that take the steps, not yet parsed.
+    picks: &'a [&'a str],
 }
 
-/// The reason why `read` returns no request.
+/// The reason why there are no arguments.
 #[derive(Drop)]
 pub enum Refusal {
     /// Help or the version was requested: its text.
     Shown(String),
     /// The command line is invalid: the error's text.
     Usage(String),
+    /// Out of memory.
+    Memory,
+}
+
+/// The reason why arguments are no request.
+#[derive(Clone, Copy)]
+pub enum RequestFault {
     /// More than one of `--within`, `--covering` and `--exact` was given.
     ConflictingFilters,
     /// `clap` accepted arguments that this crate doesn't expect. This would be a bug of this crate; no such arguments are
     /// known.
     Unknown,
-    /// Out of memory.
-    Memory,
 }
 
-impl From<AllocError> for Refusal {
-    fn from(_error: AllocError) -> Refusal {
-        Refusal::Memory
+impl<'a> Arguments<'a> {
+    /// Parses a command line, whose first word is the program's name.
+    pub fn parse(alloc: Global, words: &'a [String]) -> Result<Arguments<'a>, Refusal> {
+        match program(alloc) {
+            Ok(program) => match program.try_get_matches_from(words) {
+                Ok(matches) => Ok(Arguments { matches }),
+                Err(error) => Err(refusal_of(alloc, &error)),
+            },
+            Err(_) => Err(Refusal::Memory),
+        }
     }
-}
 
-impl<T: Drop> From<AllocFailed<T>> for Refusal {
-    fn from(_error: AllocFailed<T>) -> Refusal {
-        Refusal::Memory
-    }
-}
-
-/// Parses a command line, whose first word is the program's name.
-pub fn read<'a>(alloc: Global, words: &'a [String]) -> Result<Request<'a>, Refusal> {
-    match program(alloc)?.try_get_matches_from(words) {
-        Ok(matches) => request_of(alloc, &matches),
-        Err(error) => Err(refusal_of(alloc, &error)),
-    }
-}
-
-fn request_of<'a>(alloc: Global, matches: &ArgMatches<'a>) -> Result<Request<'a>, Refusal> {
-    match matches.subcommand() {
-        Some(("replay", matches)) => replay_request(alloc, matches),
-        Some(("lookup", matches)) => lookup_request(alloc, matches),
-        Some(("table", matches)) => table_request(alloc, matches),
-        Some(("diff", matches)) => diff_request(alloc, matches),
-        Some(("run", matches)) => Ok(Request::Run(run_request(alloc, matches)?)),
-        Some(_) | None => Err(Refusal::Unknown),
+    /// Returns what the arguments ask for.
+    pub fn request(&self) -> Result<Request<'_>, RequestFault> {
+        match self.matches.subcommand() {
+            Some(("run", matches)) => run_request(matches).map(Request::Run),
+            Some(("lookup", matches)) => lookup_request(matches),
+            Some(("table", matches)) => table_request(matches),
+            Some(("diff", matches)) => diff_request(matches),
+            Some(("replay", matches)) => replay_request(matches),
+            Some(_) | None => Err(RequestFault::Unknown),
+        }
     }
 }
 
@@ -224,348 +221,32 @@ fn refusal_of(alloc: Global, error: &Error) -> Refusal {
     }
 }
 
-/// A command: its name, its help texts and its parameters, in the order of the help.
-struct Subcommand {
-    name: &'static str,
-    about: &'static str,
-    notes: &'static str,
-    parameters: &'static [Parameter],
-}
-
-/// The commands, in the order of the help.
-const SUBCOMMANDS: &[Subcommand] = &[
-    Subcommand {
-        name: "run",
-        about: "Run feed files and print the reply to each command and the final table",
-        notes: RUN_NOTES,
-        parameters: &[
-            Parameter::Limit(DEFAULT_LIMIT),
-            Parameter::Batch,
-            Parameter::Files,
-        ],
-    },
-    Subcommand {
-        name: "lookup",
-        about: "Run feed files and print the route that the final table has for each address",
-        notes: LOOKUP_NOTES,
-        parameters: &[
-            Parameter::All,
-            Parameter::Feeds(
-                "feed",
-                "Execute only feed F, a number or a name; may be given more than once",
-            ),
-            Parameter::Feeds("without", LEFT_OUT),
-            Parameter::Names,
-            Parameter::Json,
-            Parameter::Limit(UNSEEN_ROUTES),
-            Parameter::UnusedBatch,
-            Parameter::Address,
-            Parameter::Addresses,
-            Parameter::Files,
-        ],
-    },
-    Subcommand {
-        name: "table",
-        about: "Run feed files and print the routes of the final table",
-        notes: TABLE_NOTES,
-        parameters: &[
-            Parameter::Within,
-            Parameter::Covering,
-            Parameter::Exact,
-            Parameter::Feeds(
-                "feed",
-                "Print only routes of feed F, a number or a name; may be given more than once",
-            ),
-            Parameter::Feeds("without", LEFT_OUT),
-            Parameter::Best,
-            Parameter::Count,
-            Parameter::Names,
-            Parameter::Json,
-            Parameter::Limit(UNSEEN_ROUTES),
-            Parameter::UnusedBatch,
-            Parameter::Files,
-        ],
-    },
-    Subcommand {
-        name: "diff",
-        about: "Run two sets of feed files and print the addresses for which their tables differ",
-        notes: DIFF_NOTES,
-        parameters: &[
-            Parameter::By,
-            Parameter::Feeds(
-                "old-feed",
-                "Execute only old feed F; may be given more than once",
-            ),
-            Parameter::Feeds(
-                "old-without",
-                "Leave out old feed F; may be given more than once",
-            ),
-            Parameter::Feeds(
-                "new-feed",
-                "Execute only new feed F; may be given more than once",
-            ),
-            Parameter::Feeds(
-                "new-without",
-                "Leave out new feed F; may be given more than once",
-            ),
-            Parameter::Names,
-            Parameter::Json,
-            Parameter::Limit(UNSEEN_ROUTES),
-            Parameter::UnusedBatch,
-            Parameter::OldFiles,
-            Parameter::NewFiles,
-        ],
-    },
-    Subcommand {
-        name: "replay",
-        about: "Print the atomic steps of the lock for one schedule, one per line",
-        notes: REPLAY_NOTES,
-        parameters: &[Parameter::Levels, Parameter::Picks],
-    },
-];
-
-impl Subcommand {
-    /// Returns the command for `clap`. The parameters are added by one call, because at each early exit the prover goes
-    /// through everything that is dropped.
-    fn command<'a>(&self, alloc: Global) -> Result<Command<'a>, AllocError> {
-        let parameters = self.parameters.iter();
-        let args = parameters
-            .map(|parameter| parameter.arg(alloc))
-            .collect(alloc)?;
-        Command::new(alloc, self.name)
-            .about(self.about)
-            .after_help(self.notes)
-            .args(args)
-    }
-}
-
-/// An option or argument of a command.
-enum Parameter {
-    All,
-    Address,
-    Addresses,
-    Within,
-    Covering,
-    Exact,
-    /// An option that identifies feeds, with its name and help.
-    Feeds(&'static str, &'static str),
-    Best,
-    Count,
-    By,
-    Names,
-    Json,
-    /// With the default.
-    Limit(&'static str),
-    Batch,
-    /// The same option where it has no effect.
-    UnusedBatch,
-    Files,
-    OldFiles,
-    NewFiles,
-    Levels,
-    Picks,
-}
-
-impl Parameter {
-    fn arg<'a>(&self, alloc: Global) -> Arg<'a> {
-        match self {
-            Parameter::All => flag(
-                alloc,
-                "all",
-                "Print every route that covers an address, the best first",
-            ),
-            Parameter::Address => address(alloc),
-            Parameter::Addresses => addresses(alloc),
-            Parameter::Within => part(
-                alloc,
-                "within",
-                "Print only routes to PREFIX and to longer prefixes inside it",
-            ),
-            Parameter::Covering => part(
-                alloc,
-                "covering",
-                "Print only routes to PREFIX and to shorter prefixes that contain it",
-            ),
-            Parameter::Exact => part(alloc, "exact", "Print only routes to PREFIX"),
-            Parameter::Feeds(name, help) => feeds(alloc, name, help),
-            Parameter::Best => flag(alloc, "best", "Print only the best route of each prefix"),
-            Parameter::Count => flag(
-                alloc,
-                "count",
-                "Print the number of routes instead: in all, per feed and per length",
-            ),
-            Parameter::By => by(alloc),
-            Parameter::Names => flag(
-                alloc,
-                "names",
-                "Print feed names (FILE without directory and .feed) instead of numbers",
-            ),
-            Parameter::Json => flag(alloc, "json", "Print JSON, one object per line"),
-            Parameter::Limit(unless_given) => limit(alloc, unless_given),
-            Parameter::Batch => {
-                let help =
-                    limits!(text "Execute up to K commands of a feed together, 1 to " most_at_once);
-                batch(alloc, help, DEFAULT_RUN_BATCH)
-            }
-            Parameter::UnusedBatch => {
-                let help = limits!(text "No effect here (an option of run), 1 to " most_at_once);
-                batch(alloc, help, DEFAULT_QUERY_BATCH)
-            }
-            Parameter::Files => files(alloc),
-            Parameter::OldFiles => old_files(alloc),
-            Parameter::NewFiles => new_files(alloc),
-            Parameter::Levels => levels(alloc),
-            Parameter::Picks => picks(alloc),
-        }
-    }
-}
-
-fn program<'a>(alloc: Global) -> Result<Command<'a>, AllocError> {
-    let mut program = bare_program(alloc);
-    for subcommand in SUBCOMMANDS {
-        program = program.subcommand(subcommand.command(alloc)?)?;
-    }
-    Ok(program)
-}
-
-/// Returns the program without its commands.
-fn bare_program<'a>(alloc: Global) -> Command<'a> {
-    Command::new(alloc, "yarib")
-        .version("0.1.0")
-        .about("An IPv4 routing table with proved answers")
-        .subcommand_required(true)
-        .arg_required_else_help(true)
-}
-
-fn address<'a>(alloc: Global) -> Arg<'a> {
-    option(
-        alloc,
-        "address",
-        "Address to look up; may be given more than once",
-    )
-    .value_name("ADDR")
-    .action(ArgAction::Append)
-}
-
-fn addresses<'a>(alloc: Global) -> Arg<'a> {
-    let help = "File with further addresses, one per line";
-    option(alloc, "addresses", help).value_name("FILE")
-}
-
-/// Returns an option without a value.
-fn flag<'a>(alloc: Global, name: &'a str, help: &'a str) -> Arg<'a> {
-    option(alloc, name, help).action(ArgAction::SetTrue)
-}
-
-/// Returns an option whose value is a prefix.
-fn part<'a>(alloc: Global, name: &'a str, help: &'a str) -> Arg<'a> {
-    option(alloc, name, help).value_name("PREFIX")
-}
-
-/// Returns an option that identifies a feed, and may be given more than once.
-fn feeds<'a>(alloc: Global, name: &'a str, help: &'a str) -> Arg<'a> {
-    option(alloc, name, help)
-        .value_name("F")
-        .action(ArgAction::Append)
-}
-
-fn by<'a>(alloc: Global) -> Arg<'a> {
-    let help = "Compare next hops, or whole routes";
-    option(alloc, "by", help)
-        .value_name("WHAT")
-        .value_parser(ValueParser::Names(COMPARED))
-        .default_value(HOP)
-}
-
-fn limit<'a>(alloc: Global, unless_given: &'a str) -> Arg<'a> {
-    let help = limits!(text "Maximum number of routes per feed, 1 to " most_routes);
-    number(alloc, "limit", "K", 1, u64::from(MAX_ROUTES_PER_FEED), help).default_value(unless_given)
-}
-
-fn batch<'a>(alloc: Global, help: &'a str, unless_given: &'a str) -> Arg<'a> {
-    number(alloc, "batch", "K", 1, u64::from(MAX_BATCH), help).default_value(unless_given)
-}
-
-fn files<'a>(alloc: Global) -> Arg<'a> {
-    let help =
-        limits!(text "Feed files, 1 to " most_files ": one command per line; /dev/stdin may be one");
-    file_names(alloc, "files", "FILE", help)
-}
-
-fn old_files<'a>(alloc: Global) -> Arg<'a> {
-    let help = limits!(text "The old feed files, 1 to " most_files);
-    file_names(alloc, "files", "OLD", help)
-}
-
-fn new_files<'a>(alloc: Global) -> Arg<'a> {
-    let help = limits!(text "The new feed files, 1 to " most_files);
-    file_names(alloc, "new", "NEW", help).last(true)
-}
-
-fn levels<'a>(alloc: Global) -> Arg<'a> {
-    let help = "Number of levels of the tree, 1 to 6";
-    number(alloc, "levels", "L", 0, 255, help).required(true)
-}
-
-fn picks<'a>(alloc: Global) -> Arg<'a> {
-    Arg::new(alloc, "picks")
-        .value_name("PICK")
-        .num_args(0..)
-        .value_parser(ValueParser::unsigned(0, 255))
-        .help("The place that takes the next step")
-}
-
-/// Returns an option with this long name.
-fn option<'a>(alloc: Global, name: &'a str, help: &'a str) -> Arg<'a> {
-    Arg::new(alloc, name).long(name).help(help)
-}
-
-/// Returns an option whose value is a number from `least` to `most`.
-fn number<'a>(
-    alloc: Global,
-    name: &'a str,
-    value_name: &'a str,
-    least: u64,
-    most: u64,
-    help: &'a str,
-) -> Arg<'a> {
-    option(alloc, name, help)
-        .value_name(value_name)
-        .value_parser(ValueParser::unsigned(least, most))
-}
-
-/// Returns an argument of one or more file names.
-fn file_names<'a>(alloc: Global, name: &'a str, value_name: &'a str, help: &'a str) -> Arg<'a> {
-    Arg::new(alloc, name)
-        .value_name(value_name)
-        .required(true)
-        .num_args(1..)
-        .help(help)
-}
-
-fn lookup_request<'a>(alloc: Global, matches: &ArgMatches<'a>) -> Result<Request<'a>, Refusal> {
+fn lookup_request<'a>(matches: &'a ArgMatches<'_>) -> Result<Request<'a>, RequestFault> {
     Ok(Request::Lookup(LookupRequest {
-        run: run_request(alloc, matches)?,
-        feeds: feeds_of(alloc, matches, "feed", "without")?,
-        addresses: texts_of(alloc, matches, "address")?,
+        run: run_request(matches)?,
+        feeds: feeds_of(matches, "feed", "without"),
+        addresses: texts_of(matches, "address"),
         more: matches.get_str("addresses"),
         all: matches.get_flag("all"),
-        telling: output_options_of(matches),
+        names: matches.get_flag("names"),
+        json: matches.get_flag("json"),
     }))
 }
 
-fn table_request<'a>(alloc: Global, matches: &ArgMatches<'a>) -> Result<Request<'a>, Refusal> {
+fn table_request<'a>(matches: &'a ArgMatches<'_>) -> Result<Request<'a>, RequestFault> {
+    let part = part_of(matches)?;
     Ok(Request::Table(TableRequest {
-        run: run_request(alloc, matches)?,
-        feeds: feeds_of(alloc, matches, "feed", "without")?,
+        run: run_request(matches)?,
+        feeds: feeds_of(matches, "feed", "without"),
         only_best: matches.get_flag("best"),
-        part: part_of(matches)?,
+        part,
         count: matches.get_flag("count"),
-        telling: output_options_of(matches),
+        names: matches.get_flag("names"),
+        json: matches.get_flag("json"),
     }))
 }
 
-fn part_of<'a>(matches: &ArgMatches<'a>) -> Result<PrefixFilterArg<'a>, Refusal> {
+fn part_of<'a>(matches: &'a ArgMatches<'_>) -> Result<PrefixFilterArg<'a>, RequestFault> {
     let within = matches.get_str("within");
     let covering = matches.get_str("covering");
     match (within, covering, matches.get_str("exact")) {
@@ -573,69 +254,52 @@ fn part_of<'a>(matches: &ArgMatches<'a>) -> Result<PrefixFilterArg<'a>, Refusal>
         (Some(prefix), None, None) => Ok(PrefixFilterArg::Within(prefix)),
         (None, Some(prefix), None) => Ok(PrefixFilterArg::Covering(prefix)),
         (None, None, Some(prefix)) => Ok(PrefixFilterArg::Exact(prefix)),
-        _ => Err(Refusal::ConflictingFilters),
+        _ => Err(RequestFault::ConflictingFilters),
     }
 }
 
-fn output_options_of(matches: &ArgMatches<'_>) -> OutputOptions {
-    OutputOptions {
-        names: matches.get_flag("names"),
-        json: matches.get_flag("json"),
-    }
-}
-
-fn diff_request<'a>(alloc: Global, matches: &ArgMatches<'a>) -> Result<Request<'a>, Refusal> {
+fn diff_request<'a>(matches: &'a ArgMatches<'_>) -> Result<Request<'a>, RequestFault> {
     let by = compared_by(matches)?;
     Ok(Request::Diff(DiffRequest {
-        run: run_request(alloc, matches)?,
-        old_feeds: feeds_of(alloc, matches, "old-feed", "old-without")?,
-        new_files: texts_of(alloc, matches, "new")?,
-        new_feeds: feeds_of(alloc, matches, "new-feed", "new-without")?,
+        run: run_request(matches)?,
+        old_feeds: feeds_of(matches, "old-feed", "old-without"),
+        new_files: texts_of(matches, "new"),
+        new_feeds: feeds_of(matches, "new-feed", "new-without"),
         by,
-        telling: output_options_of(matches),
+        names: matches.get_flag("names"),
+        json: matches.get_flag("json"),
     }))
 }
 
-fn compared_by(matches: &ArgMatches<'_>) -> Result<ComparedBy, Refusal> {
+fn compared_by(matches: &ArgMatches<'_>) -> Result<ComparedBy, RequestFault> {
     match matches.get_str("by") {
         Some(HOP) => Ok(ComparedBy::Hop),
         Some(ROUTE) => Ok(ComparedBy::Route),
-        Some(_) | None => Err(Refusal::Unknown),
+        Some(_) | None => Err(RequestFault::Unknown),
     }
 }
 
 /// Returns the values of the argument, in order.
-fn texts_of<'a>(
-    alloc: Global,
-    matches: &ArgMatches<'a>,
-    name: &str,
-) -> Result<Vec<&'a str>, AllocError> {
-    match matches.get_strs(name) {
-        Some(given) => given.to_vec(alloc),
-        None => Ok(Vec::new(alloc)),
-    }
+fn texts_of<'a>(matches: &'a ArgMatches<'_>, name: &str) -> &'a [&'a str] {
+    matches.get_strs(name).unwrap_or(&[])
 }
 
 /// Returns the feeds that two options identify: the selected ones, and those that are left out.
-fn feeds_of<'a>(
-    alloc: Global,
-    matches: &ArgMatches<'a>,
-    only: &str,
-    without: &str,
-) -> Result<NamedFeeds<'a>, AllocError> {
-    let only = texts_of(alloc, matches, only)?;
-    let without = texts_of(alloc, matches, without)?;
-    Ok(NamedFeeds { only, without })
+fn feeds_of<'a>(matches: &'a ArgMatches<'_>, only: &str, without: &str) -> NamedFeeds<'a> {
+    NamedFeeds {
+        only: texts_of(matches, only),
+        without: texts_of(matches, without),
+    }
 }
 
 /// Returns the feed files, the limit and the batch, whose bounds `clap` has checked.
-fn run_request<'a>(alloc: Global, matches: &ArgMatches<'a>) -> Result<RunRequest<'a>, Refusal> {
+fn run_request<'a>(matches: &'a ArgMatches<'_>) -> Result<RunRequest<'a>, RequestFault> {
     let limit = number_of(matches, "limit")?;
     let batch = number_of(matches, "batch")?;
     if limit < 1 || limit > MAX_ROUTES_PER_FEED || batch < 1 {
-        return Err(Refusal::Unknown);
+        return Err(RequestFault::Unknown);
     }
-    let files = texts_of(alloc, matches, "files")?;
+    let files = texts_of(matches, "files");
     Ok(RunRequest {
         limit,
         batch,
@@ -644,26 +308,27 @@ fn run_request<'a>(alloc: Global, matches: &ArgMatches<'a>) -> Result<RunRequest
 }
 
 /// Returns the number that was given for the option, or its default.
-fn number_of(matches: &ArgMatches<'_>, name: &str) -> Result<u32, Refusal> {
-    matches.get_one::<u32>(name).ok_or(Refusal::Unknown)
+fn number_of(matches: &ArgMatches<'_>, name: &str) -> Result<u32, RequestFault> {
+    matches.get_one::<u32>(name).ok_or(RequestFault::Unknown)
 }
 
-fn replay_request<'a>(alloc: Global, matches: &ArgMatches<'_>) -> Result<Request<'a>, Refusal> {
+fn replay_request<'a>(matches: &'a ArgMatches<'_>) -> Result<Request<'a>, RequestFault> {
     let levels = number_of(matches, "levels")?;
-    let picks = picked(alloc, matches)?;
+    let picks = texts_of(matches, "picks");
     Ok(Request::Replay(ReplayRequest { levels, picks }))
 }
 
-/// Returns the picked places, in order. `clap` has checked that each text is a number.
-fn picked(alloc: Global, matches: &ArgMatches<'_>) -> Result<Vec<u32>, Refusal> {
-    let mut picks = Vec::new(alloc);
-    if let Some(texts) = matches.get_strs("picks") {
-        for text in texts {
+impl ReplayRequest<'_> {
+    /// Returns the place that takes each step, in order; `None` for a text that isn't a number, which `clap` has checked.
+    /// Fails only if memory runs out.
+    pub fn picks(&self, alloc: Global) -> Result<Option<Vec<u32>>, AllocError> {
+        let mut picks = Vec::new(alloc);
+        for text in self.picks {
             let Ok(pick) = text.parse() else {
-                return Err(Refusal::Unknown);
+                return Ok(None);
             };
             picks.push(pick)?;
         }
+        Ok(Some(picks))
     }
-    Ok(picks)
 }

@@ -26,7 +26,10 @@ fn main(rt: HostRuntime) -> ExitCode {
     let (mut out, mut err) = (io::writer(&stdout), io::writer(&stderr));
     let words = match read_words(&rt, alloc) {
         Ok(words) => words,
-        Err(fault) => return ExitCode::from(ProgramError::of_words(&fault).end(&mut err)),
+        Err(fault) => {
+            let error = ProgramError::of_system(&fault, ProgramError::NotUtf8);
+            return ExitCode::from(error.end(&mut err));
+        }
     };
     let words = words.as_slice();
     if !stderr.is_terminal() {

@@ -11,7 +11,8 @@ mod warnings;
 ghost use Rattle.std.specs.Prelude.{◌≡◌, ◌≤◌, length, vec_len, IfOk};
 ghost use Rattle.rt_rib.specs.declared.limits.TheConstants.{MAX_FEEDS};
 
-use command_line::{Refusal, ReplayRequest, Request, RunRequest};
+use command_line::{Arguments, Refusal, ReplayRequest, Request, RequestFault, RunRequest};
+use feed_choice::FeedFiles;
 use program_error::NO_MEMORY;
 pub(crate) use program_error::ProgramError;
 use rt_cidr::put;
@@ -62,9 +63,9 @@ where
     E: Write,
 {
     let mut program = Program::new(rt, alloc, line, out, err);
-    let status = match program.carry_out(words) {
-        Ok(status) => status,
-        Err(stop) => stop.end(&mut program.screen),
+    let status = match Arguments::parse(alloc, words) {
+        Ok(arguments) => program.carry_out(&arguments),
+        Err(refusal) => program.refuse(&refusal),
     };
     program.screen.end();
     status
@@ -98,56 +99,62 @@ impl<'a, R, O, E> Program<'a, R, O, E> {
 }
 
 impl<R: Files + Threads + Wait + Sync + AllocGlobal, O: Write, E: Write> Program<'_, R, O, E> {
-    fn carry_out<'w>(&mut self, words: &'w [String]) -> Result<u8, ProgramError<'w>> {
-        match command_line::read(self.alloc, words) {
-            Ok(Request::Run(request)) => self.run_files(&request),
-            Ok(Request::Lookup(request)) => self.show_answers(&request),
-            Ok(Request::Table(request)) => self.show_routes(&request),
-            Ok(Request::Diff(request)) => self.compare(&request),
-            Ok(Request::Replay(request)) => show_replay(self.alloc, &request, self.out),
-            Err(Refusal::Shown(text)) => show_text(text.as_bytes(), self.out),
-            Err(Refusal::Usage(text)) => Err(ProgramError::Usage(text)),
-            Err(Refusal::ConflictingFilters) => Err(ProgramError::ConflictingFilters),
-            Err(Refusal::Unknown) => Err(ProgramError::Unknown),
-            Err(Refusal::Memory) => Err(NO_MEMORY),
+    /// Does what the arguments ask for, and returns the exit status.
+    fn carry_out(&mut self, arguments: &Arguments<'_>) -> u8 {
+        match self.answer(arguments) {
+            Ok(status) => status,
+            Err(error) => error.end(&mut self.screen),
+        }
+    }
+
+    fn answer<'w>(&mut self, arguments: &'w Arguments<'_>) -> Result<u8, ProgramError<'w>> {
+        let request = arguments.request()?;
+        match &request {
+            Request::Run(request) => self.run_files(request),
+            Request::Lookup(request) => self.show_answers(request),
+            Request::Table(request) => self.show_routes(request),
+            Request::Diff(request) => self.compare(request),
+            Request::Replay(request) => show_replay(self.alloc, request, self.out),
         }
     }
 
     fn run_files<'w>(&mut self, request: &RunRequest<'w>) -> Result<u8, ProgramError<'w>> {
-        let texts = self.read_feeds(request.files.as_slice(), EVERY_FEED)?;
+        let files = FeedFiles::of(request.files)?;
+        let texts = self.read_feeds(files, EVERY_FEED)?;
         let (texts, batch) = (texts.as_slice(), request.batch as usize);
         let mut out = self.screen.beside(texts.len(), self.out);
         Ok(run_texts(self.rt, self.alloc, texts, request.limit, batch, &mut out)?)
     }
 }
 
-impl<R: Files + Wait + AllocGlobal, O, E: Write> Program<'_, R, O, E> {
-    /// Returns the texts of the feed files, and an empty text for each feed that is left out. Reads none of the files if there
-    /// are more than a run accepts, and no file of a feed that is left out.
+impl<R: Files + Wait + AllocGlobal, O: Write, E: Write> Program<'_, R, O, E> {
+    /// Writes the text that there is in place of arguments, and returns the exit status.
+    fn refuse(&mut self, refusal: &Refusal) -> u8 {
+        match refusal {
+            Refusal::Shown(text) => match put(self.out, text.as_bytes()) {
+                Ok(()) => Status::Done as u8,
+                Err(_) => ProgramError::Fault(AppFault::Write).end(&mut self.screen),
+            },
+            Refusal::Usage(text) => {
+                let _ = put(&mut self.screen, text.as_bytes());
+                Status::Usage as u8
+            }
+            Refusal::Memory => NO_MEMORY.end(&mut self.screen),
+        }
+    }
+
+    /// Returns the texts of the feed files, and an empty text for each feed that is left out, whose file isn't read.
     fn read_feeds<'w>(
         &mut self,
-        names: &[&'w str],
+        files: FeedFiles<'w>,
         choice: FeedChoice<'_>,
     ) -> Result<Vec<Vec<u8>>, ProgramError<'w>>
         ensures { IfOk result (λ texts. vec_len texts ≤ MAX_FEEDS) }
     {
-        if names.len() > MAX_FEED_FILES {
-            return Err(ProgramError::TooMany);
-        }
-        self.read_files(names, choice)
-    }
-
-    fn read_files<'w>(
-        &mut self,
-        names: &[&'w str],
-        choice: FeedChoice<'_>,
-    ) -> Result<Vec<Vec<u8>>, ProgramError<'w>>
-        requires { length names.now ≤ MAX_FEEDS }
-        ensures { IfOk result (λ texts. vec_len texts ≡ length names.entry.now) }
-    {
         let mut texts = Vec::new(self.alloc);
-        for name in names {
-            self.screen.set(Stage::Reading(texts.len(), names.len()));
+        for name in files.names {
+            self.screen
+                .set(Stage::Reading(texts.len(), files.names.len()));
             let feed = texts.len() as u32 + 1;
             let text = if choice.leaves_out(feed) {
                 Vec::new(self.alloc)
@@ -162,22 +169,18 @@ impl<R: Files + Wait + AllocGlobal, O, E: Write> Program<'_, R, O, E> {
     fn read_file<'w>(&self, name: &'w str) -> Result<Vec<u8>, ProgramError<'w>> {
         match fs::read(self.rt, name) {
             Ok(text) => Ok(text),
-            Err(fault) => Err(ProgramError::of_file(name, &fault)),
+            Err(fault) => Err(ProgramError::of_system(&fault, ProgramError::Unreadable(name))),
         }
     }
 }
 
 fn show_replay<'w, O: Write>(
     alloc: Global,
-    request: &ReplayRequest,
+    request: &ReplayRequest<'w>,
     out: &mut O,
 ) -> Result<u8, ProgramError<'w>> {
-    Ok(replay_text(alloc, request.levels, request.picks.as_slice(), out)?)
-}
-
-fn show_text<'w, O: Write>(text: &[u8], out: &mut O) -> Result<u8, ProgramError<'w>> {
-    match put(out, text) {
-        Ok(()) => Ok(Status::Done as u8),
-        Err(_) => Err(ProgramError::Fault(AppFault::Write)),
+    match request.picks(alloc)? {
+        Some(picks) => Ok(replay_text(alloc, request.levels, picks.as_slice(), out)?),
+        None => Err(ProgramError::Request(RequestFault::Unknown)),
     }
 }

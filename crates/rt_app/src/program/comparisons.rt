@@ -1,6 +1,6 @@
 //! `diff`: the addresses for which the tables of two sets of feed files differ, and reports of rejected input.
 
-use super::feed_choice::FeedNumbers;
+use super::feed_choice::{FeedFiles, FeedNumbers};
 use super::queries::report_summary;
 use super::styles::{check_sides, diff_options};
 use super::{Program, ProgramError};
@@ -9,32 +9,32 @@ use rt_run::{ChosenTexts, DiffSummary, diff_texts};
 use std::io::Write;
 use std::rt::Files;
 use std::sync::Wait;
-use std::thread::Threads;
 
-impl<R: Files + Threads + Wait + Sync + AllocGlobal, O: Write, E: Write> Program<'_, R, O, E> {
+impl<R: Files + Wait + AllocGlobal, O: Write, E: Write> Program<'_, R, O, E> {
     /// Writes the ranges of addresses for which the tables of the old and the new files differ. Reports rejected input, and
     /// returns the exit status.
     pub(super) fn compare<'w>(
         &mut self,
         request: &DiffRequest<'w>,
     ) -> Result<u8, ProgramError<'w>> {
-        let (old_names, new_names) = (request.run.files.as_slice(), request.new_files.as_slice());
         check_sides(request)?;
-        let old_feeds = FeedNumbers::of(self.alloc, &request.old_feeds, old_names)?;
-        let new_feeds = FeedNumbers::of(self.alloc, &request.new_feeds, new_names)?;
-        let old_texts = self.read_feeds(old_names, old_feeds.choice())?;
-        let new_texts = self.read_feeds(new_names, new_feeds.choice())?;
+        let old_files = FeedFiles::of(request.run.files)?;
+        let old_feeds = FeedNumbers::of(self.alloc, &request.old_feeds, old_files)?;
+        let new_files = FeedFiles::of(request.new_files)?;
+        let new_feeds = FeedNumbers::of(self.alloc, &request.new_feeds, new_files)?;
+        let old_texts = self.read_feeds(old_files, old_feeds.choice())?;
+        let new_texts = self.read_feeds(new_files, new_feeds.choice())?;
         let (limit, batch) = (request.run.limit, request.run.batch as usize);
         let old_asked = ChosenTexts::new(old_texts.as_slice(), limit, batch, old_feeds.choice());
         let new_asked = ChosenTexts::new(new_texts.as_slice(), limit, batch, new_feeds.choice());
-        let options = diff_options(self.alloc, request)?;
+        let options = diff_options(self.alloc, request, old_files, new_files)?;
         let feeds = old_asked.count() + new_asked.count();
         let mut out = self.screen.beside(feeds, self.out);
         let DiffSummary { status, old, new } = diff_texts(
             self.alloc, &old_asked, &new_asked, &options, &mut out,
         )?;
-        report_summary(&mut self.screen, old_names, &old);
-        report_summary(&mut self.screen, new_names, &new);
+        report_summary(&mut self.screen, old_files.names, &old);
+        report_summary(&mut self.screen, new_files.names, &new);
         Ok(status)
     }
 }

@@ -1,13 +1,80 @@
-//! Feeds that the command line names by their numbers or by the names of their files.
+//! The feed files of the command line, and the feeds that it names by their numbers or by the names of their files.
 
 ghost use Rattle.std.specs.Prelude.{◌≤◌, length};
 ghost use Rattle.rt_rib.specs.declared.limits.TheConstants.{MAX_FEEDS};
 
-use super::ProgramError;
+use super::program_error::{ArgumentFault, ProgramError};
 use command_line::NamedFeeds;
 use rt_print::feed_name;
 use rt_run::{FeedChoice, MAX_FEED_FILES};
 use std::alloc::Global;
+
+/// The names of the feed files of a run or of a side of a comparison: as many as a run accepts.
+#[derive(Clone, Copy)]
+pub(super) struct FeedFiles<'w> {
+    pub(super) names: &'w [&'w str],
+    ghost few: { length names.now ≤ MAX_FEEDS },
+}
+
+impl<'w> FeedFiles<'w> {
+    /// Returns these files. Stops if there are more than a run accepts.
+    pub(super) fn of(names: &'w [&'w str]) -> Result<FeedFiles<'w>, ProgramError<'w>> {
+        if names.len() > MAX_FEED_FILES {
+            return Err(ProgramError::TooMany);
+        }
+        Ok(FeedFiles { names })
+    }
+
+    /// Stops if a file has no valid feed name, or the same feed name as an earlier file.
+    pub(super) fn check_names(&self) -> Result<(), ProgramError<'w>> {
+        for (index, file) in self.names.iter().enumerate() {
+            let name = feed_name(file.as_bytes());
+            if !is_name(name) {
+                return Err(ProgramError::Argument(ArgumentFault::FeedName, file));
+            }
+            if let Some(earlier) = file_of_name(&self.names[..index], name) {
+                return Err(ProgramError::DuplicateFeedName(earlier, file));
+            }
+        }
+        Ok(())
+    }
+
+    /// Returns the number of the feed that the argument identifies: the one feed that has this number or this name.
+    fn number_of(&self, word: &'w str) -> Result<u32, ProgramError<'w>> {
+        let mut found = None;
+        for (index, file) in self.names.iter().enumerate() {
+            let feed = index as u32 + 1;
+            if is_identified(word, feed, file) {
+                if found.is_some() {
+                    return Err(ProgramError::Argument(ArgumentFault::SeveralFeeds, word));
+                }
+                found = Some(feed);
+            }
+        }
+        found.ok_or(ProgramError::Argument(ArgumentFault::NoFeed, word))
+    }
+}
+
+/// Returns the first file whose feed has this name.
+fn file_of_name<'w>(files: &[&'w str], name: &[u8]) -> Option<&'w str> {
+    for file in files {
+        if feed_name(file.as_bytes()) == name {
+            return Some(file);
+        }
+    }
+    None
+}
+
+/// Returns true if the feed name is valid: it isn't empty and contains no space and no control character.
+fn is_name(name: &[u8]) -> bool {
+    !name.is_empty() && name.iter().all(|byte| *byte > b' ' && *byte != 127)
+}
+
+/// Returns true if the argument is the number of this feed, or the name that the feed has by its file.
+fn is_identified(word: &str, feed: u32, file: &str) -> bool {
+    let is_name = feed_name(file.as_bytes()) == word.as_bytes();
+    is_name || word.parse() == Ok(feed)
+}
 
 /// The numbers of the feeds that the command line names.
 #[derive(Drop)]
@@ -17,20 +84,15 @@ pub(super) struct FeedNumbers {
 }
 
 impl FeedNumbers {
-    /// Returns the numbers of feeds that are read from these files. Stops if there are more files than a run takes, or if an
-    /// argument identifies no feed, or several.
+    /// Returns the numbers of feeds that are read from these files. Stops if an argument identifies no feed, or several.
     pub(super) fn of<'w>(
         alloc: Global,
         feeds: &NamedFeeds<'w>,
-        files: &[&'w str],
+        files: FeedFiles<'w>,
     ) -> Result<FeedNumbers, ProgramError<'w>> {
-        if files.len() > MAX_FEED_FILES {
-            return Err(ProgramError::TooMany);
-        }
-        Ok(FeedNumbers {
-            only: numbers_of(alloc, feeds.only.as_slice(), files)?,
-            without: numbers_of(alloc, feeds.without.as_slice(), files)?,
-        })
+        let only = numbers_of(alloc, feeds.only, files)?;
+        let without = numbers_of(alloc, feeds.without, files)?;
+        Ok(FeedNumbers { only, without })
     }
 
     /// Returns the choice of the feeds that are selected, except those that are left out.
@@ -54,36 +116,11 @@ impl FeedNumbers {
 fn numbers_of<'w>(
     alloc: Global,
     words: &[&'w str],
-    files: &[&'w str],
-) -> Result<Vec<u32>, ProgramError<'w>>
-    requires { length files.now ≤ MAX_FEEDS }
-{
+    files: FeedFiles<'w>,
+) -> Result<Vec<u32>, ProgramError<'w>> {
     let mut numbers = Vec::new(alloc);
     for word in words {
-        numbers.push(number_of(word, files)?)?;
+        numbers.push(files.number_of(word)?)?;
     }
     Ok(numbers)
-}
-
-/// Returns the number of the feed that the argument identifies: the one feed that has this number or this name.
-fn number_of<'w>(word: &'w str, files: &[&'w str]) -> Result<u32, ProgramError<'w>>
-    requires { length files.now ≤ MAX_FEEDS }
-{
-    let mut found = None;
-    for (index, file) in files.iter().enumerate() {
-        let feed = index as u32 + 1;
-        if is_identified(word, feed, file) {
-            if found.is_some() {
-                return Err(ProgramError::SeveralFeeds(word));
-            }
-            found = Some(feed);
-        }
-    }
-    found.ok_or(ProgramError::NoFeed(word))
-}
-
-/// Returns true if the argument is the number of this feed, or the name that the feed has by its file.
-fn is_identified(word: &str, feed: u32, file: &str) -> bool {
-    let is_name = feed_name(file.as_bytes()) == word.as_bytes();
-    is_name || word.parse() == Ok(feed)
 }

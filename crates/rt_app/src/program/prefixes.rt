@@ -1,17 +1,17 @@
 //! Prefixes on the command line.
 
-use super::ProgramError;
+use super::program_error::{ArgumentFault, ProgramError};
 use rt_cidr::{Addr, Prefix, TextFault, decimal_u32};
 
 /// Returns the prefix that the argument of an option is. An address without a length is the prefix of that address alone.
 pub(super) fn prefix_of(word: &str) -> Result<Prefix, ProgramError<'_>> {
     if let Ok(Addr(address)) = Addr::parse(word.as_bytes()) {
-        return masked(address, 32).ok_or(ProgramError::InvalidPrefix(word));
+        return masked(address, 32).ok_or(ProgramError::Argument(ArgumentFault::Prefix, word));
     }
     match Prefix::parse(word.as_bytes()) {
         Ok(prefix) => Ok(prefix),
         Err(TextFault::Bits) => Err(host_bits(word)),
-        Err(_) => Err(ProgramError::InvalidPrefix(word)),
+        Err(_) => Err(ProgramError::Argument(ArgumentFault::Prefix, word)),
     }
 }
 
@@ -19,7 +19,7 @@ pub(super) fn prefix_of(word: &str) -> Result<Prefix, ProgramError<'_>> {
 fn host_bits(word: &str) -> ProgramError<'_> {
     match without_host_bits(word) {
         Some(meant) => ProgramError::HostBits(word, meant),
-        None => ProgramError::InvalidPrefix(word),
+        None => ProgramError::Argument(ArgumentFault::Prefix, word),
     }
 }
 

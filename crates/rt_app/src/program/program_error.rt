@@ -1,6 +1,7 @@
 //! The reasons why the program stops early, each with its exit status and its message. `rt_run` returns the statuses of
 //! completed work.
 
+use command_line::RequestFault;
 use rt_cidr::{Prefix, put};
 use rt_feed::RunFault;
 use rt_run::{AppFault, MAX_FEED_FILES, Status};
@@ -8,39 +9,43 @@ use std::alloc::{AllocError, AllocFailed};
 use std::io::{self, ErrorKind, Write};
 use ya_core::ReplayFault;
 
-/// The reason why the program stops early.
-#[derive(Drop)]
+/// The reason why the program stops early. It is `Copy`, because the prover goes through a value that is dropped at each
+/// early exit.
+#[derive(Clone, Copy)]
 pub(crate) enum ProgramError<'a> {
     /// An argument isn't UTF-8.
     NotUtf8,
-    /// The command line is invalid: the message.
-    Usage(String),
-    /// `clap` accepted arguments that `command_line` doesn't expect.
-    Unknown,
+    /// The arguments are no request.
+    Request(RequestFault),
     /// There are more files than a run accepts, or than one side of `diff` accepts. No file was read.
     TooMany,
     /// No address was given.
     NoAddresses,
-    /// An argument isn't a valid address.
-    InvalidAddress(&'a str),
-    /// More than one of `--within`, `--covering` and `--exact` was given.
-    ConflictingFilters,
-    /// An argument isn't a valid prefix.
-    InvalidPrefix(&'a str),
+    /// This argument isn't what it has to be.
+    Argument(ArgumentFault, &'a str),
     /// An argument isn't a prefix because of its host bits; this prefix was probably meant.
     HostBits(&'a str, Prefix),
-    /// No feed has this number or name.
-    NoFeed(&'a str),
-    /// More than one feed has this number or name.
-    SeveralFeeds(&'a str),
-    /// With `--names`: the file's name isn't a valid feed name.
-    EmptyFeedName(&'a str),
     /// With `--names`: the two files have the same feed name.
     DuplicateFeedName(&'a str, &'a str),
     /// A file could not be opened or read.
     Unreadable(&'a str),
     /// The work failed, or its output could not be written.
     Fault(AppFault),
+}
+
+/// The reason why an argument isn't accepted.
+#[derive(Clone, Copy)]
+pub(crate) enum ArgumentFault {
+    /// It isn't an address.
+    Address,
+    /// It isn't a prefix.
+    Prefix,
+    /// No feed has this number or name.
+    NoFeed,
+    /// More than one feed has this number or name.
+    SeveralFeeds,
+    /// With `--names`: the file's name isn't a valid feed name.
+    FeedName,
 }
 
 /// Out of memory.
@@ -66,20 +71,18 @@ impl From<AppFault> for ProgramError<'_> {
     }
 }
 
-impl<'a> ProgramError<'a> {
-    /// Returns the reason why the arguments could not be read.
-    pub(crate) fn of_words(fault: &io::Error) -> ProgramError<'a> {
-        match fault.kind() {
-            ErrorKind::OutOfMemory => NO_MEMORY,
-            _ => ProgramError::NotUtf8,
-        }
+impl From<RequestFault> for ProgramError<'_> {
+    fn from(fault: RequestFault) -> Self {
+        ProgramError::Request(fault)
     }
+}
 
-    /// Returns the reason why the file with this name could not be read.
-    pub(crate) fn of_file(name: &'a str, fault: &io::Error) -> ProgramError<'a> {
+impl<'a> ProgramError<'a> {
+    /// Returns the reason: out of memory, or else this one.
+    pub(crate) fn of_system(fault: &io::Error, otherwise: ProgramError<'a>) -> ProgramError<'a> {
         match fault.kind() {
             ErrorKind::OutOfMemory => NO_MEMORY,
-            _ => ProgramError::Unreadable(name),
+            _ => otherwise,
         }
     }
 
@@ -92,18 +95,9 @@ impl<'a> ProgramError<'a> {
     /// Returns the exit status.
     fn status(&self) -> Status {
         match self {
-            ProgramError::NotUtf8
-            | ProgramError::Usage(_)
-            | ProgramError::Unknown
-            | ProgramError::TooMany => Status::Usage,
-            ProgramError::NoAddresses | ProgramError::InvalidAddress(_) => Status::Usage,
-            ProgramError::ConflictingFilters
-            | ProgramError::InvalidPrefix(_)
-            | ProgramError::HostBits(..) => Status::Usage,
-            ProgramError::NoFeed(_) | ProgramError::SeveralFeeds(_) => Status::Usage,
-            ProgramError::EmptyFeedName(_) | ProgramError::DuplicateFeedName(..) => Status::Usage,
             ProgramError::Unreadable(_) => Status::Unreadable,
             ProgramError::Fault(fault) => fault_ending(*fault).0,
+            _ => Status::Usage,
         }
     }
 
@@ -111,70 +105,61 @@ impl<'a> ProgramError<'a> {
     fn tell<E: Write>(&self, err: &mut E) -> Result<(), io::Error> {
         match self {
             ProgramError::NotUtf8 => put(err, b"yarib: arguments are not UTF-8\n"),
-            ProgramError::Usage(text) => put(err, text.as_bytes()),
-            ProgramError::Unknown => put(
-                err,
-                b"yarib: cannot parse the command line: see yarib --help\n",
-            ),
-            ProgramError::TooMany => writeln!(err, "yarib: more than {MAX_FEED_FILES} files"),
-            ProgramError::NoAddresses => put(err, NOTHING_ASKED),
-            ProgramError::InvalidAddress(word) => report_argument(err, b"not an address: ", word),
-            ProgramError::ConflictingFilters => put(err, TWO_PARTS),
-            ProgramError::InvalidPrefix(word) => report_argument(err, b"not a prefix: ", word),
+            ProgramError::Request(fault) => put(err, request_text(*fault)),
+            ProgramError::TooMany => put(err, TOO_MANY),
+            ProgramError::NoAddresses => put(err, NO_ADDRESSES),
+            ProgramError::Argument(fault, word) => report(err, argument_text(*fault), word),
             ProgramError::HostBits(word, meant) => writeln!(
                 err,
                 "yarib: not a prefix: {word}: host bits are set; did you mean {meant}?"
             ),
-            ProgramError::NoFeed(word) => report_argument(
-                err,
-                b"no feed has this number or name: ",
-                word,
-            ),
-            ProgramError::SeveralFeeds(word) => report_argument(err, SEVERAL_FEEDS, word),
-            ProgramError::EmptyFeedName(file) => report_argument(
-                err,
-                b"no valid feed name (rename the file, or leave out --names): ",
-                file,
-            ),
-            ProgramError::DuplicateFeedName(first, second) => report_two(
-                err,
-                b"two feeds with the same name (rename a file, or leave out --names): ",
-                first,
-                second,
-            ),
-            ProgramError::Unreadable(name) => report_argument(err, b"cannot read ", name),
+            ProgramError::DuplicateFeedName(first, second) => {
+                put(err, SAME_NAME)?;
+                put(err, first.as_bytes())?;
+                report(err, b", ", second)
+            }
+            ProgramError::Unreadable(name) => report(err, b"yarib: cannot read ", name),
             ProgramError::Fault(fault) => put(err, fault_ending(*fault).1),
         }
     }
 }
 
-const NOTHING_ASKED: &[u8] = b"yarib: no address given: use --address or --addresses\n";
+const TOO_MANY: &[u8] = b"yarib: more than 64 files\n";
 
-const SEVERAL_FEEDS: &[u8] = b"more than one feed has this number or name: ";
+const _: () = prove!(MAX_FEED_FILES == 64);
 
-const TWO_PARTS: &[u8] = b"yarib: only one of --within, --covering and --exact may be given\n";
+const NO_ADDRESSES: &[u8] = b"yarib: no address given: use --address or --addresses\n";
+
+const SAME_NAME: &[u8] =
+    b"yarib: two feeds with the same name (rename a file, or leave out --names): ";
 
 /// Writes a message that ends with an argument.
-fn report_argument<E: Write>(err: &mut E, what: &[u8], word: &str) -> Result<(), io::Error> {
-    put(err, b"yarib: ")?;
+fn report<E: Write>(err: &mut E, what: &[u8], word: &str) -> Result<(), io::Error> {
     put(err, what)?;
     put(err, word.as_bytes())?;
     put(err, b"\n")
 }
 
-/// Writes a message that ends with two arguments.
-fn report_two<E: Write>(
-    err: &mut E,
-    what: &[u8],
-    first: &str,
-    second: &str,
-) -> Result<(), io::Error> {
-    put(err, b"yarib: ")?;
-    put(err, what)?;
-    put(err, first.as_bytes())?;
-    put(err, b", ")?;
-    put(err, second.as_bytes())?;
-    put(err, b"\n")
+fn request_text(fault: RequestFault) -> &'static [u8] {
+    match fault {
+        RequestFault::ConflictingFilters => {
+            b"yarib: only one of --within, --covering and --exact may be given\n"
+        }
+        RequestFault::Unknown => b"yarib: cannot parse the command line: see yarib --help\n",
+    }
+}
+
+/// Returns the beginning of the message, before the argument.
+fn argument_text(fault: ArgumentFault) -> &'static [u8] {
+    match fault {
+        ArgumentFault::Address => b"yarib: not an address: ",
+        ArgumentFault::Prefix => b"yarib: not a prefix: ",
+        ArgumentFault::NoFeed => b"yarib: no feed has this number or name: ",
+        ArgumentFault::SeveralFeeds => b"yarib: more than one feed has this number or name: ",
+        ArgumentFault::FeedName => {
+            b"yarib: no valid feed name (rename the file, or leave out --names): "
+        }
+    }
 }
 
 /// Returns the exit status of a fault and its message.

@@ -1,10 +1,11 @@
 //! `lookup` and `table`: queries of the final table of feed files, and reports of rejected input.
 
-use super::feed_choice::FeedNumbers;
+use super::Program;
+use super::feed_choice::{FeedFiles, FeedNumbers};
 use super::prefixes::prefix_of;
-use super::styles::style_of;
+use super::program_error::{ArgumentFault, ProgramError};
+use super::styles::{format_of, style_of};
 use super::warnings::{report_faulty_lines, report_rejected};
-use super::{Program, ProgramError};
 use command_line::{LookupRequest, PrefixFilterArg, TableRequest};
 use rt_cidr::Addr;
 use rt_rib::{PrefixFilter, Selection};
@@ -13,25 +14,24 @@ use std::alloc::Global;
 use std::io::Write;
 use std::rt::Files;
 use std::sync::Wait;
-use std::thread::Threads;
 
-impl<R: Files + Threads + Wait + Sync + AllocGlobal, O: Write, E: Write> Program<'_, R, O, E> {
+impl<R: Files + Wait + AllocGlobal, O: Write, E: Write> Program<'_, R, O, E> {
     /// Writes, for each address of the command line and then for each address of the file, all routes that cover it, or only
     /// the best one. Reports rejected input, and returns the exit status.
     pub(super) fn show_answers<'w>(
         &mut self,
         request: &LookupRequest<'w>,
     ) -> Result<u8, ProgramError<'w>> {
-        let run = &request.run;
         let named = named_addresses(self.alloc, request)?;
-        let style = style_of(self.alloc, request.telling, run.files.as_slice())?;
-        let feeds = FeedNumbers::of(self.alloc, &request.feeds, run.files.as_slice())?;
-        let texts = self.read_feeds(run.files.as_slice(), feeds.choice())?;
+        let files = FeedFiles::of(request.run.files)?;
+        let style = style_of(self.alloc, format_of(request.names, request.json), files)?;
+        let feeds = FeedNumbers::of(self.alloc, &request.feeds, files)?;
+        let texts = self.read_feeds(files, feeds.choice())?;
         let text = match request.more {
             Some(name) => self.read_file(name)?,
             None => Vec::new(self.alloc),
         };
-        let (limit, batch) = (run.limit, run.batch as usize);
+        let (limit, batch) = (request.run.limit, request.run.batch as usize);
         let asked = ChosenTexts::new(texts.as_slice(), limit, batch, feeds.choice());
         let addresses = LookupAddresses {
             named: named.as_slice(),
@@ -47,7 +47,7 @@ impl<R: Files + Threads + Wait + Sync + AllocGlobal, O: Write, E: Write> Program
         if let Some(name) = request.more {
             report_faulty_lines(&mut self.screen, name, given.faulty);
         }
-        report_summary(&mut self.screen, run.files.as_slice(), &given.run);
+        report_summary(&mut self.screen, files.names, &given.run);
         Ok(given.status)
     }
 
@@ -56,12 +56,12 @@ impl<R: Files + Threads + Wait + Sync + AllocGlobal, O: Write, E: Write> Program
         &mut self,
         request: &TableRequest<'w>,
     ) -> Result<u8, ProgramError<'w>> {
-        let run = &request.run;
         let selection = selection_of(request)?;
-        let style = style_of(self.alloc, request.telling, run.files.as_slice())?;
-        let feeds = FeedNumbers::of(self.alloc, &request.feeds, run.files.as_slice())?;
-        let texts = self.read_feeds(run.files.as_slice(), feeds.choice_of_all())?;
-        let (limit, batch) = (run.limit, run.batch as usize);
+        let files = FeedFiles::of(request.run.files)?;
+        let style = style_of(self.alloc, format_of(request.names, request.json), files)?;
+        let feeds = FeedNumbers::of(self.alloc, &request.feeds, files)?;
+        let texts = self.read_feeds(files, feeds.choice_of_all())?;
+        let (limit, batch) = (request.run.limit, request.run.batch as usize);
         let asked = ChosenTexts::new(texts.as_slice(), limit, batch, feeds.choice_of_all());
         let routes = AskedRoutes {
             selection,
@@ -74,7 +74,7 @@ impl<R: Files + Threads + Wait + Sync + AllocGlobal, O: Write, E: Write> Program
             Question::Routes(routes)
         };
         let given = show(self.alloc, &asked, &style, &question, &mut out)?;
-        report_summary(&mut self.screen, run.files.as_slice(), &given.run);
+        report_summary(&mut self.screen, files.names, &given.run);
         Ok(given.status)
     }
 }
@@ -110,9 +110,9 @@ fn named_addresses<'a>(
         return Err(ProgramError::NoAddresses);
     }
     let mut named = Vec::new(alloc);
-    for word in &request.addresses {
+    for word in request.addresses {
         let Ok(address) = Addr::parse(word.as_bytes()) else {
-            return Err(ProgramError::InvalidAddress(word));
+            return Err(ProgramError::Argument(ArgumentFault::Address, word));
         };
         named.push(address)?;
     }

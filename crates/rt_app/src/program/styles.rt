@@ -1,15 +1,15 @@
 //! How routes are printed: with feeds' numbers, with their names, or as JSON.
 
 use super::ProgramError;
-use command_line::{ComparedBy, DiffRequest, OutputOptions};
+use super::feed_choice::FeedFiles;
+use command_line::{ComparedBy, DiffRequest};
 use rt_diff::CompareBy;
-use rt_print::{DiffOptions, Format, Style, feed_name};
-use rt_run::MAX_FEED_FILES;
+use rt_print::{DiffOptions, Format, Style};
 use std::alloc::Global;
 
-/// Returns the format of printed routes.
-fn format_of(telling: OutputOptions) -> Format {
-    match (telling.json, telling.names) {
+/// Returns the format of printed routes with these options of the command line.
+pub(super) fn format_of(names: bool, json: bool) -> Format {
+    match (json, names) {
         (false, false) => Format::Numbers,
         (false, true) => Format::Names,
         (true, false) => Format::Json,
@@ -17,79 +17,44 @@ fn format_of(telling: OutputOptions) -> Format {
     }
 }
 
-/// Returns the style for these files' feeds. Stops if there are too many files or if, with `--names`, a file has no valid
-/// feed name or two files have the same.
+/// Returns the style for these files' feeds. Stops if, with `--names`, a file has no valid feed name or two files have the
+/// same.
 pub(super) fn style_of<'w>(
     alloc: Global,
-    telling: OutputOptions,
-    files: &[&'w str],
+    format: Format,
+    files: FeedFiles<'w>,
 ) -> Result<Style, ProgramError<'w>> {
-    if files.len() > MAX_FEED_FILES {
-        return Err(ProgramError::TooMany);
+    if format.has_names() {
+        files.check_names()?;
     }
-    if telling.names {
-        check_names(files)?;
-    }
-    Ok(Style::new(alloc, format_of(telling), files)?)
+    Ok(Style::new(alloc, format, files.names)?)
 }
 
-/// Returns what `diff` compares, and how it prints. Stops if there are too many files.
+/// Returns what `diff` compares, and how it prints.
 pub(super) fn diff_options<'w>(
     alloc: Global,
     request: &DiffRequest<'w>,
+    old: FeedFiles<'w>,
+    new: FeedFiles<'w>,
 ) -> Result<DiffOptions, ProgramError<'w>> {
-    let (old, new) = (request.run.files.as_slice(), request.new_files.as_slice());
-    if old.len() > MAX_FEED_FILES || new.len() > MAX_FEED_FILES {
-        return Err(ProgramError::TooMany);
-    }
     let by = match request.by {
         ComparedBy::Hop => CompareBy::Hop,
         ComparedBy::Route => CompareBy::Route,
     };
-    Ok(DiffOptions::new(alloc, by, format_of(request.telling), old, new)?)
+    let format = format_of(request.names, request.json);
+    Ok(DiffOptions::new(alloc, by, format, old.names, new.names)?)
 }
 
-/// Stops as `style_of` does, if feeds have labels.
+/// Stops as `style_of` does, on either side, if feeds have labels; also if there are too many files on a side.
 pub(super) fn check_sides<'w>(request: &DiffRequest<'w>) -> Result<(), ProgramError<'w>> {
-    let (old, new) = (request.run.files.as_slice(), request.new_files.as_slice());
-    if !request.telling.names && !request.telling.json {
+    if !request.names && !request.json {
         return Ok(());
     }
-    if old.len() > MAX_FEED_FILES || new.len() > MAX_FEED_FILES {
-        return Err(ProgramError::TooMany);
-    }
-    if request.telling.names {
-        check_names(old)?;
-        check_names(new)?;
-    }
-    Ok(())
-}
-
-/// Stops if a file has no valid feed name, or the same feed name as an earlier file.
-fn check_names<'w>(files: &[&'w str]) -> Result<(), ProgramError<'w>> {
-    for (index, file) in files.iter().enumerate() {
-        let name = feed_name(file.as_bytes());
-        if !is_name(name) {
-            return Err(ProgramError::EmptyFeedName(file));
-        }
-        if let Some(earlier) = file_of_name(&files[..index], name) {
-            return Err(ProgramError::DuplicateFeedName(earlier, file));
-        }
+    let old = FeedFiles::of(request.run.files)?;
+    let new = FeedFiles::of(request.new_files)?;
+    if request.names {
+        old.check_names()?;
+        new.check_names()?;
     }
     Ok(())
-}
-
-/// Returns the first file whose feed has this name.
-fn file_of_name<'w>(files: &[&'w str], name: &[u8]) -> Option<&'w str> {
-    for file in files {
-        if feed_name(file.as_bytes()) == name {
-            return Some(file);
-        }
-    }
-    None
-}
-
-/// Returns true if the feed name is valid: it isn't empty and contains no space and no control character.
-fn is_name(name: &[u8]) -> bool {
-    !name.is_empty() && name.iter().all(|byte| *byte > b' ' && *byte != 127)
 }
