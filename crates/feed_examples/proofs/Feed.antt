@@ -8,6 +8,7 @@ use Rattle.std.specs.List.{All, list_any}
 use Rattle.std.specs.Fmt.{digits}
 use Rattle.rt_cidr.specs.declared.address.Addr.{Addr}
 use Rattle.rt_cidr.specs.Cidr.{IsPrefix}
+use Rattle.rt_cidr.specs.declared.prefixes.TextFault.TheVariants as reason
 use Rattle.rt_cidr.specs.Text.{slash, IsDecimal, IsAddressText, IsPrefixText, address_text, prefix_text}
 use Rattle.table_examples.proofs.Cidr.{decimal_4294967296, no_address_without_a_dot, no_prefix_without_a_dot}
 use Rattle.rt_cidr.proofs.Promised.{decimal_is_decimal, decimal_one_number, address_text_is_address, pair_one_value, prefix_is_written}
@@ -222,13 +223,13 @@ is_no_hop (Discard, has, same) = cc
 
 -- IsFaultOf
 a_length_of_50_is_E4 : IsFaultOf prefix (codes "192.0.2.1/50") fault.PrefixLength
-a_length_of_50_is_E4 = (3221225985, 50, of_a_length_over_32, omega arith)
+a_length_of_50_is_E4 = (reason.Length, (3221225985, 50, of_a_length_over_32, omega arith), refl)
 
 a_bit_past_the_length_is_E5 : IsFaultOf prefix (codes "192.0.2.1/10") fault.PrefixBits
-a_bit_past_the_length_is_E5 = (3221225985, 10, of_an_address_with_a_bit, omega arith, a_bit_is_set)
+a_bit_past_the_length_is_E5 = (reason.Bits, (3221225985, 10, of_an_address_with_a_bit, omega arith, a_bit_is_set), refl)
 
 no_pair_is_E3 : IsFaultOf prefix (codes "10/33") fault.Text
-no_pair_is_E3 = of_no_pair_without_a_dot
+no_pair_is_E3 = (reason.Text, of_no_pair_without_a_dot, refl)
 
 a_preference_is_E6 : IsFaultOf preference (codes "x") fault.Preference
 a_preference_is_E6 = refl
@@ -292,7 +293,7 @@ two_spaces_are_E2_before_E3 = inr (omega arith, refl, inl ((λ e. cc), refl))
 
 no_prefix_is_E3_before_E4 : AnswersLine One (codes "withdraw 10/33") (Err fault.Text)
 no_prefix_is_E3_before_E4 =
-    inr (omega arith, refl, inr (refl, inl (no_prefix_33_by_1, of_no_pair_without_a_dot)))
+    inr (omega arith, refl, inr (refl, inl (no_prefix_33_by_1, no_pair_is_E3)))
 
 no_address_is_E3 : AnswersLine One (codes "lookup 10") (Err fault.Text)
 no_address_is_E3 = inr (omega arith, refl, inr (refl, inl (no_address_10, refl)))

@@ -24,8 +24,8 @@ use Rattle.rt_feed.proofs.CutBytes.{is_unspaced}
 use Rattle.rt_print.proofs.Promised.{hop_fits}
 
 -- a line whose fields are a command's words is the command's text
-pub line-from_words : (line : List ℕ) (cmd : Cmd) → fields line ≡ words cmd → line ≡ command_text cmd
-line-from_words line cmd is = sym (join_with_byte-slice_split space line) ∙ ap (join_with_byte space) is
+pub line_from_words : (line : List ℕ) (cmd : Cmd) → fields line ≡ words cmd → line ≡ command_text cmd
+line_from_words line cmd is = sym (join_with_byte-slice_split space line) ∙ ap (join_with_byte space) is
 
 -- a text differs from any longer text
 shorter : (text longer : List ℕ) → length text < length longer → bytes_eq text longer ≡ false

@@ -35,18 +35,18 @@ pub is_unspaced : (text : List ℕ) → All (λ byte. byte ≢ space) text → A
 is_unspaced text none = All-weaker (λ byte. byte ≢ space) (λ byte. eqb byte space ≡ false) (λ byte ne. ne_eqb byte space ne) text none
 
 -- the fields of a text that is split at its first space
-pub fields-cut : (text first : List ℕ) (rest : Option (Bor (List ℕ))) → CutsAt space text first rest → fields text ≡ first ∷ fields_of_rest rest
-fields-cut text first None cut =
+pub fields_cut : (text first : List ℕ) (rest : Option (Bor (List ℕ))) → CutsAt space text first rest → fields text ≡ first ∷ fields_of_rest rest
+fields_cut text first None cut =
     rw cut.joined (slice_split_none (λ byte. eqb byte space) first (is_unspaced first cut.unmarked))
-fields-cut text first (Some rest) cut =
+fields_cut text first (Some rest) cut =
     rw cut.joined (slice_split_at (λ byte. eqb byte space) first space rest.now (is_unspaced first cut.unmarked) refl)
 
 -- a text has at least one field
-pub fields-nonempty : (text : List ℕ) → 0 < length (fields text)
-fields-nonempty text = omega (arith, length-slice_split (λ byte. eqb byte space) text)
+pub fields_nonempty : (text : List ℕ) → 0 < length (fields text)
+fields_nonempty text = omega (arith, length-slice_split (λ byte. eqb byte space) text)
 
 -- a text with a space has more than one field
-pub fields-more : (parts : List (List ℕ)) (first : List ℕ) (rest : Option (Bor (List ℕ))) (more : Bor (List ℕ))
+pub fields_more : (parts : List (List ℕ)) (first : List ℕ) (rest : Option (Bor (List ℕ))) (more : Bor (List ℕ))
     → parts ≡ first ∷ fields_of_rest rest → rest ≡ Some more → length parts ≢ 1
-fields-more parts first rest more cut is one =
-    let count = rw (cut, is) at one in let some = fields-nonempty more.now in omega (arith, count, some)
+fields_more parts first rest more cut is one =
+    let count = rw (cut, is) at one in let some = fields_nonempty more.now in omega (arith, count, some)

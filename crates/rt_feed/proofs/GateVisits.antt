@@ -5,8 +5,6 @@ use Rattle.std.proofs.lemmas.List.Elements.{All-nil}
 use Rattle.rt_rib.specs.declared.commands.Cmd.{Cmd}
 use Rattle.rt_rib.specs.declared.commands.Entry.{Entry}
 use Rattle.rt_shared.specs.declared.outcome.Outcome.{Outcome}
-use Rattle.std.specs.declared.result.Result.{Result}
-use Rattle.std.specs.Prelude.{IfOk, OnOk, OnErr, Ok, Err}
 use Rattle.rt_shared.specs.SharedTable.{HeldPass}
 use Rattle.rt_shared.specs.JournalVisits.{IsContiguousIn, AnsweredBatch, visit_of, entries, CommitsBatch}
 use Rattle.rt_shared.proofs.Promised.{uncut_visit, uncut_by_visit}
@@ -33,16 +31,3 @@ pub gate_empty : (inside old new : HeldPass) → inside ≡ old → new ≡ insi
 gate_empty inside old new is same visits held =
     rw (same, is, map-append) (subst (IsContiguousIn old.feed (map (entries old.feed) visits ++ [] ∷ [])) (append-nil old.seen)
     (uncut_visit old.feed (map (entries old.feed) visits) old.seen [] held (All-nil _)))
-
--- a consequence of a value holds if there is a value
-pub if_ok : {A E : Type 0} {P Q : A → Type 0} → ((a : A) → P a → Q a) → (r : Result A E) → IfOk r P → IfOk r Q
-if_ok gives (Ok a) is = gives a is
-if_ok gives (Err e) is = is
-
-pub on_ok : {E : Type 0} {P Q : Type 0} → (P → Q) → (r : Result (Unit {0}) E) → OnOk r P → OnOk r Q
-on_ok gives (Ok a) is = gives is
-on_ok gives (Err e) is = is
-
-pub on_err : {A E : Type 0} {P Q : Type 0} → (P → Q) → (r : Result A E) → OnErr r P → OnErr r Q
-on_err gives (Ok a) is = is
-on_err gives (Err e) is = gives is

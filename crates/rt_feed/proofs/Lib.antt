@@ -1,15 +1,12 @@
 pub mod Promised
 pub mod CutBytes
 pub mod CommandWords
-pub mod LinesParseAs
 pub mod LinesYield
 pub mod FilledReports
 pub mod RunSteps
 pub mod GateVisits
 pub mod Printing
-pub mod PrefixFaults
 pub mod OneAnswer
-pub mod OneAddress
 pub mod OneCut
 pub mod ReadAddresses
 pub mod Remembered

@@ -1,16 +1,49 @@
 -- Lines of a text one after another: their outcomes, the report's lines for them and their commands.
-use Rattle.std.proofs.Common.{◌≡◌, ℕ, ◌+◌, ◌<◌, ◌≤◌, List, [], ◌∷◌, ◌++◌, suc, add-zero, length, map, All, Option, Some, None, Ok, sym, ◌∙◌}
-use Rattle.std.proofs.Common.{ap, refl, subst, arith, append_assoc}
+use Rattle.std.proofs.Common.{◌≡◌, ◌≢◌, inl, inr, ℕ, ◌+◌, ◌<◌, ◌≤◌, List, [], ◌∷◌, ◌++◌, suc, add-zero, length, map, All, Option, Some, None, Ok, sym, ◌∙◌}
+use Rattle.std.proofs.Common.{ap, refl, subst, arith, append_assoc, length-append}
 use Rattle.std.proofs.lemmas.List.{append-nil}
 use Rattle.std.proofs.lemmas.List.Elements.{All-nil, All-cons, All-append, All-weaker}
+use Rattle.std.proofs.lemmas.Grind.{flat_map-append}
 use Rattle.rt_feed.specs.declared.report.Line.{Line}
 use Rattle.rt_feed.specs.declared.report.Answer.{Answer}
 use Rattle.rt_feed.specs.declared.versions.Version.{Version}
 use Rattle.rt_feed.specs.declared.versions.Version.TheVariants.{One, Two}
-use Rattle.rt_feed.specs.Lines.{IsBody, CutsLine, LineOutcome, skipped, faulty, asked, LinesYield, TextYields}
+use Rattle.rt_feed.specs.Lines.{IsBody, CutsLine, LineOutcome, skipped, faulty, asked, LinesParseAs, LinesYield, TextYields}
 use Rattle.rt_feed.specs.Lines.{heading, reading, line_answer, numbered, report_lines, command_of, commands_of}
 use Rattle.rt_feed.specs.Grammar.{AnswersLine}
-use Rattle.rt_feed.proofs.LinesParseAs.{say-append, say-first, length-cut, length-said}
+
+-- more lines after some
+pub say-append : {X : Type 0} (says : List ℕ → X → Type 0) (lines middle rest : List ℕ) (some more : List X) → LinesParseAs says lines some middle
+    → LinesParseAs says middle more rest
+    → LinesParseAs says lines (some ++ more) rest
+say-append says lines middle rest [] more first second = rw first second
+say-append says lines middle rest (one ∷ others) more (line, next, cut, said, first) second =
+    (line, next, cut, said, say-append says next middle rest others more first second)
+
+-- the first of some lines have their values, and so do the others
+pub say-first : {X : Type 0} (says : List ℕ → X → Type 0) (lines rest : List ℕ) (some more : List X) → LinesParseAs says lines (some ++ more) rest
+    → (middle : List ℕ) × LinesParseAs says lines some middle × LinesParseAs says middle more rest
+say-first says lines rest [] more is = (lines, refl, is)
+say-first says lines rest (one ∷ others) more (line, next, cut, said, is) =
+    let first = say-first says next rest others more is in (first.0, (line, next, cut, said, first.1), first.2)
+
+not_nil : (line : List ℕ) → line ≢ [] → 0 < length line
+not_nil [] ne = absurd (ne refl)
+not_nil (byte ∷ line) ne = omega arith
+
+-- a line takes at least one byte
+pub length-cut : (text line rest : List ℕ) → CutsLine text line rest → length rest < length text
+length-cut text line rest cut = elim cut.ended [
+  | inl more ↦ omega (arith, ap length more, length-append line (10 ∷ rest))
+  | inr last ↦ let some : 0 < length line = not_nil line last.1 in omega (arith, some, ap length last.0, ap length last.2)
+]
+
+-- so the number of lines is at most the number of their bytes
+pub length-said : {X : Type 0} (says : List ℕ → X → Type 0) (lines rest : List ℕ) (some : List X) → LinesParseAs says lines some rest
+    → length some + length rest ≤ length lines
+length-said says lines rest [] is = omega (arith, ap length is)
+length-said says lines rest (one ∷ others) (line, next, cut, said, is) =
+    omega (arith, length-cut lines line next cut, length-said says next rest others is)
 
 -- the meaning of a line with this outcome
 abbrev says : Version → List ℕ → LineOutcome → Type 0
@@ -143,6 +176,4 @@ report_lines-below number (outcome ∷ outcomes) =
 
 -- the commands of more lines after some
 pub commands_of-append : (outcomes more : List LineOutcome) → commands_of (outcomes ++ more) ≡ commands_of outcomes ++ commands_of more
-commands_of-append [] more = refl
-commands_of-append (outcome ∷ outcomes) more = ap (λ asked. command_of outcome ++ asked) (commands_of-append outcomes more)
-    ∙ sym (append_assoc (command_of outcome) (commands_of outcomes) (commands_of more))
+commands_of-append outcomes more = flat_map-append command_of outcomes more

@@ -1,11 +1,12 @@
--- A line has one answer: a command has one text, and a text has one first fault.
+-- A line has one answer: a command has one text, and a text has one first fault. So has a line of a text of addresses.
 use Rattle.std.proofs.Common.{◌≡◌, ℕ, ◌^◌, ◌<◌, inl, inr, List, [], ◌∷◌, length, slice_index_or, Option, Some, None, Ok, Err, subst, refl, sym, ap, ◌∙◌, arith}
 use Rattle.std.proofs.lemmas.Fmt.{decimal_injective}
 use Rattle.rt_cidr.specs.declared.address.Addr.{Addr}
 use Rattle.rt_cidr.specs.declared.prefixes.Prefix.{Prefix}
 use Rattle.rt_cidr.specs.Reading.{ReadsAddress, ReadsPrefix}
 use Rattle.rt_cidr.specs.Text.{IsAddressText, IsPrefixText, address_text, prefix_text}
-use Rattle.rt_cidr.specs.Laws.{WritesPrefix, WritesAddress, ReadsPrefixAgain, ReadsAddressAgain}
+use Rattle.rt_cidr.proofs.Promised.{length-address_text}
+use Rattle.rt_cidr.specs.Laws.{HasOneAnswer, WritesPrefix, WritesAddress, ReadsPrefixAgain, ReadsAddressAgain}
 use Rattle.rt_rib.specs.declared.routes.Hop.{Hop}
 use Rattle.rt_rib.specs.declared.routes.Hop.TheVariants.{Via, Discard}
 use Rattle.rt_rib.specs.declared.commands.Cmd.{Cmd}
@@ -15,22 +16,24 @@ use Rattle.rt_feed.specs.declared.versions.Version.{Version}
 use Rattle.rt_feed.specs.declared.versions.Version.TheVariants.{Two}
 use Rattle.rt_feed.specs.CommandText.{words, route_words, HasHop, HasCommand}
 use Rattle.rt_print.specs.Routes.{hop_text}
-use Rattle.rt_feed.specs.Grammar.{Kind, prefix, preference, hop, address, IsFaultOf, IsFirstFault, IsFaultAfter, IsFaultOfFields, kinds_after, fields}
+use Rattle.rt_feed.specs.Grammar.{Kind, prefix, preference, hop, address, IsFaultOf, IsFirstFault, IsFaultAfter, IsFaultOfFields, prefix_fault, kinds_after, fields}
 use Rattle.rt_feed.specs.Grammar.{AnswersLine}
 use Rattle.rt_feed.specs.inside.Fields.{route_kinds, IsFaultAmong}
-use Rattle.rt_feed.specs.Laws.{LineHasOneAnswer}
-use Rattle.rt_feed.proofs.PrefixFaults.{one_prefix_fault}
-use Rattle.rt_feed.proofs.CommandWords.{address-ne-discard, fields-command_text, length-command_text, not_skipped-command_text}
+use Rattle.rt_feed.specs.Addresses.{AnswersAddressLine}
+use Rattle.rt_feed.specs.Laws.{LineHasOneAnswer, AddressLineHasOneAnswer}
+use Rattle.rt_feed.proofs.CommandWords.{address-ne-discard, fields-command_text, length-command_text, not_skipped-command_text, not_skipped-address_text}
 
 -- the promises of rt_cidr on prefixes and addresses and their texts
 pub record Texts : Type 0 where
+  pub prefix_once : HasOneAnswer ReadsPrefix
   pub prefix_written : WritesPrefix
   pub prefix_again : ReadsPrefixAgain
   pub address_written : WritesAddress
   pub address_again : ReadsAddressAgain
 
-pub texts : WritesPrefix → ReadsPrefixAgain → WritesAddress → ReadsAddressAgain → Texts
-texts prefix_written prefix_again address_written address_again = record {
+pub texts : HasOneAnswer ReadsPrefix → WritesPrefix → ReadsPrefixAgain → WritesAddress → ReadsAddressAgain → Texts
+texts prefix_once prefix_written prefix_again address_written address_again = record {
+  prefix_once = prefix_once;
   prefix_written = prefix_written;
   prefix_again = prefix_again;
   address_written = address_written;
@@ -43,7 +46,7 @@ one_prefix texts p q same =
     let read : ReadsPrefix (prefix_text q.base q.len) (Ok p) = subst (λ text. IsPrefixText text p.base p.len) same (texts.prefix_written p) in
     let equal = texts.prefix_again q (Ok p) read in cc
 
-pub one_address : Texts → (a b : Addr) → a.0 < 2 ^ 32 → b.0 < 2 ^ 32 → address_text a.0 ≡ address_text b.0 → a ≡ b
+one_address : Texts → (a b : Addr) → a.0 < 2 ^ 32 → b.0 < 2 ^ 32 → address_text a.0 ≡ address_text b.0 → a ≡ b
 one_address texts a b fits others same =
     let read : ReadsAddress (address_text b.0) (Ok a) = subst (λ text. IsAddressText text a.0) same (texts.address_written a.0 fits) in
     let equal = texts.address_again b (Ok a) others read in cc
@@ -74,7 +77,9 @@ one_command texts version cmd other fits fits' same = absurd (omega (arith, ap (
 
 -- a field has only one fault
 one_fault : Texts → (kind : Kind) (field : List ℕ) (one two : LineFault) → IsFaultOf kind field one → IsFaultOf kind field two → one ≡ two
-one_fault texts prefix field one two is other = one_prefix_fault field one two is other
+one_fault texts prefix field one two (reason, read, is) (other, again, also) =
+    let equal = texts.prefix_once field (Err reason) (Err other) read again in
+    let same : reason ≡ other = cc in is ∙ (ap prefix_fault same ∙ sym also)
 one_fault texts preference field one two is other = is ∙ sym other
 one_fault texts (hop version) field one two is other = is ∙ sym other
 one_fault texts address field one two is other = is ∙ sym other
@@ -158,3 +163,31 @@ line_once texts version line (Err one) (Err two) (inl is) (inl also) = ap Err (i
 line_once texts version line (Err one) (Err two) (inl (long, told)) (inr (short, not, fault)) = absurd (omega (arith, long, short))
 line_once texts version line (Err one) (Err two) (inr (short, not, fault)) (inl (long, told)) = absurd (omega (arith, long, short))
 line_once texts version line (Err one) (Err two) (inr is) (inr also) = ap Err (one_of_fields texts version (fields line) one two is.2 also.2)
+
+-- an address's text is neither skipped nor faulty
+address_never_skipped : (line : List ℕ) (addr : Addr) → AnswersAddressLine line (Ok (Some addr)) → ¬ AnswersAddressLine line (Ok None)
+address_never_skipped line addr is skipped = let clash = sym (not_skipped-address_text addr.0 is.0) ∙ (rw is.1 at skipped.1) in cc
+
+address_never_faulty : (line : List ℕ) (addr : Addr) (answer : LineFault) → AnswersAddressLine line (Ok (Some addr)) → ¬ AnswersAddressLine line (Err answer)
+address_never_faulty line addr answer is (inl (long, told)) = omega (arith, long, ap length is.1, length-address_text addr.0)
+address_never_faulty line addr answer is (inr (short, not, none, told)) = none (addr, is.0, is.1)
+
+-- a skipped line is not faulty
+address_never_both : (line : List ℕ) (answer : LineFault) → AnswersAddressLine line (Ok None) → ¬ AnswersAddressLine line (Err answer)
+address_never_both line answer is (inl (long, told)) = omega (arith, long, is.0)
+address_never_both line answer is (inr (short, not, none, told)) = let clash = sym is.1 ∙ not in cc
+
+pub address_line_once : Texts → AddressLineHasOneAnswer
+address_line_once texts line (Ok (Some addr)) (Ok (Some other)) is also =
+    ap (λ a. Ok (Some a)) (one_address texts addr other is.0 also.0 (sym is.1 ∙ also.1))
+address_line_once texts line (Ok (Some addr)) (Ok None) is also = absurd (address_never_skipped line addr is also)
+address_line_once texts line (Ok (Some addr)) (Err fault) is also = absurd (address_never_faulty line addr fault is also)
+address_line_once texts line (Ok None) (Ok (Some addr)) is also = absurd (address_never_skipped line addr also is)
+address_line_once texts line (Ok None) (Ok None) is also = refl
+address_line_once texts line (Ok None) (Err fault) is also = absurd (address_never_both line fault is also)
+address_line_once texts line (Err fault) (Ok (Some addr)) is also = absurd (address_never_faulty line addr fault also is)
+address_line_once texts line (Err fault) (Ok None) is also = absurd (address_never_both line fault also is)
+address_line_once texts line (Err one) (Err two) (inl is) (inl also) = ap Err (is.1 ∙ sym also.1)
+address_line_once texts line (Err one) (Err two) (inl (long, told)) (inr (short, not, none, also)) = absurd (omega (arith, long, short))
+address_line_once texts line (Err one) (Err two) (inr (short, not, none, is)) (inl (long, told)) = absurd (omega (arith, long, short))
+address_line_once texts line (Err one) (Err two) (inr (short, not, none, is)) (inr (short', not', none', also)) = ap Err (is ∙ sym also)

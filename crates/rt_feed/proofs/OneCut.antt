@@ -7,7 +7,7 @@ use Rattle.rt_feed.specs.Lines.{lf, CutsLine, HasVersion2Header, IsBody, LineOut
 use Rattle.rt_feed.specs.declared.versions.Version.{Version}
 use Rattle.rt_feed.specs.declared.versions.Version.TheVariants.{One, Two}
 use Rattle.rt_feed.specs.Laws.{LineHasOneAnswer, OlderTextsStay}
-use Rattle.rt_feed.proofs.LinesParseAs.{length-cut}
+use Rattle.rt_feed.proofs.LinesYield.{length-cut}
 
 -- a list without the mark is not a list with it
 unmarked_ends : (mark : ℕ) (xs ys more : List ℕ) → All (λ byte. byte ≢ mark) xs → xs ≢ ys ++ mark ∷ more

@@ -9,7 +9,7 @@ use Rattle.rt_feed.specs.Lines.{CutsLine}
 use Rattle.rt_feed.specs.Laws.{AddressLineHasOneAnswer, AddressTextHasOneReading}
 use Rattle.rt_feed.specs.Addresses.{AnswersAddressLine, SaysAddresses, addresses_said, faults_said, faulty_lines}
 use Rattle.rt_feed.specs.inside.ReadAddresses.{AreSaid, AreRead, PutsLine}
-use Rattle.rt_feed.proofs.LinesParseAs.{say-append, length-said}
+use Rattle.rt_feed.proofs.LinesYield.{say-append, length-said}
 use Rattle.rt_feed.proofs.OneCut.{say_alike}
 
 -- the answer for a line
@@ -60,34 +60,14 @@ none_read text addresses faulty no_address no_fault = record {
   are_said = record { said = no_address; faults = no_fault };
 }
 
--- one line more that is an address
-pub said_address : (says : List Says) (old new : List Addr) (faulty faulty' : FaultyLines) (addr : Addr) → AreSaid says old faulty
-    → new ≡ old ++ addr ∷ [] → faulty' ≡ faulty → AreSaid (says ++ Ok (Some addr) ∷ []) new faulty'
-said_address says old new faulty faulty' addr are pushed same = record {
-  said = pushed ∙ (ap (λ (l : List Addr). l ++ addr ∷ []) are.said ∙ sym (addresses_said-append says (Ok (Some addr) ∷ [])));
-  faults = same ∙ (are.faults ∙ ap faulty_lines (sym (faults_said-append 1 says (Ok (Some addr) ∷ []) ∙ append-nil (faults_said 1 says))));
+-- one more line, whatever its answer
+pub said_more : (says : List Says) (one : Says) (old new : List Addr) (faulty faulty' : FaultyLines) → AreSaid says old faulty
+    → new ≡ old ++ addresses_said (one ∷ []) → faulty' ≡ faulty_lines (faults_said 1 says ++ faults_said (1 + length says) (one ∷ []))
+    → AreSaid (says ++ one ∷ []) new faulty'
+said_more says one old new faulty faulty' are pushed put = record {
+  said = pushed ∙ (ap (λ (l : List Addr). l ++ addresses_said (one ∷ [])) are.said ∙ sym (addresses_said-append says (one ∷ [])));
+  faults = put ∙ ap faulty_lines (sym (faults_said-append 1 says (one ∷ [])));
 }
-
--- one more line that is skipped
-pub said_nothing : (says : List Says) (old new : List Addr) (faulty faulty' : FaultyLines) → AreSaid says old faulty
-    → new ≡ old → faulty' ≡ faulty → AreSaid (says ++ Ok None ∷ []) new faulty'
-said_nothing says old new faulty faulty' are kept same = record {
-  said = kept ∙ (are.said ∙ sym (addresses_said-append says (Ok None ∷ []) ∙ append-nil (addresses_said says)));
-  faults = same ∙ (are.faults ∙ ap faulty_lines (sym (faults_said-append 1 says (Ok None ∷ []) ∙ append-nil (faults_said 1 says))));
-}
-
--- one more line that is faulty
-pub said_fault : (says : List Says) (number : ℕ) (old new : List Addr) (faulty faulty' : FaultyLines) (fault : LineFault) → AreSaid says old faulty
-    → number ≡ length says + 1 → new ≡ old
-    → ((faults : List (ℕ × LineFault)) → faulty ≡ faulty_lines faults → faulty' ≡ faulty_lines (faults ++ (number, fault) ∷ []))
-    → AreSaid (says ++ Err fault ∷ []) new faulty'
-said_fault says number old new faulty faulty' fault are numbered kept put =
-    let is : number ≡ 1 + length says = omega (arith, numbered) in
-    record {
-      said = kept ∙ (are.said ∙ sym (addresses_said-append says (Err fault ∷ []) ∙ append-nil (addresses_said says)));
-      faults = put (faults_said 1 says) are.faults
-          ∙ (ap (λ n. faulty_lines (faults_said 1 says ++ (n, fault) ∷ [])) is ∙ ap faulty_lines (sym (faults_said-append 1 says (Err fault ∷ []))));
-    }
 
 -- the line after those that were read is read
 pub read_more : (text rest line next : List ℕ) (number : ℕ) (old new : List Addr) (faulty faulty' : FaultyLines) → AreRead text rest number old faulty

@@ -2,7 +2,8 @@
 use Rattle.std.proofs.Common.{◌≡◌, Ok, Some, ◌≢◌, inl, inr, ℕ, suc, ◌+◌, ◌<◌, false, List, [], ◌∷◌, ◌++◌, All, length, get_or, map, take, drop, zip, refl}
 use Rattle.std.proofs.Common.{sym, ap, subst, ◌∙◌, arith, append_assoc, append-nil, length-append}
 use Rattle.std.proofs.Math.Seq.{take-append_seam, drop-append_seam}
-use Rattle.std.proofs.lemmas.List.{map-append}
+use Rattle.std.proofs.lemmas.List.{map-append, length-map}
+use Rattle.std.proofs.lemmas.Grind.{flat_map-append}
 use Rattle.std.proofs.lemmas.List.Elements.{All-nil, All-cons, All-append}
 use Rattle.std.proofs.lemmas.Slice.Zip.{length-zip}
 use Rattle.rt_rib.specs.declared.commands.Cmd.{Cmd}
@@ -22,12 +23,6 @@ use Rattle.rt_feed.specs.FeedRuns.{RunsFeed, RunsPrefixOf, IsTold}
 use Rattle.rt_feed.specs.inside.FeedRuns.{AnswersWaiting, Gathers, HasRead, RunSoFar}
 use Rattle.rt_feed.proofs.LinesYield.{becomes-push, becomes-at, becomes-alike, becomes-first, report_lines-append, report_lines-push, commands_of-append}
 use Rattle.rt_feed.proofs.FilledReports.{filled-none, filled-fault, filled-given}
-
--- pieces one after another
-pub concatenated-append : {X : Type 0} (pieces more : List (List X)) → concatenated (pieces ++ more) ≡ concatenated pieces ++ concatenated more
-concatenated-append [] more = refl
-concatenated-append (piece ∷ pieces) more = ap (λ xs. piece ++ xs) (concatenated-append pieces more)
-    ∙ sym (append_assoc piece (concatenated pieces) (concatenated more))
 
 -- a single piece, joined, is itself
 concatenated-piece : {X : Type 0} (piece : List X) → concatenated (piece_of piece) ≡ piece
@@ -61,12 +56,7 @@ reading-given (asked cmd old ∷ lines) [] = refl
 reading-given (asked cmd old ∷ lines) (outcome ∷ outcomes) = ap (λ rs. reading (asked cmd old) ∷ rs) (reading-given lines outcomes)
 
 length-given : (lines : List LineOutcome) (outcomes : List Outcome) → length (given lines outcomes) ≡ length lines
-unfolding given
-length-given [] outcomes = refl
-length-given (skipped ∷ lines) outcomes = ap suc (length-given lines outcomes)
-length-given (faulty fault ∷ lines) outcomes = ap suc (length-given lines outcomes)
-length-given (asked cmd old ∷ lines) [] = refl
-length-given (asked cmd old ∷ lines) (outcome ∷ outcomes) = ap suc (length-given lines outcomes)
+length-given lines outcomes = sym (length-map (given lines outcomes) reading) ∙ (ap length (reading-given lines outcomes) ∙ length-map lines reading)
 
 -- a command's answer isn't a fault
 no_fault : (outcome : Outcome) → is_fault (command_answer outcome) ≡ false
@@ -132,10 +122,6 @@ none_answered : (cmds : List Cmd) → visit_of (zip cmds (map (λ cmd. Refused) 
 none_answered [] = refl
 none_answered (cmd ∷ cmds) = none_answered cmds
 
-length-refusals : (cmds : List Cmd) → length (map (λ cmd. Refused) cmds) ≡ length cmds
-length-refusals [] = refl
-length-refusals (cmd ∷ cmds) = ap suc (length-refusals cmds)
-
 -- the commands that wait were refused, with one empty visit
 pub refuses_waiting : {G : Type 0} (holds : G → List AnsweredBatch → Type 0) (old new : G) (cmds : List Cmd) (first : ℕ) (report : List Line) → cmds ≢ []
     → Gains holds old new ([] ∷ []) → AnswersWaiting holds old new cmds first report report
@@ -143,8 +129,8 @@ refuses_waiting holds old new cmds first report some gained =
     let outcomes = map (λ (cmd : Cmd). Refused) cmds in
     record {
       outcomes = outcomes;
-      each = length-refusals cmds;
-      gained = piece_asked holds old new cmds outcomes (length-refusals cmds) some
+      each = length-map cmds _;
+      gained = piece_asked holds old new cmds outcomes (length-map cmds _) some
           (subst (λ visit. Gains holds old new (visit ∷ [])) (sym (none_answered cmds)) gained);
       reported = inr (refl, refl);
     }
@@ -288,18 +274,9 @@ settles holds batch text rest number start gate new run report read answers =
       gained = rw map-append (gains_both holds start gate new _ _ read.asked.gained answers.gained);
     }
 
--- a list with a first element is not empty
-some_first : {X : Type 0} (x : X) (xs : List X) → x ∷ xs ≢ []
-some_first x xs is = absurd (omega (arith, ap length is))
-
--- one command was refused
-pub refuses_one : {G : Type 0} (holds : G → List AnsweredBatch → Type 0) (old new : G) (cmd : Cmd) (first : ℕ) (report : List Line)
-    → Gains holds old new ([] ∷ []) → AnswersWaiting holds old new (cmd ∷ []) first report report
-refuses_one holds old new cmd first report gained = refuses_waiting holds old new (cmd ∷ []) first report (some_first cmd []) gained
-
 -- a whole piece more
 piece_more : {X : Type 0} (pieces : List (List X)) (piece : List X) → concatenated pieces ++ piece ≡ concatenated (pieces ++ piece_of piece)
-piece_more pieces piece = sym (concatenated-append pieces (piece_of piece) ∙ ap (λ xs. concatenated pieces ++ xs) (concatenated-piece piece))
+piece_more pieces piece = sym (flat_map-append (λ xs. xs) pieces (piece_of piece) ∙ ap (λ xs. concatenated pieces ++ xs) (concatenated-piece piece))
 
 -- a piece of the whole size
 full_piece : {X : Type 0} (size : ℕ) (piece : List X) → length piece ≡ size → All (λ p. length p ≡ size) (piece_of piece)

@@ -5,8 +5,10 @@ use Rattle.std.specs.declared.result.Result.{Result}
 use Rattle.std.specs.List.{slice_split}
 use Rattle.rt_cidr.specs.declared.address.Addr.{Addr}
 use Rattle.rt_cidr.specs.declared.prefixes.Prefix.{Prefix}
-use Rattle.rt_cidr.specs.Cidr.{IsPrefix}
-use Rattle.rt_cidr.specs.Text.{IsPrefixText, address_text, prefix_text}
+use Rattle.rt_cidr.specs.declared.prefixes.TextFault.{TextFault}
+use Rattle.rt_cidr.specs.declared.prefixes.TextFault.TheVariants.{Text, Length, Bits}
+use Rattle.rt_cidr.specs.Reading.{ReadsPrefix}
+use Rattle.rt_cidr.specs.Text.{address_text, prefix_text}
 use Rattle.rt_rib.specs.declared.routes.Hop.{Hop}
 use Rattle.rt_rib.specs.declared.commands.Cmd.{Cmd}
 use Rattle.rt_feed.specs.declared.parse.TheConstants.{LINE_BYTES}
@@ -44,14 +46,15 @@ IsOfKind preference field = (pref : ℕ) × (pref < 2 ^ 32) × (field ≡ decima
 IsOfKind (hop version) field = (next : Hop) × HasHop version next × (field ≡ hop_text next)
 IsOfKind address field = (a : Addr) × (a.0 < 2 ^ 32) × (field ≡ address_text a.0)
 
--- the fault of a field of the wrong kind; for a prefix, that the field isn't the text of any pair, or the fault
--- of its pair
+-- the line's fault for a field that isn't a prefix, by the reason why it isn't
+abbrev pub prefix_fault : TextFault → LineFault
+prefix_fault Text = fault.Text
+prefix_fault Length = fault.PrefixLength
+prefix_fault Bits = fault.PrefixBits
+
+-- the fault of a field of the wrong kind
 abbrev pub IsFaultOf : Kind → List ℕ → LineFault → Type 0
-IsFaultOf prefix field fault.Text = (base len : ℕ) → ¬ IsPrefixText field base len
-IsFaultOf prefix field fault.PrefixLength = (base len : ℕ) × IsPrefixText field base len × (32 < len)
-IsFaultOf prefix field fault.PrefixBits =
-    (base len : ℕ) × IsPrefixText field base len × (len ≤ 32) × ¬ IsPrefix base len
-IsFaultOf prefix field answer = ⊥
+IsFaultOf prefix field answer = (reason : TextFault) × ReadsPrefix field (Err reason) × (answer ≡ prefix_fault reason)
 IsFaultOf preference field answer = answer ≡ fault.Preference
 IsFaultOf (hop version) field answer = answer ≡ fault.Hop
 IsFaultOf address field answer = answer ≡ fault.Text

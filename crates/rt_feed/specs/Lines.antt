@@ -3,6 +3,7 @@
 use Rattle.std.specs.Prelude.{◌≡◌, ◌≢◌, ◌⊎◌, ℕ, List, [], ◌∷◌, ◌++◌, All, codes, ◌+◌, Option, None, Some, Ok, Err}
 use Rattle.rt_feed.specs.declared.versions.Version.{Version}
 use Rattle.rt_feed.specs.declared.versions.Version.TheVariants.{One, Two}
+use Rattle.std.specs.List.{flat_map}
 use Rattle.std.specs.declared.result.Result.{Result}
 use Rattle.rt_rib.specs.declared.commands.Cmd.{Cmd}
 use Rattle.rt_shared.specs.declared.outcome.Outcome.{Outcome}
@@ -101,5 +102,4 @@ command_of _ = []
 
 -- the commands of the lines in order, each with its outcome
 abbrev pub commands_of : List LineOutcome → List (Cmd × Outcome)
-commands_of [] = []
-commands_of (outcome ∷ outcomes) = command_of outcome ++ commands_of outcomes
+commands_of outcomes = flat_map command_of outcomes

@@ -1,5 +1,6 @@
 -- The visits that a gate gains, and the division of a feed's commands into visits.
 use Rattle.std.specs.Prelude.{◌≡◌, ℕ, ◌<◌, List, [], ◌∷◌, ◌++◌, All, length, zip}
+use Rattle.std.specs.List.{flat_map}
 use Rattle.rt_rib.specs.declared.commands.Cmd.{Cmd}
 use Rattle.rt_shared.specs.declared.outcome.Outcome.{Outcome}
 use Rattle.rt_shared.specs.JournalVisits.{AnsweredBatch, visit_of}
@@ -10,8 +11,7 @@ Gains {G} holds old new more = (visits : List AnsweredBatch) → holds old visit
 
 -- the pieces one after another
 abbrev pub concatenated : {X : Type 0} → List (List X) → List X
-concatenated [] = []
-concatenated (piece ∷ pieces) = piece ++ concatenated pieces
+concatenated pieces = flat_map (λ piece. piece) pieces
 
 -- all such lists of visits are one list of commands and replies, however divided into visits
 abbrev pub AreOneList : (List AnsweredBatch → Type 0) → Type 0

@@ -3,17 +3,21 @@ ghost use Rattle.rt_feed.specs.Laws.{LineHasOneAnswer, AddressLineHasOneAnswer, 
 ghost use Rattle.rt_feed.specs.Laws.{OnlyItsTextIsRead, OlderTextsStay, TextHasOneCut, TextHasOneReading};
 
 /// `parse_line` returns the only answer that its contract allows.
+#[tactic(auto, using(crate::proofs::OneAnswer::line_once, crate::proofs::OneAnswer::texts))]
 pub fn one_answer()
     ensures { LineHasOneAnswer }
 {
+    rt_cidr::laws::one_answer();
     rt_cidr::laws::written();
     rt_cidr::laws::read_again();
 }
 
 /// `parse_address_line` returns the only answer that its contract allows.
+#[tactic(auto, using(crate::proofs::OneAnswer::address_line_once, crate::proofs::OneAnswer::texts))]
 pub fn one_address()
     ensures { AddressLineHasOneAnswer }
 {
+    rt_cidr::laws::one_answer();
     rt_cidr::laws::written();
     rt_cidr::laws::read_again();
 }

@@ -4,8 +4,8 @@ ghost use Rattle.rt_cidr.specs.Text.{address_text, prefix_text};
 ghost use Rattle.rt_feed.specs.declared.parse.TheConstants.{LINE_BYTES};
 ghost use Rattle.rt_feed.specs.CommandText.{HasHop};
 ghost use Rattle.rt_print.specs.Routes.{hop_text};
-ghost use Rattle.rt_feed.specs.Grammar.{Kind, kinds_after, is_skipped, fields, AnswersLine};
-ghost use Rattle.rt_feed.specs.inside.Fields.{fields_of_rest, name_text, route_kinds, prefix_fault, IsRoute, IsFaulty, IsFaultAmong, AnswersFields};
+ghost use Rattle.rt_feed.specs.Grammar.{Kind, kinds_after, is_skipped, fields, prefix_fault, AnswersLine};
+ghost use Rattle.rt_feed.specs.inside.Fields.{fields_of_rest, name_text, route_kinds, IsRoute, IsFaulty, IsFaultAmong, AnswersFields};
 
 use crate::lines::cut_at;
 use crate::versions::Version;
@@ -65,6 +65,7 @@ enum Name {
 /// comment (its first byte is `#`), or the first of its faults. The line is split at every space. `add` and `replace`
 /// have a prefix, a preference and a next hop, `withdraw` a prefix, `lookup` an address, and `dump` no field. Version 2
 /// also has `purge`, without a field, and a next hop may be `discard`. Doesn't allocate.
+#[tactic(auto, using(crate::proofs::CommandWords::line_from_words))]
 pub fn parse_line(line: &[u8], version: Version) -> Result<Option<Cmd>, LineFault>
     ensures { AnswersLine version line.now result }
 {
@@ -110,6 +111,7 @@ fn parse_fields(line: &[u8], version: Version) -> Result<Cmd, LineFault>
 }
 
 /// Returns the command name that the field is, if it is one.
+#[tactic(auto, using(crate::proofs::CommandWords::too_short))]
 fn name_of(field: &[u8]) -> Option<Name>
     ensures { MatchOption result
         ((version : Version) → kinds_after version field.now ≡ None)
@@ -162,6 +164,7 @@ fn parse_command(name: Name, rest: Option<&[u8]>, version: Version) -> Result<Cm
 }
 
 /// Returns the first field, up to the first space, and the text after that space, if there is one.
+#[tactic(auto, using(crate::proofs::CutBytes::fields_cut))]
 fn cut_field(text: &[u8]) -> (&[u8], Option<&[u8]>)
     ensures { fields text.now ≡ result.0.now ∷ fields_of_rest result.1 }
 {
@@ -169,6 +172,7 @@ fn cut_field(text: &[u8]) -> (&[u8], Option<&[u8]>)
 }
 
 /// Returns E2 if any field remains.
+#[tactic(auto, using(crate::proofs::CutBytes::fields_nonempty))]
 fn no_field(rest: Option<&[u8]>) -> Result<(), LineFault>
     ensures { MatchResult result
         (λ none. fields_of_rest rest.entry ≡ [])

@@ -3,12 +3,9 @@ use Rattle.std.specs.Prelude.{◌≡◌, ℕ, ◌^◌, ◌<◌, List, [], ◌∷
 use Rattle.std.specs.declared.result.Result.{Result}
 use Rattle.std.specs.Borrow.{Bor}
 use Rattle.rt_cidr.specs.declared.prefixes.Prefix.{Prefix}
-use Rattle.rt_cidr.specs.declared.prefixes.TextFault.{TextFault}
-use Rattle.rt_cidr.specs.declared.prefixes.TextFault.TheVariants.{Text, Length, Bits}
 use Rattle.rt_rib.specs.declared.routes.Hop.{Hop}
 use Rattle.rt_rib.specs.declared.commands.Cmd.{Cmd}
 use Rattle.rt_feed.specs.declared.parse.LineFault.{LineFault}
-use Rattle.rt_feed.specs.declared.parse.LineFault.TheVariants as fault
 use Rattle.rt_feed.specs.declared.versions.Version.{Version}
 use Rattle.rt_feed.specs.declared.parse.Name.{Name}
 use Rattle.rt_feed.specs.declared.parse.Name.TheVariants as name
@@ -52,9 +49,3 @@ route_kinds version = prefix ∷ preference ∷ hop version ∷ []
 -- the fault of the fields after a command's name, which must be of these kinds
 abbrev pub IsFaultAmong : List Kind → List (List ℕ) → LineFault → Type 0
 IsFaultAmong kinds rest answer = IsFaultAfter (Some kinds) rest answer
-
--- the line's fault for a text that isn't a prefix
-abbrev pub prefix_fault : TextFault → LineFault
-prefix_fault Text = fault.Text
-prefix_fault Length = fault.PrefixLength
-prefix_fault Bits = fault.PrefixBits

@@ -1,5 +1,5 @@
 use Rattle.std.proofs.Common.{◌+◌, ◌≤◌, length, arith}
-use Rattle.rt_feed.proofs.LinesParseAs.{length-cut}
+use Rattle.rt_feed.proofs.LinesYield.{length-cut}
 use Rattle.rt_feed.proofs.ReadAddresses.{none_read, counted-below, read_more, numbered-within, all_read}
 use Rattle.rt_feed.proofs.addresses.read_addresses.Goals as goal
 

@@ -4,6 +4,3 @@ use Rattle.rt_feed.proofs.laws.command_text.Goals as goal
 
 pub returns-clause-read : goal.returns-clause-read
 returns-clause-read c = λ version cmd answer fits is. c.one_answer.ensures version (command_text cmd) answer (Ok (Some cmd)) is (fits, refl)
-
-pub returns-clause-only : goal.returns-clause-only
-returns-clause-only c = λ version line cmd is. is

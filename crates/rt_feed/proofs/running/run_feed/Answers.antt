@@ -4,8 +4,7 @@ use Rattle.rt_feed.specs.declared.report.Line.{Line}
 use Rattle.rt_feed.specs.Lines.{heading, IsBody}
 use Rattle.rt_feed.specs.FeedRuns.{RunsFeed}
 use Rattle.rt_feed.specs.inside.FeedRuns.{RunSoFar, HasRead}
-use Rattle.rt_feed.proofs.LinesParseAs.{length-cut}
-use Rattle.rt_feed.proofs.LinesYield.{length-outcomes, report_lines-below}
+use Rattle.rt_feed.proofs.LinesYield.{length-cut, length-outcomes, report_lines-below}
 use Rattle.rt_feed.proofs.RunSteps.{nothing_read, all_asked, stopped}
 use Rattle.rt_feed.proofs.running.run_feed.Goals as goal
 

@@ -2,7 +2,7 @@ use Rattle.std.proofs.Common.{subst, sym, ◌∙◌, ap, length, refl, arith}
 use Rattle.std.proofs.lemmas.Bool.Decides.{Decides-eqb}
 use Rattle.std.proofs.lemmas.Slice.Eq.{slice_eq-Decides}
 use Rattle.rt_feed.specs.Lines.{CutsLine}
-use Rattle.rt_feed.proofs.LinesParseAs.{length-cut}
+use Rattle.rt_feed.proofs.LinesYield.{length-cut}
 use Rattle.rt_feed.proofs.OneCut.{one_cut}
 use Rattle.rt_feed.proofs.versions.text_body.Goals as goal
 use Rattle.rt_feed.proofs.versions.text_body.Goals.{in-Some+else-eq, in_default}
