@@ -1,6 +1,6 @@
 //! `diff`: the addresses for which the tables of two sets of feed files differ, and reports of rejected input.
 
-use super::feed_choice::{FeedFiles, FeedNumbers};
+use super::feed_choice::FeedNumbers;
 use super::queries::report_summary;
 use super::styles::{check_sides, diff_options};
 use super::{Program, ProgramError};
@@ -18,23 +18,21 @@ impl<R: Files + Wait + AllocGlobal, O: Write, E: Write> Program<'_, R, O, E> {
         request: &DiffRequest<'w>,
     ) -> Result<u8, ProgramError<'w>> {
         check_sides(request)?;
-        let old_files = FeedFiles::of(request.run.files)?;
-        let old_feeds = FeedNumbers::of(self.alloc, &request.old_feeds, old_files)?;
-        let new_files = FeedFiles::of(request.new_files)?;
-        let new_feeds = FeedNumbers::of(self.alloc, &request.new_feeds, new_files)?;
-        let old_texts = self.read_feeds(old_files, old_feeds.choice())?;
-        let new_texts = self.read_feeds(new_files, new_feeds.choice())?;
+        let old_feeds = FeedNumbers::of(self.alloc, &request.old_feeds, request.run.files)?;
+        let new_feeds = FeedNumbers::of(self.alloc, &request.new_feeds, request.new_files)?;
+        let old_texts = self.read_feeds(old_feeds.files, old_feeds.choice())?;
+        let new_texts = self.read_feeds(new_feeds.files, new_feeds.choice())?;
         let (limit, batch) = (request.run.limit, request.run.batch as usize);
         let old_asked = ChosenTexts::new(old_texts.as_slice(), limit, batch, old_feeds.choice());
         let new_asked = ChosenTexts::new(new_texts.as_slice(), limit, batch, new_feeds.choice());
-        let options = diff_options(self.alloc, request, old_files, new_files)?;
+        let options = diff_options(self.alloc, request, old_feeds.files, new_feeds.files)?;
         let feeds = old_asked.count() + new_asked.count();
         let mut out = self.screen.beside(feeds, self.out);
         let DiffSummary { status, old, new } = diff_texts(
             self.alloc, &old_asked, &new_asked, &options, &mut out,
         )?;
-        report_summary(&mut self.screen, old_files.names, &old);
-        report_summary(&mut self.screen, new_files.names, &new);
+        report_summary(&mut self.screen, request.run.files, &old);
+        report_summary(&mut self.screen, request.new_files, &new);
         Ok(status)
     }
 }

@@ -76,23 +76,30 @@ fn is_identified(word: &str, feed: u32, file: &str) -> bool {
     is_name || word.parse() == Ok(feed)
 }
 
-/// The numbers of the feeds that the command line names.
+/// The feed files, and the numbers of the feeds that the command line names.
 #[derive(Drop)]
-pub(super) struct FeedNumbers {
+pub(super) struct FeedNumbers<'w> {
+    pub(super) files: FeedFiles<'w>,
     pub(super) only: Vec<u32>,
     pub(super) without: Vec<u32>,
 }
 
-impl FeedNumbers {
-    /// Returns the numbers of feeds that are read from these files. Stops if an argument identifies no feed, or several.
-    pub(super) fn of<'w>(
+impl<'w> FeedNumbers<'w> {
+    /// Returns the numbers of feeds that are read from the files of these names. Stops if there are more files than a run
+    /// accepts, or if an argument identifies no feed, or several.
+    pub(super) fn of(
         alloc: Global,
         feeds: &NamedFeeds<'w>,
-        files: FeedFiles<'w>,
-    ) -> Result<FeedNumbers, ProgramError<'w>> {
+        names: &'w [&'w str],
+    ) -> Result<FeedNumbers<'w>, ProgramError<'w>> {
+        let files = FeedFiles::of(names)?;
         let only = numbers_of(alloc, feeds.only, files)?;
         let without = numbers_of(alloc, feeds.without, files)?;
-        Ok(FeedNumbers { only, without })
+        Ok(FeedNumbers {
+            files,
+            only,
+            without,
+        })
     }
 
     /// Returns the choice of the feeds that are selected, except those that are left out.

@@ -1,7 +1,7 @@
 //! `lookup` and `table`: queries of the final table of feed files, and reports of rejected input.
 
 use super::Program;
-use super::feed_choice::{FeedFiles, FeedNumbers};
+use super::feed_choice::FeedNumbers;
 use super::prefixes::prefix_of;
 use super::program_error::{ArgumentFault, ProgramError};
 use super::styles::{format_of, style_of};
@@ -23,10 +23,10 @@ impl<R: Files + Wait + AllocGlobal, O: Write, E: Write> Program<'_, R, O, E> {
         request: &LookupRequest<'w>,
     ) -> Result<u8, ProgramError<'w>> {
         let named = named_addresses(self.alloc, request)?;
-        let files = FeedFiles::of(request.run.files)?;
+        let files = request.run.files;
         let style = style_of(self.alloc, format_of(request.names, request.json), files)?;
         let feeds = FeedNumbers::of(self.alloc, &request.feeds, files)?;
-        let texts = self.read_feeds(files, feeds.choice())?;
+        let texts = self.read_feeds(feeds.files, feeds.choice())?;
         let text = match request.more {
             Some(name) => self.read_file(name)?,
             None => Vec::new(self.alloc),
@@ -47,7 +47,7 @@ impl<R: Files + Wait + AllocGlobal, O: Write, E: Write> Program<'_, R, O, E> {
         if let Some(name) = request.more {
             report_faulty_lines(&mut self.screen, name, given.faulty);
         }
-        report_summary(&mut self.screen, files.names, &given.run);
+        report_summary(&mut self.screen, files, &given.run);
         Ok(given.status)
     }
 
@@ -57,10 +57,10 @@ impl<R: Files + Wait + AllocGlobal, O: Write, E: Write> Program<'_, R, O, E> {
         request: &TableRequest<'w>,
     ) -> Result<u8, ProgramError<'w>> {
         let selection = selection_of(request)?;
-        let files = FeedFiles::of(request.run.files)?;
+        let files = request.run.files;
         let style = style_of(self.alloc, format_of(request.names, request.json), files)?;
         let feeds = FeedNumbers::of(self.alloc, &request.feeds, files)?;
-        let texts = self.read_feeds(files, feeds.choice_of_all())?;
+        let texts = self.read_feeds(feeds.files, feeds.choice_of_all())?;
         let (limit, batch) = (request.run.limit, request.run.batch as usize);
         let asked = ChosenTexts::new(texts.as_slice(), limit, batch, feeds.choice_of_all());
         let routes = AskedRoutes {
@@ -74,7 +74,7 @@ impl<R: Files + Wait + AllocGlobal, O: Write, E: Write> Program<'_, R, O, E> {
             Question::Routes(routes)
         };
         let given = show(self.alloc, &asked, &style, &question, &mut out)?;
-        report_summary(&mut self.screen, files.names, &given.run);
+        report_summary(&mut self.screen, files, &given.run);
         Ok(given.status)
     }
 }

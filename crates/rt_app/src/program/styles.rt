@@ -17,13 +17,14 @@ pub(super) fn format_of(names: bool, json: bool) -> Format {
     }
 }
 
-/// Returns the style for these files' feeds. Stops if, with `--names`, a file has no valid feed name or two files have the
-/// same.
+/// Returns the style for the feeds of the files of these names. Stops if there are too many files or if, with `--names`, a
+/// file has no valid feed name or two files have the same.
 pub(super) fn style_of<'w>(
     alloc: Global,
     format: Format,
-    files: FeedFiles<'w>,
+    names: &'w [&'w str],
 ) -> Result<Style, ProgramError<'w>> {
+    let files = FeedFiles::of(names)?;
     if format.has_names() {
         files.check_names()?;
     }
