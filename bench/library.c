@@ -75,6 +75,37 @@ static void look_up(const char *name, yarib *table, uint32_t size)
     say(name, from, addresses);
 }
 
+static void look_up_one(const char *name, const yarib *table)
+{
+    double from = seconds();
+    for (uint32_t k = 0; k < addresses; k++) need(yarib_look_up_one(table, asked[k], answers + k) == YARIB_DONE);
+    say(name, from, addresses);
+}
+
+static void view(const yarib *forwarding)
+{
+    yarib_view view = {.entry_count = YARIB_VIEW_ENTRIES};
+    uint32_t *found = malloc(((size_t)addresses + 1) * sizeof *found), sum = 0;
+    need(found && yarib_view_sizes(forwarding, &view.block_count, &view.router_count) == YARIB_DONE);
+    view.entries = malloc(view.entry_count * sizeof *view.entries);
+    view.blocks = malloc((view.block_count + 1) * sizeof *view.blocks);
+    view.routers = malloc((view.router_count + 1) * sizeof *view.routers);
+    need(view.entries && view.blocks && view.routers && yarib_view_write(forwarding, &view) == YARIB_DONE);
+    double from = seconds();
+    for (uint32_t k = 0; k < addresses; k++) sum += yarib_view_look_up(&view, asked[k]);
+    say("view_1", from, addresses);
+    from = seconds();
+    for (uint32_t k = 0; k + 256 <= addresses; k += 256) {
+        need(yarib_view_look_up_each(&view, asked + k, 256, found + k, 256) == YARIB_DONE);
+    }
+    say("view_256", from, addresses);
+    printf("sum %lu\n", (unsigned long)sum + found[0]);
+    free(found);
+    free(view.entries);
+    free(view.blocks);
+    free(view.routers);
+}
+
 int main(int count, char **words)
 {
     yarib table = YARIB_EMPTY, forwarding = YARIB_EMPTY;
@@ -102,10 +133,14 @@ int main(int count, char **words)
     look_up("forwarding_1", &forwarding, 1);
     look_up("forwarding_256", &forwarding, 256);
     look_up("forwarding_4096", &forwarding, CHUNK);
+    look_up_one("forwarding_one", &forwarding);
+    view(&forwarding);
     unsigned long sum = 0;
     for (uint32_t k = 0; k < addresses; k++) sum += answers[k].pref;
     printf("sum %lu\n", sum);
+    from = seconds();
     yarib_free(&table);
+    say("free", from, prefixes);
     yarib_free(&forwarding);
     return 0;
 }

@@ -59,6 +59,8 @@ def radix_rows(radix, pairs, asked):
     texts = [dotted(address) for address in asked]
     yield each("apply", len(pairs), lambda: [tree.add(network=base, masklen=length) for base, length in networks])
     yield each("look_up_text", len(asked), lambda: [tree.search_best(text) for text in texts])
+    prefixes = [f"{base}/{length}" for base, length in networks]
+    yield each("contains", len(pairs), lambda: [tree.search_exact(prefix) is not None for prefix in prefixes])
 
 
 def printed(words):
