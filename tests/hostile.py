@@ -23,6 +23,8 @@ from texts import AGAIN, FORWARDED, ROW, ROW_OUT, many_routes, own_text, written
 
 # Little memory
 
+ENOUGH = 16
+
 
 def limited(words, size, memory):
     """A call with at most `size` bytes of address space and these memory settings, or None if the program can't be
@@ -79,17 +81,17 @@ def little_memory(yarib):
 
 
 def rising_limits(name, words, texts, step, part, memory):
-    """Runs under limits that rise by a step, and by a part of themselves, until 40 in succession have all they want."""
+    """Runs under limits that rise by a step, and by a part of themselves, until ENOUGH in succession have all they want."""
     ample = run(words)
     kinds, size, in_turn = {}, 1 << 20, 0
-    while in_turn < 40 and size < 1 << 40:
+    while in_turn < ENOUGH and size < 1 << 40:
         ended = limited(words, size, memory)
         if ended is not None:
             kind = judge(f"{name} in {size // 1024} KB", ended, ample, texts, words)
             kinds[kind] = kinds.get(kind, 0) + 1
             in_turn = in_turn + 1 if ended == ample else 0
         size += max(step, int(size * part)) // 4096 * 4096
-    expect(f"{name}: the last runs have all they want", in_turn, 40)
+    expect(f"{name}: the last runs have all they want", in_turn, ENOUGH)
     expect(f"{name}: some run was short of memory", len(kinds) > 1, True)
     ended = ", ".join(f"{count} ended {kind}" for kind, count in kinds.items())
     print(f"{name} under rising limits: {ended}", flush=True)
