@@ -32,6 +32,15 @@ module _ {X : Type 0} (P : X → Type 0) where
     | inr later ↦ All-any R xs (All-tail R x xs all) later both
   ]
 
--- the empty list has no two elements that a relation could be asked of
-pub AllPairs-none : {X : Type 0} (R : X → X → Type 0) → AllPairs R []
-AllPairs-none R i j d l m = absurd (omega arith)
+module _ {X : Type 0} (R : X → X → Type 0) where
+  -- the first element is related to each of the others
+  pub AllPairs-head : (x : X) (xs : List X) → AllPairs R (x ∷ xs) → All (R x) xs
+  AllPairs-head x xs h = λ k d l. h 0 (suc k) d (omega arith) (omega arith)
+
+  -- each two of the others are related
+  pub AllPairs-tail : (x : X) (xs : List X) → AllPairs R (x ∷ xs) → AllPairs R xs
+  AllPairs-tail x xs h = λ i j d l m. h (suc i) (suc j) d (omega arith) (omega arith)
+
+  -- the empty list has no two elements
+  pub AllPairs-none : AllPairs R []
+  AllPairs-none i j d l m = absurd (omega arith)

@@ -11,8 +11,7 @@ use Rattle.rt_diff.specs.Differences.{IsAlike, IsWithin, IsDifference, IsNextDif
 use Rattle.rt_diff.specs.inside.Rest.{AreRest}
 use Rattle.rt_diff.specs.Answers.{RenumberedTable, answer_of}
 use Rattle.rt_diff.proofs.Deciding.{answer_cases}
-use Rattle.rt_rib.proofs.Promised.{AllPairs-head, AllPairs-tail}
-use Rattle.rt_diff.proofs.Lists.{Any-head, Any-tail, Any-cases, Any-none, All-any, AllPairs-none}
+use Rattle.rt_diff.proofs.Lists.{Any-head, Any-tail, Any-cases, Any-none, All-any, AllPairs-head, AllPairs-tail, AllPairs-none}
 
 -- the address of this number
 abbrev pub at : ℕ → Addr
