@@ -248,7 +248,9 @@ the_second_where_the_first_is_right : IsFirstFault (prefix ∷ preference ∷ []
 the_second_where_the_first_is_right = inr (is_10, inl (preference_too_large, refl))
 
 not_the_second_before_the_first : ¬ IsFirstFault (prefix ∷ preference ∷ []) (codes "192.0.2.1/50" ∷ codes "4294967296" ∷ []) fault.Preference
-not_the_second_before_the_first (inl first) = first.1
+not_the_second_before_the_first (inl (is_none, (reason.Text, reads, same))) = cc
+not_the_second_before_the_first (inl (is_none, (reason.Length, reads, same))) = cc
+not_the_second_before_the_first (inl (is_none, (reason.Bits, reads, same))) = cc
 not_the_second_before_the_first (inr second) = no_prefix_50 second.0
 
 none_where_a_list_is_at_its_end : (answer : LineFault) → (¬ IsFirstFault [] [] answer) × (¬ IsFirstFault (preference ∷ []) [] answer)
