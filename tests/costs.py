@@ -162,7 +162,7 @@ def outputs(called):
         # The first output has some of the low routes that differ; none of the others does, so nothing is printed.
         ("the answers of a comparison, to its runs", 1, ["diff", "side1.feed", "--", "side2.feed"], 0.4),
         ("the answers of look-ups, to the run", 0, ["lookup", *asked], 0.8),
-        ("the rows of a table, to the run", 0, ["table", "side1.feed"], 0.12),
+        ("the rows of a table, to the run", 0, ["table", "side1.feed"], 0.18),
         ("what a run prints, to the run", 0, ["run", "--batch", "256", "side1.feed"], 0.2),
     ):
         ended = [called.call(words[0], "--limit", "200000", *words[1:], status=status) for _ in range(3)]
