@@ -125,13 +125,14 @@ purged_map s t m n h is order = record {
 }
 
 -- the feed has no offer for the prefix
-pub offers_missing : (s : Purging) (old new : List Offer) → TakesOut old new s.feed Missing → IsOffers new → IsPurged s s old new true
-offers_missing s old new h lawful =
+pub offers_missing : (s t : Purging) (old new : List Offer) → t.feed ≡ s.feed → t.remaining ≡ s.remaining → TakesOut old new s.feed Missing
+    → IsOffers new → IsPurged s t old new true
+offers_missing s t old new same as_many h lawful =
     let all : without s.feed old ≡ old =
     filter-all (λ o. not (is_from s.feed o)) old (λ k d l. not_from_false (is_from s.feed (get_or old k d)) (list_any-none (is_from s.feed) old h.1 k d l)) in
     record {
-      same_feed = refl;
-      fewer = omega (arith, count-both (is_from s.feed) old, ap length all);
+      same_feed = same;
+      fewer = omega (arith, as_many, count-both (is_from s.feed) old, ap length all);
       others = (h.0 ∙ sym all, lawful);
     }
 

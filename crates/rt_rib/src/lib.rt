@@ -35,8 +35,9 @@
 //! The table passes such a look-up to the map (`src/lookups.rt`), where a prefix's first offer is its best one. The map
 //! passes it to the trie, whose type keeps it lawful.
 //!
-//! Only tested, since no clause says it: that a command succeeds if there is memory, which allocator a list uses, and
-//! that the last address of an answer is as high as it is.
+//! Only tested, since no clause says it: that a command succeeds if there is memory, which allocator a list uses, that
+//! the last address of an answer is as high as it is, and that [`Table::offer_bytes`] is near what the lists of offers
+//! take.
 #![tactic(auto)]
 
 mod ahead;

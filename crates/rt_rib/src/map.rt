@@ -1,5 +1,5 @@
 //! The map from prefixes to their offers: the routes that it represents, and how they change.
-ghost use Rattle.std.specs.Prelude.{◌≡◌, ◌++◌, false, [], IsTrue, IfOk, OnOk, OnErr, map};
+ghost use Rattle.std.specs.Prelude.{◌≡◌, ◌++◌, false, [], IsTrue, IfOk, OnOk, OnErr, length, map};
 ghost use Rattle.rt_trie.specs.Lawful.{IsLawful};
 ghost use Rattle.rt_rib.specs.Table.{has, put_in, take_out};
 ghost use Rattle.rt_rib.specs.Maps.{routes_of, route_by, IsMap};
@@ -18,6 +18,8 @@ use std::marker::Model;
 #[derive(Drop)]
 pub(crate) struct OfferMap<A: Allocator + Copy> {
     pub(crate) trie: Trie<Offers<A>, A>,
+    /// The number of bytes that are allocated for lists of offers, which `Offers::bytes` counts. No clause says so.
+    pub(crate) offer_bytes: usize,
 }
 
 impl<A: Allocator + Copy> Model for OfferMap<A> {
@@ -65,7 +67,20 @@ impl<A: Allocator + Copy> OfferMap<A> {
     {
         OfferMap {
             trie: Trie::new(alloc),
+            offer_bytes: 0,
         }
+    }
+
+    /// Returns the number of prefixes.
+    pub(crate) fn len(&self) -> usize
+        ensures { result ≡ length self.now.pairs }
+    {
+        self.trie.len()
+    }
+
+    /// Returns the number of bytes that are allocated for lists of offers.
+    pub(crate) fn offer_bytes(&self) -> usize {
+        self.offer_bytes
     }
 
     /// Returns the number of nodes of the trie, which is lawful.
@@ -108,7 +123,10 @@ impl<A: Allocator + Copy> OfferMap<A> {
             if offers.has(route.feed) {
                 return Ok(true);
             }
+            let before = offers.bytes();
             offers.put(alloc, offer)?;
+            let after = offers.bytes();
+            self.offer_bytes = self.offer_bytes.wrapping_add(after).wrapping_sub(before);
             return Ok(false);
         }
         match self.trie.insert(route.prefix, Offers::one(offer)) {
@@ -141,7 +159,13 @@ impl<A: Allocator + Copy> OfferMap<A> {
     {
         let removal = match self.trie.get_mut(prefix) {
             None => return false,
-            Some(offers) => offers.take_out(feed),
+            Some(offers) => {
+                let before = offers.bytes();
+                let removal = offers.take_out(feed);
+                let after = offers.bytes();
+                self.offer_bytes = self.offer_bytes.wrapping_add(after).wrapping_sub(before);
+                removal
+            }
         };
         match removal {
             Removal::Missing => false,

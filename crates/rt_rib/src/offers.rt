@@ -17,6 +17,12 @@ pub(crate) struct Offer {
     pub hop: Hop,
 }
 
+/// The bytes of an offer in a list.
+const OFFER_BYTES: usize = size_of::<Offer>();
+
+/// The bytes of the box that holds a list.
+const LIST_BYTES: usize = size_of::<Vec<Offer>>();
+
 /// One offer, or a list of at least two.
 #[derive(Drop)]
 enum OneOrMany<A: Allocator> {
@@ -72,6 +78,17 @@ impl<A: Allocator + Copy> Offers<A> {
         match &self.offers {
             OneOrMany::One(offer) => std::slice::from_ref(offer),
             OneOrMany::Many(offers) => offers.as_slice(),
+        }
+    }
+
+    /// Returns the number of bytes that are allocated for them, also for those that a list only has room for. No clause
+    /// limits it.
+    pub(crate) fn bytes(&self) -> usize {
+        match &self.offers {
+            OneOrMany::One(_) => 0,
+            OneOrMany::Many(offers) => {
+                LIST_BYTES.wrapping_add(OFFER_BYTES.wrapping_mul(offers.capacity()))
+            }
         }
     }
 

@@ -16,6 +16,8 @@ struct Purging {
     feed: u32,
     /// The number of the feed's routes that remain to be removed.
     remaining: u32,
+    /// The number of bytes that are allocated for lists of offers, as in `OfferMap`.
+    offer_bytes: usize,
 }
 
 impl<A: Allocator + Copy> RetainFilter<Offers<A>> for Purging {
@@ -28,7 +30,11 @@ impl<A: Allocator + Copy> RetainFilter<Offers<A>> for Purging {
     }
 
     fn keeps(&mut self, _prefix: Prefix, offers: &mut Offers<A>) -> bool {
-        match offers.take_out(self.feed) {
+        let before = offers.bytes();
+        let removal = offers.take_out(self.feed);
+        let after = offers.bytes();
+        self.offer_bytes = self.offer_bytes.wrapping_add(after).wrapping_sub(before);
+        match removal {
             Removal::Missing => true,
             Removal::Gone => {
                 self.remaining -= 1;
@@ -50,6 +56,8 @@ pub(crate) fn purge<A: Allocator + Copy>(map: &mut OfferMap<A>, feed: u32, count
     let mut purge = Purging {
         feed,
         remaining: count,
+        offer_bytes: map.offer_bytes,
     };
     map.trie.retain(&mut purge);
+    map.offer_bytes = purge.offer_bytes;
 }

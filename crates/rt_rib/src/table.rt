@@ -158,6 +158,20 @@ impl<A: Allocator + Copy> Table<A> {
         self.map.nodes()
     }
 
+    /// Returns the number of prefixes that have a route.
+    pub fn prefixes(&self) -> usize
+        ensures { result ≡ length self.now.trie.pairs }
+    {
+        self.map.len()
+    }
+
+    /// Returns the number of bytes that are allocated for the routes of prefixes with several routes, in addition to the
+    /// trie's nodes, which have room for a route each. It includes what is reserved for further routes, but nothing that
+    /// the allocator adds. No clause limits it; it is only tested.
+    pub fn offer_bytes(&self) -> usize {
+        self.map.offer_bytes()
+    }
+
     /// Returns the selected routes, in dump order. `only_best` first restricts the table to the best route of each
     /// prefix; then the routes whose prefix is in the part and that are of the feed are selected. Descends once, then
     /// visits only that part, and allocates only for its routes, with the given allocator. Error M1 (`Refused`) if
