@@ -120,7 +120,7 @@ static void kinds(void)
     CHECK(memcmp(&entry.command, &add_eight, sizeof(uint32_t) * 5 + 2) == 0 && entry.reply.code == YARIB_ADDED);
     CHECK(yarib_forward(&table, &forwarding) == YARIB_DONE && yarib_share(&forwarding, &other) == YARIB_DONE);
     CHECK(yarib_share(&table, &other) == YARIB_WRONG_KIND);
-    CHECK(yarib_memory(&table, &total) == YARIB_DONE && total == 48 + 56);
+    CHECK(yarib_memory(&table, &total) == YARIB_DONE && total == 62 + 56);
     CHECK(yarib_follow(&table) == YARIB_WRONG_KIND && yarib_follow(&forwarding) == YARIB_WRONG_KIND);
     CHECK(yarib_memory(&forwarding, &total) == YARIB_DONE && total >= (size_t)1 << 26);
     CHECK(yarib_apply(&forwarding, &add_eight, &reply) == YARIB_WRONG_KIND);

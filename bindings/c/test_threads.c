@@ -51,7 +51,7 @@ static void read_once(int way, uint32_t *last)
         done = 1;
     }
     if (way == 6 && is_done(yarib_count(&table, &total))) CHECK(total == ROUTES + 2);
-    if (way == 7 && is_done(yarib_memory(&table, &total))) CHECK(total >= 48 * ROUTES);
+    if (way == 7 && is_done(yarib_memory(&table, &total))) CHECK(total >= 62 * ROUTES);
     if (!done) return;
     CHECK(found[0].via >= *last && found[0].via <= CHANGES);
     *last = found[0].via;

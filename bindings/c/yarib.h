@@ -371,11 +371,14 @@ uint32_t yarib_view_look_up(const yarib_view *view, uint32_t address);
 YARIB_STATUS yarib_view_look_up_each(const yarib_view *view, const uint32_t *addresses, size_t size, uint32_t *numbers, size_t room);
 
 /* Writes a size in bytes. For a forwarding table it is the memory of the forwarding table; each of its handles reports the whole
- * size. For a table it is an estimate: 48 for each node (at most two a prefix), 56 for each journal entry, and the size of an
- * attached forwarding table. The library's heap takes 40 for most nodes, and at least three quarters of this estimate in all. For a
- * table without a journal, it takes at most the estimate, plus 16 KiB, plus 40 for each further route to the same prefix. For a table
- * with a journal, if yarib_reserve was never called, it takes at most twice the estimate, plus the same. Slabs that are partly empty
- * after many routes were removed come on top. Reserved capacity that no entry uses yet isn't counted.
+ * size. For a table it is an estimate: 52 for each prefix, 10 for each node (at most two a prefix), 24 for each prefix with several
+ * routes and 16 for each route that its list has room for, 56 for each journal entry, and the size of an attached forwarding table.
+ *
+ * For a table without a journal, the estimate and what the library's heap gives differ by at most a factor of 1.3, and by 16 KiB, for
+ * any number of feeds, also after routes were withdrawn or purged. There are two exceptions, in which the heap gives up to twice the
+ * estimate. If mostly prefixes that contain others were withdrawn, or mostly prefixes inside others, then nodes stay larger than they
+ * have to be. If there is a journal and yarib_reserve was never called, the journal has room for more entries than it has. Reserved
+ * capacity isn't counted. Slabs that are partly empty after many routes were removed come on top.
  * Errors: YARIB_NOTHING. */
 YARIB_STATUS yarib_memory(const yarib *table, size_t *bytes);
 

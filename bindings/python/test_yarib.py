@@ -280,7 +280,7 @@ class Threads(unittest.TestCase):
                 best, answers, size = table.look_up(asked[0]), table.look_up_each(asked), len(table)
                 all_of, exact, pages = table.look_up_all(asked[0]), table.exact("10.0.0.0/8"), list(table)
                 seen = [last, best.via, answers[0].via, all_of[0].via, exact[0].via, pages[0].via]
-                if seen != sorted(seen) or (answers[1], answers[2].via, size) != (None, 9, 2) or table.memory() < 96:
+                if seen != sorted(seen) or (answers[1], answers[2].via, size) != (None, 9, 2) or table.memory() < 124:
                     faults.append(seen)
                 last = seen[-1]
 

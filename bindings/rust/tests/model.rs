@@ -327,7 +327,7 @@ fn a_concurrent_table_answers_as_the_model() {
 fn compare_reads(table: &ConcurrentTable, model: &Model, draw: &mut Draw) {
     assert_eq!(table.routes().unwrap(), model.listed());
     assert_eq!(table.count().unwrap(), model.routes.len());
-    assert!(table.memory().unwrap() >= 2 * 48 * model.routes.len().min(1));
+    assert!(table.memory().unwrap() >= 2 * 62 * model.routes.len().min(1));
     check_parts(&|asked| table.select(asked), model, draw);
     check_pages(
         &|prefix, pref, feed| table.routes_from(prefix, pref, feed),

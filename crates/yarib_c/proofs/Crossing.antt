@@ -1,5 +1,5 @@
 -- What a handle holds may go to another thread. A forwarding table may be asked by several at once.
-use denote.Param.Send.{IsSend, IsSync, sendable}
+use denote.Param.Send.{IsSend, sendable}
 use Rattle.std.proofs.Crossing.{send, frees, crosses}
 use Rattle.std.proofs.option.Option.TheSendSync as option
 use Rattle.rt_rib.proofs.Promised.{table_send, book_send}

@@ -2,15 +2,17 @@
 use Rattle.std.proofs.Common.{◌≡◌, ◌+◌, ◌^◌, true, false, [], ◌∷◌, inl, inr, refl, arith}
 use Rattle.std.specs.Prelude.{None, Some}
 use Rattle.rt_cidr.specs.declared.prefixes.Prefix.{Prefix}
+use Rattle.rt_trie.specs.Tree.{Tree}
 use Rattle.rt_rib.specs.declared.routes.Hop.{Hop}
 use Rattle.rt_rib.specs.declared.routes.Hop.TheVariants.{Via, Discard}
 use Rattle.rt_rib.specs.declared.routes.Route.{Route}
+use Rattle.rt_rib.specs.declared.offers.Offer.{Offer}
 use Rattle.rt_diff.specs.declared.table_answers.CompareBy.TheVariants as by
 use Rattle.yarib_c.specs.declared.status.TheConstants as status
 use Rattle.yarib_c.specs.Statuses.{IsOneOf}
 use Rattle.yarib_c.specs.Forms.{no_route, route_as, router_of, router_as, put_of}
 use Rattle.yarib_c.specs.Lists.{PutsRoutes}
-use Rattle.yarib_c.specs.Sizes.{bytes_of}
+use Rattle.yarib_c.specs.Sizes.{bytes_of, trie_bytes}
 use Rattle.yarib_c.specs.Selections.{best_number}
 use Rattle.yarib_c.specs.Differences.{by_number}
 
@@ -20,6 +22,9 @@ ten_8 = record { base = 167772160; len = 8; is_prefix = record { short = omega a
 
 abbrev router : Hop
 router = Via (record { 0 = 3221225985 })
+
+abbrev one_offer : Offer
+one_offer = record { feed = 1; pref = 10; hop = router }
 
 abbrev one_route : Route
 one_route = record { prefix = ten_8; feed = 1; pref = 10; hop = router }
@@ -40,6 +45,11 @@ statuses_of_the_header = (refl, refl, refl, refl, refl, refl, refl, refl, refl, 
 -- bytes_of
 bytes_of_a_few_and_of_too_many : (bytes_of 48 3 ≡ 144) × (bytes_of 1 (2 ^ 40 + 5) ≡ 2 ^ 40)
 bytes_of_a_few_and_of_too_many = (refl, refl)
+
+-- trie_bytes
+bytes_of_no_trie_and_of_a_leaf : (t : Tree) → (trie_bytes (record { pairs = []; nodes = 0; tree = t }) ≡ 0)
+    × (trie_bytes (record { pairs = (ten_8, one_offer ∷ []) ∷ []; nodes = 1; tree = t }) ≡ 62)
+bytes_of_no_trie_and_of_a_leaf t = (refl, refl)
 
 -- best_number
 whether_the_best_alone : (best_number false ≡ 0) × (best_number true ≡ 1)

@@ -118,7 +118,8 @@ pub extern "C" fn yarib_fib_is_attached(alloc: Global, table: &mut Yarib, attach
 }
 
 /// Writes the number of bytes of a forwarding table, for all its handles together. For a table the number is approximate: the bytes
-/// of its trie's nodes, of its journal's entries, and of the forwarding table that follows it.
+/// of its trie's nodes, of the lists of prefixes with several routes, of its journal's entries, and of the forwarding table that
+/// follows it.
 #[unsafe(no_mangle)]
 pub extern "C" fn yarib_memory(alloc: Global, table: &mut Yarib, bytes: &mut usize) -> u32
     ensures done { result ≡ DONE → HandleHolds table.old (λ held. TakesBytes held bytes.new) }

@@ -6,7 +6,7 @@ ghost use Rattle.yarib_c.specs.Sizes.{TakesBytes};
 ghost use Rattle.yarib_c.specs.inside.Tables.{IsTableOf};
 
 use crate::plain::PlainTable;
-use crate::sizes::{entry_bytes, node_bytes};
+use crate::sizes::{entry_bytes, table_bytes};
 use rt_fib::Fib;
 use rt_rib::{Book, Cmd, Refused, Reply, Table};
 use std::alloc::Global;
@@ -113,7 +113,7 @@ impl Held {
         match self {
             Held::Plain(plain) => plain.bytes(),
             Held::Journaled(book) => {
-                node_bytes(book.table().nodes()) + entry_bytes(book.journal().len())
+                table_bytes(book.table()).saturating_add(entry_bytes(book.journal().len()))
             }
             Held::Forwarding(fib) => fib.memory(),
         }

@@ -5,12 +5,11 @@ ghost use Rattle.rt_rib.specs.declared.commands.Reply.TheVariants.{Added};
 ghost use Rattle.rt_rib.specs.Sequential.{reply_of};
 ghost use Rattle.rt_rib.specs.LookUp.{look_up};
 ghost use Rattle.rt_rib.specs.Book.{IsLimit, IsFeed, table_state, Serves};
-ghost use Rattle.yarib_c.specs.Sizes.{bytes_of};
-ghost use Rattle.yarib_c.specs.declared.sizes.TheConstants.{NODE_BYTES};
+ghost use Rattle.yarib_c.specs.Sizes.{trie_bytes};
 ghost use Rattle.yarib_c.specs.Kinds.{SaysChange};
 ghost use Rattle.yarib_c.specs.inside.AttachedFib.{FibHasRoutes, FibMayFollow};
 
-use crate::sizes::node_bytes;
+use crate::sizes::table_bytes;
 use rt_cidr::Addr;
 use rt_fib::Fib;
 use rt_fib::laws::commands_preserve_other_routes;
@@ -152,13 +151,13 @@ impl PlainTable {
 
     /// Returns about how many bytes it takes.
     pub(crate) fn bytes(&self) -> usize
-        ensures alone { self.now.is_followed ≡ false → result ≡ bytes_of NODE_BYTES self.now.table.trie.nodes }
-        ensures followed { self.now.is_followed ≡ true → bytes_of NODE_BYTES self.now.table.trie.nodes + 2 ^ 26 ≤ result }
+        ensures table { trie_bytes self.now.table.trie ≤ result }
+        ensures followed { self.now.is_followed ≡ true → trie_bytes self.now.table.trie + 2 ^ 26 ≤ result }
     {
-        let nodes = node_bytes(self.table.nodes());
+        let table = table_bytes(&self.table);
         match &self.beside {
-            None => nodes,
-            Some(fib) => nodes.saturating_add(fib.memory()),
+            None => table,
+            Some(fib) => table.saturating_add(fib.memory()),
         }
     }
 }
