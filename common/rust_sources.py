@@ -25,6 +25,16 @@ def indent_of(line):
     return len(line) - len(line.lstrip())
 
 
+def type_name(written):
+    """Returns a type's name as the prover writes it at an impl: `Tuple2` for a pair, `RefSliceU8` for `&[u8]`."""
+    if written.startswith("("):
+        return f"Tuple{written.count(',') + 1}"
+    name = re.match(r"&?(?:mut )?\[?(\w+)", written)[1]
+    if name[0].isupper():
+        return name
+    return "Ref" * written.startswith("&") + "Slice" * ("[" in written) + name.capitalize()
+
+
 class Item:
     """An item of a source, or a member of an item: its lines of code, and the type or trait around it."""
 
@@ -72,7 +82,7 @@ class Item:
         if head.startswith("<"):
             head = head[closing(head, 0, "<>"):].strip()
         trait, parted, owner = head.rpartition(" for ")
-        owner = re.match(r"&?(?:mut )?(\w+)", owner.strip())[1]
+        owner = type_name(owner.strip())
         return (re.match(r"(?:\w+::)*(\w+)", trait.strip())[1] if parted else None), owner
 
     def members(self):

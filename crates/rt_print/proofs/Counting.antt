@@ -1,7 +1,6 @@
--- Numbers of routes: those that are counted in one pass, by a number of each route; and their texts, with the maximum lengths
--- of these texts' parts.
-use Rattle.std.proofs.Common.{◌≡◌, ◌≢◌, ◌==◌, ℕ, ◌+◌, ◌<◌, ◌≤◌, inl, inr, true, false, List, length, get_or, set, take, count_by, sym, ap, subst, ◌∙◌, arith, eqb-true, zero, suc, Bool, [], ◌++◌, codes}
-use Rattle.std.proofs.Common.{decimal, refl, rules, length-append, add-one, Option, Result}
+-- Numbers of routes: those that are counted in one pass, by a number of each route; and their texts.
+use Rattle.std.proofs.Common.{◌≡◌, ◌≢◌, ◌==◌, ℕ, ◌+◌, ◌<◌, ◌≤◌, inl, inr, true, false, List, length, get_or, set, take, count_by, sym, ap, subst, ◌∙◌, arith, eqb-true, zero, suc, ◌++◌}
+use Rattle.std.proofs.Common.{decimal, refl, add-one, Option, Result}
 use Rattle.std.proofs.lemmas.Bool.{cases_Bool, cases_lt, eq-eqb}
 use Rattle.std.proofs.lemmas.List.{get_or-set_same, get_or-set_other, length-set, length-replicate, get_or-replicate}
 use Rattle.std.proofs.lemmas.List.Sums.{count_by_more_yes, count_by_more_no}
@@ -11,9 +10,7 @@ use Rattle.std.specs.Prelude.{◌≢◌, IsErr}
 use Rattle.std.specs.Io.KnownBytes.{Appends}
 use Rattle.rt_cidr.specs.Output.{AppendsBeginning, WritesText}
 use Rattle.rt_cidr.proofs.Promised.{length-decimal, appends_after, begins_after, begins_longer}
-use Rattle.rt_print.specs.Counts.{totals_as, count_as, each_below}
-use Rattle.rt_print.specs.inside.Parts.{either, totals_line, count_tail}
-use Rattle.rt_print.proofs.LineParts.{either_fits}
+use Rattle.rt_print.specs.Counts.{each_below}
 use Rattle.rt_print.proofs.Writing.{breaks_off}
 
 -- the counts of the routes so far: one for each number up to the maximum, and none of them is above the number of routes
@@ -74,52 +71,8 @@ module _ (number : Route → ℕ) (max size i at : ℕ) (routes : List Route) (r
     ];
   }
 
-pub totals_line_fits : (json : Bool) (routes prefixes : ℕ) → length (totals_line json routes prefixes) ≤ 300
-unfolding totals_line
-totals_line_fits json routes prefixes =
-    let of_routes = length-decimal routes in
-    let of_prefixes = length-decimal prefixes in
-    let front = either_fits json (codes "routes ") (codes "{\"routes\":") in
-    let middle = either_fits json (codes " prefixes ") (codes ",\"prefixes\":") in
-    let back = either_fits json (codes "\n") (codes "}\n") in
-    simp length-append (omega arith)
-
--- the text of the totals is its parts
-pub totals_parts : (json : Bool) (routes prefixes : ℕ) → totals_line json routes prefixes ≡ totals_as json routes prefixes
-unfolding totals_line totals_as
-totals_parts false routes prefixes = refl
-totals_parts true routes prefixes = refl
-
-pub count_tail_fits : (json : Bool) (count : ℕ) → length (count_tail json count) ≤ 300
-unfolding count_tail
-count_tail_fits json count =
-    let digits = length-decimal count in
-    let front = either_fits json (codes " routes ") (codes ",\"routes\":") in
-    let back = either_fits json (codes "\n") (codes "}\n") in
-    simp length-append (omega arith)
-
 pub number_fits : (number : ℕ) → length (decimal number) ≤ 100
 number_fits number = omega (arith, length-decimal number)
-
-parts_by : (json : Bool) (kind name : List ℕ) (count : ℕ) → (count == 0) ≡ false
-    → either json [] (codes "{\"") ++ (kind ++ (either json (codes " ") (codes "\":") ++ (name ++ count_tail json count))) ≡ count_as json kind name count
-unfolding count_tail count_as
-parts_by false kind name count some = rw some refl
-parts_by true kind name count some = rw some refl
-
-not_zero : (count : ℕ) → count ≢ 0 → (count == 0) ≡ false
-not_zero count some = search rules
-
--- the text of a count is its parts
-pub count_parts : (json : Bool) (kind name : List ℕ) (count : ℕ) → count ≢ 0
-    → either json [] (codes "{\"") ++ (kind ++ (either json (codes " ") (codes "\":") ++ (name ++ count_tail json count))) ≡ count_as json kind name count
-count_parts json kind name count some = parts_by json kind name count (not_zero count some)
-
--- the text of the count 0 is empty
-pub count_none : (json : Bool) (kind name : List ℕ) → count_as json kind name 0 ≡ []
-unfolding count_as
-count_none false kind name = refl
-count_none true kind name = refl
 
 -- the text of a number is appended to the texts of those below it
 pub each_next : (a b c : Option (List ℕ)) (tell : ℕ → List ℕ) (n : ℕ) → Appends a b (each_below tell n) → Appends b c (tell n)

@@ -1,10 +1,13 @@
 -- The names of feeds, and their labels one by one.
-use Rattle.std.proofs.Common.{◌≡◌, ◌==◌, ℕ, suc, ◌+◌, ◌<◌, Bool, true, false, if◌then◌else◌, List, [], ◌∷◌, ◌++◌, length, map, take, get_or, refl, rules, arith, ap, sym, ◌∙◌, add-one}
+use Rattle.std.proofs.Common.{◌≡◌, ◌==◌, ℕ, suc, ◌+◌, ◌<◌, Bool, true, false, if◌then◌else◌, List, [], ◌∷◌, ◌++◌, length, map, take, get_or, refl, rules, arith, ap, subst, sym, ◌∙◌, add-one, inl, inr}
 use Rattle.std.specs.List.{list_any}
 use Rattle.std.proofs.Math.Seq.{take-suc}
 use Rattle.std.proofs.lemmas.List.{map-append, length-map, length-take-le}
 use Rattle.rt_cidr.specs.Text.{slash}
-use Rattle.rt_print.specs.Labels.{base_name, labelled}
+use Rattle.std.proofs.Math.ListN.{get_or-map}
+use Rattle.std.proofs.lemmas.Bool.{cases_lt}
+use Rattle.rt_print.specs.Labels.{base_name, feed_name, labelled}
+use Rattle.rt_print.specs.FeedNames.{name_at}
 
 -- a path without a slash is the name itself
 no_slash : (path : List ℕ) → list_any (λ b. b == slash) path ≡ false → base_name path ≡ path
@@ -56,3 +59,14 @@ pub numbers_more : {P X : Type 0} (path_of : P → List ℕ) (tell : ℕ → Lis
 numbers_more path_of tell paths i none numbers numbers' number here pushed told so_far =
     pushed ∙ (ap (λ l. l ++ number ∷ []) so_far
     ∙ (ap (λ t. labelled tell 1 (map path_of (take i paths)) ++ t ∷ []) told ∙ sym (one_more path_of tell paths i none here)))
+
+-- the name of the feed of a path by its index
+pub named : {P : Type 0} (path_of : P → List ℕ) (paths : List P) (i : ℕ) (none : P) → path_of none ≡ [] → name_at (map path_of paths) i ≡ feed_name (path_of (get_or paths i none))
+named path_of paths i none is = ap (λ d. feed_name (get_or (map path_of paths) i d)) (sym is) ∙ ap feed_name (get_or-map path_of paths i none)
+
+-- what holds of all numbers below one and of that one holds of all below the next
+pub below_next : (P : ℕ → Type 0) (n : ℕ) → ((k : ℕ) → k < n → P k) → P n → (k : ℕ) → k < n + 1 → P k
+below_next P n before here k below = elim (cases_lt k n) [
+  | inl less ↦ before k less
+  | inr most ↦ let same : n ≡ k = omega (arith, below, most) in subst P same here
+]

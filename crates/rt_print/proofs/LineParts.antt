@@ -3,19 +3,15 @@ use Rattle.std.proofs.Common.{◌≡◌, ◌==◌, ℕ, ◌+◌, ◌≤◌, Bool
 use Rattle.std.specs.List.{flat_map, join_by}
 use Rattle.std.proofs.lemmas.Bool.Decides.{nat_tests}
 use Rattle.rt_cidr.specs.declared.address.Addr.{Addr}
+use Rattle.rt_cidr.specs.Text.{address_text}
 use Rattle.rt_cidr.proofs.Promised.{length-decimal, length-address_text, length-prefix_text}
 use Rattle.rt_rib.specs.declared.routes.Hop.{Hop}
 use Rattle.rt_rib.specs.declared.routes.Hop.TheVariants.{Via, Discard}
 use Rattle.rt_rib.specs.declared.routes.Route.{Route}
-use Rattle.rt_rib.specs.declared.routes.Reason.{Reason}
-use Rattle.rt_rib.specs.declared.routes.Reason.TheVariants.{Shorter, Preference, Feed}
 use Rattle.rt_rib.specs.LookUp.{reason}
-use Rattle.rt_diff.specs.declared.table_answers.TableAnswer.TheVariants as answered
-use Rattle.rt_diff.specs.declared.comparison.Difference.{Difference}
-use Rattle.rt_print.specs.DifferenceText.{DiffContents, way_text, answered_as, answer_as, range_as, difference_as}
-use Rattle.rt_print.specs.Routes.{hop_text, route_text, count_text, route_object}
-use Rattle.rt_print.specs.Styles.{reason_text, also_line, also_object, address_head, row_as, found_as, all_found_as}
-use Rattle.rt_print.specs.inside.Parts.{either, hop_as, route_front, route_back, route_open, asked_head, reason_end, comma, other_as, others_as, range_front, way_as}
+use Rattle.rt_print.specs.Routes.{hop_text, route_text, row_text, route_line, route_object}
+use Rattle.rt_print.specs.Styles.{label_of, reason_text, also_line, also_object, address_head, row_as, found_as, all_found_as}
+use Rattle.rt_print.specs.inside.Parts.{either, hop_as, route_front, route_back, route_open, asked_head, comma, other_as, others_as}
 
 -- a list of length 0 is empty
 pub none_in : {X : Type 0} (xs : List X) → length xs ≡ 0 → xs ≡ []
@@ -35,16 +31,6 @@ route_fits route =
     let hop = hop_fits route.hop in
     simp length-append (omega arith)
 
-pub count_fits : (count : ℕ) → length (count_text count) ≤ 400
-unfolding count_text
-count_fits count = let digits = length-decimal count in simp length-append (omega arith)
-
-reason_fits : (why : Reason) → length (reason_text why) ≤ 10
-unfolding reason_text
-reason_fits Shorter = omega arith
-reason_fits Preference = omega arith
-reason_fits Feed = omega arith
-
 -- a route with its feed's number, as a line
 pub line_open : (r : Route) → route_open false (decimal r.feed) r ≡ route_text r
 unfolding route_open route_front route_back route_text
@@ -56,6 +42,12 @@ pub row_parts : (json : Bool) (label : ℕ → List ℕ) (r : Route)
 unfolding route_open route_front route_back route_object row_as
 row_parts false label r = simp append_assoc
 row_parts true label r = simp append_assoc
+
+-- rows with the numbers of feeds
+pub numbered_rows : (routes : List Route) → flat_map (row_as false (label_of [])) routes ≡ flat_map row_text routes
+unfolding row_as row_text route_text
+numbered_rows [] = refl
+numbered_rows (r ∷ routes) = ap (λ text. row_text r ++ text) (numbered_rows routes)
 
 -- the text of a look-up result, by its parts
 pub found_parts : (json : Bool) (label : ℕ → List ℕ) (addr : Addr) (r : Route)
@@ -123,40 +115,28 @@ others_parts false label addr best others = rw (others_lines label addr best 1 o
 others_parts true label addr best others = rw (others_joined label addr best others) (object_around label addr best _)
 
 -- the text of each of them, by its parts
-pub other_parts : (json : Bool) (label : ℕ → List ℕ) (addr : Addr) (best : Route) (comma : List ℕ) (r : Route)
-    → either json (asked_head json addr (codes " also ")) comma ++ (route_open json (label r.feed) r ++ reason_end json best r) ≡ other_as json label addr best comma r
-unfolding asked_head route_open route_front route_back route_object reason_end other_as
-other_parts false label addr best comma r = simp append_assoc
-other_parts true label addr best comma r = simp append_assoc
+pub other_line : (label : ℕ → List ℕ) (addr : Addr) (best r : Route)
+    → address_text addr.0 ++ (codes " also " ++ (route_open false (label r.feed) r ++ (codes " " ++ (reason_text (reason best r) ++ codes "\n")))) ≡ also_line label addr best r
+unfolding route_open route_front route_back
+other_line label addr best r = simp append_assoc
 
--- the answer for an address, by its parts
-pub no_answer_parts : (json : Bool) (label : ℕ → List ℕ) → either json (codes "no route") (codes "null") ≡ answered_as json label answered.NoRoute
-unfolding answered_as
-no_answer_parts false label = refl
-no_answer_parts true label = refl
+pub other_object : (label : ℕ → List ℕ) (best r : Route) (comma : List ℕ)
+    → comma ++ (route_open true (label r.feed) r ++ (codes ",\"reason\":\"" ++ (reason_text (reason best r) ++ codes "\"}"))) ≡ comma ++ also_object label best r
+unfolding route_open route_front route_back route_object
+other_object label best r comma = simp append_assoc
 
-pub way_parts : (json : Bool) (label : ℕ → List ℕ) (hop : Hop) → way_as json hop ≡ answered_as json label (answered.Hop hop)
-unfolding way_as answered_as
-way_parts false label hop = refl
-way_parts true label hop = refl
+pub ruleset other_parts = (other_line, other_object)
 
-pub route_parts : (json : Bool) (label : ℕ → List ℕ) (r : Route) → route_open json (label r.feed) r ++ either json [] (codes "}") ≡ answered_as json label (answered.Route r)
-unfolding route_open route_front route_back route_object answered_as
-route_parts false label r = simp (append_assoc, append-nil)
-route_parts true label r = simp append_assoc
+-- the route in an answer, by its parts
+pub answer_line : (label : List ℕ) (r : Route) → route_open false label r ++ [] ≡ route_line label r
+unfolding route_open route_front route_back
+answer_line label r = simp (append_assoc, append-nil)
 
--- a range and its two answers, by their parts
-range_parts : (json : Bool) (d : Difference) (old new : List ℕ)
-    → (range_front json d ++ old) ++ ((either json (codes " -> ") (codes ",\"new\":") ++ new) ++ either json (codes "\n") (codes "}\n")) ≡ range_as json d old new
-unfolding range_front range_as
-range_parts false d old new = simp append_assoc
-range_parts true d old new = simp append_assoc
+pub answer_object : (label : List ℕ) (r : Route) → route_open true label r ++ codes "}" ≡ route_object label r []
+unfolding route_open route_front route_back route_object
+answer_object label r = simp append_assoc
 
-pub difference_parts : (asked : DiffContents) (d : Difference)
-    → (range_front asked.old.json d ++ answer_as asked.old d.old)
-    ++ ((either asked.old.json (codes " -> ") (codes ",\"new\":") ++ answer_as asked.new d.new) ++ either asked.old.json (codes "\n") (codes "}\n"))
-    ≡ difference_as asked d
-difference_parts asked d = range_parts asked.old.json d (answer_as asked.old d.old) (answer_as asked.new d.new)
+pub ruleset answer_parts = (answer_line, answer_object)
 
 -- either text is at most as long as both together
 pub either_fits : (json : Bool) (line object : List ℕ) → length (either json line object) ≤ length line + length object
@@ -201,37 +181,5 @@ asked_head_fits json addr word =
     let back = either_fits json word (codes "\",\"route\":") in
     simp length-append (omega arith)
 
-pub reason_end_fits : (json : Bool) (best r : Route) → length (reason_end json best r) ≤ 100
-unfolding reason_end
-reason_end_fits json best r =
-    let word = reason_fits (reason best r) in
-    let front = either_fits json (codes " ") (codes ",\"reason\":\"") in
-    let back = either_fits json (codes "\n") (codes "\"}") in
-    simp length-append (omega arith)
-
-pub range_front_fits : (json : Bool) (d : Difference) → length (range_front json d) ≤ 100
-unfolding range_front
-range_front_fits json d =
-    let first = length-address_text d.first.0 in
-    let last = length-address_text d.last.0 in
-    let front = either_fits json [] (codes "{\"first\":\"") in
-    let middle = either_fits json (codes "-") (codes "\",\"last\":\"") in
-    let back = either_fits json (codes " ") (codes "\",\"old\":") in
-    simp length-append (omega arith)
-
-way_fits : (hop : Hop) → length (way_text hop) ≤ 20
-way_fits (Via address) = let text = length-address_text address.0 in simp length-append (omega arith)
-way_fits Discard = omega arith
-
-pub way_as_fits : (json : Bool) (hop : Hop) → length (way_as json hop) ≤ 100
-unfolding way_as
-way_as_fits false hop = omega (arith, way_fits hop)
-way_as_fits true hop = let members = hop_as_fits true hop in simp length-append (omega arith)
-
--- of two short texts either is short
-pub either_short : (json : Bool) (line object : List ℕ) → length line ≤ 100 → length object ≤ 100 → length (either json line object) ≤ 100
-either_short false line object short other = short
-either_short true line object short other = other
-
 -- each part has room in a short text
-pub ruleset fits = (route_fits, count_fits, route_front_fits, route_back_fits, route_open_fits, asked_head_fits, reason_end_fits, range_front_fits, way_as_fits)
+pub ruleset fits = (route_fits, route_front_fits, route_back_fits, route_open_fits, asked_head_fits)

@@ -1,6 +1,7 @@
 pub mod Buffer
 pub mod Counts
 pub mod DifferenceText
+pub mod FeedNames
 pub mod Labels
 pub mod ReplayText
 pub mod Routes

@@ -6,15 +6,11 @@ use Rattle.ya_core.specs.declared.step.Mark.{Mark}
 use Rattle.ya_core.specs.declared.step.Mark.TheVariants.{Plain, Inside, Out}
 use Rattle.ya_core.specs.declared.step.Step.{Step}
 
--- a word's letter, its level, and its node or place
-unfoldable pub level_text : List ℕ → ℕ → ℕ → List ℕ
-level_text letter level index = letter ++ (decimal level ++ (codes "." ++ decimal index))
-
 -- `C<level>.<node>.<side>`, `T<level>.<node>` or `P<level>.<place>`
 unfoldable pub word_text : Word → List ℕ
-word_text (C level node side) = level_text (codes "C") level node ++ (codes "." ++ decimal side)
-word_text (T level node) = level_text (codes "T") level node
-word_text (P level place) = level_text (codes "P") level place
+word_text (C level node side) = codes "C" ++ (decimal level ++ (codes "." ++ (decimal node ++ (codes "." ++ decimal side))))
+word_text (T level node) = codes "T" ++ (decimal level ++ (codes "." ++ decimal node))
+word_text (P level place) = codes "P" ++ (decimal level ++ (codes "." ++ decimal place))
 
 -- the effect of the step on its passage, and LF
 unfoldable pub mark_text : Mark → List ℕ

@@ -1,18 +1,16 @@
 //! The numbers of routes: in all, of each feed, and to prefixes of each length.
-ghost use Rattle.std.specs.Prelude.{◌≡◌, ℕ, ◌+◌, ◌≤◌, List, ◌++◌, length, get_or, map};
+ghost use Rattle.std.specs.Prelude.{◌≡◌, ℕ, ◌+◌, ◌≤◌, List, length, get_or, codes};
 ghost use Rattle.rt_rib.specs.declared.limits.TheConstants.{MAX_FEEDS};
 ghost use Rattle.rt_print.specs.declared.counts.TheConstants.{MAX_BITS};
 ghost use Rattle.rt_cidr.specs.Output.{WritesText};
-ghost use Rattle.rt_cidr.specs.ShortText.{FitsInShortText};
 ghost use Rattle.rt_rib.specs.Table.{count_of};
 ghost use Rattle.rt_print.specs.Counts.{prefix_count, length_count, totals_as, count_as, each_below, counts_as};
 ghost use Rattle.rt_print.specs.Styles.{label_of};
-ghost use Rattle.rt_print.specs.inside.Parts.{label_pairs, totals_line, count_tail};
+ghost use Rattle.rt_print.specs.inside.Parts.{label_pairs};
 
 use crate::labels::{FeedLabel, label_in};
-use crate::parts::put_parts;
-use crate::style::{Style, either};
-use rt_cidr::{ShortText, put};
+use crate::style::Style;
+use crate::text::Text;
 use rt_rib::{MAX_FEEDS, Route};
 use std::io::{self, Write};
 
@@ -35,23 +33,21 @@ pub fn write_counts<W: Write>(w: &mut W, style: &Style, routes: &[Route]) -> io:
 {
     let json = style.is_json();
     let counts = counts_of(routes);
-    write_totals(w, json, routes)?;
-    write_each(
-        w,
+    let feeds = Numbers {
         json,
-        b"feed",
-        style.labels(),
-        &counts.feeds,
-        MAX_FEEDS as u32 + 1,
-    )?;
-    write_each(
-        w,
+        kind: "feed",
+        labels: style.labels(),
+        counts: &counts.feeds,
+        bound: MAX_FEEDS as u32 + 1,
+    };
+    let lengths = Numbers {
         json,
-        b"length",
-        &[],
-        &counts.lengths,
-        MAX_BITS as u32 + 1,
-    )
+        kind: "length",
+        labels: &[],
+        counts: &counts.lengths,
+        bound: MAX_BITS as u32 + 1,
+    };
+    (Totals { json, routes }, (feeds, lengths)).put_to(w)
 }
 
 /// Counts the routes of each feed, and those to prefixes of each length.
@@ -70,74 +66,83 @@ fn counts_of(routes: &[Route]) -> Counts
     Counts { feeds, lengths }
 }
 
-/// Writes the number of routes, and of their prefixes.
-#[tactic(auto, using(crate::proofs::Counting::totals_line_fits))]
-fn write_totals<W: Write>(w: &mut W, json: bool, routes: &[Route]) -> io::Result<()>
-    ensures { WritesText (W.contents w.old) (W.contents w.new) (totals_as json (length routes.now) (prefix_count routes.now)) result }
-{
-    let mut text = ShortText::new();
-    prepend_totals(&mut text, json, routes.len(), prefix_count(routes));
-    put(w, text.as_bytes())
+/// The number of routes, and of their prefixes.
+#[derive(Clone, Copy)]
+struct Totals<'a> {
+    json: bool,
+    routes: &'a [Route],
 }
 
-/// Writes the number of routes of this kind under each number below `bound` that has some, with the number's label.
-fn write_each<W: Write>(
-    w: &mut W,
+impl Text for Totals<'_> {
+    ghost text = { λ t. totals_as t.json (length t.routes.now) (prefix_count t.routes.now) };
+
+    #[tactic(auto, unfolding(crate::specs::Counts::totals_as))]
+    fn put_to<W: Write>(&self, w: &mut W) -> io::Result<()> {
+        let (routes, prefixes) = (self.routes.len() as u64, prefix_count(self.routes) as u64);
+        if self.json {
+            let prefixes = (",\"prefixes\":", (prefixes, "}\n"));
+            ("{\"routes\":", (routes, prefixes)).put_to(w)
+        } else {
+            ("routes ", (routes, (" prefixes ", (prefixes, "\n")))).put_to(w)
+        }
+    }
+}
+
+/// The numbers of routes of a kind below a bound, each with the label of its position; those that are 0 are left out.
+#[derive(Clone, Copy)]
+struct Numbers<'a> {
     json: bool,
-    kind: &[u8],
-    labels: &[FeedLabel],
-    counts: &[usize],
+    kind: &'a str,
+    labels: &'a [FeedLabel],
+    counts: &'a [usize],
     bound: u32,
-) -> io::Result<()>
-    requires { bound ≤ length counts.now }
-    ensures { WritesText (W.contents w.old) (W.contents w.new)
-        (each_below (λ n. count_as json kind.now (label_of (label_pairs labels.now) n) (get_or counts.now n 0)) bound) result }
-{
-    for number in 0..bound {
-        put_number(w, json, kind, labels, number, counts[number as usize])?;
-    }
-    Ok(())
+    ghost counted: { bound ≤ length counts.now },
 }
 
-/// Writes the number of routes of this kind under a number, with the number's label, unless it is 0.
-#[tactic(auto, using(crate::proofs::Counting::number_fits))]
-fn put_number<W: Write>(
-    w: &mut W,
-    json: bool,
-    kind: &[u8],
-    labels: &[FeedLabel],
-    number: u32,
-    count: usize,
-) -> io::Result<()>
-    ensures { WritesText (W.contents w.old) (W.contents w.new)
-        (count_as json kind.now (label_of (label_pairs labels.now) number) count) result }
-{
-    if let Some(label) = label_in(labels, number) {
-        return put_count(w, json, kind, label, count);
+impl Text for Numbers<'_> {
+    ghost text = { λ n. each_below (λ k. count_as n.json n.kind.now (label_of (label_pairs n.labels.now) k) (get_or n.counts.now k 0)) n.bound };
+
+    fn put_to<W: Write>(&self, w: &mut W) -> io::Result<()> {
+        for number in 0..self.bound {
+            self.put_number(w, number, self.counts[number as usize])?;
+        }
+        Ok(())
     }
-    let mut digits = ShortText::new();
-    digits.prepend_decimal(u64::from(number));
-    put_count(w, json, kind, digits.as_bytes(), count)
+}
+
+impl Numbers<'_> {
+    /// Writes this number of routes with the label of its position.
+    fn put_number<W: Write>(&self, w: &mut W, number: u32, count: usize) -> io::Result<()>
+        ensures { WritesText (W.contents w.old) (W.contents w.new)
+            (count_as self.now.json self.now.kind.now (label_of (label_pairs self.now.labels.now) number) count) result }
+    {
+        match label_in(self.labels, number) {
+            Some(label) => put_count(w, self.json, self.kind, label, count),
+            None => put_count(w, self.json, self.kind, u64::from(number), count),
+        }
+    }
 }
 
 /// Writes the number of routes of this kind and name, unless it is 0.
-#[tactic(auto, using(crate::proofs::Counting::count_tail_fits))]
-fn put_count<W: Write>(
+#[tactic(auto, unfolding(crate::specs::Counts::count_as))]
+fn put_count<W: Write, N: Text + Copy>(
     w: &mut W,
     json: bool,
-    kind: &[u8],
-    name: &[u8],
+    kind: &str,
+    name: N,
     count: usize,
 ) -> io::Result<()>
-    ensures { WritesText (W.contents w.old) (W.contents w.new) (count_as json kind.now name.now count) result }
+    ensures { WritesText (W.contents w.old) (W.contents w.new) (count_as json kind.now (N.text name) count) result }
 {
+    let number = count as u64;
     if count == 0 {
-        return Ok(());
+        Ok(())
+    } else if json {
+        let routes = (name, (",\"routes\":", (number, "}\n")));
+        ("{\"", (kind, ("\":", routes))).put_to(w)
+    } else {
+        (kind, (" ", (name, (" routes ", (number, "\n"))))).put_to(w)
     }
-    let mut tail = ShortText::new();
-    prepend_tail(&mut tail, json, count);
-    let (front, middle) = (either(json, b"", b"{\""), either(json, b" ", b"\":"));
-    put_parts(w, &[front, kind, middle, name, tail.as_bytes()])
 }
 
 /// Returns the number of prefixes of the routes, if routes to the same prefix are adjacent.
@@ -158,30 +163,4 @@ fn prefix_count(routes: &[Route]) -> usize
         rest = behind;
     }
     count
-}
-
-// Each function below prepends its text.
-
-/// Prepends `routes ROUTES prefixes PREFIXES` and LF, or the same as an object.
-#[tactic(auto, using(rt_cidr::proofs::Promised::prepending), unfolding(crate::specs::inside::Parts::totals_line))]
-fn prepend_totals(text: &mut ShortText, json: bool, routes: usize, prefixes: usize)
-    requires room { FitsInShortText (totals_line json routes prefixes) text.old }
-    ensures { text.new ≡ totals_line json routes prefixes ++ text.old }
-{
-    text.prepend(either(json, b"\n", b"}\n"));
-    text.prepend_decimal(prefixes as u64);
-    text.prepend(either(json, b" prefixes ", b",\"prefixes\":"));
-    text.prepend_decimal(routes as u64);
-    text.prepend(either(json, b"routes ", b"{\"routes\":"));
-}
-
-/// Prepends ` routes COUNT` and LF, or the same as a member.
-#[tactic(auto, using(rt_cidr::proofs::Promised::prepending), unfolding(crate::specs::inside::Parts::count_tail))]
-fn prepend_tail(text: &mut ShortText, json: bool, count: usize)
-    requires room { FitsInShortText (count_tail json count) text.old }
-    ensures { text.new ≡ count_tail json count ++ text.old }
-{
-    text.prepend(either(json, b"\n", b"}\n"));
-    text.prepend_decimal(count as u64);
-    text.prepend(either(json, b" routes ", b",\"routes\":"));
 }

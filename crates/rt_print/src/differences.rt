@@ -1,22 +1,20 @@
 //! The differences of two tables: ranges of addresses with their two answers, each in the style of its table.
-ghost use Rattle.std.specs.Prelude.{◌≡◌, ◌≤◌, ◌++◌, length};
+ghost use Rattle.std.specs.Prelude.{◌≡◌};
 ghost use Rattle.rt_cidr.specs.Output.{WritesText};
-ghost use Rattle.rt_cidr.specs.ShortText.{FitsInShortText};
-ghost use Rattle.rt_print.specs.DifferenceText.{answer_as, difference_as};
-ghost use Rattle.rt_print.specs.inside.Parts.{range_front, way_front, way_as};
+ghost use Rattle.rt_diff.specs.declared.table_answers.TableAnswer.TheVariants as answered;
+ghost use Rattle.rt_print.specs.DifferenceText.{answer_as, answered_as, difference_as};
 
 use crate::diff_options::DiffOptions;
-use crate::parts::put_parts;
-use crate::routes::{prepend_hop, put_route};
-use crate::style::{Style, either};
-use rt_cidr::{ShortText, put};
+use crate::routes::OpenRoute;
+use crate::style::Style;
+use crate::text::Text;
 use rt_diff::{Difference, TableAnswer};
 use rt_rib::Hop;
 use std::io::{self, Write};
 
 /// Writes the range and its two answers, `FIRST-LAST OLD -> NEW` and LF, or a JSON object. An answer is `no route`,
 /// `via ADDR`, `discard`, or the whole route in the style of its table. Errors and memory are as for `write_routes`.
-#[tactic(auto, using(crate::proofs::LineParts::fits))]
+#[tactic(auto, unfolding(crate::specs::DifferenceText::range_as))]
 pub fn write_difference<W: Write>(
     w: &mut W,
     options: &DiffOptions,
@@ -24,74 +22,59 @@ pub fn write_difference<W: Write>(
 ) -> io::Result<()>
     ensures { WritesText (W.contents w.old) (W.contents w.new) (difference_as options.now difference.now) result }
 {
-    let (old, new) = (options.old_style(), options.new_style());
-    let json = old.is_json();
-    let mut head = ShortText::new();
-    prepend_front(&mut head, json, difference);
-    put_answer(w, old, head.as_bytes(), &difference.old)?;
-    put_answer(w, new, either(json, b" -> ", b",\"new\":"), &difference.new)?;
-    put(w, either(json, b"\n", b"}\n"))
+    let Difference { first, last, .. } = *difference;
+    let old = StyledAnswer {
+        style: options.old_style(),
+        answer: &difference.old,
+    };
+    let new = StyledAnswer {
+        style: options.new_style(),
+        answer: &difference.new,
+    };
+    if old.style.is_json() {
+        let answers = ("\",\"old\":", (old, (",\"new\":", (new, "}\n"))));
+        let last = ("\",\"last\":\"", (last, answers));
+        ("{\"first\":\"", (first, last)).put_to(w)
+    } else {
+        let answers = (" ", (old, (" -> ", (new, "\n"))));
+        (first, ("-", (last, answers))).put_to(w)
+    }
 }
 
-/// Writes a text, and after it the answer for an address.
-#[tactic(auto, using(crate::proofs::LineParts::fits, crate::proofs::LineParts::no_answer_parts, crate::proofs::LineParts::route_parts))]
-fn put_answer<W: Write>(
-    w: &mut W,
-    style: &Style,
-    head: &[u8],
-    answer: &TableAnswer,
-) -> io::Result<()>
-    requires short { length head.now ≤ 100 }
-    ensures { WritesText (W.contents w.old) (W.contents w.new) (head.now ++ answer_as style.now answer.now) result }
-{
-    let json = style.is_json();
-    let mut text = ShortText::new();
-    match answer {
-        TableAnswer::NoRoute => put_parts(w, &[head, either(json, b"no route", b"null")]),
-        TableAnswer::Hop(hop) => {
-            prepend_way(&mut text, json, *hop);
-            put_parts(w, &[head, text.as_bytes()])
-        }
-        TableAnswer::Route(route) => {
-            put_route(w, &mut text, style, head, route, either(json, b"", b"}"))
+/// An answer for an address, in the style of its table.
+#[derive(Clone, Copy)]
+struct StyledAnswer<'a> {
+    style: &'a Style,
+    answer: &'a TableAnswer,
+}
+
+impl Text for StyledAnswer<'_> {
+    ghost text = { λ a. answer_as a.style.now a.answer.now };
+
+    #[tactic(auto, using(crate::proofs::LineParts::answer_parts), unfolding(crate::specs::DifferenceText::answered_as))]
+    fn put_to<W: Write>(&self, w: &mut W) -> io::Result<()> {
+        let StyledAnswer { style, answer } = *self;
+        let json = style.is_json();
+        match answer {
+            TableAnswer::NoRoute if json => "null".put_to(w),
+            TableAnswer::NoRoute => "no route".put_to(w),
+            TableAnswer::Hop(hop) => put_way(w, json, *hop),
+            TableAnswer::Route(route) => {
+                (OpenRoute { style, route }, if json { "}" } else { "" }).put_to(w)
+            }
         }
     }
 }
 
-// Each function below prepends its text.
-
-/// Prepends `FIRST-LAST `, or `{"first":"FIRST","last":"LAST","old":`.
-#[tactic(auto, using(rt_cidr::proofs::Promised::prepending), unfolding(crate::specs::inside::Parts::range_front))]
-fn prepend_front(text: &mut ShortText, json: bool, difference: &Difference)
-    requires room { FitsInShortText (range_front json difference.now) text.old }
-    ensures { text.new ≡ range_front json difference.now ++ text.old }
-{
-    let Difference { first, last, .. } = difference;
-    text.prepend(either(json, b" ", b"\",\"old\":"));
-    last.prepend_to(text);
-    text.prepend(either(json, b"-", b"\",\"last\":\""));
-    first.prepend_to(text);
-    text.prepend(either(json, b"", b"{\"first\":\""));
-}
-
-/// Prepends `via ADDR` or `discard`, or the next hop as an object.
-#[tactic(auto, using(rt_cidr::proofs::Promised::prepending), unfolding(crate::specs::inside::Parts::way_as))]
-fn prepend_way(text: &mut ShortText, json: bool, hop: Hop)
-    requires room { FitsInShortText (way_as json hop) text.old }
-    ensures { text.new ≡ way_as json hop ++ text.old }
-{
-    text.prepend(either(json, b"", b"}"));
-    prepend_hop(text, json, hop);
-    text.prepend(way_front(json, hop));
-}
-
-/// Returns the text before a next hop in an answer.
-fn way_front(json: bool, hop: Hop) -> &'static [u8]
-    ensures { result.now ≡ way_front json hop }
+/// Writes the next hop of an answer.
+#[tactic(auto, unfolding(crate::specs::DifferenceText::answered_as))]
+fn put_way<W: Write>(w: &mut W, json: bool, hop: Hop) -> io::Result<()>
+    ensures { (label : _) → WritesText (W.contents w.old) (W.contents w.new) (answered_as json label (answered.Hop hop)) result }
 {
     match hop {
-        _ if json => b"{",
-        Hop::Via(_) => b"via ",
-        Hop::Discard => b"",
+        Hop::Via(address) if json => ("{\"via\":\"", (address, "\"}")).put_to(w),
+        Hop::Via(address) => ("via ", address).put_to(w),
+        Hop::Discard if json => "{\"via\":null,\"discard\":true}".put_to(w),
+        Hop::Discard => "discard".put_to(w),
     }
 }

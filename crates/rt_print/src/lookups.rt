@@ -3,21 +3,24 @@ ghost use Rattle.std.specs.Prelude.{◌≡◌, ◌+◌, ◌≤◌, ◌++◌, [],
 ghost use Rattle.rt_cidr.specs.Output.{WritesText};
 ghost use Rattle.rt_cidr.specs.ShortText.{FitsInShortText};
 ghost use Rattle.rt_print.specs.Styles.{label_of, found_as, all_found_as, reason_text};
-ghost use Rattle.rt_print.specs.inside.Parts.{either, route_open, asked_head, reason_end, comma, other_as, others_as};
+ghost use Rattle.rt_print.specs.inside.Parts.{either, route_open, asked_head, comma, other_as, others_as};
 
-use crate::parts::put_parts;
-use crate::routes::put_route;
+use crate::routes::{OpenRoute, put_route};
 use crate::style::{Style, either};
-use rt_cidr::{Addr, ShortText, put};
+use crate::text::Text;
+use rt_cidr::{Addr, ShortText};
 use rt_rib::{Reason, Route};
 use std::io::{self, Write};
 
-/// The best route that covers an address, and its style.
+/// The best route that covers an address, in a style: the route with the address before it and a text after it, which has
+/// the end of an object.
 #[derive(Clone, Copy)]
 struct Best<'a> {
     style: &'a Style,
     addr: Addr,
     route: Route,
+    tail: &'a [u8],
+    ghost short: { length tail.now ≤ 100 },
 }
 
 /// Writes the result of a look-up of the address, in the style: `ADDR route PREFIX feed F pref P via HOP`, or
@@ -35,8 +38,14 @@ pub fn write_lookup<W: Write>(
     match found {
         None => put_none(w, json, addr, b"null}\n"),
         Some(route) => {
-            let best = Best { style, addr, route };
-            put_best(w, &best, either(json, b"\n", b"}}\n"))
+            let tail = either(json, b"\n", b"}}\n");
+            Best {
+                style,
+                addr,
+                route,
+                tail,
+            }
+            .put_to(w)
         }
     }
 }
@@ -46,11 +55,11 @@ pub fn write_lookup<W: Write>(
 /// reason is the step at which the route lost to the first one (RFC 1812, section 5.2.4.3): `shorter` for a shorter
 /// prefix; `preference` for an equally long prefix and a higher preference; and `feed` if both are equal. For an empty
 /// list it writes that there is no route. Errors and memory are as for `write_routes`.
-pub fn write_all_matches<W: Write>(
+pub fn write_all_matches<'a, W: Write>(
     w: &mut W,
-    style: &Style,
+    style: &'a Style,
     addr: Addr,
-    found: &[Route],
+    found: &'a [Route],
 ) -> io::Result<()>
     ensures { WritesText (W.contents w.old) (W.contents w.new) (all_found_as style.now.json (label_of style.now.labels) addr found.now) result }
 {
@@ -58,11 +67,13 @@ pub fn write_all_matches<W: Write>(
     let Some((first, others)) = found.split_first() else {
         return put_none(w, json, addr, b"null,\"also\":[]}\n");
     };
-    let route = *first;
-    let best = Best { style, addr, route };
-    put_best(w, &best, either(json, b"\n", b"},\"also\":["))?;
-    write_others(w, &best, others)?;
-    put(w, either(json, b"", b"]}\n"))
+    let best = Best {
+        style,
+        addr,
+        route: *first,
+        tail: either(json, b"\n", b"},\"also\":["),
+    };
+    (best, (Others { best, others }, either(json, b"", b"]}\n"))).put_to(w)
 }
 
 /// Writes that no route covers the address; `end` ends an object.
@@ -72,58 +83,64 @@ fn put_none<W: Write>(w: &mut W, json: bool, addr: Addr, end: &[u8]) -> io::Resu
 {
     let mut head = ShortText::new();
     prepend_asked(&mut head, json, addr, b" no route\n");
-    put_parts(w, &[head.as_bytes(), either(json, b"", end)])
+    (head.as_bytes(), either(json, b"", end)).put_to(w)
 }
 
-/// Writes the address and the best route, and a text after them.
-#[tactic(auto, using(crate::proofs::LineParts::fits))]
-fn put_best<W: Write>(w: &mut W, best: &Best<'_>, tail: &[u8]) -> io::Result<()>
-    requires tail { length tail.now ≤ 100 }
-    ensures { WritesText (W.contents w.old) (W.contents w.new) (asked_head best.now.style.now.json best.now.addr (codes " route ")
-        ++ (route_open best.now.style.now.json (label_of best.now.style.now.labels best.now.route.feed) best.now.route ++ tail.now)) result }
-{
-    let mut head = ShortText::new();
-    prepend_asked(&mut head, best.style.is_json(), best.addr, b" route ");
-    let mut text = ShortText::new();
-    put_route(w, &mut text, best.style, head.as_bytes(), &best.route, tail)
-}
+impl Text for Best<'_> {
+    ghost text = { λ b. asked_head b.style.now.json b.addr (codes " route ")
+        ++ (route_open b.style.now.json (label_of b.style.now.labels b.route.feed) b.route ++ b.tail.now) };
 
-/// Writes the routes that lost to the best one, each with the reason; objects have commas between them.
-fn write_others<W: Write>(w: &mut W, best: &Best<'_>, others: &[Route]) -> io::Result<()>
-    ensures { WritesText (W.contents w.old) (W.contents w.new)
-        (others_as best.now.style.now.json (label_of best.now.style.now.labels) best.now.addr best.now.route 1 others.now) result }
-{
-    for (index, route) in others.iter().enumerate() {
-        put_other(w, best, comma(index), route)?;
+    #[tactic(auto, using(crate::proofs::LineParts::fits))]
+    fn put_to<W: Write>(&self, w: &mut W) -> io::Result<()> {
+        let json = self.style.is_json();
+        let mut head = ShortText::new();
+        prepend_asked(&mut head, json, self.addr, b" route ");
+        let mut text = ShortText::new();
+        let (labels, head) = (self.style.labels(), head.as_bytes());
+        put_route(w, &mut text, json, labels, head, &self.route, self.tail)
     }
-    Ok(())
+}
+
+/// The routes that lost to the best one, each with the reason; objects have commas between them.
+#[derive(Clone, Copy)]
+struct Others<'a> {
+    best: Best<'a>,
+    others: &'a [Route],
+}
+
+impl Text for Others<'_> {
+    ghost text = { λ o. others_as o.best.style.now.json (label_of o.best.style.now.labels) o.best.addr o.best.route 1 o.others.now };
+
+    fn put_to<W: Write>(&self, w: &mut W) -> io::Result<()> {
+        for (index, route) in self.others.iter().enumerate() {
+            put_other(w, &self.best, comma(index), route)?;
+        }
+        Ok(())
+    }
 }
 
 /// Returns the text between an object and the ones before it, if their number is `before`.
-fn comma(before: usize) -> &'static [u8]
+fn comma(before: usize) -> &'static str
     ensures { result.now ≡ comma (before + 1) }
 {
-    if before == 0 { b"" } else { b"," }
+    if before == 0 { "" } else { "," }
 }
 
 /// Writes one route that lost to the best one, an object after this text.
-#[tactic(auto, using(crate::proofs::LineParts::fits))]
-fn put_other<W: Write>(w: &mut W, best: &Best<'_>, comma: &[u8], route: &Route) -> io::Result<()>
-    requires comma { length comma.now ≤ 100 }
+#[tactic(auto, using(crate::proofs::LineParts::other_parts), unfolding(crate::specs::inside::Parts::other_as))]
+fn put_other<W: Write>(w: &mut W, best: &Best<'_>, comma: &str, route: &Route) -> io::Result<()>
     ensures { WritesText (W.contents w.old) (W.contents w.new)
         (other_as best.now.style.now.json (label_of best.now.style.now.labels) best.now.addr best.now.route comma.now route.now) result }
 {
-    let json = best.style.is_json();
-    let mut head = ShortText::new();
-    prepend_asked(&mut head, json, best.addr, b" also ");
-    let mut end = ShortText::new();
-    prepend_reason(&mut end, json, &best.route, route);
-    let front = either(json, head.as_bytes(), comma);
-    let mut text = ShortText::new();
-    put_route(w, &mut text, best.style, front, route, end.as_bytes())
+    let style = best.style;
+    let reason = reason_word(route.reason(&best.route));
+    let open = OpenRoute { style, route };
+    if style.is_json() {
+        (comma, (open, (",\"reason\":\"", (reason, "\"}")))).put_to(w)
+    } else {
+        (best.addr, (" also ", (open, (" ", (reason, "\n"))))).put_to(w)
+    }
 }
-
-// Each function below prepends its text.
 
 /// Prepends the address and this word, or `{"address":"ADDR","route":`.
 #[tactic(auto, using(rt_cidr::proofs::Promised::prepending), unfolding(crate::specs::inside::Parts::asked_head))]
@@ -136,25 +153,14 @@ fn prepend_asked(text: &mut ShortText, json: bool, addr: Addr, word: &[u8])
     text.prepend(either(json, b"", b"{\"address\":\""));
 }
 
-/// Prepends ` REASON` and LF, or `,"reason":"REASON"}`.
-#[tactic(auto, using(rt_cidr::proofs::Promised::prepending), unfolding(crate::specs::inside::Parts::reason_end))]
-fn prepend_reason(text: &mut ShortText, json: bool, best: &Route, route: &Route)
-    requires room { FitsInShortText (reason_end json best.now route.now) text.old }
-    ensures { text.new ≡ reason_end json best.now route.now ++ text.old }
-{
-    text.prepend(either(json, b"\n", b"\"}"));
-    text.prepend(reason_word(route.reason(best)));
-    text.prepend(either(json, b" ", b",\"reason\":\""));
-}
-
 /// Returns the word for the reason why a route lost to the first one.
 #[tactic(auto, unfolding(crate::specs::Styles::reason_text))]
-fn reason_word(reason: Reason) -> &'static [u8]
+fn reason_word(reason: Reason) -> &'static str
     ensures { result.now ≡ reason_text reason }
 {
     match reason {
-        Reason::Shorter => b"shorter",
-        Reason::Preference => b"preference",
-        Reason::Feed => b"feed",
+        Reason::Shorter => "shorter",
+        Reason::Preference => "preference",
+        Reason::Feed => "feed",
     }
 }

@@ -2,34 +2,27 @@
 ghost use Rattle.std.specs.Prelude.{◌≡◌, ◌≤◌, ◌++◌, length, decimal};
 ghost use Rattle.rt_cidr.specs.Output.{WritesText};
 ghost use Rattle.rt_cidr.specs.ShortText.{FitsInShortText};
-ghost use Rattle.rt_print.specs.Routes.{route_text, count_text, table_text};
-ghost use Rattle.rt_print.specs.Styles.{label_of, rows_as};
-ghost use Rattle.rt_print.specs.inside.Parts.{hop_as, route_front, route_back, route_open};
+ghost use Rattle.std.specs.List.{flat_map};
+ghost use Rattle.rt_print.specs.Routes.{route_text, table_text};
+ghost use Rattle.rt_print.specs.Styles.{label_of, row_as, rows_as};
+ghost use Rattle.rt_print.specs.inside.Parts.{label_pairs, hop_as, route_front, route_back, route_open};
 
-use crate::labels::label_in;
-use crate::parts::put_parts;
+use crate::labels::{FeedLabel, label_in};
 use crate::style::{Style, either};
+use crate::text::Text;
 use rt_cidr::{ShortText, put};
 use rt_rib::{Hop, Route};
 use std::io::{self, Write};
 
 /// Writes the table: `table COUNT` and LF, and then each route of the list and LF. Errors are the writer's, as `put`
-/// returns them; a prefix of the table was then written. Doesn't allocate. Makes one `write` for each line, more if the
-/// writer accepts only a part, and no other call; wrap a writer with expensive calls in an `OutputBuffer`.
-#[tactic(auto, using(crate::proofs::LineParts::fits), unfolding(crate::specs::Routes::row_text))]
+/// returns them; a prefix of the table was then written. Doesn't allocate. Makes one `write` for each route, more if the
+/// writer accepts only a part, and no other call after the first line; wrap a writer with expensive calls in an
+/// `OutputBuffer`.
 pub fn write_table<W: Write>(w: &mut W, routes: &[Route]) -> io::Result<()>
     ensures { WritesText (W.contents w.old) (W.contents w.new) (table_text routes.now) result }
 {
-    let mut text = ShortText::new();
-    prepend_count(&mut text, routes.len());
-    put(w, text.as_bytes())?;
-    for route in routes {
-        text.clear();
-        text.prepend(b"\n");
-        prepend_route(&mut text, route);
-        put(w, text.as_bytes())?;
-    }
-    Ok(())
+    ("table ", (routes.len() as u64, "\n")).put_to(w)?;
+    put_rows(w, false, &[], routes)
 }
 
 /// Writes the routes in the style, each on a line. Errors are the writer's, as `put` returns them; a prefix of that text
@@ -38,10 +31,22 @@ pub fn write_table<W: Write>(w: &mut W, routes: &[Route]) -> io::Result<()>
 pub fn write_routes<W: Write>(w: &mut W, style: &Style, routes: &[Route]) -> io::Result<()>
     ensures { WritesText (W.contents w.old) (W.contents w.new) (rows_as style.now routes.now) result }
 {
-    let end = either(style.is_json(), b"\n", b"}\n");
+    put_rows(w, style.is_json(), style.labels(), routes)
+}
+
+/// Writes the routes, each on a line.
+fn put_rows<W: Write>(
+    w: &mut W,
+    json: bool,
+    labels: &[FeedLabel],
+    routes: &[Route],
+) -> io::Result<()>
+    ensures { WritesText (W.contents w.old) (W.contents w.new) (flat_map (row_as json (label_of (label_pairs labels.now))) routes.now) result }
+{
+    let end = either(json, b"\n", b"}\n");
     let mut text = ShortText::new();
     for route in routes {
-        put_route(w, &mut text, style, b"", route, end)?;
+        put_route(w, &mut text, json, labels, b"", route, end)?;
     }
     Ok(())
 }
@@ -52,7 +57,8 @@ pub fn write_routes<W: Write>(w: &mut W, style: &Style, routes: &[Route]) -> io:
 pub(crate) fn put_route<W: Write>(
     w: &mut W,
     text: &mut ShortText,
-    style: &Style,
+    json: bool,
+    labels: &[FeedLabel],
     head: &[u8],
     route: &Route,
     tail: &[u8],
@@ -60,12 +66,11 @@ pub(crate) fn put_route<W: Write>(
     requires head { length head.now ≤ 100 }
     requires tail { length tail.now ≤ 100 }
     ensures { WritesText (W.contents w.old) (W.contents w.new)
-        (head.now ++ (route_open style.now.json (label_of style.now.labels route.now.feed) route.now ++ tail.now)) result }
+        (head.now ++ (route_open json (label_of (label_pairs labels.now) route.now.feed) route.now ++ tail.now)) result }
 {
-    let json = style.is_json();
     text.clear();
     text.prepend(tail);
-    let Some(label) = label_in(style.labels(), route.feed) else {
+    let Some(label) = label_in(labels, route.feed) else {
         prepend_open(text, json, route);
         text.prepend(head);
         return put(w, text.as_bytes());
@@ -73,21 +78,28 @@ pub(crate) fn put_route<W: Write>(
     prepend_back(text, json, route);
     let mut front = ShortText::new();
     prepend_front(&mut front, json, route);
-    put_parts(w, &[head, front.as_bytes(), label, text.as_bytes()])
+    (head, (front.as_bytes(), (label, text.as_bytes()))).put_to(w)
+}
+
+/// A route in a style, without an object's end.
+#[derive(Clone, Copy)]
+pub(crate) struct OpenRoute<'a> {
+    pub(crate) style: &'a Style,
+    pub(crate) route: &'a Route,
+}
+
+impl Text for OpenRoute<'_> {
+    ghost text = { λ r. route_open r.style.now.json (label_of r.style.now.labels r.route.now.feed) r.route.now };
+
+    #[tactic(auto, using(crate::proofs::LineParts::fits))]
+    fn put_to<W: Write>(&self, w: &mut W) -> io::Result<()> {
+        let mut text = ShortText::new();
+        let (json, labels) = (self.style.is_json(), self.style.labels());
+        put_route(w, &mut text, json, labels, b"", self.route, b"")
+    }
 }
 
 // Each function below prepends its text.
-
-/// Prepends the table's first line, with its LF.
-#[tactic(auto, using(rt_cidr::proofs::Promised::prepending), unfolding(crate::specs::Routes::count_text))]
-fn prepend_count(text: &mut ShortText, count: usize)
-    requires room { FitsInShortText (count_text count) text.old }
-    ensures { text.new ≡ count_text count ++ text.old }
-{
-    text.prepend(b"\n");
-    text.prepend_decimal(count as u64);
-    text.prepend(b"table ");
-}
 
 /// Prepends the route as a line without its LF, `PREFIX feed F pref P via HOP`.
 #[tactic(auto, using(crate::proofs::LineParts::line_open))]
@@ -134,7 +146,7 @@ fn prepend_back(text: &mut ShortText, json: bool, route: &Route)
 
 /// Prepends the next hop's address or `discard`, or the next hop as members of an object.
 #[tactic(auto, using(rt_cidr::proofs::Promised::prepending))]
-pub(crate) fn prepend_hop(text: &mut ShortText, json: bool, hop: Hop)
+fn prepend_hop(text: &mut ShortText, json: bool, hop: Hop)
     requires room { FitsInShortText (hop_as json hop) text.old }
     ensures { text.new ≡ hop_as json hop ++ text.old }
 {

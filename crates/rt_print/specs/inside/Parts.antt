@@ -3,14 +3,10 @@ use Rattle.std.specs.Prelude.{ℕ, ◌+◌, ◌==◌, Bool, true, false, if◌th
 use Rattle.rt_cidr.specs.declared.address.Addr.{Addr}
 use Rattle.rt_cidr.specs.Text.{address_text, prefix_text}
 use Rattle.rt_rib.specs.declared.routes.Hop.{Hop}
-use Rattle.rt_rib.specs.declared.routes.Hop.TheVariants.{Via, Discard}
 use Rattle.rt_rib.specs.declared.routes.Route.{Route}
-use Rattle.rt_rib.specs.LookUp.{reason}
-use Rattle.rt_diff.specs.declared.comparison.Difference.{Difference}
 use Rattle.rt_print.specs.declared.labels.FeedLabel.{FeedLabel}
 use Rattle.rt_print.specs.Routes.{hop_text, hop_members}
-use Rattle.rt_print.specs.DifferenceText.{way_text}
-use Rattle.rt_print.specs.Styles.{reason_text, also_line, also_object}
+use Rattle.rt_print.specs.Styles.{also_line, also_object}
 use Rattle.std.specs.Option.{option_map_or}
 use Rattle.ya_core.specs.declared.step.Mark.{Mark}
 use Rattle.ya_core.specs.declared.step.Mark.TheVariants.{Plain, Inside, Out}
@@ -48,10 +44,6 @@ route_open json label r = route_front json r ++ (label ++ route_back json r)
 unfoldable pub asked_head : Bool → Addr → List ℕ → List ℕ
 asked_head json addr word = either json [] (codes "{\"address\":\"") ++ (address_text addr.0 ++ either json word (codes "\",\"route\":"))
 
--- the reason why a route lost to the best one, and the end of its line or object
-unfoldable pub reason_end : Bool → Route → Route → List ℕ
-reason_end json best r = either json (codes " ") (codes ",\"reason\":\"") ++ (reason_text (reason best r) ++ either json (codes "\n") (codes "\"}"))
-
 -- a route that lost to the best one, an object after this text; here and below `label` gives the label of each feed
 unfoldable pub other_as : Bool → (ℕ → List ℕ) → Addr → Route → List ℕ → Route → List ℕ
 other_as false label addr best comma r = also_line label addr best r
@@ -65,33 +57,6 @@ comma number = if number == 1 then [] else codes ","
 abbrev pub others_as : Bool → (ℕ → List ℕ) → Addr → Route → ℕ → List Route → List ℕ
 others_as json label addr best number [] = []
 others_as json label addr best number (r ∷ rs) = other_as json label addr best (comma number) r ++ others_as json label addr best (number + 1) rs
-
--- a range before its old answer
-unfoldable pub range_front : Bool → Difference → List ℕ
-range_front json d =
-    either json [] (codes "{\"first\":\"") ++ (address_text d.first.0 ++ (either json (codes "-") (codes "\",\"last\":\"")
-    ++ (address_text d.last.0 ++ either json (codes " ") (codes "\",\"old\":"))))
-
--- the text before a next hop in an answer
-abbrev pub way_front : Bool → Hop → List ℕ
-way_front false (Via address) = codes "via "
-way_front false Discard = []
-way_front true hop = codes "{"
-
--- a next hop in an answer
-unfoldable pub way_as : Bool → Hop → List ℕ
-way_as false hop = way_text hop
-way_as true hop = codes "{" ++ (hop_members hop ++ codes "}")
-
--- the text of the numbers of routes and of prefixes
-unfoldable pub totals_line : Bool → ℕ → ℕ → List ℕ
-totals_line json routes prefixes =
-    either json (codes "routes ") (codes "{\"routes\":") ++ (decimal routes ++ (either json (codes " prefixes ") (codes ",\"prefixes\":")
-    ++ (decimal prefixes ++ either json (codes "\n") (codes "}\n"))))
-
--- the end of the text of a number of routes
-unfoldable pub count_tail : Bool → ℕ → List ℕ
-count_tail json count = either json (codes " routes ") (codes ",\"routes\":") ++ (decimal count ++ either json (codes "\n") (codes "}\n"))
 
 -- the step won the root
 abbrev pub wins_root : Mark → Bool

@@ -3,10 +3,11 @@ use Rattle.std.specs.Io.KnownBytes.{Appends}
 use Rattle.rt_print.specs.Counts.{count_as, each_below}
 use Rattle.rt_print.specs.Styles.{label_of}
 use Rattle.rt_print.specs.inside.Parts.{label_pairs}
-use Rattle.rt_print.proofs.counts.write_each.Given as goal
+use Rattle.rt_print.proofs.counts.NumbersText.put_to.Given as goal
 
 -- those below this number were written
 abbrev pub invariant-loop-number : goal.invariant-loop-number
 invariant-loop-number g l =
+    let n = l.self in
     Appends (g.W.Write.contents l.initial.w) (g.W.Write.contents l.w)
-    (each_below (λ n. count_as l.json l.kind (label_of (label_pairs l.labels) n) (get_or l.counts n 0)) l.number)
+    (each_below (λ k. count_as n.json n.kind.now (label_of (label_pairs n.labels.now) k) (get_or n.counts.now k 0)) l.number)

@@ -1,9 +1,0 @@
-use Rattle.std.proofs.Common.{take}
-use Rattle.std.specs.Io.KnownBytes.{Appends}
-use Rattle.rt_print.specs.Styles.{rows_as}
-use Rattle.rt_print.proofs.routes.write_routes.Given as goal
-
--- the routes so far were written
-abbrev pub invariant-loop-route : goal.invariant-loop-route
-invariant-loop-route g l =
-    Appends (g.W.Write.contents l.fn.w) (g.W.Write.contents l.w) (rows_as l.style (take l.route-index l.routes))
