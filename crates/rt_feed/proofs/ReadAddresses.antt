@@ -1,13 +1,13 @@
 -- A text of addresses, read line by line, and the uniqueness of its list of addresses.
 use Rattle.std.proofs.Common.{◌≡◌, ℕ, suc, ◌+◌, ◌<◌, ◌≤◌, List, [], ◌∷◌, ◌++◌, length, Option, Some, None, Result, Ok, Err, refl, sym, ap, ◌∙◌, arith}
-use Rattle.std.proofs.Common.{add-zero, append-nil, length-append}
+use Rattle.std.proofs.Common.{add-zero, length-append}
 use Rattle.std.proofs.lemmas.List.{map-id}
 use Rattle.rt_cidr.specs.declared.address.Addr.{Addr}
 use Rattle.rt_feed.specs.declared.parse.LineFault.{LineFault}
 use Rattle.rt_feed.specs.declared.faulty.FaultyLines.{FaultyLines}
 use Rattle.rt_feed.specs.Lines.{CutsLine}
 use Rattle.rt_feed.specs.Laws.{AddressLineHasOneAnswer, AddressTextHasOneReading}
-use Rattle.rt_feed.specs.Addresses.{AnswersAddressLine, SaysAddresses, addresses_said, faults_said, faulty_lines}
+use Rattle.rt_feed.specs.Addresses.{AnswersAddressLine, addresses_said, faults_said, faulty_lines}
 use Rattle.rt_feed.specs.inside.ReadAddresses.{AreSaid, AreRead, PutsLine}
 use Rattle.rt_feed.proofs.LinesYield.{say-append, length-said}
 use Rattle.rt_feed.proofs.OneCut.{say_alike}
@@ -51,15 +51,6 @@ pub counted-below : (text rest : List ℕ) (number : ℕ) (addresses : List Addr
 counted-below text rest number addresses faulty read =
     omega (arith, read.counted, faults-few 1 read.says, count-lines (faults_said 1 read.says), ap (λ (f : FaultyLines). f.count) read.are_said.faults)
 
--- at first no line is read
-pub none_read : (text : List ℕ) (addresses : List Addr) (faulty : FaultyLines) → addresses ≡ [] → faulty ≡ faulty_lines [] → AreRead text text 0 addresses faulty
-none_read text addresses faulty no_address no_fault = record {
-  says = [];
-  lines = refl;
-  counted = refl;
-  are_said = record { said = no_address; faults = no_fault };
-}
-
 -- one more line, whatever its answer
 pub said_more : (says : List Says) (one : Says) (old new : List Addr) (faulty faulty' : FaultyLines) → AreSaid says old faulty
     → new ≡ old ++ addresses_said (one ∷ []) → faulty' ≡ faulty_lines (faults_said 1 says ++ faults_said (1 + length says) (one ∷ []))
@@ -87,11 +78,6 @@ pub numbered-within : (text rest : List ℕ) (number : ℕ) (addresses : List Ad
     → number + length rest ≤ length text
 numbered-within text rest number addresses faulty read =
     omega (arith, read.counted, length-said AnswersAddressLine text rest read.says read.lines)
-
--- at the end all lines are read
-pub all_read : (text : List ℕ) (number : ℕ) (addresses : List Addr) (faulty : FaultyLines) → AreRead text [] number addresses faulty
-    → SaysAddresses text addresses faulty
-all_read text number addresses faulty read = record { says = read.says; lines = read.lines; said = read.are_said.said; faults = read.are_said.faults }
 
 -- a line has one answer, and so has the text
 pub one_address_text : AddressLineHasOneAnswer → AddressTextHasOneReading

@@ -1,5 +1,5 @@
 -- A feed's text through a gate, one line and one batch further.
-use Rattle.std.proofs.Common.{◌≡◌, Ok, Some, ◌≢◌, inl, inr, ℕ, suc, ◌+◌, ◌<◌, false, List, [], ◌∷◌, ◌++◌, All, length, get_or, map, take, drop, zip, refl}
+use Rattle.std.proofs.Common.{◌≡◌, Ok, Some, ◌≢◌, inl, inr, ℕ, ◌+◌, ◌<◌, false, List, [], ◌∷◌, ◌++◌, All, length, map, take, drop, zip, refl}
 use Rattle.std.proofs.Common.{sym, ap, subst, ◌∙◌, arith, append_assoc, append-nil, length-append}
 use Rattle.std.proofs.Math.Seq.{take-append_seam, drop-append_seam}
 use Rattle.std.proofs.lemmas.List.{map-append, length-map}
@@ -146,17 +146,6 @@ answers_waiting holds old new cmds first report report' out some batch is = reco
   gained = piece_asked holds old new cmds batch.outcomes batch.each some batch.gained;
   reported = inl (is ∙ ap (λ os. take first report ++ filled (drop first report) os) batch.appended);
 }
-
--- one command in a list of one
-pub alone : (cmds : List Cmd) (cmd : Cmd) → length cmds ≡ 1 → cmd ≡ get_or cmds 0 cmd → cmd ∷ [] ≡ cmds
-alone [] cmd one is = absurd (omega (arith, one))
-alone (first ∷ []) cmd one is = ap (λ c. c ∷ []) is
-alone (first ∷ second ∷ cmds) cmd one is = absurd (omega (arith, one))
-
--- nothing waits
-pub none_waits : {G : Type 0} (holds : G → List AnsweredBatch → Type 0) (gate : G) (first : ℕ) (report : List Line)
-    → AnswersWaiting holds gate gate [] first report report
-none_waits holds gate first report = record { outcomes = []; each = refl; gained = gains_none holds gate; reported = inr (refl, refl) }
 
 -- the heading has no answer and no command
 no_lines : (version : Version) → report_lines 1 (heading version) ≡ []

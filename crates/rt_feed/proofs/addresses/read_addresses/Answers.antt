@@ -1,10 +1,7 @@
 use Rattle.std.proofs.Common.{◌+◌, ◌≤◌, length, arith}
 use Rattle.rt_feed.proofs.LinesYield.{length-cut}
-use Rattle.rt_feed.proofs.ReadAddresses.{none_read, counted-below, read_more, numbered-within, all_read}
+use Rattle.rt_feed.proofs.ReadAddresses.{counted-below, read_more, numbered-within}
 use Rattle.rt_feed.proofs.addresses.read_addresses.Goals as goal
-
-pub loop-line-init : goal.loop-line-init
-loop-line-init c = none_read c.args.text.now c.new-read.result.addresses.items c.new-read.result.faulty c.new-read.ensures.addresses c.new-read.ensures.faulty
 
 pub overflow_add-number : goal.overflow_add-number
 overflow_add-number c =
@@ -20,9 +17,3 @@ pub loop-line-preserved : goal.loop-line-preserved
 loop-line-preserved c =
     read_more c.args.text.now c.loop-line.rest.now c.in-Some.line.now c.in-Some.behind.now c.loop-line.number _ _ _ _ c.loop-line.invariant
     (c.in-Some.ensures {u = tt}) (c.in_ok-put_line.ensures {u = tt})
-
-pub loop-line-smaller : goal.loop-line-smaller
-loop-line-smaller c = length-cut c.loop-line.rest.now c.in-Some.line.now c.in-Some.behind.now (c.in-Some.ensures {u = tt})
-
-pub returns : goal.returns
-returns c = let none = c.in_default.ensures {u = tt} in all_read c.args.text.now c.loop-line.number _ _ (rw none at c.loop-line.invariant)

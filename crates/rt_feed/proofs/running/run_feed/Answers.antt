@@ -75,12 +75,3 @@ loop-line-preserved g c = record {
   read = (c.in_ok-read.ensures {u = tt}).ok c.args.text.now c.loop-line.rest.now c.in-Some.next.now c.loop-line.number c.args.gate.now refl
       c.loop-line.invariant.read (c.in-Some.ensures {u = tt});
 }
-
-pub returns-clause-nothing : goal.returns-clause-nothing
-returns-clause-nothing g c = λ _. refl
-
-pub returns-clause-err : goal.returns-clause-err
-returns-clause-err g c = tt
-
-pub loop-line-smaller : goal.loop-line-smaller
-loop-line-smaller g c = length-cut c.loop-line.rest.now c.in-Some.line.now c.in-Some.next.now (c.in-Some.ensures {u = tt})
