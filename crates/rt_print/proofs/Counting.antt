@@ -1,6 +1,6 @@
 -- Numbers of routes: those that are counted in one pass, by a number of each route; and their texts.
 use Rattle.std.proofs.Common.{◌≡◌, ◌≢◌, ◌==◌, ℕ, ◌+◌, ◌<◌, ◌≤◌, inl, inr, true, false, List, length, get_or, set, take, count_by, sym, ap, subst, ◌∙◌, arith, eqb-true, zero, suc, ◌++◌}
-use Rattle.std.proofs.Common.{decimal, refl, add-one, Option, Result}
+use Rattle.std.proofs.Common.{decimal, refl, Option, Result}
 use Rattle.std.proofs.lemmas.Bool.{cases_Bool, cases_lt, eq-eqb}
 use Rattle.std.proofs.lemmas.List.{get_or-set_same, get_or-set_other, length-set, length-replicate, get_or-replicate}
 use Rattle.std.proofs.lemmas.List.Sums.{count_by_more_yes, count_by_more_no}
@@ -9,7 +9,7 @@ use Rattle.rt_rib.specs.declared.routes.Route.{Route}
 use Rattle.std.specs.Prelude.{◌≢◌, IsErr}
 use Rattle.std.specs.Io.KnownBytes.{Appends}
 use Rattle.rt_cidr.specs.Output.{AppendsBeginning, WritesText}
-use Rattle.rt_cidr.proofs.Promised.{length-decimal, appends_after, begins_after, begins_longer}
+use Rattle.rt_cidr.proofs.Promised.{length-decimal, begins_after, begins_longer}
 use Rattle.rt_print.specs.Counts.{each_below}
 use Rattle.rt_print.proofs.Writing.{breaks_off}
 
@@ -73,11 +73,6 @@ module _ (number : Route → ℕ) (max size i at : ℕ) (routes : List Route) (r
 
 pub number_fits : (number : ℕ) → length (decimal number) ≤ 100
 number_fits number = omega (arith, length-decimal number)
-
--- the text of a number is appended to the texts of those below it
-pub each_next : (a b c : Option (List ℕ)) (tell : ℕ → List ℕ) (n : ℕ) → Appends a b (each_below tell n) → Appends b c (tell n)
-    → Appends a c (each_below tell (n + 1))
-each_next a b c tell n first second = rw (add-one n) (appends_after a b c (each_below tell n) (tell n) first second)
 
 each_begins : (a b c : Option (List ℕ)) (tell : ℕ → List ℕ) (n bound : ℕ) → n < bound → Appends a b (each_below tell n)
     → AppendsBeginning b c (tell n) → AppendsBeginning a c (each_below tell bound)

@@ -30,10 +30,6 @@ module _ {T E : Type 0} (a b c : Option (List ℕ)) (result : Result T E) where
     err = on_err_weaker result (begins_after a b c xs ys first) second.err;
   }
 
-  -- a whole text, and an error within the second of three
-  pub stops_after : (xs ys zs : List ℕ) → IsErr result → Appends a b xs → AppendsBeginning b c ys → WritesText a c (xs ++ (ys ++ zs)) result
-  stops_after xs ys zs failed first second = breaks_off a c (xs ++ (ys ++ zs)) result failed (begins_after a b c xs (ys ++ zs) first (begins_longer b c ys zs second))
-
 -- a text in front of the empty text is the whole text
 pub alone : {new old : List ℕ} (text : List ℕ) → new ≡ text ++ old → old ≡ [] → new ≡ text
 alone text put none = put ∙ (ap (λ (xs : List ℕ). text ++ xs) none ∙ append-nil text)

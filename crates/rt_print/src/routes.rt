@@ -51,8 +51,11 @@ fn put_rows<W: Write>(
     Ok(())
 }
 
-/// Writes the route between two texts, built in `text`. The second one has the end of an object. With the number of its
-/// feed, the whole goes to the writer at once; another label may be too long for that.
+/// A label of at most so many bytes leaves room for the rest of its line in a short text.
+const SHORT_LABEL_BYTES: usize = 80;
+
+/// Writes the route between two texts, built in `text`. The second one has the end of an object. The whole goes to the
+/// writer at once, unless the label of its feed is too long for that.
 #[tactic(auto, using(rt_cidr::proofs::Promised::prepending, crate::proofs::LineParts::fits), unfolding(crate::specs::inside::Parts::route_open))]
 pub(crate) fn put_route<W: Write>(
     w: &mut W,
@@ -76,6 +79,12 @@ pub(crate) fn put_route<W: Write>(
         return put(w, text.as_bytes());
     };
     prepend_back(text, json, route);
+    if label.len() <= SHORT_LABEL_BYTES {
+        text.prepend(label);
+        prepend_front(text, json, route);
+        text.prepend(head);
+        return put(w, text.as_bytes());
+    }
     let mut front = ShortText::new();
     prepend_front(&mut front, json, route);
     (head, (front.as_bytes(), (label, text.as_bytes()))).put_to(w)
