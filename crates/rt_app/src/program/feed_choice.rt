@@ -5,7 +5,7 @@ ghost use Rattle.rt_rib.specs.declared.limits.TheConstants.{MAX_FEEDS};
 
 use super::program_error::{ArgumentFault, ProgramError};
 use command_line::NamedFeeds;
-use rt_print::feed_name;
+use rt_print::{NameFault, check_names, feed_name};
 use rt_run::{FeedChoice, MAX_FEED_FILES};
 use std::alloc::Global;
 
@@ -27,16 +27,18 @@ impl<'w> FeedFiles<'w> {
 
     /// Stops if a file has no valid feed name, or the same feed name as an earlier file.
     pub(super) fn check_names(&self) -> Result<(), ProgramError<'w>> {
-        for (index, file) in self.names.iter().enumerate() {
-            let name = feed_name(file.as_bytes());
-            if !is_name(name) {
-                return Err(ProgramError::Argument(ArgumentFault::FeedName, file));
-            }
-            if let Some(earlier) = file_of_name(&self.names[..index], name) {
-                return Err(ProgramError::DuplicateFeedName(earlier, file));
-            }
+        let files = self.names;
+        match check_names(files) {
+            Ok(()) => Ok(()),
+            Err(NameFault::Invalid(file)) => Err(ProgramError::Argument(
+                ArgumentFault::FeedName,
+                files[file],
+            )),
+            Err(NameFault::Duplicate(earlier, file)) => Err(ProgramError::DuplicateFeedName(
+                files[earlier],
+                files[file],
+            )),
         }
-        Ok(())
     }
 
     /// Returns the number of the feed that the argument identifies: the one feed that has this number or this name.
@@ -53,21 +55,6 @@ impl<'w> FeedFiles<'w> {
         }
         found.ok_or(ProgramError::Argument(ArgumentFault::NoFeed, word))
     }
-}
-
-/// Returns the first file whose feed has this name.
-fn file_of_name<'w>(files: &[&'w str], name: &[u8]) -> Option<&'w str> {
-    for file in files {
-        if feed_name(file.as_bytes()) == name {
-            return Some(file);
-        }
-    }
-    None
-}
-
-/// Returns true if the feed name is valid: it isn't empty and contains no space and no control character.
-fn is_name(name: &[u8]) -> bool {
-    !name.is_empty() && name.iter().all(|byte| *byte > b' ' && *byte != 127)
 }
 
 /// Returns true if the argument is the number of this feed, or the name that the feed has by its file.
