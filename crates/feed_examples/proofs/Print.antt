@@ -1,6 +1,6 @@
 -- Examples that test the definitions of rt_print, each below a line with the definition's name. Both sides are computed;
 -- relations and laws are spelled out for some values.
-use Rattle.std.proofs.Common.{◌≡◌, ℕ, true, false, List, [], ◌∷◌, ◌++◌, length, Some, None, codes, refl, ap}
+use Rattle.std.proofs.Common.{◌≡◌, ℕ, zero, suc, ◌<◌, true, false, List, [], ◌∷◌, ◌++◌, length, map, Some, None, Ok, Err, codes, refl, ap, arith}
 use Rattle.std.specs.Prelude.{decimal}
 use Rattle.std.specs.Fmt.{digits}
 use Rattle.rt_cidr.specs.Text.{address_text, prefix_text}
@@ -19,6 +19,8 @@ use Rattle.rt_print.specs.declared.format.Format.TheVariants.{Numbers, Names, Js
 use Rattle.rt_print.specs.Buffer.{buffered}
 use Rattle.rt_print.specs.Routes.{hop_text, route_text, row_text, count_text, rows_text, table_text}
 use Rattle.rt_print.specs.Routes.{escaped, json_string, hop_members, route_object}
+use Rattle.rt_print.specs.declared.names.NameFault.TheVariants.{Invalid, Duplicate}
+use Rattle.rt_print.specs.FeedNames.{is_space_or_control, is_name, name_at, HasOwnName, ChecksNames}
 use Rattle.rt_print.specs.Labels.{is_json, has_names, base_name, without_feed, feed_name, label_by, labelled, number_in, paired_number, labels_by}
 use Rattle.rt_print.specs.Styles.{StyleContents, label_of, row_as, address_head, found_as, reason_text, also_line, all_found_as}
 use Rattle.rt_print.specs.DifferenceText.{way_text, DiffContents, diff_of, answered_as, range_as, difference_as, differences_as}
@@ -332,3 +334,45 @@ not_where_less_is_below_than_at_first = refl
 
 nor_where_the_writer_tells_nothing : (buffered 9 (Some []) None [] ≡ None) × (buffered 9 None (Some []) [] ≡ None) × (buffered 9 None None [] ≡ None)
 nor_where_the_writer_tells_nothing = (refl, refl, refl)
+
+-- is_space_or_control
+a_space_a_control_character_and_a_letter : map is_space_or_control (32 ∷ 127 ∷ 97 ∷ []) ≡ true ∷ true ∷ false ∷ []
+a_space_a_control_character_and_a_letter = refl
+
+-- is_name
+which_names_are_valid : (is_name [] ≡ false) × (is_name (codes "a b") ≡ false) × (is_name (codes "east") ≡ true)
+which_names_are_valid = (refl, refl, refl)
+
+-- name_at
+the_name_of_the_second : name_at (codes "a.feed" ∷ codes "x/b.feed" ∷ []) 1 ≡ codes "b"
+unfolding feed_name
+the_name_of_the_second = refl
+
+below_one : (P : ℕ → Type 0) → P 0 → (k : ℕ) → k < 1 → P k
+below_one P here zero less = here
+below_one P here (suc k) less = absurd (omega (arith, less))
+
+abbrev twice_a : List (List ℕ)
+twice_a = codes "x/a.feed" ∷ codes "a" ∷ []
+
+-- HasOwnName
+the_first_has_its_own : HasOwnName twice_a 0
+unfolding feed_name
+the_first_has_its_own = record { valid = refl; new = λ earlier none. absurd (omega (arith, none)) }
+
+the_second_has_not : HasOwnName twice_a 1 → ⊥
+unfolding feed_name
+the_second_has_not own = let same : true ≡ false = own.new 0 (omega arith) in absurd cc
+
+-- ChecksNames
+the_second_has_the_name_of_the_first : ChecksNames twice_a (Err (Duplicate 0 1))
+unfolding feed_name
+the_second_has_the_name_of_the_first =
+    (record { within = omega arith; before = below_one (HasOwnName twice_a) the_first_has_its_own }, refl, omega arith, refl)
+
+the_first_has_no_valid_name : ChecksNames (codes "a b.feed" ∷ []) (Err (Invalid 0))
+unfolding feed_name
+the_first_has_no_valid_name = (record { within = omega arith; before = λ earlier none. absurd (omega (arith, none)) }, refl)
+
+not_each_has_its_own : ChecksNames twice_a (Ok tt) → ⊥
+not_each_has_its_own all = the_second_has_not (all 1 (omega arith))

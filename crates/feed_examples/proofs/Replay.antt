@@ -5,18 +5,17 @@ use Rattle.std.specs.Fmt.{digits}
 use Rattle.ya_core.specs.declared.word.Word.TheVariants.{C, T, P}
 use Rattle.ya_core.specs.declared.step.Mark.TheVariants.{Plain, Inside, Out}
 use Rattle.ya_core.specs.declared.step.Step.{Step}
-use Rattle.rt_print.specs.ReplayText.{level_text, word_text, mark_text, sign_text, step_text, steps_text, inside_text, replay_text_of}
+use Rattle.rt_print.specs.ReplayText.{word_text, mark_text, sign_text, step_text, steps_text, inside_text, replay_text_of}
 use Rattle.rt_print.specs.inside.Parts.{wins_root, inside_after}
-
--- level_text
-a_letter_a_level_and_a_place : level_text (codes "P") 1 0 ≡ codes "P1.0"
-unfolding digits level_text
-a_letter_a_level_and_a_place = refl
 
 -- word_text
 a_claim_has_a_side : word_text (C 1 0 1) ≡ codes "C1.0.1"
-unfolding digits word_text level_text
+unfolding digits word_text
 a_claim_has_a_side = refl
+
+a_spin_word_has_a_place : word_text (P 1 0) ≡ codes "P1.0"
+unfolding digits word_text
+a_spin_word_has_a_place = refl
 
 -- mark_text
 inside_and_out : map mark_text (Plain ∷ Inside ∷ Out ∷ []) ≡ codes "\n" ∷ codes " inside\n" ∷ codes " out\n" ∷ []
@@ -45,12 +44,12 @@ four_lines = codes "1 p0 C1.0.0 := 1\n2 p0 T1.0 := 1\n3 p0 P1.0 := 0\n4 p0 C1.0.
 
 -- step_text
 a_load_that_wins_the_root : step_text 4 (record { place = 0; word = C 1 0 1; store = false; value = 0; mark = Inside }) ≡ codes "4 p0 C1.0.1 = 0 inside\n"
-unfolding digits step_text word_text level_text sign_text mark_text
+unfolding digits step_text word_text sign_text mark_text
 a_load_that_wins_the_root = refl
 
 -- steps_text
 lines_are_numbered_from_1 : steps_text 1 four_steps ≡ four_lines
-unfolding digits step_text word_text level_text sign_text mark_text
+unfolding digits step_text word_text sign_text mark_text
 lines_are_numbered_from_1 = refl
 
 -- wins_root
@@ -78,5 +77,5 @@ place_1_is = refl
 
 -- replay_text_of
 lines_and_who_is_inside : replay_text_of four_steps (Some 0) ≡ four_lines ++ codes "inside p0\n"
-unfolding digits inside_text step_text word_text level_text sign_text mark_text
+unfolding digits inside_text step_text word_text sign_text mark_text
 lines_and_who_is_inside = refl
