@@ -77,8 +77,12 @@ fn lock_of_two(alloc: Global) -> Result<(TreeLock<Tally, 1>, Pass<Tally>, Pass<T
     let Ok((lock, mut passes)) = TreeLock::<Tally, 1>::new(alloc, start) else {
         return Err(NoMemory);
     };
-    let second = passes.pop().ok_or(NoMemory)?;
-    let first = passes.pop().ok_or(NoMemory)?;
+    let Some(second) = passes.pop() else {
+        return Err(NoMemory);
+    };
+    let Some(first) = passes.pop() else {
+        return Err(NoMemory);
+    };
     Ok((lock, first, second))
 }
 

@@ -17,11 +17,14 @@ use anyhow::Result;
 use lock::Tally;
 use rt_cidr::{Addr, Prefix};
 use rt_feed::{write_report, write_table};
-use rt_rib::{Cmd, Hop, Reply, Table};
+use rt_rib::{Cmd, Hop, Reply, Route, Table};
 use std::alloc::Global;
 use std::io::{self, Write};
 use std::sync::Wait;
 use std::thread::Threads;
+
+/// The address 10.1.2.3, which the look-ups here are for.
+const ADDRESS: Addr = Addr(0x0a01_0203);
 
 /// Returns a command that inserts a route.
 fn add(prefix: &[u8], pref: u32, hop: &[u8]) -> Result<Cmd> {
@@ -46,21 +49,17 @@ fn print_cover<W: Write>(out: &mut W) -> Result<()> {
 fn print_port<W: Write>(alloc: Global, out: &mut W) -> Result<()> {
     let wide = (Prefix::parse(b"10.0.0.0/8")?, 1);
     let narrow = (Prefix::parse(b"10.1.0.0/16")?, 2);
-    let addr = Addr::parse(b"10.1.2.3")?;
-    if let Some((prefix, port)) = trie::port_of(alloc, wide, narrow, addr)? {
-        prefix.write_to(out)?;
-        writeln!(out, " is the longest, its port {port}")?;
+    if let Some((prefix, port)) = trie::port_of(alloc, wide, narrow, ADDRESS)? {
+        writeln!(out, "{prefix} is the longest, its port {port}")?;
     }
     Ok(())
 }
 
 fn print_feeds<W: Write>(alloc: Global, out: &mut W) -> Result<()> {
-    let addr = Addr::parse(b"10.1.2.3")?;
-    let replies = book::two_feeds(alloc, first_add()?, Cmd::Lookup { addr })?;
+    let replies = book::two_feeds(alloc, first_add()?, Cmd::Lookup { addr: ADDRESS })?;
     if let (Reply::Added, Reply::Found(route)) = replies {
-        let feed = route.feed;
-        route.prefix.write_to(out)?;
-        writeln!(out, " is found, a route of feed {feed}")?;
+        let (prefix, feed) = (route.prefix, route.feed);
+        writeln!(out, "{prefix} is found, a route of feed {feed}")?;
     }
     Ok(())
 }
@@ -85,17 +84,20 @@ fn print_difference<W: Write>(alloc: Global, out: &mut W) -> Result<()> {
     Ok(())
 }
 
-fn print_forwarding<W: Write>(alloc: Global, out: &mut W) -> Result<()> {
+/// Returns the routes to an address before and after a route to a longer prefix is inserted.
+fn forwarding(alloc: Global) -> Result<(Option<Route>, Option<Route>)> {
     let mut table = table_of_one(alloc)?;
     let narrower = add(b"10.1.0.0/16", 100, b"192.0.2.2")?;
-    let addr = Addr::parse(b"10.1.2.3")?;
-    let routes = fib::routes_to(alloc, &mut table, narrower, addr)?;
-    if let (Some(before), Some(after)) = routes {
-        write!(out, "10.1.2.3 is forwarded by ")?;
-        before.prefix.write_to(out)?;
-        write!(out, ", and then by ")?;
-        after.prefix.write_to(out)?;
-        writeln!(out)?;
+    Ok(fib::routes_to(alloc, &mut table, narrower, ADDRESS)?)
+}
+
+fn print_forwarding<W: Write>(alloc: Global, out: &mut W) -> Result<()> {
+    if let (Some(before), Some(after)) = forwarding(alloc)? {
+        writeln!(
+            out,
+            "10.1.2.3 is forwarded by {}, and then by {}",
+            before.prefix, after.prefix
+        )?;
     }
     Ok(())
 }
@@ -131,8 +133,7 @@ fn print_readers<R: Threads + Wait + Sync, W: Write>(
 ) -> Result<()> {
     let first = [add(b"10.0.0.0/8", 20, b"192.0.2.1")?];
     let second = [add(b"10.1.0.0/16", 10, b"192.0.2.2")?];
-    let addr = Addr::parse(b"10.1.2.3")?;
-    let count = readers::count_beside(rt, alloc, &first, &second, addr)?;
+    let count = readers::count_beside(rt, alloc, &first, &second, ADDRESS)?;
     writeln!(out, "readers that find the route of feed 2: {count}")?;
     Ok(())
 }
@@ -147,15 +148,20 @@ fn print_gate<R: Wait, W: Write>(rt: &R, alloc: Global, out: &mut W) -> Result<(
     Ok(())
 }
 
+/// Prints the results of the callers that need no thread and no lock.
+fn print_tables<W: Write>(alloc: Global, out: &mut W) -> Result<()> {
+    print_cover(out)?;
+    print_port(alloc, out)?;
+    print_feeds(alloc, out)?;
+    print_difference(alloc, out)?;
+    print_forwarding(alloc, out)
+}
+
 fn main(rt: HostRuntime) -> Result<()> {
     let alloc = rt.alloc();
     let stdout = rt.stdout();
     let mut out = io::writer(&stdout);
-    print_cover(&mut out)?;
-    print_port(alloc, &mut out)?;
-    print_feeds(alloc, &mut out)?;
-    print_difference(alloc, &mut out)?;
-    print_forwarding(alloc, &mut out)?;
+    print_tables(alloc, &mut out)?;
     print_schedules(alloc, &mut out)?;
     print_counts(&lock::count_both(&rt, alloc, 1_000)?, &mut out)?;
     print_shared(&rt, alloc, &mut out)?;

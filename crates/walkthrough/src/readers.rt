@@ -4,7 +4,7 @@ ghost use Rattle.std.specs.Prelude.{◌≡◌, IfOk, IfSome, OnOk};
 ghost use Rattle.rt_rib.specs.Book.{IsFeed};
 
 use crate::fib::follow;
-use crate::shared::{LIMIT, ask, table_of_two};
+use crate::shared::{LIMIT, ask, settle_both, table_of_two};
 use fib_readers::{FibReader, FibWriter};
 use rt_cidr::Addr;
 use rt_fib::Fib;
@@ -12,7 +12,7 @@ use rt_rib::{Book, Cmd, Refused, Route, Table};
 use rt_shared::FeedPass;
 use std::alloc::Global;
 use std::sync::Wait;
-use std::thread::{self, JoinHandle, Threads};
+use std::thread::{self, JoinHandle, Scope, Threads};
 
 /// The number of reading threads.
 const READERS: usize = 2;
@@ -37,21 +37,50 @@ fn find<R: Wait>(rt: &R, reader: FibReader, addr: Addr, feed: u32) -> Option<Rou
     unreachable!()
 }
 
-/// Executes the commands of a feed on the table, and has its forwarding table follow each.
-fn follow_all(
-    table: &mut Table<Global>,
-    fib: &mut Fib<Global>,
-    feed: u32,
-    cmds: &[Cmd],
-) -> Result<(), Refused>
-    requires feed { IsFeed feed }
-    requires fib { fib.old ≡ table.old.routes }
-    ensures { IfOk result (λ _. fib.new ≡ table.new.routes) }
-{
-    'commands: for cmd in cmds {
-        follow(table, fib, feed, *cmd)?;
+/// A table, and the forwarding table that follows it.
+#[derive(Drop)]
+struct Followed {
+    table: Table<Global>,
+    fib: Fib<Global>,
+}
+
+impl Followed {
+    /// Returns an empty table and its forwarding table.
+    fn new(alloc: Global) -> Result<Followed, Refused>
+        ensures { IfOk result (λ made. made.fib ≡ made.table.routes) }
+    {
+        let table = Table::new(alloc, LIMIT);
+        let fib = Fib::new(alloc, &table)?;
+        Ok(Followed { table, fib })
     }
-    Ok(())
+
+    /// Executes the commands of a feed on the table, and has its forwarding table follow each.
+    fn follow_all(&mut self, feed: u32, cmds: &[Cmd]) -> Result<(), Refused>
+        requires feed { IsFeed feed }
+        requires fib { self.old.fib ≡ self.old.table.routes }
+        ensures { IfOk result (λ _. self.new.fib ≡ self.new.table.routes) }
+    {
+        'commands: for cmd in cmds {
+            follow(&mut self.table, &mut self.fib, feed, *cmd)?;
+        }
+        Ok(())
+    }
+
+    /// Returns another forwarding table of the table, to be shown to readers.
+    fn copy(&self, alloc: Global) -> Result<Fib<Global>, Refused>
+        requires { self.now.fib ≡ self.now.table.routes }
+        ensures { IfOk result (λ copy. copy ≡ self.now.table.routes) }
+    {
+        self.fib.copy(alloc, &self.table)
+    }
+
+    /// Returns true if the best route to the address is this feed's.
+    fn finds(&self, addr: Addr, feed: u32) -> bool {
+        match self.fib.look_up(addr) {
+            Some(route) => route.feed == feed,
+            None => false,
+        }
+    }
 }
 
 /// Follows the commands of a feed, and publishes the forwarding table after them.
@@ -59,21 +88,40 @@ fn show<R: Wait>(
     rt: &R,
     alloc: Global,
     writer: FibWriter,
-    table: &mut Table<Global>,
-    fib: &mut Fib<Global>,
+    followed: &mut Followed,
     feed: u32,
     cmds: &[Cmd],
 ) -> (FibWriter, Result<(), Refused>)
     requires feed { IsFeed feed }
-    requires fib { fib.old ≡ table.old.routes }
-    ensures fib { OnOk result.1 (fib.new ≡ table.new.routes) }
-    ensures shown { OnOk result.1 (result.0.table ≡ table.new.routes) }
+    requires fib { followed.old.fib ≡ followed.old.table.routes }
+    ensures fib { OnOk result.1 (followed.new.fib ≡ followed.new.table.routes) }
+    ensures shown { OnOk result.1 (result.0.table ≡ followed.new.table.routes) }
 {
-    let Ok(()) = follow_all(table, fib, feed, cmds) else {
+    let Ok(()) = followed.follow_all(feed, cmds) else {
         return (writer, Err(Refused));
     };
-    match fib.copy(alloc, table) {
+    match followed.copy(alloc) {
         Ok(copy) => writer.publish(rt, alloc, copy),
+        Err(Refused) => (writer, Err(Refused)),
+    }
+}
+
+/// Follows the commands of feed 1, and then those of feed 2, and publishes the forwarding table after each feed's.
+fn show_each<R: Wait>(
+    rt: &R,
+    alloc: Global,
+    writer: FibWriter,
+    followed: &mut Followed,
+    first: &[Cmd],
+    second: &[Cmd],
+) -> (FibWriter, Result<(), Refused>)
+    requires { followed.old.fib ≡ followed.old.table.routes }
+    ensures fib { OnOk result.1 (followed.new.fib ≡ followed.new.table.routes) }
+    ensures shown { OnOk result.1 (result.0.table ≡ followed.new.table.routes) }
+{
+    let (writer, done) = show(rt, alloc, writer, followed, 1, first);
+    match done {
+        Ok(()) => show(rt, alloc, writer, followed, 2, second),
         Err(Refused) => (writer, Err(Refused)),
     }
 }
@@ -101,8 +149,17 @@ fn serve_both<R: Threads + Wait + Sync>(
     let (Some(one), Some(two)) = (one, two) else {
         return Err(Refused);
     };
-    let passes = vec![in alloc; one, two]?;
-    Ok(table.settle(rt, passes))
+    settle_both(rt, alloc, table, one, two)
+}
+
+/// Returns the number of routes after two feeds have executed these commands.
+fn count_served<R: Threads + Wait + Sync>(
+    rt: &R,
+    alloc: Global,
+    first: &[Cmd],
+    second: &[Cmd],
+) -> Result<u32, Refused> {
+    Ok(serve_both(rt, alloc, first, second)?.table().len())
 }
 
 /// Has two feeds execute their commands, follows them in the writer's own table, and publishes its answers after the first
@@ -112,24 +169,19 @@ fn show_both<R: Threads + Wait + Sync>(
     rt: &R,
     alloc: Global,
     writer: FibWriter,
-    table: &mut Table<Global>,
-    fib: &mut Fib<Global>,
+    followed: &mut Followed,
     first: &[Cmd],
     second: &[Cmd],
 ) -> (FibWriter, Result<(), Refused>)
-    requires { fib.old ≡ table.old.routes }
-    ensures fib { OnOk result.1 (fib.new ≡ table.new.routes) }
-    ensures shown { OnOk result.1 (result.0.table ≡ table.new.routes) }
+    requires { followed.old.fib ≡ followed.old.table.routes }
+    ensures fib { OnOk result.1 (followed.new.fib ≡ followed.new.table.routes) }
+    ensures shown { OnOk result.1 (result.0.table ≡ followed.new.table.routes) }
 {
-    let Ok(shared) = serve_both(rt, alloc, first, second) else {
+    let Ok(count) = count_served(rt, alloc, first, second) else {
         return (writer, Err(Refused));
     };
-    let (writer, done) = show(rt, alloc, writer, table, fib, 1, first);
-    if done.is_err() {
-        return (writer, Err(Refused));
-    }
-    let (writer, done) = show(rt, alloc, writer, table, fib, 2, second);
-    if shared.table().len() != table.len() {
+    let (writer, done) = show_each(rt, alloc, writer, followed, first, second);
+    if count != followed.table.len() {
         return (writer, Err(Refused));
     }
     (writer, done)
@@ -146,6 +198,53 @@ fn count_found<R: Threads>(rt: &R, threads: Vec<JoinHandle<Option<Route>>>) -> u
     count
 }
 
+/// Returns an empty table that is followed, and the writer that shows its forwarding table to readers.
+fn followed_and_shown(alloc: Global) -> Result<(Followed, FibWriter), Refused>
+    ensures { IfOk result (λ made. made.0.fib ≡ made.0.table.routes) }
+{
+    let followed = Followed::new(alloc)?;
+    let fib = followed.copy(alloc)?;
+    let writer = FibWriter::new(alloc, fib, READERS)?;
+    Ok((followed, writer))
+}
+
+/// Starts the reading threads, unless memory or threads run out, and returns those that it started.
+fn start_readers<'s, E, R: Wait + Sync>(
+    scope: &Scope<'s, E>,
+    rt: &'s R,
+    alloc: Global,
+    writer: &FibWriter,
+    addr: Addr,
+) -> Vec<JoinHandle<Option<Route>>> {
+    let mut threads = Vec::new(alloc);
+    for _ in 0..READERS {
+        if let Ok(reader) = writer.reader() {
+            if let Ok(thread) = scope.spawn(move || find(rt, reader, addr, 2)) {
+                let _ = threads.push(thread);
+            }
+        }
+    }
+    threads
+}
+
+/// Ends the writer and the reading threads, and returns the number of those that have found a route. They query until
+/// they find it: if it isn't there, only the writer's end stops them.
+fn end_readers<R: Threads + Wait>(
+    rt: &R,
+    writer: FibWriter,
+    threads: Vec<JoinHandle<Option<Route>>>,
+    is_there: bool,
+) -> usize {
+    if is_there {
+        let count = count_found(rt, threads);
+        writer.end(rt);
+        count
+    } else {
+        writer.end(rt);
+        count_found(rt, threads)
+    }
+}
+
 /// Returns how many of two readers find a route of feed 2 for the address. They query on threads of their own, while
 /// each of two feeds executes its commands on another thread, and a writer follows these. Fails if memory runs out.
 pub fn count_beside<R: Threads + Wait + Sync>(
@@ -156,26 +255,10 @@ pub fn count_beside<R: Threads + Wait + Sync>(
     addr: Addr,
 ) -> Result<usize, Refused> {
     thread::scope(thread::scope_env(), rt, |scope| -> Result<usize, Refused> {
-        let mut table = Table::new(alloc, LIMIT);
-        let mut fib = Fib::new(alloc, &table)?;
-        let writer = FibWriter::new(alloc, fib.copy(alloc, &table)?, READERS)?;
-        let mut threads = Vec::new(alloc);
-        for _ in 0..READERS {
-            if let Ok(reader) = writer.reader() {
-                if let Ok(thread) = scope.spawn(move || find(rt, reader, addr, 2)) {
-                    let _ = threads.push(thread);
-                }
-            }
-        }
-        let (writer, done) = show_both(rt, alloc, writer, &mut table, &mut fib, first, second);
-        // Readers query until they find the route: if it isn't there, only the writer's end stops them.
-        let is_there = fib.look_up(addr).is_some_and(|route| route.feed == 2);
-        if done.is_err() || !is_there {
-            writer.end(rt);
-            return Ok(count_found(rt, threads));
-        }
-        let count = count_found(rt, threads);
-        writer.end(rt);
-        Ok(count)
+        let (mut followed, writer) = followed_and_shown(alloc)?;
+        let threads = start_readers(scope, rt, alloc, &writer, addr);
+        let (writer, done) = show_both(rt, alloc, writer, &mut followed, first, second);
+        let is_there = done.is_ok() && followed.finds(addr, 2);
+        Ok(end_readers(rt, writer, threads, is_there))
     })
 }

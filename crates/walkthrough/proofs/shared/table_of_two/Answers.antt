@@ -5,9 +5,9 @@ use Rattle.walkthrough.proofs.shared.table_of_two.Goals as goal
 
 pub returns : goal.returns
 returns c =
-    let made = c.in_ok-table in let e = made.ensures in let first = c.in_ok-first.first in let second = c.in_ok-second.second in
+    let made = c.in_ok-table in let e = made.ensures in let first = c.in-Some-pop.first in let second = c.in-Some.second in
     let both = both_popped made.passes.items _ c.pop-2.new.self.items _ _ first second (e.passes.count ∙ e.table.1)
-    c.pop.ensures.items c.in_ok-second.ensures.ok_part c.pop-2.ensures.items c.in_ok-first.ensures.ok_part in
+    c.pop.ensures.items c.in-Some.is c.pop-2.ensures.items c.in-Some-pop.is in
     let are : ArePassesOf made.table (first ∷ second ∷ []) = subst (ArePassesOf made.table) both e.passes in
     let seen : All (λ (p : HeldPass). p.seen ≡ []) (first ∷ second ∷ []) = subst (All (λ (p : HeldPass). p.seen ≡ [])) both e.seen in (
       e.table.0,
