@@ -63,10 +63,7 @@ where
     E: Write,
 {
     let mut program = Program::new(rt, alloc, line, out, err);
-    let status = match Arguments::parse(alloc, words) {
-        Ok(arguments) => program.carry_out(&arguments),
-        Err(refusal) => program.refuse(&refusal),
-    };
+    let status = program.run(words);
     program.screen.end();
     status
 }
@@ -99,17 +96,28 @@ impl<'a, R, O, E> Program<'a, R, O, E> {
 }
 
 impl<R: Files + Threads + Wait + Sync + AllocGlobal, O: Write, E: Write> Program<'_, R, O, E> {
+    /// Parses the arguments, does what they ask for, and returns the exit status.
+    fn run(&mut self, words: &[String]) -> u8 {
+        match Arguments::parse(self.alloc, words) {
+            Ok(arguments) => self.carry_out(&arguments),
+            Err(refusal) => self.refuse(&refusal),
+        }
+    }
+
     /// Does what the arguments ask for, and returns the exit status.
     fn carry_out(&mut self, arguments: &Arguments<'_>) -> u8 {
-        match self.answer(arguments) {
+        let done = match arguments.request() {
+            Ok(request) => self.answer(&request),
+            Err(fault) => Err(ProgramError::Request(fault)),
+        };
+        match done {
             Ok(status) => status,
             Err(error) => error.end(&mut self.screen),
         }
     }
 
-    fn answer<'w>(&mut self, arguments: &'w Arguments<'_>) -> Result<u8, ProgramError<'w>> {
-        let request = arguments.request()?;
-        match &request {
+    fn answer<'w>(&mut self, request: &Request<'w>) -> Result<u8, ProgramError<'w>> {
+        match request {
             Request::Run(request) => self.run_files(request),
             Request::Lookup(request) => self.show_answers(request),
             Request::Table(request) => self.show_routes(request),
@@ -121,8 +129,18 @@ impl<R: Files + Threads + Wait + Sync + AllocGlobal, O: Write, E: Write> Program
     fn run_files<'w>(&mut self, request: &RunRequest<'w>) -> Result<u8, ProgramError<'w>> {
         let files = FeedFiles::of(request.files)?;
         let texts = self.read_feeds(files, EVERY_FEED)?;
-        let (texts, batch) = (texts.as_slice(), request.batch as usize);
+        self.run_feeds(request, texts.as_slice())
+    }
+
+    fn run_feeds<'w>(
+        &mut self,
+        request: &RunRequest<'_>,
+        texts: &[Vec<u8>],
+    ) -> Result<u8, ProgramError<'w>>
+        requires { length texts.now ≤ MAX_FEEDS }
+    {
         let mut out = self.screen.beside(texts.len(), self.out);
+        let batch = request.batch as usize;
         Ok(run_texts(self.rt, self.alloc, texts, request.limit, batch, &mut out)?)
     }
 }
@@ -156,14 +174,23 @@ impl<R: Files + Wait + AllocGlobal, O: Write, E: Write> Program<'_, R, O, E> {
             self.screen
                 .set(Stage::Reading(texts.len(), files.names.len()));
             let feed = texts.len() as u32 + 1;
-            let text = if choice.leaves_out(feed) {
-                Vec::new(self.alloc)
-            } else {
-                self.read_file(name)?
-            };
-            texts.push(text)?;
+            texts.push(self.read_feed(feed, name, choice)?)?;
         }
         Ok(texts)
+    }
+
+    /// Returns the text of the feed's file, or an empty text if the feed is left out.
+    fn read_feed<'w>(
+        &self,
+        feed: u32,
+        name: &'w str,
+        choice: FeedChoice<'_>,
+    ) -> Result<Vec<u8>, ProgramError<'w>> {
+        if choice.leaves_out(feed) {
+            Ok(Vec::new(self.alloc))
+        } else {
+            self.read_file(name)
+        }
     }
 
     fn read_file<'w>(&self, name: &'w str) -> Result<Vec<u8>, ProgramError<'w>> {

@@ -109,15 +109,8 @@ impl<'a> ProgramError<'a> {
             ProgramError::TooMany => put(err, TOO_MANY),
             ProgramError::NoAddresses => put(err, NO_ADDRESSES),
             ProgramError::Argument(fault, word) => report(err, argument_text(*fault), word),
-            ProgramError::HostBits(word, meant) => writeln!(
-                err,
-                "yarib: not a prefix: {word}: host bits are set; did you mean {meant}?"
-            ),
-            ProgramError::DuplicateFeedName(first, second) => {
-                put(err, SAME_NAME)?;
-                put(err, first.as_bytes())?;
-                report(err, b", ", second)
-            }
+            ProgramError::HostBits(word, meant) => report_host_bits(err, word, meant),
+            ProgramError::DuplicateFeedName(first, second) => report_pair(err, first, second),
             ProgramError::Unreadable(name) => report(err, b"yarib: cannot read ", name),
             ProgramError::Fault(fault) => put(err, fault_ending(*fault).1),
         }
@@ -138,6 +131,21 @@ fn report<E: Write>(err: &mut E, what: &[u8], word: &str) -> Result<(), io::Erro
     put(err, what)?;
     put(err, word.as_bytes())?;
     put(err, b"\n")
+}
+
+/// Writes the message for a prefix with host bits.
+fn report_host_bits<E: Write>(err: &mut E, word: &str, meant: &Prefix) -> Result<(), io::Error> {
+    writeln!(
+        err,
+        "yarib: not a prefix: {word}: host bits are set; did you mean {meant}?"
+    )
+}
+
+/// Writes the message for two files with the same feed name.
+fn report_pair<E: Write>(err: &mut E, first: &str, second: &str) -> Result<(), io::Error> {
+    put(err, SAME_NAME)?;
+    put(err, first.as_bytes())?;
+    report(err, b", ", second)
 }
 
 fn request_text(fault: RequestFault) -> &'static [u8] {

@@ -54,8 +54,13 @@ pub(super) fn check_sides<'w>(request: &DiffRequest<'w>) -> Result<(), ProgramEr
     let old = FeedFiles::of(request.run.files)?;
     let new = FeedFiles::of(request.new_files)?;
     if request.names {
-        old.check_names()?;
-        new.check_names()?;
+        check_names(&old, &new)
+    } else {
+        Ok(())
     }
-    Ok(())
+}
+
+fn check_names<'w>(old: &FeedFiles<'w>, new: &FeedFiles<'w>) -> Result<(), ProgramError<'w>> {
+    old.check_names()?;
+    new.check_names()
 }
