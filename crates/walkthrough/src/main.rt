@@ -86,8 +86,8 @@ fn print_difference<W: Write>(alloc: Global, out: &mut W) -> Result<()> {
 
 /// Returns the routes to an address before and after a route to a longer prefix is inserted.
 fn forwarding(alloc: Global) -> Result<(Option<Route>, Option<Route>)> {
-    let mut table = table_of_one(alloc)?;
     let narrower = add(b"10.1.0.0/16", 100, b"192.0.2.2")?;
+    let mut table = table_of_one(alloc)?;
     Ok(fib::routes_to(alloc, &mut table, narrower, ADDRESS)?)
 }
 
@@ -112,10 +112,9 @@ fn print_schedules<W: Write>(alloc: Global, out: &mut W) -> Result<()> {
     Ok(())
 }
 
-fn print_counts<W: Write>(tally: &Tally, out: &mut W) -> Result<()> {
+fn print_counts<W: Write>(tally: &Tally, out: &mut W) -> io::Result<()> {
     let (first, second) = (tally.first, tally.second);
-    writeln!(out, "place 0 counted {first}, place 1 {second}")?;
-    Ok(())
+    writeln!(out, "place 0 counted {first}, place 1 {second}")
 }
 
 fn print_shared<R: Wait, W: Write>(rt: &R, alloc: Global, out: &mut W) -> Result<()> {

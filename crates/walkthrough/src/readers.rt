@@ -4,7 +4,7 @@ ghost use Rattle.std.specs.Prelude.{◌≡◌, IfOk, IfSome, OnOk};
 ghost use Rattle.rt_rib.specs.Book.{IsFeed};
 
 use crate::fib::follow;
-use crate::shared::{LIMIT, ask, settle_both, table_of_two};
+use crate::shared::{LIMIT, ask, table_of_two};
 use fib_readers::{FibReader, FibWriter};
 use rt_cidr::Addr;
 use rt_fib::Fib;
@@ -72,6 +72,14 @@ impl Followed {
         ensures { IfOk result (λ copy. copy ≡ self.now.table.routes) }
     {
         self.fib.copy(alloc, &self.table)
+    }
+
+    /// Returns the writer that shows the forwarding table to readers.
+    fn writer(&self, alloc: Global) -> Result<FibWriter, Refused>
+        requires { self.now.fib ≡ self.now.table.routes }
+        ensures { IfOk result (λ writer. writer.table ≡ self.now.table.routes) }
+    {
+        FibWriter::new(alloc, self.copy(alloc)?, READERS)
     }
 
     /// Returns true if the best route to the address is this feed's.
@@ -149,17 +157,8 @@ fn serve_both<R: Threads + Wait + Sync>(
     let (Some(one), Some(two)) = (one, two) else {
         return Err(Refused);
     };
-    settle_both(rt, alloc, table, one, two)
-}
-
-/// Returns the number of routes after two feeds have executed these commands.
-fn count_served<R: Threads + Wait + Sync>(
-    rt: &R,
-    alloc: Global,
-    first: &[Cmd],
-    second: &[Cmd],
-) -> Result<u32, Refused> {
-    Ok(serve_both(rt, alloc, first, second)?.table().len())
+    let passes = vec![in alloc; one, two]?;
+    Ok(table.settle(rt, passes))
 }
 
 /// Has two feeds execute their commands, follows them in the writer's own table, and publishes its answers after the first
@@ -177,11 +176,11 @@ fn show_both<R: Threads + Wait + Sync>(
     ensures fib { OnOk result.1 (followed.new.fib ≡ followed.new.table.routes) }
     ensures shown { OnOk result.1 (result.0.table ≡ followed.new.table.routes) }
 {
-    let Ok(count) = count_served(rt, alloc, first, second) else {
+    let Ok(shared) = serve_both(rt, alloc, first, second) else {
         return (writer, Err(Refused));
     };
     let (writer, done) = show_each(rt, alloc, writer, followed, first, second);
-    if count != followed.table.len() {
+    if shared.table().len() != followed.table.len() {
         return (writer, Err(Refused));
     }
     (writer, done)
@@ -200,11 +199,11 @@ fn count_found<R: Threads>(rt: &R, threads: Vec<JoinHandle<Option<Route>>>) -> u
 
 /// Returns an empty table that is followed, and the writer that shows its forwarding table to readers.
 fn followed_and_shown(alloc: Global) -> Result<(Followed, FibWriter), Refused>
-    ensures { IfOk result (λ made. made.0.fib ≡ made.0.table.routes) }
+    ensures fib { IfOk result (λ made. made.0.fib ≡ made.0.table.routes) }
+    ensures shown { IfOk result (λ made. made.1.table ≡ made.0.table.routes) }
 {
     let followed = Followed::new(alloc)?;
-    let fib = followed.copy(alloc)?;
-    let writer = FibWriter::new(alloc, fib, READERS)?;
+    let writer = followed.writer(alloc)?;
     Ok((followed, writer))
 }
 

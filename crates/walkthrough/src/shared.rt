@@ -1,12 +1,10 @@
 //! `rt_shared`: two feeds change the same table, each with a batch, which is contiguous in the journal.
-ghost use Rattle.std.specs.Prelude.{◌≡◌, List, [], ◌∷◌, IfOk};
-ghost use Rattle.rt_rib.specs.Sequential.{table_of_journal};
+ghost use Rattle.std.specs.Prelude.{◌≡◌, List, IfOk};
 ghost use Rattle.rt_shared.specs.declared.outcome.Outcome.{Outcome};
 ghost use Rattle.rt_shared.specs.JournalVisits.{CommitsBatch};
-ghost use Rattle.rt_shared.specs.SharedTable.{ArePassesOf, Settles};
 ghost use Rattle.walkthrough.specs.Shared.{AreBothUnseen, AreRoutesOfBoth};
 
-use rt_rib::{Book, Cmd, Route};
+use rt_rib::{Cmd, Route};
 use rt_shared::laws::visits;
 use rt_shared::{FeedPass, Refused, SharedRib};
 use std::alloc::Global;
@@ -48,40 +46,8 @@ pub(crate) fn ask<R: Wait>(
     Ok(pass)
 }
 
-/// Ends the sharing, and returns the book.
-pub(crate) fn settle_both<R: Wait>(
-    rt: &R,
-    alloc: Global,
-    table: SharedRib<1>,
-    one: FeedPass,
-    two: FeedPass,
-) -> Result<Book<Global>, Refused>
-    requires { ArePassesOf table (one ∷ two ∷ []) }
-    ensures { IfOk result (λ book. (book.limit ≡ table.limit) × Settles table (one ∷ two ∷ []) book.journal) }
-{
-    let passes = vec![in alloc; one, two]?;
-    Ok(table.settle(rt, passes))
-}
-
-/// Returns the book after two feeds have executed these commands, each in one batch. A program gives each feed a thread
-/// with a reference to the table and the feed's pass; the clause is then the same, whichever comes first.
-fn book_of_both<R: Wait>(
-    rt: &R,
-    alloc: Global,
-    first: &[Cmd],
-    second: &[Cmd],
-) -> Result<Book<Global>, Refused>
-    ensures { IfOk result (λ book. AreRoutesOfBoth LIMIT first.now second.now (table_of_journal book.limit book.journal)) }
-{
-    let (table, one, two) = table_of_two(alloc)?;
-    let one = ask(rt, alloc, &table, one, first)?;
-    let two = ask(rt, alloc, &table, two, second)?;
-    // Makes known that a feed's batch stays contiguous, whatever the other feed does.
-    visits();
-    settle_both(rt, alloc, table, one, two)
-}
-
-/// Returns the routes after two feeds have executed these commands, each in one batch.
+/// Returns the routes after two feeds have executed these commands, each in one batch. A program gives each feed a
+/// thread with a reference to the table and the feed's pass; the clause is then the same, whichever comes first.
 pub fn routes_of_both<R: Wait>(
     rt: &R,
     alloc: Global,
@@ -90,6 +56,11 @@ pub fn routes_of_both<R: Wait>(
 ) -> Result<Vec<Route>, Refused>
     ensures { IfOk result (λ routes. AreRoutesOfBoth LIMIT first.now second.now routes.items) }
 {
-    let book = book_of_both(rt, alloc, first, second)?;
-    book.routes(alloc)
+    let (table, one, two) = table_of_two(alloc)?;
+    let one = ask(rt, alloc, &table, one, first)?;
+    let two = ask(rt, alloc, &table, two, second)?;
+    let passes = vec![in alloc; one, two]?;
+    // Makes known that a feed's batch stays contiguous, whatever the other feed does.
+    visits();
+    table.settle(rt, passes).routes(alloc)
 }
