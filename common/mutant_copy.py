@@ -4,8 +4,8 @@ about many mutants and the prover has less to check.
 A function is proved from its own text and the contracts of what it calls, never from the body of another function. So
 further mutants of one function can stand beside it under names of their own, each with a copy of its proof. And only
 the bodies in question stay. Every other function waits forever, and its proof is a hole: the prover takes it by its
-contract. A function stays whole if others see more of it than its contract, if its proof is by hand or for several
-functions, or if another proof cites a part of its proof."""
+contract. A function stays whole if others see more of it than its contract, if its proof is for several functions, or if
+another proof cites a part of its proof."""
 import re
 import shutil
 
@@ -123,12 +123,14 @@ def empty(crate, folder, whole):
         lines = its[0][1].source.lines if its else []
         for path, item in sorted(its, key=lambda one: -one[1].start):
             own, start, end = proofs.joinpath(*path), item.start + item.clauses_end(), item.end
-            is_proved_apart = (own / "Proof.antt").exists() or (own.parent / f"+{path[-1]}").exists()
-            is_whole = "::".join(path) in whole or is_seen(item) or path in named or is_proved_apart
+            cycle = own.with_name(f"+{path[-1]}")
+            is_cited = path in named or (*path[:-1], cycle.name) in named
+            is_whole = "::".join(path) in whole or is_seen(item) or is_cited or "#[cycle(" in "\n".join(item.above())
             if is_whole or lines[end - 1].strip() != "}":
                 continue
             lines[start:end - 1] = [BODY] if lines[start - 1].rstrip().endswith("{") else ["{", BODY]
-            shutil.rmtree(own, ignore_errors=True)
+            for proof in (own, cycle):
+                shutil.rmtree(proof, ignore_errors=True)
             own.mkdir(parents=True)
             (own / "Proof.antt").write_text(PROOF.format(crate=crate, path=".".join(path), name=path[-1]))
         if its:
