@@ -3,15 +3,16 @@ use Rattle.std.proofs.Common.{◌≡◌, ◌==◌, ℕ, ◌+◌, ◌≤◌, Bool
 use Rattle.std.specs.List.{flat_map, join_by}
 use Rattle.std.proofs.lemmas.Bool.Decides.{nat_tests}
 use Rattle.rt_cidr.specs.declared.address.Addr.{Addr}
-use Rattle.rt_cidr.specs.Text.{address_text}
 use Rattle.rt_cidr.proofs.Promised.{length-decimal, length-address_text, length-prefix_text}
 use Rattle.rt_rib.specs.declared.routes.Hop.{Hop}
 use Rattle.rt_rib.specs.declared.routes.Hop.TheVariants.{Via, Discard}
 use Rattle.rt_rib.specs.declared.routes.Route.{Route}
+use Rattle.rt_rib.specs.declared.routes.Reason.{Reason}
+use Rattle.rt_rib.specs.declared.routes.Reason.TheVariants.{Shorter, Preference, Feed}
 use Rattle.rt_rib.specs.LookUp.{reason}
-use Rattle.rt_print.specs.Routes.{hop_text, route_text, row_text, route_line, route_object}
+use Rattle.rt_print.specs.Routes.{hop_text, route_text, row_text, count_text, route_line, route_object}
 use Rattle.rt_print.specs.Styles.{label_of, reason_text, also_line, also_object, address_head, row_as, found_as, all_found_as}
-use Rattle.rt_print.specs.inside.Parts.{either, hop_as, route_front, route_back, route_open, asked_head, comma, other_as, others_as}
+use Rattle.rt_print.specs.inside.Parts.{either, hop_as, route_front, route_back, route_open, asked_head, reason_end, comma, other_as, others_as}
 
 -- a list of length 0 is empty
 pub none_in : {X : Type 0} (xs : List X) → length xs ≡ 0 → xs ≡ []
@@ -30,6 +31,16 @@ route_fits route =
     let pref = length-decimal route.pref in
     let hop = hop_fits route.hop in
     simp length-append (omega arith)
+
+pub count_fits : (count : ℕ) → length (count_text count) ≤ 400
+unfolding count_text
+count_fits count = let digits = length-decimal count in simp length-append (omega arith)
+
+reason_fits : (why : Reason) → length (reason_text why) ≤ 10
+unfolding reason_text
+reason_fits Shorter = omega arith
+reason_fits Preference = omega arith
+reason_fits Feed = omega arith
 
 -- a route with its feed's number, as a line
 pub line_open : (r : Route) → route_open false (decimal r.feed) r ≡ route_text r
@@ -115,17 +126,11 @@ others_parts false label addr best others = rw (others_lines label addr best 1 o
 others_parts true label addr best others = rw (others_joined label addr best others) (object_around label addr best _)
 
 -- the text of each of them, by its parts
-pub other_line : (label : ℕ → List ℕ) (addr : Addr) (best r : Route)
-    → address_text addr.0 ++ (codes " also " ++ (route_open false (label r.feed) r ++ (codes " " ++ (reason_text (reason best r) ++ codes "\n")))) ≡ also_line label addr best r
-unfolding route_open route_front route_back
-other_line label addr best r = simp append_assoc
-
-pub other_object : (label : ℕ → List ℕ) (best r : Route) (comma : List ℕ)
-    → comma ++ (route_open true (label r.feed) r ++ (codes ",\"reason\":\"" ++ (reason_text (reason best r) ++ codes "\"}"))) ≡ comma ++ also_object label best r
-unfolding route_open route_front route_back route_object
-other_object label best r comma = simp append_assoc
-
-pub ruleset other_parts = (other_line, other_object)
+pub other_parts : (json : Bool) (label : ℕ → List ℕ) (addr : Addr) (best : Route) (comma : List ℕ) (r : Route)
+    → either json (asked_head json addr (codes " also ")) comma ++ (route_open json (label r.feed) r ++ reason_end json best r) ≡ other_as json label addr best comma r
+unfolding asked_head route_open route_front route_back route_object reason_end other_as
+other_parts false label addr best comma r = simp append_assoc
+other_parts true label addr best comma r = simp append_assoc
 
 -- the route in an answer, by its parts
 pub answer_line : (label : List ℕ) (r : Route) → route_open false label r ++ [] ≡ route_line label r
@@ -181,5 +186,18 @@ asked_head_fits json addr word =
     let back = either_fits json word (codes "\",\"route\":") in
     simp length-append (omega arith)
 
+pub reason_end_fits : (json : Bool) (best r : Route) → length (reason_end json best r) ≤ 100
+unfolding reason_end
+reason_end_fits json best r =
+    let word = reason_fits (reason best r) in
+    let front = either_fits json (codes " ") (codes ",\"reason\":\"") in
+    let back = either_fits json (codes "\n") (codes "\"}") in
+    simp length-append (omega arith)
+
+-- of two short texts either is short
+pub either_short : (json : Bool) (line object : List ℕ) → length line ≤ 100 → length object ≤ 100 → length (either json line object) ≤ 100
+either_short false line object short other = short
+either_short true line object short other = other
+
 -- each part has room in a short text
-pub ruleset fits = (route_fits, route_front_fits, route_back_fits, route_open_fits, asked_head_fits)
+pub ruleset fits = (route_fits, count_fits, route_front_fits, route_back_fits, route_open_fits, asked_head_fits, reason_end_fits)

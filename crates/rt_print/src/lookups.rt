@@ -3,9 +3,9 @@ ghost use Rattle.std.specs.Prelude.{◌≡◌, ◌+◌, ◌≤◌, ◌++◌, [],
 ghost use Rattle.rt_cidr.specs.Output.{WritesText};
 ghost use Rattle.rt_cidr.specs.ShortText.{FitsInShortText};
 ghost use Rattle.rt_print.specs.Styles.{label_of, found_as, all_found_as, reason_text};
-ghost use Rattle.rt_print.specs.inside.Parts.{either, route_open, asked_head, comma, other_as, others_as};
+ghost use Rattle.rt_print.specs.inside.Parts.{either, route_open, asked_head, reason_end, comma, other_as, others_as};
 
-use crate::routes::{OpenRoute, put_route};
+use crate::routes::put_route;
 use crate::style::{Style, either};
 use crate::text::Text;
 use rt_cidr::{Addr, ShortText};
@@ -120,27 +120,30 @@ impl Text for Others<'_> {
 }
 
 /// Returns the text between an object and the ones before it, if their number is `before`.
-fn comma(before: usize) -> &'static str
+fn comma(before: usize) -> &'static [u8]
     ensures { result.now ≡ comma (before + 1) }
 {
-    if before == 0 { "" } else { "," }
+    if before == 0 { b"" } else { b"," }
 }
 
 /// Writes one route that lost to the best one, an object after this text.
-#[tactic(auto, using(crate::proofs::LineParts::other_parts), unfolding(crate::specs::inside::Parts::other_as))]
-fn put_other<W: Write>(w: &mut W, best: &Best<'_>, comma: &str, route: &Route) -> io::Result<()>
+#[tactic(auto, using(crate::proofs::LineParts::fits))]
+fn put_other<W: Write>(w: &mut W, best: &Best<'_>, comma: &[u8], route: &Route) -> io::Result<()>
+    requires comma { length comma.now ≤ 100 }
     ensures { WritesText (W.contents w.old) (W.contents w.new)
         (other_as best.now.style.now.json (label_of best.now.style.now.labels) best.now.addr best.now.route comma.now route.now) result }
 {
-    let style = best.style;
-    let reason = reason_word(route.reason(&best.route));
-    let open = OpenRoute { style, route };
-    if style.is_json() {
-        (comma, (open, (",\"reason\":\"", (reason, "\"}")))).put_to(w)
-    } else {
-        (best.addr, (" also ", (open, (" ", (reason, "\n"))))).put_to(w)
-    }
+    let json = best.style.is_json();
+    let mut head = ShortText::new();
+    prepend_asked(&mut head, json, best.addr, b" also ");
+    let mut end = ShortText::new();
+    prepend_reason(&mut end, json, &best.route, route);
+    let mut text = ShortText::new();
+    let (labels, front) = (best.style.labels(), either(json, head.as_bytes(), comma));
+    put_route(w, &mut text, json, labels, front, route, end.as_bytes())
 }
+
+// Each function below prepends its text.
 
 /// Prepends the address and this word, or `{"address":"ADDR","route":`.
 #[tactic(auto, using(rt_cidr::proofs::Promised::prepending), unfolding(crate::specs::inside::Parts::asked_head))]
@@ -153,14 +156,25 @@ fn prepend_asked(text: &mut ShortText, json: bool, addr: Addr, word: &[u8])
     text.prepend(either(json, b"", b"{\"address\":\""));
 }
 
+/// Prepends ` REASON` and LF, or `,"reason":"REASON"}`.
+#[tactic(auto, using(rt_cidr::proofs::Promised::prepending), unfolding(crate::specs::inside::Parts::reason_end))]
+fn prepend_reason(text: &mut ShortText, json: bool, best: &Route, route: &Route)
+    requires room { FitsInShortText (reason_end json best.now route.now) text.old }
+    ensures { text.new ≡ reason_end json best.now route.now ++ text.old }
+{
+    text.prepend(either(json, b"\n", b"\"}"));
+    text.prepend(reason_word(route.reason(best)));
+    text.prepend(either(json, b" ", b",\"reason\":\""));
+}
+
 /// Returns the word for the reason why a route lost to the first one.
 #[tactic(auto, unfolding(crate::specs::Styles::reason_text))]
-fn reason_word(reason: Reason) -> &'static str
+fn reason_word(reason: Reason) -> &'static [u8]
     ensures { result.now ≡ reason_text reason }
 {
     match reason {
-        Reason::Shorter => "shorter",
-        Reason::Preference => "preference",
-        Reason::Feed => "feed",
+        Reason::Shorter => b"shorter",
+        Reason::Preference => b"preference",
+        Reason::Feed => b"feed",
     }
 }

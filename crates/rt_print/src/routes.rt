@@ -3,7 +3,7 @@ ghost use Rattle.std.specs.Prelude.{◌≡◌, ◌≤◌, ◌++◌, length, deci
 ghost use Rattle.rt_cidr.specs.Output.{WritesText};
 ghost use Rattle.rt_cidr.specs.ShortText.{FitsInShortText};
 ghost use Rattle.std.specs.List.{flat_map};
-ghost use Rattle.rt_print.specs.Routes.{route_text, table_text};
+ghost use Rattle.rt_print.specs.Routes.{route_text, count_text, table_text};
 ghost use Rattle.rt_print.specs.Styles.{label_of, row_as, rows_as};
 ghost use Rattle.rt_print.specs.inside.Parts.{label_pairs, hop_as, route_front, route_back, route_open};
 
@@ -15,13 +15,15 @@ use rt_rib::{Hop, Route};
 use std::io::{self, Write};
 
 /// Writes the table: `table COUNT` and LF, and then each route of the list and LF. Errors are the writer's, as `put`
-/// returns them; a prefix of the table was then written. Doesn't allocate. Makes one `write` for each route, more if the
-/// writer accepts only a part, and no other call after the first line; wrap a writer with expensive calls in an
-/// `OutputBuffer`.
+/// returns them; a prefix of the table was then written. Doesn't allocate. Makes one `write` for each line, more if the
+/// writer accepts only a part, and no other call; wrap a writer with expensive calls in an `OutputBuffer`.
+#[tactic(auto, using(crate::proofs::LineParts::fits))]
 pub fn write_table<W: Write>(w: &mut W, routes: &[Route]) -> io::Result<()>
     ensures { WritesText (W.contents w.old) (W.contents w.new) (table_text routes.now) result }
 {
-    ("table ", (routes.len() as u64, "\n")).put_to(w)?;
+    let mut text = ShortText::new();
+    prepend_count(&mut text, routes.len());
+    put(w, text.as_bytes())?;
     put_rows(w, false, &[], routes)
 }
 
@@ -109,6 +111,17 @@ impl Text for OpenRoute<'_> {
 }
 
 // Each function below prepends its text.
+
+/// Prepends the table's first line, with its LF.
+#[tactic(auto, using(rt_cidr::proofs::Promised::prepending), unfolding(crate::specs::Routes::count_text))]
+fn prepend_count(text: &mut ShortText, count: usize)
+    requires room { FitsInShortText (count_text count) text.old }
+    ensures { text.new ≡ count_text count ++ text.old }
+{
+    text.prepend(b"\n");
+    text.prepend_decimal(count as u64);
+    text.prepend(b"table ");
+}
 
 /// Prepends the route as a line without its LF, `PREFIX feed F pref P via HOP`.
 #[tactic(auto, using(crate::proofs::LineParts::line_open))]

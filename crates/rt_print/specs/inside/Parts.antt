@@ -4,9 +4,10 @@ use Rattle.rt_cidr.specs.declared.address.Addr.{Addr}
 use Rattle.rt_cidr.specs.Text.{address_text, prefix_text}
 use Rattle.rt_rib.specs.declared.routes.Hop.{Hop}
 use Rattle.rt_rib.specs.declared.routes.Route.{Route}
+use Rattle.rt_rib.specs.LookUp.{reason}
 use Rattle.rt_print.specs.declared.labels.FeedLabel.{FeedLabel}
 use Rattle.rt_print.specs.Routes.{hop_text, hop_members}
-use Rattle.rt_print.specs.Styles.{also_line, also_object}
+use Rattle.rt_print.specs.Styles.{reason_text, also_line, also_object}
 use Rattle.std.specs.Option.{option_map_or}
 use Rattle.ya_core.specs.declared.step.Mark.{Mark}
 use Rattle.ya_core.specs.declared.step.Mark.TheVariants.{Plain, Inside, Out}
@@ -43,6 +44,10 @@ route_open json label r = route_front json r ++ (label ++ route_back json r)
 -- the address and this word, or the same as the beginning of an object
 unfoldable pub asked_head : Bool → Addr → List ℕ → List ℕ
 asked_head json addr word = either json [] (codes "{\"address\":\"") ++ (address_text addr.0 ++ either json word (codes "\",\"route\":"))
+
+-- the reason why a route lost to the best one, and the end of its line or object
+unfoldable pub reason_end : Bool → Route → Route → List ℕ
+reason_end json best r = either json (codes " ") (codes ",\"reason\":\"") ++ (reason_text (reason best r) ++ either json (codes "\n") (codes "\"}"))
 
 -- a route that lost to the best one, an object after this text; here and below `label` gives the label of each feed
 unfoldable pub other_as : Bool → (ℕ → List ℕ) → Addr → Route → List ℕ → Route → List ℕ
