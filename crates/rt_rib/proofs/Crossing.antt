@@ -15,7 +15,7 @@ module _ (A : RattleType) (g : Ghosts A.Denot) (sa : IsSend A) (f : Frees g g.de
   offers_send = search (one_or_many.the_field_send, sendable) depth 60
 
   pub table_send : IsSend (Table.the_row A g)
-  table_send = search (offers_send, trie_send, sendable) depth 60
+  table_send = search (offers_send, trie_send, vec.the_send, sendable) depth 60
 
   pub book_send : IsSend (Book.the_row A g)
   book_send = search (table_send, entry.the_send, vec.the_send, sendable) depth 60

@@ -17,6 +17,7 @@ pub mod Ranking
 pub mod OfferLists
 pub mod MapRoutes
 pub mod Purges
+pub mod PurgeSteps
 pub mod MapChanges
 pub mod MapLookUps
 pub mod MapMatches

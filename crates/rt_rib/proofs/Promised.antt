@@ -13,3 +13,5 @@ pub use Rattle.rt_rib.proofs.Journals.{IsTable-after}
 pub use Rattle.rt_rib.proofs.Journals.{IsLawfulJournal-nil, IsLawfulJournal-push}
 -- each two of a list's elements are related: the first and each other one, and each two of the others
 pub use Rattle.rt_rib.proofs.Lists.{AllPairs-head, AllPairs-tail}
+-- a purge leaves the same after a withdrawal of the feed; what a purge leaves; a purge in steps
+pub use Rattle.rt_rib.proofs.PurgeSteps.{withdrawn_rest, purged_routes, purged_limit, serves_purge}

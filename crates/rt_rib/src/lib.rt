@@ -18,7 +18,8 @@
 //!
 //! The routes are stored in a trie: each prefix has its offers, the best first (`src/map.rt`, `src/offers.rt`). So a
 //! look-up descends once and reads one offer. Besides the journal, for which [`Book::reserve`] reserves room, only an
-//! `Add` makes anything grow. A `Purge` visits the map once, up to the last route of its feed (`src/purge.rt`). A
+//! `Add` makes anything grow. A `Purge` of few routes visits only those parts of a large table where its feed added
+//! routes (`src/marks.rt`). A `Purge` of many visits the map once, up to the last route of its feed (`src/purge.rt`). A
 //! caller with several commands can use [`Book::read_ahead`], with which their waits for memory overlap
 //! (`src/ahead.rt`).
 //!
@@ -36,8 +37,8 @@
 //! passes it to the trie, whose type keeps it lawful.
 //!
 //! Only tested, since no clause says it: that a command succeeds if there is memory, which allocator a list uses, that
-//! the last address of an answer is as high as it is, and that [`Table::offer_bytes`] is near what the lists of offers
-//! take.
+//! the last address of an answer is as high as it is, that [`Table::offer_bytes`] is near what the lists of offers
+//! take, and which prefixes [`Table::likely_prefixes`] lists.
 #![tactic(auto)]
 
 mod ahead;
@@ -48,6 +49,7 @@ pub mod laws;
 mod limits;
 mod lookups;
 mod map;
+mod marks;
 mod offers;
 mod places;
 mod purge;

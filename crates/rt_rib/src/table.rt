@@ -4,7 +4,7 @@ ghost use Rattle.rt_rib.specs.declared.commands.Cmd.TheVariants.{Add, Replace, W
 ghost use Rattle.rt_rib.specs.declared.commands.Reply.TheVariants.{Added};
 ghost use Rattle.rt_rib.specs.Sequential.{reply_of};
 ghost use Rattle.rt_rib.specs.Places.{from_place};
-ghost use Rattle.rt_rib.specs.Table.{count_of, IsTable};
+ghost use Rattle.rt_rib.specs.Table.{count_of, purge, IsTable};
 ghost use Rattle.rt_rib.specs.LookUp.{look_up, look_up_all};
 ghost use Rattle.rt_rib.specs.Book.{IsLimit, IsFeed, table_state, Serves, HoldsRoutes};
 ghost use Rattle.rt_rib.specs.Selection.{selected};
@@ -13,6 +13,7 @@ use crate::answers::LookupCursor;
 use crate::commands::{Cmd, Reply};
 use crate::limits::MAX_FEEDS;
 use crate::map::OfferMap;
+use crate::marks::FeedMarks;
 use crate::places::RoutesFrom;
 use crate::refused::Refused;
 use crate::routes::Route;
@@ -22,6 +23,9 @@ use rt_cidr::{Addr, Prefix};
 use std::alloc::Allocator;
 use std::fmt;
 use std::marker::Model;
+
+/// A purge withdraws a feed's routes one by one if they are at most this part of the table's.
+const FEW: u32 = 16;
 
 /// The sequential table: a set of routes, at most one for each pair of prefix and feed, and for each feed at most the
 /// limit. Contracts see its limit, its routes in dump order, and the trie that holds them. It keeps no journal, so its
@@ -33,6 +37,8 @@ pub struct Table<A: Allocator + Copy> {
     counts: [u32; MAX_FEEDS],
     /// The routes, as the offers for each prefix.
     map: OfferMap<A>,
+    /// Where each feed may have routes. No clause mentions them.
+    marks: FeedMarks<A>,
     alloc: A,
 }
 
@@ -72,6 +78,7 @@ impl<A: Allocator + Copy> Table<A> {
             limit,
             counts,
             map: OfferMap::new(alloc),
+            marks: FeedMarks::new(alloc),
             alloc,
         }
     }
@@ -172,6 +179,25 @@ impl<A: Allocator + Copy> Table<A> {
         self.map.offer_bytes()
     }
 
+    /// Returns the number of bytes that are allocated for the marks of where each feed may have routes, which shorten a
+    /// purge: 512 KiB, or 0 while the table has never had 16,384 prefixes. No clause limits it; it is only tested.
+    pub fn mark_bytes(&self) -> usize {
+        self.marks.bytes()
+    }
+
+    /// Returns the first prefixes to which the feed has a route, in dump order: `most` of them if there are as many.
+    /// Visits only the parts of the table where the feed added routes. Allocates the list with the given allocator. Error
+    /// M1 (`Refused`) if memory runs out. This is a hint, which no clause limits: whoever needs all of the feed's routes
+    /// should not rely on it.
+    pub fn likely_prefixes<B: Allocator + Copy>(
+        &self,
+        alloc: B,
+        feed: u32,
+        most: usize,
+    ) -> Result<Vec<Prefix, B>, Refused> {
+        self.marks.prefixes(&self.map, alloc, feed, most)
+    }
+
     /// Returns the selected routes, in dump order. `only_best` first restricts the table to the best route of each
     /// prefix; then the routes whose prefix is in the part and that are of the feed are selected. Descends once, then
     /// visits only that part, and allocates only for its routes, with the given allocator. Error M1 (`Refused`) if
@@ -253,6 +279,8 @@ impl<A: Allocator + Copy> Table<A> {
             return Ok(Reply::Exists);
         }
         self.counts[own] += 1;
+        self.marks
+            .mark_added(self.alloc, &self.map, route.feed, route.prefix);
         Ok(Reply::Added)
     }
 
@@ -280,8 +308,40 @@ impl<A: Allocator + Copy> Table<A> {
         Reply::Withdrawn
     }
 
-    /// Executes the feed's purge: removes all of its routes. Doesn't allocate.
+    /// Executes the feed's purge: removes all of its routes. If they are few, visits only the parts of the table where the
+    /// feed added routes; else visits all prefixes up to the last of them. Doesn't allocate.
     pub fn purge(&mut self, feed: u32) -> Reply
+        requires { IsFeed feed }
+        ensures { Serves (table_state self.old) (table_state self.new) feed Purge result }
+    {
+        let gone = self.count(feed);
+        if gone <= self.len() / FEW {
+            self.withdraw_marked(feed, gone);
+        }
+        self.purge_rest(feed);
+        Reply::Purged(gone)
+    }
+
+    /// Withdraws the first routes of the feed, `most` of them if there are as many.
+    fn withdraw_marked(&mut self, feed: u32, most: u32)
+        requires { IsFeed feed }
+        ensures limit { self.new.limit ≡ self.old.limit }
+        ensures rest { purge feed self.new.routes ≡ purge feed self.old.routes }
+    {
+        let Ok(mut from) = Prefix::new(0, 0) else {
+            return;
+        };
+        'each: for _ in 0..most {
+            let Some(prefix) = self.marks.next(&self.map, feed, from) else {
+                return;
+            };
+            self.withdraw(feed, prefix);
+            from = prefix;
+        }
+    }
+
+    /// Removes the remaining routes of the feed, in a walk that ends after the last of them, and its marks.
+    fn purge_rest(&mut self, feed: u32) -> Reply
         requires { IsFeed feed }
         ensures { Serves (table_state self.old) (table_state self.new) feed Purge result }
     {
@@ -289,6 +349,7 @@ impl<A: Allocator + Copy> Table<A> {
         let gone = self.counts[own];
         purge::purge(&mut self.map, feed, gone);
         self.counts[own] = 0;
+        self.marks.clear(feed);
         Reply::Purged(gone)
     }
 }

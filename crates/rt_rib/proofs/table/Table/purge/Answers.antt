@@ -1,19 +1,20 @@
-use Rattle.rt_rib.proofs.Counts.{AreCounts-own}
-use Rattle.rt_rib.proofs.TableChanges.{purged_counted, purged_serves}
-use Rattle.rt_rib.specs.Maps.{routes_of}
+use Rattle.std.proofs.Common.{◌∙◌}
+use Rattle.rt_rib.specs.Book.{table_state}
+use Rattle.rt_rib.proofs.PurgeSteps.{purged_limit, purged_routes, serves_purge}
 use Rattle.rt_rib.proofs.table.Table.purge.Goals as goal
-
-pub purge-requires : goal.purge-requires
-purge-requires g c =
-    AreCounts-own c.self.inside.limit c.self.inside.counts (routes_of c.self.inside.map.pairs) c.args.feed c.self.invariant.counted c.requires
-
-pub invariant_of-self : goal.invariant_of-self
-invariant_of-self g c =
-    purged_counted c.self.inside.limit c.self.inside.counts c.self.inside.map.pairs c.self.invariant c.self.told
-    c.args.feed c.requires c.purge.new.map.pairs c.purge.ensures
+use Rattle.rt_rib.proofs.table.Table.purge.Goals.{then-gone-len, else-gone-len}
 
 pub returns : goal.returns
 returns g c =
-    rw (← c.self.view_is)
-    (purged_serves c.self.inside.limit c.self.inside.counts c.self.inside.map.pairs c.self.invariant c.self.told
-    c.args.feed c.requires c.purge.new.map.pairs c.purge.ensures)
+    let before = c.args.self.now in
+    let after = c.purge_rest.new.self in
+    let limit = purged_limit (table_state c.if-gone-len.self) (table_state after) c.args.feed _ c.purge_rest.ensures in
+    let routes = purged_routes (table_state c.if-gone-len.self) (table_state after) c.args.feed _ c.purge_rest.ensures in
+    elim c.if-gone-len.branch [
+      | then-gone-len w ↦
+          serves_purge before.limit after.limit c.args.feed c.count-gone.result before.routes after.routes c.count-gone.ensures
+          (rw (w.self-is) at limit ∙ w.withdraw_marked.ensures.limit) (rw (w.self-is) at routes ∙ w.withdraw_marked.ensures.rest)
+      | else-gone-len w ↦
+          serves_purge before.limit after.limit c.args.feed c.count-gone.result before.routes after.routes c.count-gone.ensures
+          (rw (w.self-is) at limit) (rw (w.self-is) at routes)
+    ]
