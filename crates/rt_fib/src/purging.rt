@@ -9,7 +9,7 @@ use crate::fib::Fib;
 use crate::laws::commands_preserve_other_routes;
 use crate::spans::span_of;
 use rt_cidr::Prefix;
-use rt_rib::{Cmd, Hop, Refused, Route, Table};
+use rt_rib::{Cmd, Refused, Table};
 use std::alloc::Allocator;
 
 /// Says how many entries the withdrawn prefixes may have in total: a quarter of all entries.
@@ -18,34 +18,6 @@ const MOST_ENTRIES: usize = 1 << 22;
 /// Returns true if `count` renewals of a few entries take less time than a rebuild from `routes` routes.
 fn are_few(count: u32, routes: u32) -> bool {
     count <= (routes / 16).saturating_add(1 << 13)
-}
-
-/// Returns the prefixes of the feed's routes, `count` of them. Visits nothing after the last one.
-fn prefixes_of<A: Allocator + Copy, B: Allocator + Copy>(
-    alloc: A,
-    table: &Table<B>,
-    feed: u32,
-    count: usize,
-) -> Result<Vec<Prefix, A>, Refused> {
-    let mut prefixes = Vec::with_capacity(alloc, count)?;
-    let Ok(all) = Prefix::new(0, 0) else {
-        return Ok(prefixes);
-    };
-    let first = Route {
-        prefix: all,
-        feed: 0,
-        pref: 0,
-        hop: Hop::Discard,
-    };
-    for route in table.routes_from(&first) {
-        if route.feed == feed {
-            prefixes.push(route.prefix)?;
-        }
-        if prefixes.len() >= count {
-            return Ok(prefixes);
-        }
-    }
-    Ok(prefixes)
 }
 
 /// Returns the total number of the prefixes' entries.
@@ -69,7 +41,7 @@ pub(crate) fn prefixes_to_withdraw<A: Allocator + Copy, B: Allocator + Copy>(
     if count == 0 || !are_few(count, table.len()) {
         return Vec::new(alloc);
     }
-    let Ok(prefixes) = prefixes_of(alloc, table, feed, count as usize) else {
+    let Ok(prefixes) = table.likely_prefixes(alloc, feed, count as usize) else {
         return Vec::new(alloc);
     };
     if entries_of(&prefixes) > MOST_ENTRIES {

@@ -1,6 +1,7 @@
 use Rattle.std.proofs.Common.{sym, ◌∙◌}
 use Rattle.rt_rib.specs.Book.{table_state}
-use Rattle.rt_fib.proofs.Withdrawing.{none_purged, purged_limit, purged_routes}
+use Rattle.rt_rib.proofs.Promised.{purged_limit, purged_routes}
+use Rattle.rt_fib.proofs.Withdrawing.{none_purged}
 use Rattle.rt_fib.proofs.purging.purge_rest.Goals as goal
 
 pub returns-then-rest-eq0-clause-limit : goal.returns-then-rest-eq0-clause-limit

@@ -1,6 +1,6 @@
 use Rattle.std.proofs.Common.{ap}
 use Rattle.rt_rib.specs.Book.{TableState, table_state}
-use Rattle.rt_fib.proofs.Withdrawing.{withdrawn_rest}
+use Rattle.rt_rib.proofs.Promised.{withdrawn_rest}
 use Rattle.rt_fib.proofs.purging.withdraw.Goals as goal
 
 pub follow_command-requires-clause-once : goal.follow_command-requires-clause-once

@@ -1,6 +1,6 @@
 use Rattle.std.proofs.Common.{◌∙◌}
 use Rattle.rt_rib.specs.Book.{table_state}
-use Rattle.rt_fib.proofs.Withdrawing.{purged_limit, purged_routes, serves_purge}
+use Rattle.rt_rib.proofs.Promised.{purged_limit, purged_routes, serves_purge}
 use Rattle.rt_fib.proofs.fib.Fib.purge.Goals as goal
 
 pub returns-in-Ok-clause-served : goal.returns-in-Ok-clause-served
