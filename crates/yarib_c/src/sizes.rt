@@ -22,12 +22,13 @@ pub const ENTRY_BYTES: usize = 56;
 /// The maximum number that is counted.
 pub const MAX_COUNTED: usize = 1 << 40;
 
-/// Returns about how many bytes the table takes: its trie, and the lists of prefixes with several routes.
+/// Returns about how many bytes the table takes: its trie, the lists of prefixes with several routes, and the marks of feeds.
 pub(crate) fn table_bytes(table: &Table<Global>) -> usize
     ensures { trie_bytes table.now.trie ≤ result }
 {
     let trie = prefix_bytes(table.prefixes()) + node_bytes(table.nodes());
     trie.saturating_add(table.offer_bytes())
+        .saturating_add(table.mark_bytes())
 }
 
 /// Returns the bytes that are counted for this number of prefixes.
