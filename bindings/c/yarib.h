@@ -372,8 +372,8 @@ YARIB_STATUS yarib_view_look_up_each(const yarib_view *view, const uint32_t *add
 
 /* Writes a size in bytes. For a forwarding table it is the memory of the forwarding table; each of its handles reports the whole
  * size. For a table it is an estimate: 52 for each prefix, 10 for each node (at most two a prefix), 24 for each prefix with several
- * routes and 16 for each route that its list has room for, 56 for each journal entry, 524,288 once it has had 16,384 prefixes, and
- * the size of an attached forwarding table.
+ * routes and 16 for each route that its list has room for, 56 for each journal entry, 524,288 from 16,384 prefixes on until there are
+ * fewer than 4,096, and the size of an attached forwarding table.
  *
  * For a table without a journal, the estimate and what the library's heap gives differ by at most a factor of 1.3, and by 16 KiB, for
  * any number of feeds, also after routes were withdrawn or purged. There are two exceptions, in which the heap gives up to twice the

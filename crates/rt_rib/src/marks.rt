@@ -12,6 +12,9 @@ const BLOCKS: u32 = 1 << 16;
 /// The least number of prefixes with which marks are made. Below it a walk over the map takes less than a millisecond.
 const LEAST_PREFIXES: usize = 1 << 14;
 
+/// The number of prefixes below which marks are freed.
+const FEWEST_PREFIXES: usize = 1 << 12;
+
 /// For each block of addresses, the feeds that may have a route to a prefix with its base there.
 #[derive(Drop)]
 pub(crate) struct FeedMarks<A: Allocator> {
@@ -89,8 +92,8 @@ impl<A: Allocator + Copy> FeedMarks<A> {
         self.blocks.capacity().saturating_mul(8)
     }
 
-    /// Marks that the feed may have a route to the prefix.
-    fn mark(&mut self, feed: u32, prefix: Prefix) {
+    /// Marks that the feed may have a route to the prefix, if there are marks.
+    pub(crate) fn mark(&mut self, feed: u32, prefix: Prefix) {
         if let Some(feeds) = self.blocks.get_mut(block_of(prefix) as usize) {
             *feeds |= bit_of(feed);
         }
@@ -103,19 +106,22 @@ impl<A: Allocator + Copy> FeedMarks<A> {
         }
     }
 
-    /// Marks that the feed may have a route to the prefix, which was just added to the map. Makes the marks of all
-    /// routes when the map has become large. If memory runs out for that, there are none until it is twice as large.
-    pub(crate) fn mark_added(&mut self, alloc: A, map: &OfferMap<A>, feed: u32, prefix: Prefix) {
-        if !self.blocks.is_empty() {
-            self.mark(feed, prefix);
-            return;
-        }
+    /// Makes the marks of all routes when the map has become large. If memory runs out for that, there are none until it
+    /// is twice as large.
+    pub(crate) fn make_if_large(&mut self, alloc: A, map: &OfferMap<A>) {
         let len = map.len();
-        if len < LEAST_PREFIXES || len & len.wrapping_sub(1) != 0 {
+        if !self.blocks.is_empty() || len < LEAST_PREFIXES || len & len.wrapping_sub(1) != 0 {
             return;
         }
         if let Ok(marks) = FeedMarks::of_all(alloc, map) {
             *self = marks;
+        }
+    }
+
+    /// Frees the marks if the map has become small.
+    pub(crate) fn free_if_small(&mut self, alloc: A, map: &OfferMap<A>) {
+        if map.len() < FEWEST_PREFIXES && !self.blocks.is_empty() {
+            self.blocks = Vec::new(alloc);
         }
     }
 

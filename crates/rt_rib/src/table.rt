@@ -180,7 +180,7 @@ impl<A: Allocator + Copy> Table<A> {
     }
 
     /// Returns the number of bytes that are allocated for the marks of where each feed may have routes, which shorten a
-    /// purge: 512 KiB, or 0 while the table has never had 16,384 prefixes. No clause limits it; it is only tested.
+    /// purge: 512 KiB in a table of 16,384 prefixes, until it has fewer than 4,096; else 0. No clause limits it; it is only tested.
     pub fn mark_bytes(&self) -> usize {
         self.marks.bytes()
     }
@@ -275,12 +275,13 @@ impl<A: Allocator + Copy> Table<A> {
             }
             return Ok(Reply::Full);
         }
+        // Before the descent, so that the waits for memory overlap.
+        self.marks.mark(route.feed, route.prefix);
         if self.map.put_in(self.alloc, route)? {
             return Ok(Reply::Exists);
         }
         self.counts[own] += 1;
-        self.marks
-            .mark_added(self.alloc, &self.map, route.feed, route.prefix);
+        self.marks.make_if_large(self.alloc, &self.map);
         Ok(Reply::Added)
     }
 
@@ -305,6 +306,7 @@ impl<A: Allocator + Copy> Table<A> {
             return Reply::Missing;
         }
         self.counts[(feed - 1) as usize] -= 1;
+        self.marks.free_if_small(self.alloc, &self.map);
         Reply::Withdrawn
     }
 
@@ -350,6 +352,7 @@ impl<A: Allocator + Copy> Table<A> {
         purge::purge(&mut self.map, feed, gone);
         self.counts[own] = 0;
         self.marks.clear(feed);
+        self.marks.free_if_small(self.alloc, &self.map);
         Reply::Purged(gone)
     }
 }
