@@ -5,10 +5,9 @@
  *
  *   bindings/build && gcc -O2 -I bindings/c bench/changes.c bindings/out/libyarib.a -o changes && ./changes 1000000 3000000 */
 #define _POSIX_C_SOURCE 200809L
-#include <stdio.h>
+#include <routes.h>
 #include <stdlib.h>
 #include <time.h>
-#include <yarib.h>
 
 struct prefix {
     uint32_t base;
@@ -60,8 +59,8 @@ static uint32_t base(uint8_t len)
 static double change(yarib *table, struct prefix *prefix)
 {
     uint32_t operation = !prefix->is_in ? YARIB_ADD : draw() % 2 ? YARIB_REPLACE : YARIB_WITHDRAW;
-    yarib_command command = {.operation = operation, .feed = 1, .base = prefix->base, .len = prefix->len, .pref = draw() % 100,
-        .hop = YARIB_VIA, .via = draw() % 64};
+    uint32_t preference = draw() % 100;
+    const yarib_command command = put_command(operation, 1, prefix->base, prefix->len, preference, draw() % 64);
     yarib_reply reply;
     double from = now();
     need(yarib_apply(table, &command, &reply) == YARIB_DONE);

@@ -1,10 +1,9 @@
 /* Times the library for C over the prefixes and addresses of a file of 32-bit numbers: how many there are of each, then base and
  * length of each prefix, then the addresses. It prints names and nanoseconds of processor time, each for one prefix or address. */
 #define _POSIX_C_SOURCE 200809L
-#include <stdio.h>
+#include <routes.h>
 #include <stdlib.h>
 #include <time.h>
-#include <yarib.h>
 
 enum { CHUNK = 4096 };
 
@@ -34,8 +33,7 @@ static void say(const char *name, double from, uint32_t count)
 
 static yarib_command command(uint32_t k)
 {
-    return (yarib_command){.operation = YARIB_ADD, .feed = 1, .base = numbers[2 + 2 * k], .len = (uint8_t)numbers[3 + 2 * k],
-                           .pref = k, .hop = YARIB_VIA, .via = k};
+    return put_command(YARIB_ADD, 1, numbers[2 + 2 * k], (uint8_t)numbers[3 + 2 * k], k, k);
 }
 
 static void apply(const char *name, uint32_t kind)
@@ -136,7 +134,7 @@ int main(int count, char **words)
     look_up_one("forwarding_one", &forwarding);
     view(&forwarding);
     unsigned long sum = 0;
-    for (uint32_t k = 0; k < addresses; k++) sum += answers[k].pref;
+    for (uint32_t k = 0; k < addresses; k++) sum += answers[k].via;
     printf("sum %lu\n", sum);
     from = seconds();
     yarib_free(&table);

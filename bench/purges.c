@@ -5,10 +5,9 @@
  *
  *   bindings/build && gcc -O2 -I bindings/c bench/purges.c bindings/out/libyarib.a -o purges && ./purges 1000000 */
 #define _POSIX_C_SOURCE 200809L
-#include <stdio.h>
+#include <routes.h>
 #include <stdlib.h>
 #include <time.h>
-#include <yarib.h>
 
 struct prefix {
     uint32_t base;
@@ -50,10 +49,9 @@ static struct prefix drawn(void)
     return (struct prefix){.base = address & 0xffffffffu << (32 - parts[k].len), .len = parts[k].len};
 }
 
-static yarib_reply applied(yarib *table, uint32_t operation, uint32_t feed, struct prefix prefix, uint32_t pref)
+static yarib_reply applied(yarib *table, uint32_t operation, uint32_t feed, struct prefix prefix, uint32_t preference)
 {
-    yarib_command command = {.operation = operation, .feed = feed, .base = prefix.base, .len = prefix.len, .pref = pref,
-        .hop = YARIB_VIA, .via = draw() % 64};
+    const yarib_command command = put_command(operation, feed, prefix.base, prefix.len, preference, draw() % 64);
     yarib_reply reply;
     need(yarib_apply(table, &command, &reply) == YARIB_DONE);
     return reply;

@@ -12,9 +12,9 @@ static const char *text_of(uint32_t address)
     return text;
 }
 
-static yarib_command add(uint32_t feed, const char *prefix, uint32_t pref, const char *via)
+static yarib_command add(uint32_t feed, const char *prefix, const char *via)
 {
-    yarib_command command = {.operation = YARIB_ADD, .feed = feed, .pref = pref, .hop = YARIB_VIA};
+    yarib_command command = {.operation = YARIB_ADD, .feed = feed, .hop = YARIB_VIA};
     yarib_prefix read;
     if (yarib_prefix_parse(prefix, strlen(prefix), &read) != YARIB_DONE) return (yarib_command){0};
     command.base = read.base;
@@ -35,7 +35,7 @@ static void show(const char *said, const yarib_route *route)
 int main(void)
 {
     yarib before = YARIB_EMPTY, after = YARIB_EMPTY;
-    yarib_command commands[] = {add(1, "10.0.0.0/8", 10, "192.0.2.1"), add(2, "10.1.0.0/16", 20, "192.0.2.2")};
+    yarib_command commands[] = {add(1, "10.0.0.0/8", "192.0.2.1"), add(2, "10.1.0.0/16", "192.0.2.2")};
     yarib_command withdrawal = {.operation = YARIB_WITHDRAW, .feed = 2, .base = 0x0a010000, .len = 16};
     yarib_reply replies[2], reply;
     yarib_difference range;

@@ -1,12 +1,8 @@
 /* Calls on a handle during another call on it. The library gets its memory from the functions below, which make these calls from
  * inside: so it is known which call is under way. Those that must not run return YARIB_BUSY and change nothing; reading calls run
  * during reading calls. */
-#include <stdbool.h>
-#include <stdio.h>
-#include <stdlib.h>
-#include <yarib.h>
-
-#define CHECK(holds) ((holds) ? (void)0 : (fprintf(stderr, "%s:%d: %s\n", __FILE__, __LINE__, #holds), exit(1)))
+#include "check.h"
+#include "routes.h"
 
 struct tried {
     bool ok;
@@ -49,8 +45,6 @@ void rattle_dealloc(void *block)
     free(block);
 }
 
-static const yarib_command add_eight = {
-    .operation = YARIB_ADD, .feed = 1, .base = 10u << 24, .len = 8, .pref = 5, .hop = YARIB_VIA, .via = 7};
 static const yarib_command dump = {.operation = YARIB_DUMP, .feed = 1};
 
 /* The status of each reading call on the table, if it is the same for all. */

@@ -1,13 +1,8 @@
 /* Each status of each call, and that after it nothing has changed and nothing was written. */
-#include <stdio.h>
-#include <stdlib.h>
+#include "check.h"
+#include "routes.h"
+
 #include <string.h>
-#include <yarib.h>
-
-#define CHECK(holds) ((holds) ? (void)0 : (fprintf(stderr, "%s:%d: %s\n", __FILE__, __LINE__, #holds), exit(1)))
-
-static const yarib_command add_eight = {
-    .operation = YARIB_ADD, .feed = 1, .base = 10u << 24, .len = 8, .pref = 5, .hop = YARIB_VIA, .via = 7};
 
 /* What is to stay is filled with this byte, and compared. */
 enum { MARK = 0x5a };
@@ -146,9 +141,9 @@ static void kinds(void)
     yarib_free(&other);
 }
 
-static yarib_command add(uint32_t feed, uint32_t base, uint8_t len, uint32_t pref)
+static yarib_command add(uint32_t feed, uint32_t base, uint8_t len, uint32_t preference)
 {
-    return (yarib_command){.operation = YARIB_ADD, .feed = feed, .base = base, .len = len, .pref = pref, .hop = YARIB_VIA, .via = feed};
+    return put_command(YARIB_ADD, feed, base, len, preference, feed);
 }
 
 /* Returns the number of selected routes, and writes the first of them. */
@@ -179,7 +174,7 @@ static void parts(void)
     CHECK(selected(&table, YARIB_WITHIN, 12u << 24, 8, 0, 0, &first) == 0);
     CHECK(selected(&table, YARIB_COVERING, 0x0a00ffff, 32, 0, 0, &first) == 5 && first.len == 0);
     CHECK(selected(&table, YARIB_COVERING, 11u << 24, 16, 0, 0, &first) == 2);
-    CHECK(selected(&table, YARIB_EXACT, 10u << 24, 8, 0, 0, &first) == 2 && first.pref == 4);
+    CHECK(selected(&table, YARIB_EXACT, 10u << 24, 8, 0, 0, &first) == 2 && is_put_by(&first, &commands[1]));
     CHECK(selected(&table, YARIB_EXACT, 10u << 24, 9, 0, 0, &first) == 0);
     CHECK(yarib_select(&table, &all, 4, rest, 6, &total) == YARIB_DONE && total == 6 && rest[0].base == 0x0a00ffff && rest[1].base == 11u << 24);
     total = 99;
@@ -197,20 +192,6 @@ static void parts(void)
     yarib_free(&table);
 }
 
-static int is_same(const yarib_route *one, const yarib_route *other)
-{
-    return one->base == other->base && one->len == other->len && one->pref == other->pref && one->feed == other->feed
-        && one->via == other->via && one->hop == other->hop;
-}
-
-/* Returns true if a route comes before a position in the order of the table. */
-static int precedes(const yarib_route *route, const yarib_route *place)
-{
-    if (route->base != place->base) return route->base < place->base;
-    if (route->len != place->len) return route->len < place->len;
-    return route->pref != place->pref ? route->pref < place->pref : route->feed < place->feed;
-}
-
 /* The page from a position on is the part of the whole list that doesn't come before it, and what follows the page stays. */
 static void check_page(yarib *table, const yarib_route *listed, size_t count, const yarib_route *from, size_t room)
 {
@@ -220,7 +201,7 @@ static void check_page(yarib *table, const yarib_route *listed, size_t count, co
     size_t wanted = count - first < room ? count - first : room;
     memset(page, MARK, sizeof page);
     CHECK(yarib_routes_from(table, from, page, room, &used) == YARIB_DONE && used == wanted);
-    for (size_t k = 0; k < used; k++) CHECK(is_same(&page[k], &listed[first + k]));
+    for (size_t k = 0; k < used; k++) CHECK(is_same_route(&page[k], &listed[first + k]));
     CHECK(is_marked(page + used, (40 - used) * sizeof *page));
 }
 
@@ -246,18 +227,19 @@ static void pages(void)
         for (size_t k = 0; k < count; k++) {
             yarib_route near = listed[k];
             for (near.feed = 0; near.feed < 66; near.feed += 1 + near.feed / 5 * 20) {
+                const yarib_route other = position(near.base, near.len, (k + near.feed) % 4, near.feed);
                 check_page(&table, listed, count, &near, k % 40);
-                near.pref = (listed[k].pref + near.feed) % 4;
+                check_page(&table, listed, count, &other, k % 40);
             }
             near.len = near.base & 1 || near.len == 32 ? 32 : near.len + 1;
             check_page(&table, listed, count, &near, 40);
         }
-        from = (yarib_route){.base = 0xffffffffu, .len = 32, .pref = 0xffffffffu, .feed = 0xffffffffu};
+        from = position(UINT32_MAX, 32, UINT32_MAX, UINT32_MAX);
         check_page(&table, listed, count, &from, 40);
         from = (yarib_route){0};
         do {
             CHECK(yarib_routes_from(&table, &from, page, 7, &used) == YARIB_DONE);
-            for (size_t k = 0; k < used; k++) CHECK(is_same(&page[k], &listed[passed + k]));
+            for (size_t k = 0; k < used; k++) CHECK(is_same_route(&page[k], &listed[passed + k]));
             passed += used;
             if (used > 0) from = page[used - 1];
             from.feed++;
@@ -297,10 +279,7 @@ static void followed(void)
         CHECK(yarib_apply(&one, &command, &replies[0]) == YARIB_DONE && yarib_apply(&other, &command, &replies[1]) == YARIB_DONE);
         CHECK(yarib_look_up(&one, asked, 64, answers[0], 64) == YARIB_DONE);
         CHECK(yarib_look_up(&other, asked, 64, answers[1], 64) == YARIB_DONE);
-        for (int j = 0; j < 64; j++) {
-            CHECK(answers[0][j].base == answers[1][j].base && answers[0][j].len == answers[1][j].len);
-            CHECK(answers[0][j].feed == answers[1][j].feed && answers[0][j].pref == answers[1][j].pref);
-        }
+        for (int j = 0; j < 64; j++) CHECK(is_same_route(&answers[0][j], &answers[1][j]));
     }
     CHECK(yarib_memory(&one, &bytes) == YARIB_DONE && bytes >= (size_t)1 << 26);
     CHECK(yarib_first_difference(&one, &other, 1, 0, &range) == YARIB_NONE_LEFT && count_of(&one) == count_of(&other));
@@ -322,7 +301,7 @@ static void differences(void)
     CHECK(range.first == 10u << 24 && range.last == (11u << 24) - 1 && range.before.hop == YARIB_NO_ROUTE);
     CHECK(range.after.hop == YARIB_VIA && range.after.via == 7 && range.after.len == 0 && range.after.feed == 0);
     CHECK(yarib_first_difference(&new, &old, 1, (10u << 24) + 5, &range) == YARIB_DONE);
-    CHECK(range.first == (10u << 24) + 5 && range.before.len == 8 && range.before.pref == 5 && range.after.hop == YARIB_NO_ROUTE);
+    CHECK(range.first == (10u << 24) + 5 && is_put_by(&range.before, &add_eight) && range.after.hop == YARIB_NO_ROUTE);
     CHECK(yarib_first_difference(&old, &new, 1, 11u << 24, &range) == YARIB_NONE_LEFT);
     yarib_free(&old);
     yarib_free(&new);

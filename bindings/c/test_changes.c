@@ -2,13 +2,10 @@
  * routes of eight feeds. A change adds a route to a random prefix, mostly of 12 to 32 bits, or replaces or withdraws a random route. At
  * the end yarib_memory reports at most 1.2 times what it reported after the first 1,000,000 changes, and the answers are those of a new
  * forwarding table. It prints the sizes. */
-#include <stdbool.h>
-#include <stdio.h>
-#include <stdlib.h>
-#include <string.h>
-#include <yarib.h>
+#include "check.h"
+#include "routes.h"
 
-#define CHECK(holds) ((holds) ? (void)0 : (fprintf(stderr, "%s:%d: %s\n", __FILE__, __LINE__, #holds), exit(1)))
+#include <string.h>
 
 enum { PLACES = 27000, CHANGES = 10000000, FIRST = 1000000, FEEDS = 8, ADDRESSES = 1000000 };
 
@@ -41,9 +38,9 @@ static size_t count(yarib *table)
 
 static uint32_t apply(yarib *table, uint32_t operation, const struct place *place)
 {
-    yarib_command command = {.operation = operation, .feed = place->feed, .base = place->base, .len = place->len, .pref = draw() % 4,
-                             .hop = draw() % 16 ? YARIB_VIA : YARIB_DISCARD};
-    if (command.hop == YARIB_VIA) command.via = draw() % 64;
+    yarib_command command = put_command(operation, place->feed, place->base, place->len, draw() % 4, 0);
+    if (draw() % 16) command.via = draw() % 64;
+    else command.hop = YARIB_DISCARD;
     yarib_reply reply;
     CHECK(yarib_apply(table, &command, &reply) == YARIB_DONE);
     return reply.code;

@@ -1,18 +1,15 @@
 /* Concurrent tables, call by call. The library gets its memory from the functions below, which make other calls from inside a call
  * or hold a reading call where it is: so it is known which calls run at the same time. */
 #define _POSIX_C_SOURCE 200809L
+#include "check.h"
+#include "routes.h"
+
 #include <pthread.h>
 #include <semaphore.h>
 #include <stdatomic.h>
-#include <stdbool.h>
-#include <stdio.h>
-#include <stdlib.h>
 #include <string.h>
 #include <time.h>
 #include <unistd.h>
-#include <yarib.h>
-
-#define CHECK(holds) ((holds) ? (void)0 : (fprintf(stderr, "%s:%d: %s\n", __FILE__, __LINE__, #holds), _exit(1)))
 
 enum { ROOM = 600, LIMIT = 100 };
 
@@ -59,7 +56,7 @@ void rattle_dealloc(void *block)
 
 static yarib_command command(uint32_t operation, uint32_t feed, uint32_t base, uint8_t len, uint32_t via)
 {
-    return (yarib_command){.operation = operation, .feed = feed, .base = base, .len = len, .pref = via % 4, .hop = YARIB_VIA, .via = via};
+    return put_command(operation, feed, base, len, via % 4, via);
 }
 
 static yarib_command add(uint32_t byte, uint32_t via)

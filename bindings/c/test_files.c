@@ -4,17 +4,13 @@
  * With arguments it reads lines from standard input, and prints 1 for each of which a file could be loaded, else 0: the argument
  * "2" loads each after the line `version 2`. */
 #define _GNU_SOURCE
+#include "check.h"
 #include "refusing_heap.h"
+#include "routes.h"
 
 #include <errno.h>
-#include <stdbool.h>
-#include <stdio.h>
-#include <stdlib.h>
 #include <string.h>
 #include <sys/types.h>
-#include <yarib.h>
-
-#define CHECK(holds) ((holds) ? (void)0 : (fprintf(stderr, "%s:%d: %s\n", __FILE__, __LINE__, #holds), exit(1)))
 
 enum { ROUTES = 3000, LINE = 160 };
 
@@ -62,10 +58,12 @@ static uint32_t draw(uint32_t below)
     return (uint32_t)((last >> 32) * below >> 32);
 }
 
-static yarib_command add(uint32_t feed, uint32_t base, uint8_t len, uint32_t pref, bool is_discard, uint32_t via)
+static yarib_command add(uint32_t feed, uint32_t base, uint8_t len, uint32_t preference, bool is_discard, uint32_t via)
 {
-    return (yarib_command){.operation = YARIB_ADD, .feed = feed, .base = len == 0 ? 0 : base & 0xffffffffu << (32 - len), .len = len,
-        .pref = pref, .hop = is_discard ? YARIB_DISCARD : YARIB_VIA, .via = is_discard ? 0 : via};
+    uint32_t masked = len == 0 ? 0 : base & 0xffffffffu << (32 - len);
+    yarib_command command = put_command(YARIB_ADD, feed, masked, len, preference, is_discard ? 0 : via);
+    if (is_discard) command.hop = YARIB_DISCARD;
+    return command;
 }
 
 static uint32_t added(yarib_command command)
@@ -94,12 +92,7 @@ static size_t expect(uint32_t feed, char *text)
     CHECK((is_concurrent ? yarib_concurrent_routes(&shared, 0, routes, 4 * ROUTES, &total)
         : yarib_routes(&plain, 0, routes, 4 * ROUTES, &total)) == YARIB_DONE && total <= 4 * ROUTES);
     for (size_t k = 0; k < total; k++) {
-        const yarib_route *one = &routes[k];
-        if (one->feed != feed) continue;
-        at += sprintf(at, "add %u.%u.%u.%u/%u %u ", one->base >> 24, one->base >> 16 & 255, one->base >> 8 & 255, one->base & 255,
-            one->len, one->pref);
-        if (one->hop == YARIB_DISCARD) at += sprintf(at, "discard\n");
-        else at += sprintf(at, "%u.%u.%u.%u\n", one->via >> 24, one->via >> 16 & 255, one->via >> 8 & 255, one->via & 255);
+        if (routes[k].feed == feed) at += write_line(at, &routes[k]);
     }
     return (size_t)(at - text);
 }

@@ -2,17 +2,14 @@
  * builds another. The heap here gives the forwarding table's entries, the one block of 64 MiB, pages of their own: while these can't
  * be read, a look-up that reads them ends its process by a signal. */
 #define _GNU_SOURCE
+#include "check.h"
+#include "routes.h"
+
 #include <signal.h>
-#include <stdbool.h>
-#include <stdio.h>
-#include <stdlib.h>
 #include <string.h>
 #include <sys/mman.h>
 #include <sys/wait.h>
 #include <unistd.h>
-#include <yarib.h>
-
-#define CHECK(holds) ((holds) ? (void)0 : (fprintf(stderr, "%s:%d: %s\n", __FILE__, __LINE__, #holds), exit(1)))
 
 enum { ROUTES = 30000, FEW = 900 };
 static const size_t ENTRIES = (size_t)1 << 26;
@@ -65,8 +62,7 @@ static bool is_attached(const yarib *table)
 
 static uint32_t applied_to(yarib *table, uint32_t operation, uint32_t feed, uint32_t k, uint8_t len)
 {
-    yarib_command command = {.operation = operation, .feed = feed, .base = 0x0a000000 + 256 * k, .len = len, .pref = k % 7,
-        .hop = YARIB_VIA, .via = k};
+    const yarib_command command = put_command(operation, feed, 0x0a000000 + 256 * k, len, k % 7, k);
     yarib_reply reply;
     CHECK(yarib_apply(table, &command, &reply) == YARIB_DONE);
     return reply.code;
@@ -118,9 +114,9 @@ static void check_followed(yarib *table)
 static yarib_concurrent shared = YARIB_CONCURRENT_EMPTY;
 
 /* Makes a change of the concurrent table. Returns whether its published table is followed then. */
-static bool changed(uint32_t pref)
+static bool changed(uint32_t preference)
 {
-    yarib_command command = {.operation = YARIB_REPLACE, .feed = 1, .base = 0x0a000000, .len = 32, .pref = pref, .hop = YARIB_VIA, .via = 9};
+    const yarib_command command = put_command(YARIB_REPLACE, 1, 0x0a000000, 32, preference, 9);
     yarib_reply reply;
     uint32_t attached = 7;
     CHECK(yarib_concurrent_apply(&shared, &command, &reply) == YARIB_DONE && reply.code == YARIB_REPLACED);

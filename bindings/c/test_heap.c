@@ -1,18 +1,16 @@
 /* The library's heap by itself: random calls of several threads, beside what each block must hold; what it gives back; what the next
  * allocation of the program takes; what a refusal and a fork leave. */
 #define _DEFAULT_SOURCE
+#include "check.h"
+
 #include <pthread.h>
 #include <stdbool.h>
 #include <stdint.h>
-#include <stdio.h>
-#include <stdlib.h>
 #include <string.h>
 #include <sys/resource.h>
 #include <sys/wait.h>
 #include <time.h>
 #include <unistd.h>
-
-#define CHECK(holds) ((holds) ? (void)0 : (fprintf(stderr, "%s:%d: %s\n", __FILE__, __LINE__, #holds), _exit(1)))
 
 struct tried {
     bool ok;

@@ -1,10 +1,8 @@
 /* No size of what is listed, reserved or built makes a call run out of memory, and what is after a list's end stays as it was. */
-#include <stdio.h>
-#include <stdlib.h>
+#include "check.h"
+
 #include <string.h>
 #include <yarib.h>
-
-#define CHECK(holds) ((holds) ? (void)0 : (fprintf(stderr, "%s:%d: %s\n", __FILE__, __LINE__, #holds), exit(1)))
 
 enum { ROUTES = 400000, COVERING = 33 * 3, ALL = ROUTES + COVERING, ROOM = ALL + 10, MARK = 0x5a };
 

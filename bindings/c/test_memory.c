@@ -7,14 +7,12 @@
 #define _GNU_SOURCE
 #include "heap.c"
 
+#include "check.h"
+#include "routes.h"
+
 #include <malloc.h>
-#include <stdio.h>
-#include <stdlib.h>
 #include <sys/wait.h>
 #include <unistd.h>
-#include <yarib.h>
-
-#define CHECK(holds) ((holds) ? (void)0 : (fprintf(stderr, "%s:%d: %s\n", __FILE__, __LINE__, #holds), exit(1)))
 
 enum { SLACK = 16384, MOST = 1000000 };
 
@@ -110,8 +108,7 @@ static void choose(enum shape shape, uint32_t count)
 
 static yarib_command command_of(uint32_t operation, uint32_t feed, uint32_t k)
 {
-    return (yarib_command){.operation = operation, .feed = feed, .base = prefixes[k].base, .len = prefixes[k].len, .pref = feed * 7 % 9,
-                           .hop = YARIB_VIA, .via = k};
+    return put_command(operation, feed, prefixes[k].base, prefixes[k].len, feed * 7 % 9, k);
 }
 
 static uint32_t apply(yarib *table, uint32_t operation, uint32_t feed, uint32_t k)

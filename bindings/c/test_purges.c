@@ -2,12 +2,10 @@
  * attached. 600,000 prefixes are of feed 1. Feed 2 has 10 of them, which it has added before the others, among them or after them.
  * Each purge is the best of five, so that other programs don't count. */
 #define _POSIX_C_SOURCE 200809L
-#include <stdio.h>
-#include <stdlib.h>
-#include <time.h>
-#include <yarib.h>
+#include "check.h"
+#include "routes.h"
 
-#define CHECK(holds) ((holds) ? (void)0 : (fprintf(stderr, "%s:%d: %s\n", __FILE__, __LINE__, #holds), exit(1)))
+#include <time.h>
 
 enum { ROUTES = 600000, FEW = 10, TRIES = 5 };
 
@@ -24,8 +22,7 @@ static double now(void)
 static yarib_reply applied(yarib *table, uint32_t operation, uint32_t feed, uint32_t k)
 {
     /* From 1.0.0.0 to 218.0.0.0, a /24 in every 6,089 addresses. */
-    yarib_command command = {.operation = operation, .feed = feed, .base = (0x01000000 + k * 6089) & 0xffffff00, .len = 24,
-        .pref = feed == 1, .hop = YARIB_VIA, .via = k};
+    const yarib_command command = put_command(operation, feed, (0x01000000 + k * 6089) & 0xffffff00, 24, feed == 1, k);
     yarib_reply reply;
     CHECK(yarib_apply(table, &command, &reply) == YARIB_DONE);
     return reply;

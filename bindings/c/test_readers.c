@@ -4,15 +4,13 @@
  * Table k has routes to PREFIXES prefixes, all with the next hop k. A table with an odd number also has a longer prefix in each
  * of them. */
 #define _POSIX_C_SOURCE 200809L
+#include "check.h"
+
 #include <pthread.h>
 #include <sched.h>
 #include <stdatomic.h>
-#include <stdio.h>
-#include <stdlib.h>
 #include <unistd.h>
 #include <yarib.h>
-
-#define CHECK(holds) ((holds) ? (void)0 : (fprintf(stderr, "%s:%d: %s\n", __FILE__, __LINE__, #holds), _exit(1)))
 
 enum { READERS = 4, CHANGES = 200, PREFIXES = 64, CROWD = 400, WAYS = 9 };
 

@@ -2,17 +2,14 @@
  * then made read-only: a write there ends this program by a signal. The one exception is yarib_share, which counts the handles of
  * a forwarding table atomically. */
 #define _GNU_SOURCE
+#include "check.h"
+#include "routes.h"
+
 #include <signal.h>
-#include <stdbool.h>
-#include <stdio.h>
-#include <stdlib.h>
 #include <string.h>
 #include <sys/mman.h>
 #include <sys/wait.h>
 #include <unistd.h>
-#include <yarib.h>
-
-#define CHECK(holds) ((holds) ? (void)0 : (fprintf(stderr, "%s:%d: %s\n", __FILE__, __LINE__, #holds), exit(1)))
 
 enum { ROUTES = 3000, ASKED = 300, ROOM = 70 };
 static const size_t WHOLE = (size_t)1 << 30;
@@ -73,8 +70,8 @@ static yarib_command add(uint32_t feed)
     static const uint8_t lens[] = {0, 1, 8, 12, 16, 20, 24, 24, 24, 25, 30, 32};
     uint8_t len = lens[draw() % 12];
     uint32_t base = len ? draw() >> (32 - len) << (32 - len) : 0;
-    return (yarib_command){.operation = YARIB_ADD, .feed = feed, .base = base, .len = len, .pref = draw() % 3, .hop = YARIB_VIA,
-                           .via = draw()};
+    uint32_t via = draw();
+    return put_command(YARIB_ADD, feed, base, len, draw() % 3, via);
 }
 
 static void fill(yarib *table, uint32_t kind)

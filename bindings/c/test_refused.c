@@ -1,12 +1,9 @@
 /* Each allocation fails in turn: the status says so, all is as it was, and the same call then succeeds. */
+#include "check.h"
 #include "refusing_heap.h"
+#include "routes.h"
 
-#include <stdio.h>
-#include <stdlib.h>
 #include <string.h>
-#include <yarib.h>
-
-#define CHECK(holds) ((holds) ? (void)0 : (fprintf(stderr, "%s:%d: %s\n", __FILE__, __LINE__, #holds), exit(1)))
 
 enum { ROUTES = 60 };
 
@@ -22,12 +19,17 @@ static size_t sizes_of(yarib *table, uint32_t kind)
     return routes * 1000 + entries;
 }
 
+/* Returns the command of the route k: 20 prefixes of three feeds. */
+static yarib_command add(uint32_t k)
+{
+    return put_command(YARIB_ADD, 1 + k / 20, k % 20 << 24, 8, k, k);
+}
+
 /* Fills a table of 20 prefixes with the routes of three feeds. */
 static void fill(yarib *table, uint32_t kind)
 {
     for (uint32_t k = 0; k < ROUTES; k++) {
-        yarib_command command = {.operation = YARIB_ADD, .feed = 1 + k / 20, .base = k % 20 << 24, .len = 8, .pref = k,
-                                 .hop = YARIB_VIA, .via = k};
+        const yarib_command command = add(k);
         yarib_reply reply = {.code = 99};
         size_t before = sizes_of(table, kind);
         uint32_t status = yarib_apply(table, &command, &reply);
@@ -44,6 +46,7 @@ static void fill(yarib *table, uint32_t kind)
 static void ask(yarib *table)
 {
     yarib_route all[ROUTES] = {{0}};
+    const yarib_command fifth = add(5), sixth = add(6);
     uint32_t address = 5u << 24, status;
     size_t total = 99;
     while ((status = yarib_routes(table, 0, all, ROUTES, &total)) != YARIB_DONE) {
@@ -55,13 +58,13 @@ static void ask(yarib *table)
         CHECK(status == YARIB_NO_MEMORY && total == ROUTES);
         refused++;
     }
-    CHECK(total == 3 && all[0].pref == 5);
+    CHECK(total == 3 && is_put_by(&all[0], &fifth));
     const yarib_selection asked = {.part = YARIB_EXACT, .base = 6u << 24, .len = 8};
     while ((status = yarib_select(table, &asked, 0, all, ROUTES, &total)) != YARIB_DONE) {
-        CHECK(status == YARIB_NO_MEMORY && total == 3 && all[0].pref == 5);
+        CHECK(status == YARIB_NO_MEMORY && total == 3 && is_put_by(&all[0], &fifth));
         refused++;
     }
-    CHECK(total == 3 && all[0].pref == 6);
+    CHECK(total == 3 && is_put_by(&all[0], &sixth));
     const yarib_route first = {0};
     long left = refused_call;
     refused_call = 1;
@@ -74,6 +77,7 @@ static void ask(yarib *table)
 static void forward(yarib *table)
 {
     yarib forwarding = YARIB_EMPTY, other = YARIB_EMPTY;
+    const yarib_command fifth = add(5);
     uint32_t address = 5u << 24, status;
     yarib_route answer;
     while ((status = yarib_forward(table, &forwarding)) != YARIB_DONE) {
@@ -84,7 +88,7 @@ static void forward(yarib *table)
         CHECK(status == YARIB_NO_MEMORY && other.inside == NULL);
         refused++;
     }
-    CHECK(yarib_look_up(&other, &address, 1, &answer, 1) == YARIB_DONE && answer.pref == 5);
+    CHECK(yarib_look_up(&other, &address, 1, &answer, 1) == YARIB_DONE && is_put_by(&answer, &fifth));
     yarib_free(&forwarding);
     yarib_free(&other);
 }
@@ -112,7 +116,7 @@ static void ask_followed(yarib *table, uint32_t routes)
         uint32_t address = k << 24 | 5;
         yarib_route answer;
         CHECK(yarib_look_up(table, &address, 1, &answer, 1) == YARIB_DONE);
-        CHECK(k < routes ? answer.base == k << 24 && answer.pref == k : answer.hop == YARIB_NO_ROUTE);
+        CHECK(k < routes ? answer.base == k << 24 && answer.via == k : answer.hop == YARIB_NO_ROUTE);
     }
 }
 
@@ -131,7 +135,7 @@ static int refuse_followed(long number)
         refused++;
     }
     for (uint32_t k = 0; k < 20; k++) {
-        yarib_command command = {.operation = YARIB_ADD, .feed = 1, .base = k << 24, .len = 24, .pref = k, .hop = YARIB_VIA, .via = k};
+        const yarib_command command = put_command(YARIB_ADD, 1, k << 24, 24, k, k);
         yarib_reply reply = {.code = 99};
         while ((status = yarib_apply(&table, &command, &reply)) != YARIB_DONE) {
             CHECK(status == YARIB_NO_MEMORY && reply.code == 99);
@@ -172,7 +176,7 @@ static void ask_concurrent(const yarib_concurrent *table, uint32_t routes, uint3
     CHECK(yarib_concurrent_count(table, &total) == YARIB_DONE && total == routes - (withdrawn < routes));
     for (uint32_t k = 0; k < 24; k++) {
         CHECK(yarib_concurrent_look_up_one(table, k << 24 | 5, &answer) == YARIB_DONE);
-        CHECK(k < routes && k != withdrawn ? answer.base == k << 24 && answer.pref == k : answer.hop == YARIB_NO_ROUTE);
+        CHECK(k < routes && k != withdrawn ? answer.base == k << 24 && answer.via == k : answer.hop == YARIB_NO_ROUTE);
     }
 }
 
@@ -215,8 +219,7 @@ static int refuse_concurrent(long number, int is_attached, int *late)
         refused++;
     }
     for (uint32_t k = 0; k < first; k++) {
-        yarib_command command = {.operation = YARIB_ADD, .feed = 1, .base = k << 24, .len = k % 3 ? 8 : 25, .pref = k,
-                                 .hop = YARIB_VIA, .via = k};
+        yarib_command command = put_command(YARIB_ADD, 1, k << 24, k % 3 ? 8 : 25, k, k);
         apply_concurrent(&table, command, k, none);
         ask_concurrent(&table, k + 1, none);
         command.operation = YARIB_WITHDRAW;
@@ -227,8 +230,7 @@ static int refuse_concurrent(long number, int is_attached, int *late)
         ask_concurrent(&table, k + 1, none);
     }
     /* Of a batch those commands are published that found memory. */
-    for (uint32_t k = 0; k < 4; k++) batch[k] = (yarib_command){.operation = YARIB_ADD, .feed = 1, .base = (first + k) << 24, .len = 8,
-                                                                .pref = first + k, .hop = YARIB_VIA, .via = k};
+    for (uint32_t k = 0; k < 4; k++) batch[k] = put_command(YARIB_ADD, 1, (first + k) << 24, 8, 0, first + k);
     while ((status = yarib_concurrent_apply_each(&table, batch, 4, replies, 4)) != YARIB_DONE) {
         CHECK(status == YARIB_NO_MEMORY);
         ask_concurrent(&table, first, none);

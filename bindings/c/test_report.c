@@ -3,36 +3,20 @@
  *     test_report FILE LIMIT KIND
  *
  * The final table is also queried in other ways, which have to agree with it. */
-#include <stdio.h>
-#include <stdlib.h>
-#include <string.h>
-#include <yarib.h>
+#include "check.h"
+#include "routes.h"
 
-#define CHECK(holds) ((holds) ? (void)0 : (fprintf(stderr, "%s:%d: %s\n", __FILE__, __LINE__, #holds), exit(1)))
+#include <string.h>
 
 enum { ASKED = 999, PAGE = 100 };
 
 static yarib table = YARIB_EMPTY;
 
-static const char *text_of(uint32_t address)
-{
-    static char texts[2][16];
-    static int turn;
-    size_t used;
-    turn = !turn;
-    CHECK(yarib_address_print(address, texts[turn], 15, &used) == YARIB_DONE);
-    texts[turn][used] = '\0';
-    return texts[turn];
-}
-
 static void put(const yarib_route *route)
 {
-    yarib_prefix prefix = {route->base, route->len};
-    char text[18];
-    size_t used;
-    CHECK(yarib_prefix_print(&prefix, text, sizeof text, &used) == YARIB_DONE);
-    printf("%.*s feed %u pref %u via %s", (int)used, text, route->feed, route->pref,
-           route->hop == YARIB_VIA ? text_of(route->via) : "discard");
+    char text[MAX_ROUTE_TEXT];
+    CHECK(write_route(text, route));
+    fputs(text, stdout);
 }
 
 static uint32_t read_address(const char *text)
@@ -46,23 +30,20 @@ static uint32_t read_address(const char *text)
 static yarib_command read_line(char *line)
 {
     static const char *names[] = {"", "add", "replace", "withdraw", "lookup", "dump", "purge"};
-    yarib_command command = {.feed = 1};
     const char *word = strtok(line, " ");
-    while (strcmp(names[command.operation], word) != 0) command.operation++;
-    if (command.operation == YARIB_LOOKUP) command.base = read_address(strtok(NULL, " "));
-    if (command.operation <= YARIB_WITHDRAW) {
-        yarib_prefix prefix;
-        word = strtok(NULL, " ");
-        CHECK(yarib_prefix_parse(word, strlen(word), &prefix) == YARIB_DONE);
-        command.base = prefix.base;
-        command.len = prefix.len;
-    }
-    if (command.operation <= YARIB_REPLACE) {
-        command.pref = (uint32_t)strtoul(strtok(NULL, " "), NULL, 10);
-        word = strtok(NULL, " ");
-        command.hop = strcmp(word, "discard") == 0 ? YARIB_DISCARD : YARIB_VIA;
-        if (command.hop == YARIB_VIA) command.via = read_address(word);
-    }
+    uint32_t operation = 0;
+    while (strcmp(names[operation], word) != 0) operation++;
+    if (operation > YARIB_LOOKUP) return (yarib_command){.operation = operation, .feed = 1};
+    word = strtok(NULL, " ");
+    if (operation == YARIB_LOOKUP) return (yarib_command){.operation = operation, .feed = 1, .base = read_address(word)};
+    yarib_prefix prefix;
+    CHECK(yarib_prefix_parse(word, strlen(word), &prefix) == YARIB_DONE);
+    yarib_command command = {.operation = operation, .feed = 1, .base = prefix.base, .len = prefix.len};
+    if (operation == YARIB_WITHDRAW) return command;
+    const char *preference = strtok(NULL, " "), *hop = strtok(NULL, " ");
+    bool is_discard = strcmp(hop, "discard") == 0;
+    command = put_command(operation, 1, prefix.base, prefix.len, (uint32_t)strtoul(preference, NULL, 10), is_discard ? 0 : read_address(hop));
+    if (is_discard) command.hop = YARIB_DISCARD;
     return command;
 }
 
@@ -74,12 +55,6 @@ static void report(int line, const yarib_reply *reply)
     if (reply->code == YARIB_FOUND) put(&reply->route);
     if (reply->code >= YARIB_DUMPED) printf(" %u", reply->count);
     printf("\n");
-}
-
-static int is_same(const yarib_route *one, const yarib_route *other)
-{
-    return one->base == other->base && one->len == other->len && one->feed == other->feed && one->pref == other->pref
-           && one->via == other->via && one->hop == other->hop;
 }
 
 /* Every kind of query has the answer of the command `lookup`. */
@@ -106,10 +81,10 @@ static void ask(const yarib_route *routes, size_t size)
         CHECK(yarib_apply(&table, &command, &reply) == YARIB_DONE);
         CHECK(yarib_look_up_all(&table, asked[k], 0, all, 64 * 33, &total) == YARIB_DONE);
         found = reply.code == YARIB_FOUND ? reply.route : none;
-        CHECK(is_same(&found, &answers[k]) && is_same(&found, &forwarded[k]) && is_same(&found, &shared[k]));
-        CHECK(yarib_look_up_one(&table, asked[k], &one) == YARIB_DONE && is_same(&found, &one));
+        CHECK(is_same_route(&found, &answers[k]) && is_same_route(&found, &forwarded[k]) && is_same_route(&found, &shared[k]));
+        CHECK(yarib_look_up_one(&table, asked[k], &one) == YARIB_DONE && is_same_route(&found, &one));
         CHECK(hops[k] == (found.hop == YARIB_VIA ? found.via : found.hop == YARIB_DISCARD) && forwarded_hops[k] == hops[k]);
-        CHECK(total == 0 ? found.hop == YARIB_NO_ROUTE : is_same(&found, &all[0]));
+        CHECK(total == 0 ? found.hop == YARIB_NO_ROUTE : is_same_route(&found, &all[0]));
     }
 }
 
@@ -122,7 +97,7 @@ static yarib_route *all_routes(size_t *size)
     CHECK(routes && yarib_routes(&table, 0, routes, *size, &total) == YARIB_DONE && total == *size);
     for (size_t skip = 0; skip <= *size; skip += PAGE) {
         CHECK(yarib_routes(&table, skip, page, PAGE, &total) == YARIB_DONE && total == *size);
-        for (size_t k = 0; k < PAGE && skip + k < *size; k++) CHECK(is_same(&page[k], &routes[skip + k]));
+        for (size_t k = 0; k < PAGE && skip + k < *size; k++) CHECK(is_same_route(&page[k], &routes[skip + k]));
     }
     return routes;
 }
@@ -144,7 +119,7 @@ static void follow(uint32_t limit, uint32_t kind)
         CHECK(yarib_journal(&table, k, &entry, 1, &seen) == YARIB_DONE && seen == total);
         CHECK(yarib_apply(&again, &entry.command, &reply) == YARIB_DONE);
         CHECK(reply.code == entry.reply.code && reply.count == entry.reply.count);
-        CHECK(is_same(&reply.route, &entry.reply.route));
+        CHECK(is_same_route(&reply.route, &entry.reply.route));
     }
     CHECK(yarib_first_difference(&table, &again, 1, 0, &range) == YARIB_NONE_LEFT);
     yarib_free(&again);

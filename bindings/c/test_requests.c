@@ -1,11 +1,7 @@
 /* Counts the library's calls for memory: how many a new route makes, and that no other command makes any. */
+#include "check.h"
 #include "refusing_heap.h"
-
-#include <stdio.h>
-#include <stdlib.h>
-#include <yarib.h>
-
-#define CHECK(holds) ((holds) ? (void)0 : (fprintf(stderr, "%s:%d: %s\n", __FILE__, __LINE__, #holds), exit(1)))
+#include "routes.h"
 
 /* More than 65,536 prefixes, and a number of calls that is never reached. */
 enum { MANY = 66000, MOST = 1000000000, SECOND = 64 };
@@ -21,7 +17,7 @@ static long requests(void)
 /* Executes a command, and returns its reply's code. */
 static uint32_t applied(yarib *table, uint32_t operation, uint32_t feed, uint32_t base, uint8_t len)
 {
-    yarib_command command = {.operation = operation, .feed = feed, .base = base, .len = len, .pref = 1, .hop = YARIB_VIA};
+    const yarib_command command = put_command(operation, feed, base, len, 1, 0);
     yarib_reply reply;
     CHECK(yarib_apply(table, &command, &reply) == YARIB_DONE);
     return reply.code;

@@ -3,13 +3,10 @@
  * same during all that follow, to a fiftieth. A rebuild in between would change it. The forwarding table then answers as a new one
  * does, and takes at most twice its memory. A purge of few routes, or of none, doesn't rebuild it either, while a purge of many routes
  * does. An empty table gives memory back. It prints the sizes. */
-#include <stdbool.h>
-#include <stdio.h>
-#include <stdlib.h>
-#include <string.h>
-#include <yarib.h>
+#include "check.h"
+#include "routes.h"
 
-#define CHECK(holds) ((holds) ? (void)0 : (fprintf(stderr, "%s:%d: %s\n", __FILE__, __LINE__, #holds), exit(1)))
+#include <string.h>
 
 enum { PREFIXES = 60000, HOSTS = 40000, FIRST = 130000, MORE = 390000, STEP = 1000, FEW = 500, MANY = 20000 };
 
@@ -34,8 +31,7 @@ static size_t told(yarib *table)
 
 static yarib_reply apply_by(yarib *table, uint32_t feed, uint32_t operation, const struct prefix *prefix)
 {
-    yarib_command command = {.operation = operation, .feed = feed, .base = prefix->base, .len = prefix->len, .pref = feed == 1,
-                             .hop = YARIB_VIA, .via = draw()};
+    const yarib_command command = put_command(operation, feed, prefix->base, prefix->len, feed == 1, draw());
     yarib_reply reply;
     CHECK(yarib_apply(table, &command, &reply) == YARIB_DONE);
     return reply;

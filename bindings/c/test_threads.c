@@ -1,14 +1,12 @@
 /* Four threads that read one handle and one that changes it. Each call is right or busy, and at the end nothing is lost. The next hop
  * to 10.0.0.0/8 goes up with each change, so no reader sees it go down. */
 #define _POSIX_C_SOURCE 200809L
+#include "check.h"
+
 #include <pthread.h>
 #include <sched.h>
 #include <stdatomic.h>
-#include <stdio.h>
-#include <stdlib.h>
 #include <yarib.h>
-
-#define CHECK(holds) ((holds) ? (void)0 : (fprintf(stderr, "%s:%d: %s\n", __FILE__, __LINE__, #holds), exit(1)))
 
 enum { READERS = 4, CHANGES = 2000, ROUTES = 300, CROWD = 400 };
 

@@ -1,14 +1,12 @@
 /* Views: every number is compared with what the table answers at the edges of all its prefixes, over arrays that are read-only and
  * end at a page that can't be read. Arrays that are too small, that no view is in, or that another table filled are tried too. */
 #define _GNU_SOURCE
-#include <stdio.h>
-#include <stdlib.h>
+#include "check.h"
+#include "routes.h"
+
 #include <string.h>
 #include <sys/mman.h>
 #include <unistd.h>
-#include <yarib.h>
-
-#define CHECK(holds) ((holds) ? (void)0 : (fprintf(stderr, "%s:%d: %s\n", __FILE__, __LINE__, #holds), exit(1)))
 
 enum { MOST = 150000, PAGE = 4096 };
 
@@ -38,8 +36,10 @@ static void change(yarib *table, uint32_t operation, uint32_t routers)
     uint8_t len = lens[draw() % (sizeof lens)];
     uint32_t base = draw() & (len == 0 ? 0 : 0xffffffffu << (32 - len));
     if (draw() % 3 == 0) base &= 0xff0f00ff & (len == 0 ? 0 : 0xffffffffu << (32 - len));
-    yarib_command command = {.operation = operation, .feed = 1 + draw() % 3, .base = base, .len = len, .pref = draw() % 3,
-        .hop = draw() % 8 == 0 ? YARIB_DISCARD : YARIB_VIA, .via = draw() % routers};
+    uint32_t feed = 1 + draw() % 3, preference = draw() % 3;
+    yarib_command command = put_command(operation, feed, base, len, preference, 0);
+    if (draw() % 8 == 0) command.hop = YARIB_DISCARD;
+    command.via = draw() % routers;
     yarib_reply reply;
     CHECK(yarib_apply(table, &command, &reply) == YARIB_DONE);
     note_edges(base, len);
