@@ -1,7 +1,7 @@
 /* A forwarding table in plain C with the same entries, blocks and answers as rt_fib. It is made from the prefixes of a
    file of 32-bit numbers and looks up the file's addresses. The file has the number of each, then base and length of
    each prefix, then the addresses (bench/library.py writes it). The program prints names and nanoseconds of processor time
-   for all calls together, the bytes of the table, and the sum of the preferences that look-ups find. */
+   for all calls together, the bytes of the table, and the sum of the bases and lengths of the prefixes that look-ups find. */
 #define _POSIX_C_SOURCE 200809L
 #include <stdint.h>
 #include <stdio.h>
@@ -78,13 +78,15 @@ static inline struct answer answer_by(uint32_t entry, uint32_t address)
     return answers[entry < LONG ? entry : blocks[entry - LONG][address & 255]];
 }
 
+static uint64_t number_of(struct answer found)
+{
+    return found.is_found ? (uint64_t)found.base + found.len : 0;
+}
+
 static uint64_t look_up(const uint32_t *asked, uint32_t count)
 {
     uint64_t sum = 0;
-    for (uint32_t k = 0; k < count; k++) {
-        struct answer found = answer_by(entries[asked[k] >> 8], asked[k]);
-        if (found.is_found) sum += found.pref;
-    }
+    for (uint32_t k = 0; k < count; k++) sum += number_of(answer_by(entries[asked[k] >> 8], asked[k]));
     return sum;
 }
 
@@ -105,7 +107,7 @@ static uint64_t look_up_each(const uint32_t *asked, uint32_t count)
     for (uint32_t start = 0; start < count; start += CHUNK) {
         uint32_t size = count - start < CHUNK ? count - start : CHUNK;
         look_up_some(asked + start, size, found);
-        for (uint32_t k = 0; k < size; k++) sum += found[k].is_found ? found[k].pref : 0;
+        for (uint32_t k = 0; k < size; k++) sum += number_of(found[k]);
     }
     return sum;
 }

@@ -110,7 +110,7 @@ impl Table {
 }
 
 fn sum(answers: impl Iterator<Item = Option<Route>>) -> u64 {
-    answers.flatten().map(|route| u64::from(route.pref)).sum()
+    answers.flatten().map(|route| u64::from(route.base) + u64::from(route.len)).sum()
 }
 
 fn main() {

@@ -119,7 +119,7 @@ def built_benches(*words):
     room = cache("benches-" + hashlib.sha256(str(TOP).encode()).hexdigest()[:12])
     lines = (TOP / "bench/benches/crates.txt.in").read_text().splitlines()
     lay_out(room, [word for line in lines for word in line.partition(":")[2].split()], lines)
-    for folder in ("bench/benches", "tests/libraries/lent_number", "tests/libraries/recording_gate"):
+    for folder in ("bench/benches", *(f"tests/libraries/{name}" for name in ("lent_number", "recording_gate", "test_routes"))):
         add(room, TOP / folder)
     crate = room / "crates/benches"
     ended = subprocess.run(["rt", "run", "--", *words], cwd=crate, capture_output=True, text=True)
