@@ -15,7 +15,7 @@ import tempfile
 
 from common import figures
 from common.inputs import real_prefixes, write_apart
-from common.table_model import dotted
+from common.table_model import dotted, row
 from common.timed import passed
 
 PEERS = 20
@@ -93,7 +93,7 @@ def of_table(count):
     """The output of `yarib run`."""
     yield f"table {count}\n"
     for prefix in prefixes(count):
-        yield f"{prefix} feed 1 pref 1 via 192.0.2.1\n"
+        yield row(prefix)
 
 
 def of_best_routes(count):
@@ -101,7 +101,7 @@ def of_best_routes(count):
     draw, hops = random.Random(3), range(1, 41)
     for prefix in prefixes(count):
         hop, = draw.choices(hops, [1 / number for number in hops])
-        yield f"{prefix} feed {hop % 20 + 1} pref {draw.choice((1, 1, 1, 2, 3, 100))} via 192.0.2.{hop}\n"
+        yield row(prefix, hop % 20 + 1, draw.choice((1, 1, 1, 2, 3, 100)), f"192.0.2.{hop}")
 
 
 def of_comparison(count):

@@ -1,5 +1,6 @@
 """The model of a table: addresses, the sequential table, and what runs, look-ups, lists and comparisons print."""
 import functools
+import json
 
 
 def dotted(number):
@@ -92,8 +93,26 @@ class Table:
 
 
 def shown(route):
+    """A route as it is printed: (prefix, feed or its name, preference, hop)."""
     prefix, feed, pref, hop = route
     return f"{prefix} feed {feed} pref {pref} via {hop}"
+
+
+def row(prefix, feed=1, preference=1, hop="192.0.2.1"):
+    """The line of a route in a table."""
+    return shown((prefix, feed, preference, hop)) + "\n"
+
+
+def members(route, **more):
+    """The members of a route as an object of JSON; `more` are its feed's name and file."""
+    prefix, feed, preference, hop = route
+    way = {"via": None, "discard": True} if hop == "discard" else {"via": hop}
+    return {"prefix": prefix, "feed": int(feed), **more, "pref": int(preference), **way}
+
+
+def json_text(value):
+    """A value as the program prints it as JSON."""
+    return json.dumps(value, separators=(",", ":"))
 
 
 def differences_text(old, new, by, names=({}, {})):

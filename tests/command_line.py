@@ -27,15 +27,15 @@ import tty
 
 from common import calls
 from common.checks import TOP, Program, chosen, close_all, compare, end, expect, is_unproved, run_each
-from common.table_model import E1, E3, E8, Table, differences_text, dotted
+from common.table_model import E1, E3, E8, Table, differences_text, dotted, json_text, members, row, shown
 from schedules import in_turns, loaded
 from texts import ROW, ROW_OUT
 
 CANNOT_WRITE = (6, "", "yarib: cannot write\n")
 
 
-def route(feed, prefix="10.0.0.0/8", pref=100, hop="192.0.2.1"):
-    return f"{prefix} feed {feed} pref {pref} via {hop}\n"
+def route(feed, prefix="10.0.0.0/8", preference=100, hop="192.0.2.1"):
+    return row(prefix, feed, preference, hop)
 
 
 def table(*routes):
@@ -105,7 +105,7 @@ def many_files(yarib):
         pathlib.Path(names[-1]).write_text(f"add 10.0.0.0/8 {100 - feed} 192.0.2.{feed}\n")
     for count in (63, 64):
         added = "".join(f"{feed}:1 added\n" for feed in range(1, count + 1))
-        routes = [route(feed, pref=100 - feed, hop=f"192.0.2.{feed}") for feed in range(count, 0, -1)]
+        routes = [route(feed, preference=100 - feed, hop=f"192.0.2.{feed}") for feed in range(count, 0, -1)]
         expect(f"{count} files", yarib("run", *names[:count]), (0, added + table(*routes), ""))
     too_many = (3, "", "yarib: more than 64 files\n")
     expect("65 files", yarib("run", *names), too_many)
@@ -794,11 +794,9 @@ def answer_object(text, path_of):
     words = text.split()
     if text == "no route":
         return None
-    way = {"via": None, "discard": True} if words[-1] == "discard" else {"via": words[-1]}
     if len(words) < 7:
-        return way
-    feed = int(words[2])
-    return {"prefix": words[0], "feed": feed, "file": path_of(feed), "pref": int(words[4]), **way}
+        return {"via": None, "discard": True} if words[-1] == "discard" else {"via": words[-1]}
+    return members(words[::2], file=path_of(int(words[2])))
 
 
 # Catches a comparison that swaps old and new, or prints another last address of a range: `as JSON by`.
@@ -852,20 +850,17 @@ def compared_by_name(yarib):
         for name, lines in text.items():
             pathlib.Path(f"{side}/{name}.feed").write_text(lines)
     both = ["older/one.feed", "older/two.feed", "older/three.feed", "--", "newer/two.feed", "newer/three.feed"]
-    gone = "10.0.0.0-10.255.255.255 10.0.0.0/8 feed one pref 5 via 192.0.2.1 -> no route\n"
+    gone = f"10.0.0.0-10.255.255.255 {shown(('10.0.0.0/8', 'one', 5, '192.0.2.1'))} -> no route\n"
     compare("a file that one side lacks", yarib("diff", "--by", "route", "--names", *both), 1, gone)
     expect("and by its number", yarib("diff", "--by", "route", *both)[1].count("\n"), 3)
-    compare("a file that one side lacks, as JSON", yarib("diff", "--by", "route", "--names", "--json", *both), 1, (
-        '{"first":"10.0.0.0","last":"10.255.255.255","old":{"prefix":"10.0.0.0/8","feed":1,"name":"one","file":"older/one.feed",'
-        '"pref":5,"via":"192.0.2.1"},"new":null}\n'))
+    one = members(("10.0.0.0/8", 1, 5, "192.0.2.1"), name="one", file="older/one.feed")
+    compare("a file that one side lacks, as JSON", yarib("diff", "--by", "route", "--names", "--json", *both), 1,
+            json_text({"first": "10.0.0.0", "last": "10.255.255.255", "old": one, "new": None}) + "\n")
     sides = ["older/one.feed", "older/two.feed", "--", "newer/three.feed", "newer/two.feed"]
     moved = yarib("diff", "--by", "route", "--names", "--json", *sides)
     told = [json.loads(line) for line in moved[1].splitlines()]
-    expect("each side's own number and file", [(one["old"], one["new"]) for one in told], [
-        ({"prefix": "10.0.0.0/8", "feed": 1, "name": "one", "file": "older/one.feed", "pref": 5, "via": "192.0.2.1"},
-         None),
-        (None, {"prefix": "12.0.0.0/8", "feed": 1, "name": "three", "file": "newer/three.feed", "pref": 5,
-                "via": "192.0.2.3"})])
+    three = members(("12.0.0.0/8", 1, 5, "192.0.2.3"), name="three", file="newer/three.feed")
+    expect("each side's own number and file", [(found["old"], found["new"]) for found in told], [(one, None), (None, three)])
     for side in (["older/one.feed", "newer/one.feed", "--", "row.feed"],
                  ["row.feed", "--", "older/one.feed", "newer/one.feed"]):
         err = ("yarib: two feeds with the same name (rename a file, or leave out --names): "
@@ -1089,7 +1084,7 @@ def progress(yarib):
     expect("a slow file", on_terminal(slow, none_read, goes_on(ROW)), (0, ROW_OUT, ""))
     expect("a slow file, on a terminal alone", on_terminal(slow, none_read, goes_on(ROW), True), (0, "", ROW_OUT))
     two = on_terminal([yarib, "table", "row.feed", "slow.feed"], "yarib: files read: 1 of 2", goes_on("frob\n"))
-    expect("a slow second file, and a fault", two, (2, "10.0.0.0/8 feed 1 pref 100 via 192.0.2.1\n", fault))
+    expect("a slow second file, and a fault", two, (2, route(1), fault))
     asked = [yarib, "lookup", "--address", "10.0.0.1", "slow.feed"]
     expect("a slow file of a look-up", on_terminal(asked, none_read, goes_on("frob\n")),
            (2, "10.0.0.1 no route\n", fault))

@@ -17,7 +17,7 @@ import signal
 import subprocess
 
 from common.checks import LAUNCHED, chosen, close_all, end, expect, run, run_each
-from common.table_model import run_text
+from common.table_model import row, run_text
 from refusing import Wrong, answered_addresses, check_shown, refuse_each, refuser, run_refused
 from texts import AGAIN, FORWARDED, ROW, ROW_OUT, many_routes, own_text, written
 
@@ -172,19 +172,19 @@ def files(yarib):
 # files`.
 # Catches F3 for more than 33 texts, or a `lookup` that rejects 64 files: `addresses from a pipe and 64 files`.
 def one_file_over_and_over(yarib):
-    row = pathlib.Path("row.feed").resolve()
-    row.write_text(ROW)
-    both = "1:1 added\n2:1 added\ntable 2\n" + "".join(f"10.0.0.0/8 feed {k} pref 100 via 192.0.2.1\n" for k in (1, 2))
-    expect("the same file twice", yarib("run", row, row), (0, both, ""))
+    file = pathlib.Path("row.feed").resolve()
+    file.write_text(ROW)
+    both = "1:1 added\n2:1 added\ntable 2\n" + "".join(row("10.0.0.0/8", k, 100) for k in (1, 2))
+    expect("the same file twice", yarib("run", file, file), (0, both, ""))
     for count in (1, 7, 64):
-        listed = "".join(f"10.0.0.0/8 feed {k} pref 100 via 192.0.2.1\n" for k in range(1, count + 1))
-        expect(f"the table of {count} files", yarib("table", *[row] * count), (0, listed, ""))
-        found = yarib("lookup", "--addresses", "/dev/stdin", *[row] * count, input=b"10.0.0.1\n")
+        listed = "".join(row("10.0.0.0/8", k, 100) for k in range(1, count + 1))
+        expect(f"the table of {count} files", yarib("table", *[file] * count), (0, listed, ""))
+        found = yarib("lookup", "--addresses", "/dev/stdin", *[file] * count, input=b"10.0.0.1\n")
         expect(f"addresses from a pipe and {count} files", found,
                (0, "10.0.0.1 route " + listed.splitlines(True)[0], ""))
         first, *others = listed.splitlines()
         every = f"10.0.0.1 route {first}\n" + "".join(f"10.0.0.1 also {line} feed\n" for line in others)
-        found = yarib("lookup", "--all", "--address", "10.0.0.1", *[row] * count)
+        found = yarib("lookup", "--all", "--address", "10.0.0.1", *[file] * count)
         expect(f"all that covers, in {count} files", found, (0, every, ""))
 
 

@@ -24,7 +24,7 @@ import pathlib
 import subprocess
 
 from common.checks import LAUNCHED, chosen, compare, end, expect, run_each
-from common.table_model import all_answers_text, answers_text, dotted, ran, run_text, told_text
+from common.table_model import all_answers_text, answers_text, dotted, json_text, members, ran, row, run_text, told_text
 from texts import FORWARDED, many_routes
 
 MOST = 1_000_000
@@ -34,14 +34,14 @@ MOST = 1_000_000
 def million(yarib):
     """A feed that fills its limit with single addresses in no order, the last one among them, and goes on."""
     bases = [0xFFFF_FFFF - at * 2_654_435_761 % 2**32 for at in range(MOST)]
-    prefs = [0xFFFF_FFFF - at % 7 for at in range(MOST)]
-    lines = [f"add {dotted(base)}/32 {pref} 192.0.2.1\n" for base, pref in zip(bases, prefs)]
-    shown = lambda at: f"{dotted(bases[at])}/32 feed 1 pref {prefs[at]} via 192.0.2.1"
+    preferences = [0xFFFF_FFFF - at % 7 for at in range(MOST)]
+    lines = [f"add {dotted(base)}/32 {preference} 192.0.2.1\n" for base, preference in zip(bases, preferences)]
+    listed = lambda at: row(f"{dotted(bases[at])}/32", 1, preferences[at])
     answers = ["added"] * MOST
     rest = [
         ("add 0.0.0.0/0 1 192.0.2.1", "full"),
-        ("lookup 255.255.255.255", "route " + shown(0)),
-        (f"lookup {dotted(bases[-1])}", "route " + shown(MOST - 1)),
+        ("lookup 255.255.255.255", "route " + listed(0).strip()),
+        (f"lookup {dotted(bases[-1])}", "route " + listed(MOST - 1).strip()),
         ("dump", f"dumped {MOST}"),
         ("withdraw 255.255.255.255/32", "withdrawn"),
         ("lookup 255.255.255.255", "no route"),
@@ -56,12 +56,12 @@ def million(yarib):
     order = sorted(range(MOST), key=bases.__getitem__)
     pathlib.Path("million.feed").write_text(text)
     words = ["run", "--limit", str(MOST), "--batch", "1024", "million.feed"]
-    table = f"table {MOST}\n" + "".join(shown(at) + "\n" for at in order)
+    table = f"table {MOST}\n" + "".join(map(listed, order))
     compare("a million routes", yarib(*words), 0, report + table)
     at = len(answers) + 2
     pathlib.Path("million.feed").write_text(text + "purge\npurge\ndump\nadd 0.0.0.0/0 0 discard\n")
     left = f"1:{at} purged {MOST}\n1:{at + 1} purged 0\n1:{at + 2} dumped 0\n1:{at + 3} added\n"
-    left += "table 1\n0.0.0.0/0 feed 1 pref 0 via discard\n"
+    left += "table 1\n" + row("0.0.0.0/0", 1, 0, "discard")
     compare("a purge of a million routes", yarib(*words), 0, report + left)
 
 
@@ -132,12 +132,12 @@ add {feed + 10}.128.0.0/9 0 discard
     pathlib.Path("empty.feed").write_text("")
     last = texts[-1].replace("version 2\n", "").replace("discard", "192.0.2.9")
     pathlib.Path("last.feed").write_text("dump\n" + last + "dump\n")
-    answers = ["dumped 0", "added", "added", "added", "route 74.0.0.0/8 feed 64 pref 64 via 192.0.2.1",
+    answers = ["dumped 0", "added", "added", "added", "route " + row("74.0.0.0/8", 64, 64).strip(),
                "replaced", "withdrawn", "added", "dumped 3"]
     report = "".join(f"64:{line} {answer}\n" for line, answer in enumerate(answers, 1))
-    routes = ["10.0.0.0/8 feed 64 pref 0 via 192.0.2.64", "74.128.0.0/9 feed 64 pref 0 via 192.0.2.9",
-              "255.255.255.255/32 feed 64 pref 4294967294 via 192.0.2.64"]
-    wanted = report + "table 3\n" + "".join(line + "\n" for line in routes)
+    routes = [("10.0.0.0/8", 64, 0, "192.0.2.64"), ("74.128.0.0/9", 64, 0, "192.0.2.9"),
+              ("255.255.255.255/32", 64, 4294967294, "192.0.2.64")]
+    wanted = report + "table 3\n" + "".join(row(*route) for route in routes)
     compare("feed 64 alone asks", yarib("run", *["empty.feed"] * 63, "last.feed"), 0, wanted)
 
 
@@ -173,21 +173,22 @@ def many_offers(yarib):
     for feed in range(1, 4):
         pathlib.Path(f"{feed}.feed").write_text("".join(f"add {base}/24 {9 - feed} 192.0.2.{feed}\n" for base in bases))
     report = "".join(f"{feed}:{line} added\n" for feed in range(1, 4) for line in range(1, 100_001))
-    offers = lambda base: "".join(f"{base}/24 feed {feed} pref {9 - feed} via 192.0.2.{feed}\n" for feed in (3, 2, 1))
+    offer = lambda base, feed: row(f"{base}/24", feed, 9 - feed, f"192.0.2.{feed}")
+    offers = lambda base: "".join(offer(base, feed) for feed in (3, 2, 1))
     sorted_bases = [dotted(0x0100_0000 + (at << 8)) for at in range(100_000)]
     ended = yarib("run", "--limit", "100000", "--batch", "256", "1.feed", "2.feed", "3.feed")
     routes = "".join(map(offers, sorted_bases))
     compare("300,000 routes of three feeds", ended, 0, report + "table 300000\n" + routes)
-    best = "".join(f"{base}/24 feed 3 pref 6 via 192.0.2.3\n" for base in sorted_bases)
+    best = "".join(offer(base, 3) for base in sorted_bases)
     words = ["--limit", "100000", "1.feed", "2.feed", "3.feed"]
     compare("the table of 300,000 routes", yarib("table", *words), 0, routes)
     compare("the best of 300,000 routes", yarib("table", "--best", *words), 0, best)
     pathlib.Path("asked.txt").write_text("".join(f"{base}\n" for base in bases))
-    answers = "".join(f"{base} route {base}/24 feed 3 pref 6 via 192.0.2.3\n" for base in bases)
+    answers = "".join(f"{base} route {offer(base, 3)}" for base in bases)
     compare("100,000 addresses", yarib("lookup", "--addresses", "asked.txt", *words), 0, answers)
     also = lambda base: "".join(
-        f"{base} also {base}/24 feed {feed} pref {9 - feed} via 192.0.2.{feed} preference\n" for feed in (2, 1))
-    answers = "".join(f"{base} route {base}/24 feed 3 pref 6 via 192.0.2.3\n" + also(base) for base in bases)
+        f"{base} also {offer(base, feed).strip()} preference\n" for feed in (2, 1))
+    answers = "".join(f"{base} route {offer(base, 3)}{also(base)}" for base in bases)
     compare("all that covers 100,000 addresses",
             yarib("lookup", "--all", "--addresses", "asked.txt", *words), 0, answers)
 
@@ -197,8 +198,8 @@ def many_offers(yarib):
 def at_limit(yarib):
     """As many routes as a feed of `run` may have by default, and one more, which the other commands accept."""
     routes = [f"10.{at >> 8}.{at & 255}.0/24" for at in range(65_536)]
-    listed = [f"{prefix} feed 1 pref 1 via 192.0.2.1\n" for prefix in [*routes, "11.0.0.0/24"]]
-    pathlib.Path("full.feed").write_text("".join(f"add {row.split()[0]} 1 192.0.2.1\n" for row in listed))
+    listed = [row(prefix) for prefix in [*routes, "11.0.0.0/24"]]
+    pathlib.Path("full.feed").write_text("".join(f"add {line.split()[0]} 1 192.0.2.1\n" for line in listed))
     compare("the table of a full feed and 1 more", yarib("table", "full.feed"), 0, "".join(listed))
     ended = yarib("lookup", "--address", "11.0.0.1", "full.feed")
     compare("a look-up in a full feed and 1 more", ended, 0, f"11.0.0.1 route {listed[-1]}")
@@ -219,12 +220,12 @@ def at_greatest_limit(yarib):
     pathlib.Path("full.feed").write_text("".join(f"add {place}/32 1 192.0.2.1\n" for place in places[:MOST]))
     pathlib.Path("over.feed").write_text("".join(f"add {place}/32 1 192.0.2.1\n" for place in places))
     over = "yarib: over.feed: adds over the limit: 1\n"
-    row = lambda place: f"{place}/32 feed 1 pref 1 via 192.0.2.1\n"
+    host = lambda place: row(f"{place}/32")
     asked = ["--address", places[MOST - 1], "--address", places[MOST]]
-    answers = f"{places[MOST - 1]} route {row(places[MOST - 1])}{places[MOST]} no route\n"
+    answers = f"{places[MOST - 1]} route {host(places[MOST - 1])}{places[MOST]} no route\n"
     ranges = "".join(f"{place}-{place} no route -> via 192.0.2.1\n" for place in places[:MOST])
     for name, count, status, err in (("full.feed", MOST, 0, ""), ("over.feed", MOST + 1, 2, over)):
-        compare(f"the table of {count} routes", yarib("table", name), status, "".join(map(row, places[:MOST])), err)
+        compare(f"the table of {count} routes", yarib("table", name), status, "".join(map(host, places[:MOST])), err)
         compare(f"a look-up in {count} routes", yarib("lookup", *asked, name), status, answers, err)
         compare(f"{count} routes compared with none", yarib("diff", "none.feed", "--", name), max(status, 1), ranges, err)
 
@@ -248,20 +249,20 @@ def covered(yarib):
         ended = yarib("lookup", "--all", *[f"--address={addr}" for addr in asked], *names)
         compare(f"addresses that {counts[0]} to {sum(counts)} routes cover", ended, 0, all_answers_text(texts, asked))
         listed = ran(texts, set())[1].listed()
-        covers = lambda row, addr: ipaddress.IPv4Address(addr) in ipaddress.IPv4Network(row.split()[0])
+        covers = lambda line, addr: ipaddress.IPv4Address(addr) in ipaddress.IPv4Network(line.split()[0])
         for addr in asked[:: 8 if name == "some" else 1]:
-            rows = [row for row in listed if covers(row, addr)]
+            rows = [line for line in listed if covers(line, addr)]
             compare(f"{len(rows)} routes by --covering", yarib("table", "--covering", f"{addr}/32", *names), 0,
-                    "".join(row + "\n" for row in rows))
+                    "".join(line + "\n" for line in rows))
 
 
 def rows_by_options(places, name):
     """The output of `table`, `lookup` and `diff` for the route of each place, a single address, of the first file,
     which has this name: calls with options, and their outputs."""
-    row = '"feed":1,{}"file":"{}.feed","pref":1,"via":"192.0.2.1"}}'
-    hop, route = "via 192.0.2.1", "{0}/32 feed {1} pref 1 via 192.0.2.1"
-    said = '{{"prefix":"{0}/32",' + row.format("", name).replace("}", "}}")
-    named = '{{"prefix":"{0}/32",' + row.format(f'"name":"{name}",', name).replace("}", "}}")
+    whole = ("{0}/32", 1, 1, "192.0.2.1")
+    said, named = (json_text(members(whole, **names, file=f"{name}.feed")).replace("{", "{{").replace("}", "}}")
+                   .replace("{{0}}", "{0}") for names in ({}, {"name": name}))
+    hop, route = "via 192.0.2.1", row("{0}/32", "{1}").strip()
     tables = [(options, route) for options in (
         ["--within", "10.0.0.0/7"], ["--feed", "1"], ["--best"], ["--best", "--feed", "1"])]
     tables += [(["--names"], route.replace("{1}", name)), (["--json"], said), (["--names", "--json"], named),
@@ -305,26 +306,27 @@ def options(yarib):
 def names(yarib):
     """Feeds by name and as JSON: from 1 to 64 files, and names up to the longest of a file."""
     files = [f"file{feed}.feed" for feed in range(1, 65)]
-    line = '{{"prefix":"10.0.0.0/8","feed":{0},"name":"file{0}","file":"file{0}.feed","pref":{0},"via":"192.0.2.1"}}\n'
-    row = "10.0.0.0/8 feed file{0} pref {0} via 192.0.2.1\n"
+    named = lambda feed: row("10.0.0.0/8", f"file{feed}", feed)
+    told = lambda feed: json_text(
+        members(("10.0.0.0/8", feed, feed, "192.0.2.1"), name=f"file{feed}", file=f"file{feed}.feed")) + "\n"
     for feed, file in enumerate(files, 1):
         pathlib.Path(file).write_text(f"add 10.0.0.0/8 {feed} 192.0.2.1\n")
     for count in range(1, 65):
         each = range(1, count + 1)
-        compare(f"--names of {count} files", yarib("table", "--names", *files[:count]), 0, "".join(map(row.format, each)))
+        compare(f"--names of {count} files", yarib("table", "--names", *files[:count]), 0, "".join(map(named, each)))
         ended = yarib("table", "--names", "--json", *files[:count])
-        compare(f"--names --json of {count} files", ended, 0, "".join(map(line.format, each)))
+        compare(f"--names --json of {count} files", ended, 0, "".join(map(told, each)))
         sides = yarib("diff", "--by", "route", "--names", *files[:count], "--", *reversed(files[:count]))
         compare(f"diff --names of {count} files", sides, 0, "")
         asked = yarib("lookup", "--names", "--address", "10.0.0.1", *files[:count])
-        compare(f"lookup --names of {count} files", asked, 0, "10.0.0.1 route " + row.format(1))
+        compare(f"lookup --names of {count} files", asked, 0, "10.0.0.1 route " + named(1))
     for size in (1, 63, 64, 65, 199, 200, 201, 249, 250):
         name = "n" * size
         for folder in ("", "d" * 250 + "/", ("d" * 250 + "/") * 3):
             os.makedirs(folder or ".", exist_ok=True)
             pathlib.Path(f"{folder}{name}.feed").write_text("add 10.0.0.0/8 1 192.0.2.1\n")
             ended = yarib("table", "--names", "--feed", "1", f"{folder}{name}.feed", "file1.feed")
-            compare(f"a name of {size} bytes", ended, 0, f"10.0.0.0/8 feed {name} pref 1 via 192.0.2.1\n")
+            compare(f"a name of {size} bytes", ended, 0, row("10.0.0.0/8", name))
 
 
 # Catches F3 for a comparison of more than 8,192 or 262,144 nodes, or after 1,000 ranges: `8193 routes that differ`,
@@ -348,7 +350,7 @@ def compared(yarib):
 # Catches F3 for more than 100,000 or 1,000,000 addresses: `100001 addresses`, `1000001 addresses`.
 def addresses(yarib):
     pathlib.Path("row.feed").write_text("add 10.0.0.0/8 1 192.0.2.1\n")
-    answer = "10.0.0.1 route 10.0.0.0/8 feed 1 pref 1 via 192.0.2.1\n"
+    answer = "10.0.0.1 route " + row("10.0.0.0/8")
     for count in (100_001, MOST + 1, 2_500_000):
         pathlib.Path("asked.txt").write_text("10.0.0.1\n" * count)
         for words in ([], ["--all"]):
@@ -382,7 +384,6 @@ def in_all(yarib):
     pathlib.Path("whole.feed").write_text("".join(adds))
     pathlib.Path("rest.feed").write_text("".join(adds[:left]))
     names = ["whole.feed"] * 15 + ["rest.feed"]
-    row = lambda place, feed: f"{place} feed {feed} pref 1 via 192.0.2.1\n"
     listed = "".join(row(place, feed) for at, place in enumerate(places) for feed in range(1, 17 if at < left else 16))
     compare("the table of 1000001 routes in all", yarib("table", *names), 0, listed)
     report = "".join(f"{feed}:{line} added\n" for feed in range(1, 17)
@@ -400,11 +401,11 @@ def in_all(yarib):
 # Catches a filter that copies the whole table: `--within a /16: bytes more than a look-up`.
 def part_of_a_million(yarib):
     """The routes of a million that are in a /16, and their number: after loading, only the rows allocate memory."""
-    row = lambda at: f"{dotted(0x0A00_0000 + 64 * at)}/32 feed 1 pref 1 via 192.0.2.1\n"
-    pathlib.Path("million.feed").write_text("".join(f"add {row(at).split()[0]} 1 192.0.2.1\n" for at in range(MOST)))
-    few = "".join(map(row, range(1024, 2048)))
+    place = lambda at: f"{dotted(0x0A00_0000 + 64 * at)}/32"
+    pathlib.Path("million.feed").write_text("".join(f"add {place(at)} 1 192.0.2.1\n" for at in range(MOST)))
+    few = "".join(row(place(at)) for at in range(1024, 2048))
     counts = lambda count: f"routes {count} prefixes {count}\nfeed 1 routes {count}\nlength 32 routes {count}\n"
-    calls = {"a look-up": (["lookup", "--address", "10.255.0.0"], "10.255.0.0 route " + row(255 * 1024)),
+    calls = {"a look-up": (["lookup", "--address", "10.255.0.0"], "10.255.0.0 route " + row(place(255 * 1024))),
              "--within a /16": (["table", "--within", "10.1.0.0/16"], few),
              "--count within a /16": (["table", "--count", "--within", "10.1.0.0/16"], counts(1024)),
              "--count of all": (["table", "--count"], counts(MOST))}

@@ -1,10 +1,10 @@
 """Texts of feeds that several scripts run, and their outputs."""
 import pathlib
 
-from common.table_model import dotted
+from common.table_model import dotted, row, shown
 
 ROW = "add 10.0.0.0/8 100 192.0.2.1\n"
-ROW_OUT = "1:1 added\ntable 1\n10.0.0.0/8 feed 1 pref 100 via 192.0.2.1\n"
+ROW_OUT = "1:1 added\ntable 1\n" + row("10.0.0.0/8", 1, 100)
 
 # Lines that leave the table as it was.
 AGAIN = "add 10.0.0.0/8 100 192.0.2.1\nlookup 10.1.2.3\nwithdraw 10.0.0.0/8\ndump\n"
@@ -40,9 +40,9 @@ def many_routes(count):
     """A feed of `count` routes, addresses in and between them, and what a look-up of each prints."""
     lines, asked, answers = ["version 2\n", "add 8.0.0.0/5 9 discard\n"], [], []
 
-    def ask(addr, answer):
+    def ask(addr, route=None):
         asked.append(f"{addr}\n")
-        answers.append(f"{addr} {answer}\n")
+        answers.append(f"{addr} route {shown(route)}\n" if route else f"{addr} no route\n")
 
     for at in range((count - 1) // 4):
         base = 0x0A00_0000 + (at << 10)
@@ -50,13 +50,13 @@ def many_routes(count):
         lines += [f"add {whole} 3 192.0.2.1\n", f"add {part} 2 192.0.2.2\n", f"add {host} 1 192.0.2.3\n"]
         lines.append(f"add {dotted(base + 768)}/24 4 192.0.2.4\n")
         for place in (0, 255, 272, 510):
-            ask(dotted(base + place), f"route {whole} feed 1 pref 3 via 192.0.2.1")
+            ask(dotted(base + place), (whole, 1, 3, "192.0.2.1"))
         for place in (256, 271):
-            ask(dotted(base + place), f"route {part} feed 1 pref 2 via 192.0.2.2")
-        ask(dotted(base + 511), f"route {host} feed 1 pref 1 via 192.0.2.3")
-        ask(dotted(base + 512), "route 8.0.0.0/5 feed 1 pref 9 via discard")
-        ask(dotted(base + 1023), f"route {dotted(base + 768)}/24 feed 1 pref 4 via 192.0.2.4")
+            ask(dotted(base + place), (part, 1, 2, "192.0.2.2"))
+        ask(dotted(base + 511), (host, 1, 1, "192.0.2.3"))
+        ask(dotted(base + 512), ("8.0.0.0/5", 1, 9, "discard"))
+        ask(dotted(base + 1023), (f"{dotted(base + 768)}/24", 1, 4, "192.0.2.4"))
     lines += [f"add 15.0.0.{place}/32 5 discard\n" for place in range((count - 1) % 4)]
-    ask("7.255.255.255", "no route")
-    ask("255.255.255.255", "no route")
+    ask("7.255.255.255")
+    ask("255.255.255.255")
     return "".join(lines), asked, answers
