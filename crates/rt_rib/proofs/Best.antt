@@ -12,7 +12,7 @@ use Rattle.rt_rib.specs.Table.{is_better, is_of, IsTable}
 use Rattle.rt_rib.specs.LookUp.{matching, longest_of, best, look_up, beats}
 use Rattle.rt_rib.specs.Laws.{IsBestMatch, LookUpFindsBest}
 use Rattle.rt_rib.proofs.Lists.{AllPairs-head, AllPairs-tail, filter-none, list_all-from}
-use Rattle.rt_rib.proofs.Order.{below_then-true, below_then-false, below_then-less, below_then-same, below_then-trans, is_better-trans, is_better-itself}
+use Rattle.rt_rib.proofs.Order.{below_then-true, below_then-false, below_then-less, below_then-same, below_then-trans, is_better-trans, is_better-itself, better-over, even}
 use Rattle.rt_rib.proofs.Order.{is_of-from}
 use Rattle.rt_rib.proofs.Tables.{Apart, Apart-flip}
 use Rattle.rt_rib.proofs.Sets.{Contains-head, Contains-tail, Contains-cases, Contains-none, filter-keeps, filter-from}
@@ -74,17 +74,6 @@ one_of (x ∷ t) h r s c d e =
       ]
     ]
 
--- if neither of two routes is better, they have the same preference and feed
-pub even : (r s : Route) → is_better r s ≡ false → is_better s r ≡ false → s.feed ≡ r.feed
-even r s a b =
-    elim (below_then-false r.pref s.pref (ltb r.feed s.feed) a) [
-      | inl less ↦ elim (below_then-false s.pref r.pref (ltb s.feed r.feed) b) [ inl more ↦ omega arith | inr same ↦ let e = same.0 in omega arith ]
-      | inr same ↦ elim (below_then-false s.pref r.pref (ltb s.feed r.feed) b) [
-        | inl more ↦ let e = same.0 in omega arith
-        | inr also ↦ let low = ltb-false r.feed s.feed same.1 in let high = ltb-false s.feed r.feed also.1 in omega arith
-      ]
-    ]
-
 -- if r beats u and s doesn't, then r beats s
 beats-over : (r s u : Route) → beats r u ≡ true → beats s u ≡ false → beats r s ≡ true
 beats-over r s u x y =
@@ -100,25 +89,7 @@ beats-over r s u x y =
             let f = same.0 in
             below_then-same s.prefix.len r.prefix.len (is_better r s) (omega arith) (better-over r s u also.1 same.1)
       ]
-    ] where
-      -- the same for preference and feed
-      better-over : (r s u : Route) → is_better r u ≡ true → is_better s u ≡ false → is_better r s ≡ true
-      better-over r s u x y =
-          elim (below_then-true r.pref u.pref (ltb r.feed u.feed) x) [
-            | inl less ↦ elim (below_then-false s.pref u.pref (ltb s.feed u.feed) y) [
-              | inl more ↦ below_then-less r.pref s.pref (ltb r.feed s.feed) (omega arith)
-              | inr same ↦ let e = same.0 in below_then-less r.pref s.pref (ltb r.feed s.feed) (omega arith)
-            ]
-            | inr also ↦ elim (below_then-false s.pref u.pref (ltb s.feed u.feed) y) [
-              | inl more ↦ let e = also.0 in below_then-less r.pref s.pref (ltb r.feed s.feed) (omega arith)
-              | inr same ↦
-                  let e = also.0 in
-                  let f = same.0 in
-                  let low = ltb-true r.feed u.feed also.1 in
-                  let high = ltb-false s.feed u.feed same.1 in
-                  below_then-same r.pref s.pref (ltb r.feed s.feed) (omega arith) (lt-ltb r.feed s.feed (omega arith))
-            ]
-          ]
+    ]
 
 -- no route beats itself
 pub beats-itself : (r : Route) → beats r r ≡ false

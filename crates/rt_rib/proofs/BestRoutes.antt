@@ -17,10 +17,10 @@ use Rattle.rt_rib.specs.Table.{below_then, is_better, is_of, precedes, IsTable}
 use Rattle.rt_rib.specs.LookUp.{look_up, best_routes}
 use Rattle.rt_rib.specs.Laws.{IsBestMatch, BestRoutesSuffice}
 use Rattle.rt_rib.proofs.Lists.{AllPairs-head, AllPairs-tail}
-use Rattle.rt_rib.proofs.Order.{below_then-true, is_better-itself, is_better-trans, is_of-from}
+use Rattle.rt_rib.proofs.Order.{below_then-true, is_better-itself, is_better-trans, is_of-from, even}
 use Rattle.rt_rib.proofs.Tables.{Ordered, Apart}
 use Rattle.rt_rib.proofs.Sets.{Contains-head, Contains-tail, Contains-cases, Contains-none, filter-keeps, filter-from, one_table_of_set}
-use Rattle.rt_rib.proofs.Best.{list_all-contained, list_all-from_contained, even, look_up_finds_best}
+use Rattle.rt_rib.proofs.Best.{list_all-contained, list_all-from_contained, look_up_finds_best}
 
 module _ {X : Type 0} (R : X → X → Type 0) where
   -- the list without its second element

@@ -4,12 +4,14 @@ use Rattle.std.proofs.lemmas.Bool.{le-leb, lt-leb}
 use Rattle.rt_cidr.specs.declared.address.Addr.{Addr}
 use Rattle.rt_cidr.specs.declared.prefixes.Prefix.{Prefix}
 use Rattle.rt_rib.specs.declared.routes.Route.{Route}
+use Rattle.rt_rib.specs.declared.commands.Cmd.{Cmd}
 use Rattle.rt_rib.specs.declared.commands.Cmd.TheVariants.{Add, Replace, Withdraw, Lookup, Dump, Purge}
 use Rattle.rt_rib.specs.declared.commands.Reply.TheVariants.{Added, Exists, Full, Replaced, Withdrawn, Missing, Found, NoRoute, Dumped, Purged}
 use Rattle.rt_rib.specs.Table.{has, count_of, put_in, take_out, purge}
 use Rattle.rt_rib.specs.LookUp.{look_up}
 use Rattle.rt_rib.specs.Sequential.{reply_of, table_after}
 use Rattle.rt_rib.specs.Book.{TableState, Serves}
+use Rattle.rt_rib.specs.inside.Commands.{add_of, replace_of}
 
 -- a limit and routes
 abbrev pub state : ℕ → List Route → TableState
@@ -17,29 +19,29 @@ state limit t = record { limit = limit; routes = t }
 
 module _ (limit : ℕ) (t : List Route) (r : Route) where
   -- an add to a feed that has the route
-  pub exists : has r.feed r.prefix t ≡ true → Serves (state limit t) (state limit t) r.feed (Add r.prefix r.pref r.hop) Exists
+  pub exists : has r.feed r.prefix t ≡ true → Serves (state limit t) (state limit t) r.feed (add_of r) Exists
   unfolding reply_of table_after
   exists there = record { replied = rw there; changed = rw there }
 
   -- an add to a feed that has reached its limit
-  pub full : has r.feed r.prefix t ≡ false → limit ≤ count_of r.feed t → Serves (state limit t) (state limit t) r.feed (Add r.prefix r.pref r.hop) Full
+  pub full : has r.feed r.prefix t ≡ false → limit ≤ count_of r.feed t → Serves (state limit t) (state limit t) r.feed (add_of r) Full
   unfolding reply_of table_after
   full fresh many = let at = le-leb limit (count_of r.feed t) many in record { replied = rw (fresh, at); changed = rw (fresh, at) }
 
   -- any other add
   pub added : has r.feed r.prefix t ≡ false → count_of r.feed t < limit → (u : List Route) → u ≡ put_in r t
-      → Serves (state limit t) (state limit u) r.feed (Add r.prefix r.pref r.hop) Added
+      → Serves (state limit t) (state limit u) r.feed (add_of r) Added
   unfolding reply_of table_after
   added fresh room u is = let at = lt-leb limit (count_of r.feed t) room in record { replied = rw (fresh, at); changed = rw (is, fresh, at) }
 
   -- a replacement without a route
-  pub unreplaced : has r.feed r.prefix t ≡ false → Serves (state limit t) (state limit t) r.feed (Replace r.prefix r.pref r.hop) Missing
+  pub unreplaced : has r.feed r.prefix t ≡ false → Serves (state limit t) (state limit t) r.feed (replace_of r) Missing
   unfolding reply_of table_after
   unreplaced fresh = record { replied = rw fresh; changed = rw fresh }
 
   -- a replacement of a route
   pub replaced : has r.feed r.prefix t ≡ true → (u : List Route) → u ≡ put_in r (take_out r.feed r.prefix t)
-      → Serves (state limit t) (state limit u) r.feed (Replace r.prefix r.pref r.hop) Replaced
+      → Serves (state limit t) (state limit u) r.feed (replace_of r) Replaced
   unfolding reply_of table_after
   replaced there u is = record { replied = rw there; changed = rw (is, there) }
 
@@ -74,3 +76,15 @@ module _ (limit : ℕ) (t : List Route) (feed : ℕ) where
   pub dumped : Serves (state limit t) (state limit t) feed Dump (Dumped (length t))
   unfolding reply_of table_after
   dumped = record { replied = refl; changed = refl }
+
+-- what holds of each kind of command holds of every command; a route that is put is of the command's feed
+pub each_command : (P : ℕ → Cmd → Type 0) → ((r : Route) → P r.feed (add_of r)) → ((r : Route) → P r.feed (replace_of r))
+    → ((feed : ℕ) (prefix : Prefix) → P feed (Withdraw prefix)) → ((feed : ℕ) (addr : Addr) → P feed (Lookup addr)) → ((feed : ℕ) → P feed Dump)
+    → ((feed : ℕ) → P feed Purge) → (feed : ℕ) (cmd : Cmd) → P feed cmd
+each_command P adds replaces withdraws asks counts purges feed (Add p pref hop) = adds (record { prefix = p; feed = feed; pref = pref; hop = hop })
+each_command P adds replaces withdraws asks counts purges feed (Replace p pref hop) =
+    replaces (record { prefix = p; feed = feed; pref = pref; hop = hop })
+each_command P adds replaces withdraws asks counts purges feed (Withdraw p) = withdraws feed p
+each_command P adds replaces withdraws asks counts purges feed (Lookup addr) = asks feed addr
+each_command P adds replaces withdraws asks counts purges feed Dump = counts feed
+each_command P adds replaces withdraws asks counts purges feed Purge = purges feed

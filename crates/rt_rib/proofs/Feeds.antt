@@ -10,7 +10,6 @@ use Rattle.std.specs.List.{filter, list_any, count_by}
 use Rattle.rt_cidr.specs.declared.prefixes.Prefix.{Prefix}
 use Rattle.rt_rib.specs.declared.routes.Route.{Route}
 use Rattle.rt_rib.specs.declared.commands.Cmd.{Cmd}
-use Rattle.rt_rib.specs.declared.commands.Cmd.TheVariants.{Add, Replace, Withdraw, Lookup, Dump, Purge}
 use Rattle.rt_rib.specs.declared.commands.Entry.{Entry}
 use Rattle.rt_rib.specs.Table.{is_of, has, count_of, put_in, take_out, purge, IsTable}
 use Rattle.rt_rib.specs.Sequential.{reply_of, table_after, table_of_journal}
@@ -19,6 +18,7 @@ use Rattle.rt_rib.proofs.Lists.{filter-none}
 use Rattle.rt_rib.proofs.Order.{is_of-parts}
 use Rattle.rt_rib.proofs.Tables.{Ordered, Apart, IsTable-put_in, IsTable-take_out, IsTable-nil, has-take_out}
 use Rattle.rt_rib.proofs.Journals.{step, IsTable-after}
+use Rattle.rt_rib.proofs.CommandCases.{each_command}
 use Rattle.rt_rib.proofs.Sets.{filter-keeps, filter-from, put_in_adds, take_out_leaves_others, one_table_of_set}
 
 -- if a test implies a filter's, some element satisfies it in the filtered list if and only if one does in the whole
@@ -176,60 +176,66 @@ purge-own feed t =
 after_other : (limit : ℕ) (t : List Route) (feed mover : ℕ) (cmd : Cmd) → IsTable t → (mover ≡ feed → ⊥)
     → feed_routes feed (table_after limit t mover cmd) ≡ feed_routes feed t
 unfolding table_after
-after_other limit t feed mover (Add p pref hop) h other =
-    let r : Route = record { prefix = p; feed = mover; pref = pref; hop = hop } in
-    cond_both (has mover p t) t (if leb limit (count_of mover t) then t else put_in r t) (λ u. feed_routes feed u ≡ feed_routes feed t) (λ there. refl)
-    (λ fresh. cond_both (leb limit (count_of mover t)) t (put_in r t) (λ u. feed_routes feed u ≡ feed_routes feed t) (λ full. refl)
-    (λ room. own-put_in_other t h feed r fresh other))
-after_other limit t feed mover (Replace p pref hop) h other =
-    let r : Route = record { prefix = p; feed = mover; pref = pref; hop = hop } in
-    cond_both (has mover p t) (put_in r (take_out mover p t)) t (λ u. feed_routes feed u ≡ feed_routes feed t)
+after_other limit t feed =
+    each_command (λ mover cmd. IsTable t → (mover ≡ feed → ⊥) → feed_routes feed (table_after limit t mover cmd) ≡ feed_routes feed t)
+    (λ r h other.
+    cond_both (has r.feed r.prefix t) t (if leb limit (count_of r.feed t) then t else put_in r t) (λ u. feed_routes feed u ≡ feed_routes feed t)
+    (λ there. refl)
+    (λ fresh. cond_both (leb limit (count_of r.feed t)) t (put_in r t) (λ u. feed_routes feed u ≡ feed_routes feed t) (λ full. refl)
+    (λ room. own-put_in_other t h feed r fresh other)))
+    (λ r h other.
+    cond_both (has r.feed r.prefix t) (put_in r (take_out r.feed r.prefix t)) t (λ u. feed_routes feed u ≡ feed_routes feed t)
     (λ there.
-    own-put_in_other (take_out mover p t) (IsTable-take_out mover p t h) feed r (has-take_out mover p t) other
-    ∙ own-take_out_other t h feed mover p other) (λ fresh. refl)
-after_other limit t feed mover (Withdraw p) h other =
-    cond_both (has mover p t) (take_out mover p t) t (λ u. feed_routes feed u ≡ feed_routes feed t) (λ there. own-take_out_other t h feed mover p other)
-    (λ fresh. refl)
-after_other limit t feed mover (Lookup addr) h other = refl
-after_other limit t feed mover Dump h other = refl
-after_other limit t feed mover Purge h other = own-purge_other feed mover t other
+    own-put_in_other (take_out r.feed r.prefix t) (IsTable-take_out r.feed r.prefix t h) feed r (has-take_out r.feed r.prefix t) other
+    ∙ own-take_out_other t h feed r.feed r.prefix other) (λ fresh. refl))
+    (λ mover p h other.
+    cond_both (has mover p t) (take_out mover p t) t (λ u. feed_routes feed u ≡ feed_routes feed t)
+    (λ there. own-take_out_other t h feed mover p other) (λ fresh. refl))
+    (λ mover addr h other. refl)
+    (λ mover h other. refl)
+    (λ mover h other. own-purge_other feed mover t other)
 
 -- the feed's own command changes its routes as it does in the whole table
 after_own : (limit : ℕ) (t : List Route) (feed : ℕ) (cmd : Cmd) → IsTable t
     → feed_routes feed (table_after limit t feed cmd) ≡ table_after limit (feed_routes feed t) feed cmd
 unfolding table_after
-after_own limit t feed (Add p pref hop) h =
-    let r : Route = record { prefix = p; feed = feed; pref = pref; hop = hop } in
-    rw (has-own feed p t, count_of-own feed t)
-    (elim (cases_Bool (has feed p t)) [
+after_own limit t =
+    each_command (λ feed cmd. IsTable t → feed_routes feed (table_after limit t feed cmd) ≡ table_after limit (feed_routes feed t) feed cmd)
+    (λ r h.
+    rw (has-own r.feed r.prefix t, count_of-own r.feed t)
+    (elim (cases_Bool (has r.feed r.prefix t)) [
       | inl there ↦ rw there
-      | inr fresh ↦ elim (cases_Bool (leb limit (count_of feed t))) [
+      | inr fresh ↦ elim (cases_Bool (leb limit (count_of r.feed t))) [
         | inl full ↦ rw (fresh, full)
         | inr room ↦ rw (fresh, room) (own-put_in t h r fresh)
       ]
-    ])
-after_own limit t feed (Replace p pref hop) h =
-    let r : Route = record { prefix = p; feed = feed; pref = pref; hop = hop } in
-    rw (has-own feed p t)
-    (elim (cases_Bool (has feed p t)) [
-      | inl there ↦ rw there (own-put_in (take_out feed p t) (IsTable-take_out feed p t h) r (has-take_out feed p t) ∙ ap (put_in r) (own-take_out t h feed p))
+    ]))
+    (λ r h.
+    rw (has-own r.feed r.prefix t)
+    (elim (cases_Bool (has r.feed r.prefix t)) [
+      | inl there ↦
+          rw there
+          (own-put_in (take_out r.feed r.prefix t) (IsTable-take_out r.feed r.prefix t h) r (has-take_out r.feed r.prefix t)
+          ∙ ap (put_in r) (own-take_out t h r.feed r.prefix))
       | inr fresh ↦ rw fresh
-    ])
-after_own limit t feed (Withdraw p) h =
-    rw (has-own feed p t) (elim (cases_Bool (has feed p t)) [ inl there ↦ rw there (own-take_out t h feed p) | inr fresh ↦ rw fresh ])
-after_own limit t feed (Lookup addr) h = refl
-after_own limit t feed Dump h = refl
-after_own limit t feed Purge h = own-purge feed t ∙ sym (purge-own feed t)
+    ]))
+    (λ feed p h.
+    rw (has-own feed p t) (elim (cases_Bool (has feed p t)) [ inl there ↦ rw there (own-take_out t h feed p) | inr fresh ↦ rw fresh ]))
+    (λ feed addr h. refl)
+    (λ feed h. refl)
+    (λ feed h. own-purge feed t ∙ sym (purge-own feed t))
 
 -- the feed's own command is answered from its routes
 reply_own : (limit : ℕ) (t : List Route) (feed : ℕ) (cmd : Cmd) → is_own cmd ≡ true → reply_of limit t feed cmd ≡ reply_of limit (feed_routes feed t) feed cmd
 unfolding reply_of
-reply_own limit t feed (Add p pref hop) e = rw (has-own feed p t, count_of-own feed t)
-reply_own limit t feed (Replace p pref hop) e = rw (has-own feed p t)
-reply_own limit t feed (Withdraw p) e = rw (has-own feed p t)
-reply_own limit t feed (Lookup addr) e = absurd (false≢true e)
-reply_own limit t feed Dump e = absurd (false≢true e)
-reply_own limit t feed Purge e = rw (count_of-own feed t) refl
+reply_own limit t =
+    each_command (λ feed cmd. is_own cmd ≡ true → reply_of limit t feed cmd ≡ reply_of limit (feed_routes feed t) feed cmd)
+    (λ r e. rw (has-own r.feed r.prefix t, count_of-own r.feed t))
+    (λ r e. rw (has-own r.feed r.prefix t))
+    (λ feed p e. rw (has-own feed p t))
+    (λ feed addr e. absurd (false≢true e))
+    (λ feed e. absurd (false≢true e))
+    (λ feed e. rw (count_of-own feed t) refl)
 
 -- the same for a whole journal, starting from any table
 own_fold : (limit feed : ℕ) (t : List Route) (journal : List Entry) → IsTable t

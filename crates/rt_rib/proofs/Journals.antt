@@ -6,27 +6,26 @@ use Rattle.std.proofs.lemmas.List.Sums.{fold_push}
 use Rattle.std.specs.List.{fold}
 use Rattle.rt_rib.specs.declared.routes.Route.{Route}
 use Rattle.rt_rib.specs.declared.commands.Cmd.{Cmd}
-use Rattle.rt_rib.specs.declared.commands.Cmd.TheVariants.{Add, Replace, Withdraw, Lookup, Dump, Purge}
 use Rattle.rt_rib.specs.declared.commands.Entry.{Entry}
 use Rattle.rt_rib.specs.Table.{IsTable, has, take_out, put_in, count_of}
 use Rattle.rt_rib.specs.Sequential.{table_after, table_of_journal, IsAnswered, IsLawfulJournal}
+use Rattle.rt_rib.proofs.CommandCases.{each_command}
 use Rattle.rt_rib.proofs.Tables.{IsTable-put_in, IsTable-take_out, IsTable-purge, has-take_out}
 
 -- each command leaves a table
 pub IsTable-after : (limit : ℕ) (t : List Route) (feed : ℕ) (cmd : Cmd) → IsTable t → IsTable (table_after limit t feed cmd)
 unfolding table_after
-IsTable-after limit t feed (Add p pref hop) h =
-    let r : Route = record { prefix = p; feed = feed; pref = pref; hop = hop } in
-    cond_both (has feed p t) t (if leb limit (count_of feed t) then t else put_in r t) IsTable (λ there. h)
-    (λ fresh. cond_both (leb limit (count_of feed t)) t (put_in r t) IsTable (λ full. h) (λ room. IsTable-put_in r t fresh h))
-IsTable-after limit t feed (Replace p pref hop) h =
-    let r : Route = record { prefix = p; feed = feed; pref = pref; hop = hop } in
-    cond_both (has feed p t) (put_in r (take_out feed p t)) t IsTable
-    (λ there. IsTable-put_in r (take_out feed p t) (has-take_out feed p t) (IsTable-take_out feed p t h)) (λ fresh. h)
-IsTable-after limit t feed (Withdraw p) h = cond_both (has feed p t) (take_out feed p t) t IsTable (λ there. IsTable-take_out feed p t h) (λ fresh. h)
-IsTable-after limit t feed (Lookup addr) h = h
-IsTable-after limit t feed Dump h = h
-IsTable-after limit t feed Purge h = IsTable-purge feed t h
+IsTable-after limit t = each_command (λ feed cmd. IsTable t → IsTable (table_after limit t feed cmd))
+    (λ r h.
+    cond_both (has r.feed r.prefix t) t (if leb limit (count_of r.feed t) then t else put_in r t) IsTable (λ there. h)
+    (λ fresh. cond_both (leb limit (count_of r.feed t)) t (put_in r t) IsTable (λ full. h) (λ room. IsTable-put_in r t fresh h)))
+    (λ r h.
+    cond_both (has r.feed r.prefix t) (put_in r (take_out r.feed r.prefix t)) t IsTable
+    (λ there. IsTable-put_in r (take_out r.feed r.prefix t) (has-take_out r.feed r.prefix t) (IsTable-take_out r.feed r.prefix t h)) (λ fresh. h))
+    (λ feed p h. cond_both (has feed p t) (take_out feed p t) t IsTable (λ there. IsTable-take_out feed p t h) (λ fresh. h))
+    (λ feed addr h. h)
+    (λ feed h. h)
+    (λ feed h. IsTable-purge feed t h)
 
 -- the table after an entry's command
 abbrev pub step : ℕ → List Route → Entry → List Route

@@ -11,13 +11,12 @@ use Rattle.rt_cidr.proofs.Promised.{prefix_by_parts}
 use Rattle.rt_trie.specs.Map.{get}
 use Rattle.rt_trie.proofs.Promised.{pairs-found}
 use Rattle.rt_rib.specs.declared.offers.Offer.{Offer}
-use Rattle.rt_rib.specs.Maps.{outranks, IsRanked, Map, route_by, routes_of, IsMap}
+use Rattle.rt_rib.specs.Maps.{outranks, IsRanked, Map, route_by, routes_of, IsMap, offer_of}
 use Rattle.rt_rib.specs.LookUp.{look_up}
 use Rattle.rt_rib.specs.Laws.{IsBestMatch}
-use Rattle.rt_rib.specs.inside.Maps.{offer_of}
 use Rattle.rt_rib.proofs.Lists.{AllPairs-head}
 use Rattle.rt_rib.proofs.Order.{is_better-itself}
-use Rattle.rt_rib.proofs.OfferLists.{outranks-trans}
+use Rattle.rt_rib.proofs.Order.{outranks-trans}
 use Rattle.rt_rib.proofs.Covering.{base_at, covers-base}
 use Rattle.rt_rib.proofs.Sets.{Contains-head, Contains-cases}
 use Rattle.rt_rib.proofs.MapRoutes.{offer_in, offer_out, IsTable-map}

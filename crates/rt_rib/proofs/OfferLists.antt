@@ -14,7 +14,7 @@ use Rattle.rt_rib.specs.declared.offers.Offer.{Offer}
 use Rattle.rt_rib.specs.Maps.{outranks, is_from, IsRanked}
 use Rattle.rt_rib.specs.inside.Offers.{IsInsertionIndex, HasGained, HasSwapped, without}
 use Rattle.rt_rib.proofs.Lists.{AllPairs-head, AllPairs-tail, filter-all, list_any-from_none, list_any-at}
-use Rattle.rt_rib.proofs.Order.{by_preference-trans, by_preference-other}
+use Rattle.rt_rib.proofs.Order.{outranks-trans, outranks-other}
 use Rattle.rt_rib.proofs.Sets.{Contains-head, Contains-tail, Contains-cases, Contains-none, filter-keeps, filter-from}
 
 module _ {X : Type 0} where
@@ -89,14 +89,6 @@ module _ {X : Type 0} where
 -- the new offers are the old ones except the feed's
 abbrev pub HasLost : List Offer → List Offer → ℕ → Type 0
 HasLost old new feed = (o : Offer) → Contains new o ↔ (Contains old o × (is_from feed o ≡ false))
-
--- `outranks` is transitive
-pub outranks-trans : (a b c : Offer) → outranks a b ≡ true → outranks b c ≡ true → outranks a c ≡ true
-outranks-trans a b c = by_preference-trans a.pref b.pref c.pref a.feed b.feed c.feed
-
--- one of two offers of different feeds outranks the other
-outranks-other : (a b : Offer) → outranks b a ≡ false → is_from a.feed b ≡ false → outranks a b ≡ true
-outranks-other a b e other = by_preference-other a.pref b.pref a.feed b.feed e (λ f. both_ways (is_from a.feed b) other (eq-eqb b.feed a.feed f))
 
 -- whether two offers are of different feeds, with the offers exchanged
 is_from-flip : (a b : Offer) → is_from b.feed a ≡ false → is_from a.feed b ≡ false

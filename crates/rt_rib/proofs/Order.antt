@@ -5,6 +5,8 @@ use Rattle.std.proofs.lemmas.Bool.{and_parts, and_cases, and_from, and_right, bo
 use Rattle.rt_cidr.specs.declared.prefixes.Prefix.{Prefix}
 use Rattle.rt_cidr.specs.Prefix.{same_prefix}
 use Rattle.rt_rib.specs.declared.routes.Route.{Route}
+use Rattle.rt_rib.specs.declared.offers.Offer.{Offer}
+use Rattle.rt_rib.specs.Maps.{outranks, is_from}
 use Rattle.rt_rib.specs.Table.{below_then, is_better, precedes, is_of}
 
 -- the cases in which `below_then` is true
@@ -66,6 +68,48 @@ by_preference-other p q f g e other =
 pub is_better-trans : (r s t : Route) → is_better r s ≡ true → is_better s t ≡ true → is_better r t ≡ true
 is_better-trans r s t = by_preference-trans r.pref s.pref t.pref r.feed s.feed t.feed
 
+-- if two routes are of different feeds and one isn't better than the other, the other is better
+pub is_better-other : (r s : Route) → is_better s r ≡ false → (s.feed ≡ r.feed → ⊥) → is_better r s ≡ true
+is_better-other r s = by_preference-other r.pref s.pref r.feed s.feed
+
+-- if neither of two routes is better, they have the same preference and feed
+pub even : (r s : Route) → is_better r s ≡ false → is_better s r ≡ false → s.feed ≡ r.feed
+even r s a b =
+    elim (below_then-false r.pref s.pref (ltb r.feed s.feed) a) [
+      | inl less ↦ elim (below_then-false s.pref r.pref (ltb s.feed r.feed) b) [ inl more ↦ omega arith | inr same ↦ let e = same.0 in omega arith ]
+      | inr same ↦ elim (below_then-false s.pref r.pref (ltb s.feed r.feed) b) [
+        | inl more ↦ let e = same.0 in omega arith
+        | inr also ↦ let low = ltb-false r.feed s.feed same.1 in let high = ltb-false s.feed r.feed also.1 in omega arith
+      ]
+    ]
+
+-- if r is better than u and s isn't, then r is better than s
+pub better-over : (r s u : Route) → is_better r u ≡ true → is_better s u ≡ false → is_better r s ≡ true
+better-over r s u x y =
+    elim (below_then-true r.pref u.pref (ltb r.feed u.feed) x) [
+      | inl less ↦ elim (below_then-false s.pref u.pref (ltb s.feed u.feed) y) [
+        | inl more ↦ below_then-less r.pref s.pref (ltb r.feed s.feed) (omega arith)
+        | inr same ↦ let e = same.0 in below_then-less r.pref s.pref (ltb r.feed s.feed) (omega arith)
+      ]
+      | inr also ↦ elim (below_then-false s.pref u.pref (ltb s.feed u.feed) y) [
+        | inl more ↦ let e = also.0 in below_then-less r.pref s.pref (ltb r.feed s.feed) (omega arith)
+        | inr same ↦
+            let e = also.0 in
+            let f = same.0 in
+            let low = ltb-true r.feed u.feed also.1 in
+            let high = ltb-false s.feed u.feed same.1 in
+            below_then-same r.pref s.pref (ltb r.feed s.feed) (omega arith) (lt-ltb r.feed s.feed (omega arith))
+      ]
+    ]
+
+-- `outranks` is transitive
+pub outranks-trans : (a b c : Offer) → outranks a b ≡ true → outranks b c ≡ true → outranks a c ≡ true
+outranks-trans a b c = by_preference-trans a.pref b.pref c.pref a.feed b.feed c.feed
+
+-- one of two offers of different feeds outranks the other
+pub outranks-other : (a b : Offer) → outranks b a ≡ false → is_from a.feed b ≡ false → outranks a b ≡ true
+outranks-other a b e other = by_preference-other a.pref b.pref a.feed b.feed e (λ f. both_ways (is_from a.feed b) other (eq-eqb b.feed a.feed f))
+
 -- `precedes` is transitive
 pub precedes-trans : (r s t : Route) → precedes r s ≡ true → precedes s t ≡ true → precedes r t ≡ true
 precedes-trans r s t =
@@ -99,7 +143,7 @@ precedes-other r s e other =
             | inl less ↦ below_then-less r.prefix.len s.prefix.len (is_better r s) less
             | inr len ↦
                 below_then-same r.prefix.len s.prefix.len (is_better r s) (sym len.0)
-                (by_preference-other r.pref s.pref r.feed s.feed len.1
+                (is_better-other r s len.1
                 (λ f. both_ways (is_of r.feed r.prefix s) other (is_of-from r.feed r.prefix s f base.0 len.0)))
           ])
     ]

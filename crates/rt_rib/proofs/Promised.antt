@@ -1,6 +1,8 @@
 -- The lemmas of this crate that proofs of the crates above may cite, besides the contracts of its functions. No other
 -- file of this directory is part of its interface.
 
+-- each kind of command
+pub use Rattle.rt_rib.proofs.CommandCases.{each_command}
 -- which of its types may be sent to another thread
 pub use Rattle.rt_rib.proofs.Crossing.{table_send, book_send}
 -- `==` of its types decides whether they are equal

@@ -12,7 +12,7 @@ use Rattle.rt_rib.specs.Table.{is_better, is_of, IsTable}
 use Rattle.rt_rib.specs.LookUp.{matching, look_up, beats, ranking, look_up_all}
 use Rattle.rt_rib.specs.Laws.{IsBestMatch, AreAllMatches, LookUpAllFindsMatches}
 use Rattle.rt_rib.proofs.Lists.{AllPairs-head, AllPairs-tail, AllPairs-put}
-use Rattle.rt_rib.proofs.Order.{below_then-true, below_then-false, below_then-less, below_then-same, by_preference-other, is_better-trans}
+use Rattle.rt_rib.proofs.Order.{below_then-true, below_then-false, below_then-less, below_then-same, is_better-other, is_better-trans}
 use Rattle.rt_rib.proofs.Order.{is_better-itself, is_of-from}
 use Rattle.rt_rib.proofs.Tables.{Apart, Apart-flip}
 use Rattle.rt_rib.proofs.Sets.{Contains-head, Contains-tail, Contains-cases, Contains-none, Contains-put, filter-keeps, filter-from, ordered_once}
@@ -47,7 +47,7 @@ module _ (addr : Addr) where
         | inr len ↦
             let base = covers-base s.prefix addr d ∙ ap (base_at addr) (sym len.0) ∙ sym (covers-base r.prefix addr c) in
             below_then-same s.prefix.len r.prefix.len (is_better r s) (sym len.0)
-            (by_preference-other r.pref s.pref r.feed s.feed len.1
+            (is_better-other r s len.1
             (λ f. both_ways (is_of r.feed r.prefix s) other (is_of-from r.feed r.prefix s f base (sym len.0))))
       ]
 

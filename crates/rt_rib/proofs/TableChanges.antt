@@ -4,12 +4,13 @@ use Rattle.std.proofs.Math.ListN.{set}
 use Rattle.std.proofs.lemmas.List.Elements.{All-push}
 use Rattle.rt_cidr.specs.declared.prefixes.Prefix.{Prefix}
 use Rattle.rt_rib.specs.declared.routes.Route.{Route}
-use Rattle.rt_rib.specs.declared.commands.Cmd.TheVariants.{Add, Purge}
+use Rattle.rt_rib.specs.declared.commands.Cmd.TheVariants.{Purge}
 use Rattle.rt_rib.specs.declared.commands.Reply.TheVariants.{Added, Purged}
 use Rattle.rt_rib.specs.declared.limits.TheConstants.{MAX_FEEDS}
 use Rattle.rt_rib.specs.Table.{has, put_in, take_out, purge, IsTable}
 use Rattle.rt_rib.specs.Maps.{Map, routes_of}
 use Rattle.rt_rib.specs.Book.{IsFeed, TableState, TableContents, table_state, Serves, HoldsRoutes}
+use Rattle.rt_rib.specs.inside.Commands.{add_of}
 use Rattle.rt_rib.specs.inside.TableState.{IsCounted, IsJournalOf}
 use Rattle.rt_rib.specs.declared.commands.Cmd.{Cmd}
 use Rattle.rt_rib.specs.declared.commands.Reply.{Reply}
@@ -41,14 +42,14 @@ module _ (limit : ℕ) (counts : List ℕ) (m : Map) (h : IsCounted limit counts
         }
 
     -- this is what the sequential table does
-    pub added_serves : Serves (state limit (routes_of m)) (state limit (routes_of n)) r.feed (Add r.prefix r.pref r.hop) Added
+    pub added_serves : Serves (state limit (routes_of m)) (state limit (routes_of n)) r.feed (add_of r) Added
     added_serves =
         let own = AreCounts-own limit counts (routes_of m) r.feed h.counted feed in
         added limit (routes_of m) r fresh (omega arith) (routes_of n) is
 
   -- the reply to an add if the feed doesn't have the route and hasn't reached its limit
   pub to_be_added : (r : Route) → IsFeed r.feed → has r.feed r.prefix (routes_of m) ≡ false → get_or counts (r.feed - 1) 0 < limit
-      → reply_of limit (routes_of m) r.feed (Add r.prefix r.pref r.hop) ≡ Added
+      → reply_of limit (routes_of m) r.feed (add_of r) ≡ Added
   to_be_added r feed fresh room =
       let own = AreCounts-own limit counts (routes_of m) r.feed h.counted feed in
       sym ((added limit (routes_of m) r fresh (omega arith) (put_in r (routes_of m)) refl).replied)

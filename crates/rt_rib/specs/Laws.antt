@@ -91,12 +91,9 @@ feed_entries feed journal = filter (λ e. e.feed == feed) journal
 
 -- true if the command only concerns its feed's own routes
 abbrev pub is_own : Cmd → Bool
-is_own (Add prefix pref hop) = true
-is_own (Replace prefix pref hop) = true
-is_own (Withdraw prefix) = true
 is_own (Lookup addr) = false
 is_own Dump = false
-is_own Purge = true
+is_own cmd = true
 
 -- each feed's routes are those that its own entries leave without the others, and its own commands are answered from
 -- them

@@ -33,6 +33,10 @@ Map = Pairs (List Offer)
 abbrev pub route_by : Prefix → Offer → Route
 route_by p o = record { prefix = p; feed = o.feed; pref = o.pref; hop = o.hop }
 
+-- a route's offer for its prefix
+abbrev pub offer_of : Route → Offer
+offer_of r = record { feed = r.feed; pref = r.pref; hop = r.hop }
+
 -- the routes of the map, prefix by prefix
 abbrev pub routes_of : Map → List Route
 routes_of [] = []

@@ -1,7 +1,8 @@
 -- The sequential table: the reply to a command of a feed, and the set of routes after it. And the journal: every
 -- answered command, with its reply, in the order in which they were answered.
-use Rattle.std.specs.Prelude.{ℕ, nat_le, if◌then◌else◌, List, length, ◌≡◌, [], ◌∷◌, ◌++◌, fold}
+use Rattle.std.specs.Prelude.{ℕ, nat_le, if◌then◌else◌, List, length, ◌≡◌, [], ◌∷◌, ◌++◌, fold, Option, None, Some}
 use Rattle.std.specs.Option.{option_map_or}
+use Rattle.rt_cidr.specs.declared.prefixes.Prefix.{Prefix}
 use Rattle.rt_rib.specs.declared.routes.Route.{Route}
 use Rattle.rt_rib.specs.declared.commands.Cmd.{Cmd}
 use Rattle.rt_rib.specs.declared.commands.Cmd.TheVariants.{Add, Replace, Withdraw, Lookup, Dump, Purge}
@@ -33,6 +34,13 @@ table_after limit table feed (Withdraw prefix) = if has feed prefix table then t
 table_after limit table feed (Lookup addr) = table
 table_after limit table feed Dump = table
 table_after limit table feed Purge = purge feed table
+
+-- the prefix of the route that the command adds, replaces or withdraws
+abbrev pub changed_prefix : Cmd → Option Prefix
+changed_prefix (Add prefix pref hop) = Some prefix
+changed_prefix (Replace prefix pref hop) = Some prefix
+changed_prefix (Withdraw prefix) = Some prefix
+changed_prefix cmd = None
 
 -- the set after the journal's commands, starting from the empty set
 unfoldable pub table_of_journal : ℕ → List Entry → List Route

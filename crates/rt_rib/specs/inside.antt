@@ -2,6 +2,7 @@
 pub mod OneOrMany
 pub mod TableState
 pub mod Maps
+pub mod Commands
 pub mod Offers
 pub mod OneProof
 pub mod Purges

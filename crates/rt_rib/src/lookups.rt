@@ -7,8 +7,8 @@ ghost use Rattle.rt_rib.specs.LookUp.{look_up, look_up_all};
 ghost use Rattle.rt_rib.specs.Maps.{Map, route_by, routes_of, IsMap};
 ghost use Rattle.rt_rib.specs.inside.Maps.{route_at, look_up_each};
 
-use crate::map::{OfferMap, route_by};
-use crate::offers::{Offer, Offers};
+use crate::map::OfferMap;
+use crate::offers::{Offer, Offers, route_by};
 use crate::refused::Refused;
 use crate::routes::Route;
 use rt_cidr::{Addr, Prefix};

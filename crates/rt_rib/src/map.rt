@@ -3,9 +3,8 @@ ghost use Rattle.std.specs.Prelude.{◌≡◌, ◌++◌, false, [], IsTrue, IfOk
 ghost use Rattle.rt_trie.specs.Lawful.{IsLawful};
 ghost use Rattle.rt_rib.specs.Table.{has, put_in, take_out};
 ghost use Rattle.rt_rib.specs.Maps.{routes_of, route_by, IsMap};
-ghost use Rattle.rt_rib.specs.inside.Maps.{offer_of};
 
-use crate::offers::{Offer, Offers, Removal};
+use crate::offers::{Offer, Offers, Removal, offer_of, route_by};
 use crate::refused::Refused;
 use crate::routes::Route;
 use rt_cidr::Prefix;
@@ -35,29 +34,6 @@ impl<A: Allocator + Copy> Model for OfferMap<A> {
     ghost view = { λ m. m.trie };
 
     ghost invariant = { λ m. IsMap m.trie.pairs };
-}
-
-/// Returns the route of an offer for a prefix.
-pub(crate) fn route_by(prefix: Prefix, offer: &Offer) -> Route
-    ensures { result ≡ route_by prefix offer.now }
-{
-    Route {
-        prefix,
-        feed: offer.feed,
-        pref: offer.pref,
-        hop: offer.hop,
-    }
-}
-
-/// Returns the offer of a route for its prefix.
-pub(crate) fn offer_of(route: &Route) -> Offer
-    ensures { result ≡ offer_of route.now }
-{
-    Offer {
-        feed: route.feed,
-        pref: route.pref,
-        hop: route.hop,
-    }
 }
 
 impl<A: Allocator + Copy> OfferMap<A> {

@@ -1,11 +1,12 @@
 //! The offers of the feeds for a prefix, the best first. A single offer is the common case, and allocates nothing.
 ghost use Rattle.std.specs.Prelude.{◌≡◌, ◌<◌, ◌+◌, false, [], ◌∷◌, length, IsTrue, IsOk, IfOk, OnOk, OnErr, position, vec_len, vec_capacity};
 ghost use Rattle.std.specs.List.{All, list_any};
-ghost use Rattle.rt_rib.specs.Maps.{outranks, is_from, IsRanked, IsOffers};
+ghost use Rattle.rt_rib.specs.Maps.{outranks, route_by, offer_of, is_from, IsRanked, IsOffers};
 ghost use Rattle.rt_rib.specs.inside.Offers.{IsInsertionIndex, HasGained, HasSwapped, TakesOut, without};
 
 use crate::refused::Refused;
-use crate::routes::Hop;
+use crate::routes::{Hop, Route};
+use rt_cidr::Prefix;
 use std::alloc::Allocator;
 use std::marker::Model;
 
@@ -15,6 +16,29 @@ pub(crate) struct Offer {
     pub feed: u32,
     pub pref: u32,
     pub hop: Hop,
+}
+
+/// Returns the route of an offer for a prefix.
+pub(crate) fn route_by(prefix: Prefix, offer: &Offer) -> Route
+    ensures { result ≡ route_by prefix offer.now }
+{
+    Route {
+        prefix,
+        feed: offer.feed,
+        pref: offer.pref,
+        hop: offer.hop,
+    }
+}
+
+/// Returns the offer of a route for its prefix.
+pub(crate) fn offer_of(route: &Route) -> Offer
+    ensures { result ≡ offer_of route.now }
+{
+    Offer {
+        feed: route.feed,
+        pref: route.pref,
+        hop: route.hop,
+    }
 }
 
 /// The bytes of an offer in a list.

@@ -4,8 +4,8 @@ ghost use Rattle.rt_trie.specs.Map.{before};
 ghost use Rattle.rt_rib.specs.Maps.{routes_of, route_by, IsRanked};
 ghost use Rattle.rt_rib.specs.Places.{from_place};
 
-use crate::map::{OfferMap, offer_of, route_by};
-use crate::offers::{Offer, Offers, insertion_index};
+use crate::map::OfferMap;
+use crate::offers::{Offer, Offers, insertion_index, offer_of, route_by};
 use crate::routes::Route;
 use rt_cidr::Prefix;
 use rt_trie::Walk;

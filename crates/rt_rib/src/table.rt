@@ -1,6 +1,6 @@
 //! The sequential table: its routes as offers in a map, the number of each feed's routes, and the replies to commands.
 ghost use Rattle.std.specs.Prelude.{◌≡◌, ◌^◌, ◌<◌, ◌↔◌, IsTrue, [], length, map, sum, IfOk, OnErr};
-ghost use Rattle.rt_rib.specs.declared.commands.Cmd.TheVariants.{Add, Replace, Withdraw, Purge};
+ghost use Rattle.rt_rib.specs.declared.commands.Cmd.TheVariants.{Withdraw, Purge};
 ghost use Rattle.rt_rib.specs.declared.commands.Reply.TheVariants.{Added};
 ghost use Rattle.rt_rib.specs.Sequential.{reply_of};
 ghost use Rattle.rt_rib.specs.Places.{from_place};
@@ -8,6 +8,7 @@ ghost use Rattle.rt_rib.specs.Table.{count_of, purge, IsTable};
 ghost use Rattle.rt_rib.specs.LookUp.{look_up, look_up_all};
 ghost use Rattle.rt_rib.specs.Book.{IsLimit, IsFeed, table_state, Serves, HoldsRoutes};
 ghost use Rattle.rt_rib.specs.Selection.{selected};
+ghost use Rattle.rt_rib.specs.inside.Commands.{add_of, replace_of};
 
 use crate::answers::LookupCursor;
 use crate::commands::{Cmd, Reply};
@@ -262,11 +263,9 @@ impl<A: Allocator + Copy> Table<A> {
     /// Inserts the route, unless the feed has one to its prefix or as many as the limit allows.
     fn add(&mut self, route: Route) -> Result<Reply, Refused>
         requires { IsFeed route.feed }
-        ensures ok { let cmd = Add route.prefix route.pref route.hop in
-            IfOk result (λ reply. Serves (table_state self.old) (table_state self.new) route.feed cmd reply) }
+        ensures ok { IfOk result (λ reply. Serves (table_state self.old) (table_state self.new) route.feed (add_of route) reply) }
         ensures err { OnErr result (self.new ≡ self.old) }
-        ensures wanted { let cmd = Add route.prefix route.pref route.hop in
-            OnErr result (reply_of self.old.limit self.old.routes route.feed cmd ≡ Added) }
+        ensures wanted { OnErr result (reply_of self.old.limit self.old.routes route.feed (add_of route) ≡ Added) }
     {
         let own = (route.feed - 1) as usize;
         if self.counts[own] >= self.limit {
@@ -288,8 +287,7 @@ impl<A: Allocator + Copy> Table<A> {
     /// Replaces the feed's route to this prefix, if it has one.
     fn replace(&mut self, route: Route) -> Reply
         requires { IsFeed route.feed }
-        ensures { let cmd = Replace route.prefix route.pref route.hop in
-            Serves (table_state self.old) (table_state self.new) route.feed cmd result }
+        ensures { Serves (table_state self.old) (table_state self.new) route.feed (replace_of route) result }
     {
         if !self.map.replace(route) {
             return Reply::Missing;

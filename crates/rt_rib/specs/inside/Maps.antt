@@ -7,11 +7,7 @@ use Rattle.rt_trie.specs.Map.{get}
 use Rattle.rt_rib.specs.declared.routes.Route.{Route}
 use Rattle.rt_rib.specs.declared.offers.Offer.{Offer}
 use Rattle.rt_rib.specs.LookUp.{look_up}
-use Rattle.rt_rib.specs.Maps.{Map, route_by}
-
--- a route's offer for its prefix
-abbrev pub offer_of : Route → Offer
-offer_of r = record { feed = r.feed; pref = r.pref; hop = r.hop }
+use Rattle.rt_rib.specs.Maps.{Map, route_by, offer_of}
 
 -- the offers found at a prefix, or the empty list if nothing was found
 abbrev pub offers_in : Option (List Offer) → List Offer

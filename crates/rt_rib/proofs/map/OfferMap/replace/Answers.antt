@@ -1,6 +1,6 @@
 use Rattle.std.proofs.Common.{sym, subst, ◌∙◌}
 use Rattle.rt_rib.specs.inside.Offers.{HasSwapped}
-use Rattle.rt_rib.specs.inside.Maps.{offer_of}
+use Rattle.rt_rib.specs.Maps.{offer_of}
 use Rattle.rt_rib.proofs.MapChanges.{none_had, is_had, unchanged, other, IsMap-put}
 use Rattle.rt_rib.proofs.map.OfferMap.replace.Goals as goal
 
