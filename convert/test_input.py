@@ -6,7 +6,7 @@ import random
 import re
 import subprocess
 
-from trial import SAMPLES, Failed, files_of, run, run_here, text_of, words
+from trial import SAMPLES, Failed, files_of, run, run_here, table_of, text_of, words
 
 CUTS = 3
 # the converters that read lines, each with a sample
@@ -246,7 +246,7 @@ def check_endless(made):
 def check_files(made):
     """An error of the operating system names its file: an input that can't be read, a file instead of a directory and a
     directory instead of a file, an output that accepts nothing."""
-    table = (SAMPLES / "by-hand/outside.txt").read_bytes()
+    table = table_of("by-hand/outside.txt")
     with open(made / "plain", "w") as plain:
         done = subprocess.run([*words("gobgp-to-feeds"), made / "files"], stdin=plain, capture_output=True)
     expect("an input that can't be read", (done.returncode, done.stderr.decode()),

@@ -69,6 +69,17 @@ def run_in_child(words, constants):
     os._exit(status)
 
 
+def row_text(prefix, hop, feed=1, preference=1):
+    """A line of a table."""
+    return f"{prefix} feed {feed} pref {preference} via {hop}"
+
+
+def table_of(sample):
+    """The table with the routes of a sample, which has a prefix and a next hop on each line."""
+    rows = map(str.split, (SAMPLES / sample).read_text().splitlines())
+    return "".join(f"{row_text(prefix, hop)}\n" for prefix, hop in rows).encode()
+
+
 def state(files):
     """The table's lines that the feeds leave, each by itself: ordered by base, length, preference, feed."""
     rows = []
@@ -85,7 +96,7 @@ def state(files):
                 routes.clear()
         rows += [(ipaddress.ip_network(prefix), *route) for prefix, route in routes.items()]
     rows.sort(key=lambda row: (row[0].network_address, row[0].prefixlen, row[1], row[2]))
-    return [f"{prefix} feed {number} pref {preference} via {hop}" for prefix, preference, number, hop in rows]
+    return [row_text(prefix, hop, number, preference) for prefix, preference, number, hop in rows]
 
 
 def text_of(files):
