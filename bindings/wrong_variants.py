@@ -224,6 +224,8 @@ RUST = {name: ("src/lib.rs", *texts) for name, texts in {
     "preference and feed are exchanged": ("feed: raw.feed,\n            pref: raw.pref,\n            hop,", "feed: raw.pref,\n            pref: raw.feed,\n            hop,"),
     "addresses are read backwards": (".copied().map(u32::from)", ".copied().map(u32::from).map(u32::swap_bytes)"),
     "a command is written as another": ('"replace {prefix} {pref} {hop}"', '"add {prefix} {pref} {hop}"'),
+    "load accepts other forms of a preference": ("number.to_string() != pref", "number.to_string().len() > pref.len()"),
+    "load accepts discard in version 1": ('"discard" if has_discard', '"discard" if has_discard || number > 0'),
 }.items()} | {name: ("src/raw.rs", *texts) for name, texts in {
     "nothing is freed": ("        unsafe { yarib_free(self) };\n", ""),
     "a concurrent table isn't freed": ("        unsafe { yarib_concurrent_free(self) };\n", ""),
@@ -235,8 +237,6 @@ RUST = {name: ("src/lib.rs", *texts) for name, texts in {
     "load skips a last line without its end": (".unwrap_or(&read)", ".unwrap_or_default()"),
     "load counts lines from 0": ("for line in 1.. {", "for line in 0.. {"),
     "load accepts long comments": ("bytes.len() > MAX_LINE ||", "bytes.len() > MAX_LINE + 1 ||"),
-    "load accepts other forms of a preference": ("number.to_string() != pref", "number.to_string().len() > pref.len()"),
-    "load accepts discard in version 1": ('"discard" if has_discard', '"discard" if has_discard || number > 0'),
 }.items()} | {name: ("src/source.rs", *texts) for name, texts in {
     "a source uses one feed": ("u64::from(self.feeds)) >> 32", "u64::from(self.feeds)) >> 63"),
     "a source deals otherwise": (".wrapping_add(u32::from(prefix.len()))", ".wrapping_add(0)"),

@@ -11,27 +11,28 @@ import threading
 import unittest
 
 from common import table_model
+from test_calls import in_order
 import yarib
 
 NETWORK, ADDRESS = ipaddress.IPv4Network, ipaddress.IPv4Address
 
 
-def route(prefix, feed, pref, via):
+def route(prefix, feed, preference, via):
     base, length = yarib.prefix_of(prefix)
-    return yarib.Route(base, length, feed, pref, None if via is None else int(ADDRESS(via)))
+    return yarib.Route(base, length, feed, preference, None if via is None else int(ADDRESS(via)))
 
 
 class Tables(unittest.TestCase):
     def test_a_route_is_found_by_every_kind_of_address(self):
         with yarib.Table() as table:
-            table.add(NETWORK("10.0.0.0/8"), via="192.0.2.1", pref=10)
+            table.add(NETWORK("10.0.0.0/8"), "192.0.2.1", 10)
             table.add((0x0A010000, 16), via=None, feed=2)
             wide, narrow = route("10.0.0.0/8", 1, 10, "192.0.2.1"), route("10.1.0.0/16", 2, 0, None)
             for address in ("10.1.2.3", 0x0A010203, ADDRESS("10.1.2.3")):
                 self.assertEqual(table.look_up(address), narrow)
                 self.assertEqual(table.look_up_all(address), [narrow, wide])
             self.assertIsNone(table.look_up("192.0.2.1"))
-            self.assertEqual(str(wide), "10.0.0.0/8 feed 1 pref 10 via 192.0.2.1")
+            self.assertEqual(str(wide), table_model.shown(("10.0.0.0/8", 1, 10, "192.0.2.1")))
             self.assertEqual((narrow.prefix, narrow.next_hop), (NETWORK("10.1.0.0/16"), None))
             self.assertEqual(list(table), [wide, narrow])
             self.assertEqual(len(table), 2)
@@ -40,9 +41,9 @@ class Tables(unittest.TestCase):
 
     def test_routes_by_prefix(self):
         table = yarib.Table()
-        table.add("10.0.0.0/8", via=1, pref=5)
-        table.add("10.0.0.0/8", via=2, pref=4, feed=2)
-        table.add("10.0.0.0/16", via=3, pref=1)
+        table.add("10.0.0.0/8", 1, 5)
+        table.add("10.0.0.0/8", 2, 4, feed=2)
+        table.add("10.0.0.0/16", 3, 1)
         table.add("11.0.0.0/8", via=4, feed=2)
         for k in range(100):
             table.add((0x0B000000 | k, 32), via=k, feed=3)
@@ -69,13 +70,12 @@ class Tables(unittest.TestCase):
                         draw.randrange(3), None)
         routes = table.routes()
         self.assertEqual(list(table), routes)
-        key = lambda one: (one.base, one.length, one.pref, one.feed)
         for _ in range(20):
-            base, length, pref, feed = place = key(draw.choice(routes))
-            self.assertEqual(list(table.routes_from((base, length), pref, feed)),
-                             [one for one in routes if key(one) >= place])
+            base, length, *offer = place = in_order(draw.choice(routes))
+            self.assertEqual(list(table.routes_from((base, length), *offer)),
+                             [one for one in routes if in_order(one) >= place])
             behind = (base | 0x80000000, length, 0, 0)
-            self.assertEqual(list(table.routes_from(behind[:2])), [one for one in routes if key(one) >= behind])
+            self.assertEqual(list(table.routes_from(behind[:2])), [one for one in routes if in_order(one) >= behind])
         for prefix in ("10.0.0.1/8", (0, 33)):
             self.assertRaises(ValueError, lambda: list(table.routes_from(prefix)))
         going = iter(table)
@@ -112,7 +112,7 @@ class Tables(unittest.TestCase):
             table.withdraw("11.0.0.0/8")
         with self.assertRaises(yarib.Missing):
             table.replace("10.0.0.0/8", via=None, feed=2)
-        table.replace("10.0.0.0/8", via=None, pref=7)
+        table.replace("10.0.0.0/8", None, 7)
         self.assertEqual(table.routes(), [route("10.0.0.0/8", 1, 7, None)])
         self.assertEqual(table.purge(), 1)
         table.add("10.0.0.0/8", via=None)
@@ -125,8 +125,8 @@ class Tables(unittest.TestCase):
         table = yarib.Table()
         for feed in (0, 65, -1, 1 << 32, (1 << 32) + 1):
             self.assertRaises(ValueError, table.add, "10.0.0.0/8", None, 0, feed)
-        for pref in (-1, 1 << 32):
-            self.assertRaises(ValueError, table.add, "10.0.0.0/8", None, pref)
+        for preference in (-1, 1 << 32):
+            self.assertRaises(ValueError, table.add, "10.0.0.0/8", None, preference)
         pairs = (1, 8), (0, 33), (0, 256), (1 << 32, 0), (0, -1)
         for prefix in ("10.0.0.0", "10.0.0.0/33", "10.0.0.1/8", "10.0.0.0/8\0", "", *pairs):
             self.assertRaises(ValueError, table.add, prefix, None)
@@ -152,7 +152,8 @@ class Tables(unittest.TestCase):
                     (1, "purge"), (1, "dump")]
         outcomes = table.apply_each(commands)
         self.assertEqual([one.said for one in outcomes], ["added", "unanswered", "found", "purged", "dumped"])
-        self.assertEqual((outcomes[1].status, outcomes[2].route.pref, outcomes[3].count), ("bad number", 5, 1))
+        found = route("10.0.0.0/8", 1, 5, "192.0.2.1")
+        self.assertEqual((outcomes[1].status, outcomes[2].route, outcomes[3].count), ("bad number", found, 1))
         self.assertEqual(table.apply_each([]), [])
         entries = table.journal()
         self.assertEqual([entry.command for entry in entries], [
@@ -177,7 +178,7 @@ class Tables(unittest.TestCase):
 class Buffers(unittest.TestCase):
     def setUp(self):
         self.table = yarib.Table()
-        self.table.add("10.0.0.0/8", via="192.0.2.1", pref=10)
+        self.table.add("10.0.0.0/8", "192.0.2.1", 10)
         self.asked = [0x0A000000, 0x0B000000, 0x0AFFFFFF]
         self.wanted = [route("10.0.0.0/8", 1, 10, "192.0.2.1"), None, route("10.0.0.0/8", 1, 10, "192.0.2.1")]
 
@@ -227,15 +228,15 @@ class Forwarding(unittest.TestCase):
     def test_threads_ask_it_at_once(self):
         table = yarib.Table()
         for k in range(256):
-            table.add((k << 24, 8), via=k, pref=k)
+            table.add((k << 24, 8), via=k)
         forwarding, wrong = table.forward(), []
         asked = array.array("I", (k % 256 << 24 | k for k in range(50_000)))
 
         def look_up():
             for _ in range(5):
                 answers = forwarding.look_up_each(asked)
-                wrong.extend(k for k in range(0, 50_000, 997) if answers[k].pref != k % 256)
-            wrong.extend([-1] * (forwarding.look_up(asked[1]).pref != 1))
+                wrong.extend(k for k in range(0, 50_000, 997) if answers[k].via != k % 256)
+            wrong.extend([-1] * (forwarding.look_up(asked[1]).via != 1))
 
         threads = [threading.Thread(target=look_up) for _ in range(8)]
         for thread in threads:
@@ -323,7 +324,7 @@ class Threads(unittest.TestCase):
     def test_calls_between_a_call_and_its_results(self):
         """A signal handler, or another thread, makes calls when C has returned and before Python reads what C wrote."""
         table, other, inside = self.made(), self.made(), []
-        other.add("11.0.0.0/8", via=7, pref=5, feed=3)
+        other.add("11.0.0.0/8", 7, 5, feed=3)
 
         class Interrupted:
             def __init__(self, library):

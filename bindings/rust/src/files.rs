@@ -1,8 +1,7 @@
 //! Feed files of a feed's routes.
-use crate::{Command, ConcurrentTable, Error, Hop, Part, Prefix, Reply, Route, Selection, Table};
+use crate::{Command, ConcurrentTable, Error, Part, Reply, Route, Selection, Table};
 use std::fmt;
 use std::io::{self, BufRead, BufWriter, Write};
-use std::net::Ipv4Addr;
 
 /// The first line of a feed file of version 2.
 const VERSION: &[u8] = b"version 2";
@@ -86,7 +85,7 @@ impl Table {
     /// # Errors
     /// [`FileError::Line`] or [`FileError::Route`] of the first line that can't be added, [`FileError::Io`].
     pub fn load(&mut self, feed: u32, from: impl BufRead) -> Result<usize, FileError> {
-        load(from, |prefix, pref, hop| self.add(feed, prefix, pref, hop))
+        load(from, |command| self.apply(feed, command)?.done())
     }
 }
 
@@ -104,7 +103,7 @@ impl ConcurrentTable {
     /// # Errors
     /// Those of [`Table::load`].
     pub fn load(&self, feed: u32, from: impl BufRead) -> Result<usize, FileError> {
-        load(from, |prefix, pref, hop| self.add(feed, prefix, pref, hop))
+        load(from, |command| self.apply(feed, command)?.done())
     }
 }
 
@@ -120,14 +119,14 @@ fn save(routes: &[Route], to: impl Write) -> Result<(), FileError> {
     writer.write_all(VERSION)?;
     writer.write_all(b"\n")?;
     for one in routes {
-        writeln!(writer, "{}", Command::Add(one.prefix, one.pref, one.hop))?;
+        writeln!(writer, "{}", one.adding())?;
     }
     Ok(writer.flush()?)
 }
 
 fn load(
     mut from: impl BufRead,
-    mut add: impl FnMut(Prefix, u32, Hop) -> Result<Reply, Error>,
+    mut add: impl FnMut(Command) -> Result<Reply, Error>,
 ) -> Result<usize, FileError> {
     let (mut added, mut has_discard, mut read) = (0, false, Vec::new());
     for line in 1.. {
@@ -143,7 +142,7 @@ fn load(
         } else if bytes.len() > MAX_LINE || !matches!(bytes.first(), None | Some(b'#')) {
             let text =
                 || String::from_utf8_lossy(&bytes[..bytes.len().min(MAX_LINE + 1)]).into_owned();
-            let parsed = parsed(bytes, has_discard).map_err(|error| match error {
+            let command = parsed(bytes, has_discard).map_err(|error| match error {
                 Some(error) => FileError::Route {
                     line,
                     text: text(),
@@ -151,8 +150,7 @@ fn load(
                 },
                 None => FileError::Line { line, text: text() },
             });
-            let (prefix, pref, hop) = parsed?;
-            add(prefix, pref, hop).map_err(|error| FileError::Route {
+            add(command?).map_err(|error| FileError::Route {
                 line,
                 text: text(),
                 error,
@@ -163,24 +161,11 @@ fn load(
     Ok(added)
 }
 
-/// Returns the route of an `add` line. The error of a prefix says more than that the line isn't one.
-fn parsed(line: &[u8], has_discard: bool) -> Result<(Prefix, u32, Hop), Option<Error>> {
+/// Returns the command of an `add` line. The error of a prefix says more than that the line isn't one.
+fn parsed(line: &[u8], has_discard: bool) -> Result<Command, Option<Error>> {
     if line.len() > MAX_LINE {
         return Err(None);
     }
     let text = std::str::from_utf8(line).map_err(|_| None)?;
-    let fields: Vec<&str> = text.split(' ').collect();
-    let ["add", prefix, pref, hop] = fields[..] else {
-        return Err(None);
-    };
-    let prefix: Prefix = prefix.parse().map_err(Some)?;
-    let number: u32 = pref.parse().map_err(|_| None)?;
-    if number.to_string() != pref {
-        return Err(None);
-    }
-    let hop = match hop {
-        "discard" if has_discard => Hop::Discard,
-        router => Hop::Via(router.parse::<Ipv4Addr>().map_err(|_| None)?),
-    };
-    Ok((prefix, number, hop))
+    Command::parse_add(text, has_discard)
 }

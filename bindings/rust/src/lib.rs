@@ -267,6 +267,13 @@ impl Route {
     }
 }
 
+impl Route {
+    /// Returns the command that adds the route.
+    fn adding(&self) -> Command {
+        Command::Add(self.prefix, self.pref, self.hop)
+    }
+}
+
 impl fmt::Display for Route {
     fn fmt(&self, f: &mut fmt::Formatter<'_>) -> fmt::Result {
         write!(
@@ -344,6 +351,26 @@ impl Command {
             5 => Command::Dump,
             _ => Command::Purge,
         }
+    }
+}
+
+impl Command {
+    /// Returns the command of an `add` line. The error of a prefix says more than that the line isn't one.
+    fn parse_add(line: &str, has_discard: bool) -> std::result::Result<Command, Option<Error>> {
+        let fields: Vec<&str> = line.split(' ').collect();
+        let ["add", prefix, pref, hop] = fields[..] else {
+            return Err(None);
+        };
+        let prefix: Prefix = prefix.parse().map_err(Some)?;
+        let number: u32 = pref.parse().map_err(|_| None)?;
+        if number.to_string() != pref {
+            return Err(None);
+        }
+        let hop = match hop {
+            "discard" if has_discard => Hop::Discard,
+            router => Hop::Via(router.parse::<Ipv4Addr>().map_err(|_| None)?),
+        };
+        Ok(Command::Add(prefix, number, hop))
     }
 }
 
