@@ -32,7 +32,7 @@ renumbered numbers feed = unwrap_or (slice_get numbers (feed - 1)) feed
 
 -- the route with its feed renumbered
 abbrev pub renumbered_route : List ℕ → Route → Route
-renumbered_route numbers r = record { prefix = r.prefix; feed = renumbered numbers r.feed; pref = r.pref; hop = r.hop }
+renumbered_route numbers r = record r { feed = renumbered numbers r.feed }
 
 -- the result of a look-up of the address in the table, with the route's feed renumbered
 abbrev pub renumbered_look_up : Addr → RenumberedTable → Option Route

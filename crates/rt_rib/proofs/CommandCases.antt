@@ -9,9 +9,8 @@ use Rattle.rt_rib.specs.declared.commands.Cmd.TheVariants.{Add, Replace, Withdra
 use Rattle.rt_rib.specs.declared.commands.Reply.TheVariants.{Added, Exists, Full, Replaced, Withdrawn, Missing, Found, NoRoute, Dumped, Purged}
 use Rattle.rt_rib.specs.Table.{has, count_of, put_in, take_out, purge}
 use Rattle.rt_rib.specs.LookUp.{look_up}
-use Rattle.rt_rib.specs.Sequential.{reply_of, table_after}
+use Rattle.rt_rib.specs.Sequential.{reply_of, table_after, add_of, replace_of}
 use Rattle.rt_rib.specs.Book.{TableState, Serves}
-use Rattle.rt_rib.specs.inside.Commands.{add_of, replace_of}
 
 -- a limit and routes
 abbrev pub state : ℕ → List Route → TableState

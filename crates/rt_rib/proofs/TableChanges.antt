@@ -10,12 +10,11 @@ use Rattle.rt_rib.specs.declared.limits.TheConstants.{MAX_FEEDS}
 use Rattle.rt_rib.specs.Table.{has, put_in, take_out, purge, IsTable}
 use Rattle.rt_rib.specs.Maps.{Map, routes_of}
 use Rattle.rt_rib.specs.Book.{IsFeed, TableState, TableContents, table_state, Serves, HoldsRoutes}
-use Rattle.rt_rib.specs.inside.Commands.{add_of}
 use Rattle.rt_rib.specs.inside.TableState.{IsCounted, IsJournalOf}
 use Rattle.rt_rib.specs.declared.commands.Cmd.{Cmd}
 use Rattle.rt_rib.specs.declared.commands.Reply.{Reply}
 use Rattle.rt_rib.specs.declared.commands.Entry.{Entry}
-use Rattle.rt_rib.specs.Sequential.{reply_of, table_after, table_of_journal}
+use Rattle.rt_rib.specs.Sequential.{reply_of, table_after, table_of_journal, add_of}
 use Rattle.rt_rib.proofs.Journals.{IsLawfulJournal-push, table_of_journal-push}
 use Rattle.rt_rib.proofs.Tables.{IsTable-put_in, IsTable-take_out, IsTable-purge, has-take_out}
 use Rattle.rt_rib.proofs.Counts.{HasMore, HasMore-put_in, HasMore-take_out, HasMore-both, AreCounts-more, AreCounts-less, AreCounts-purged, AreCounts-same}

@@ -8,7 +8,7 @@ use Rattle.rt_rib.specs.declared.routes.Route.{Route}
 use Rattle.rt_rib.specs.declared.commands.Cmd.{Cmd}
 use Rattle.rt_rib.specs.declared.commands.Entry.{Entry}
 use Rattle.rt_rib.specs.Table.{is_better, is_of, put_in, take_out, IsTable}
-use Rattle.rt_rib.specs.declared.commands.Cmd.TheVariants.{Add, Replace, Withdraw, Lookup, Dump, Purge}
+use Rattle.rt_rib.specs.declared.commands.Cmd.TheVariants.{Lookup, Dump}
 use Rattle.rt_rib.specs.LookUp.{look_up, beats, look_up_all, best_routes}
 use Rattle.rt_rib.specs.Sequential.{reply_of, table_after, table_of_journal, IsAnswered, IsLawfulJournal}
 

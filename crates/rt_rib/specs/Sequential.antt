@@ -35,6 +35,14 @@ table_after limit table feed (Lookup addr) = table
 table_after limit table feed Dump = table
 table_after limit table feed Purge = purge feed table
 
+-- the command that inserts the route
+abbrev pub add_of : Route → Cmd
+add_of r = Add r.prefix r.pref r.hop
+
+-- the command that puts the route in the place of another one
+abbrev pub replace_of : Route → Cmd
+replace_of r = Replace r.prefix r.pref r.hop
+
 -- the prefix of the route that the command adds, replaces or withdraws
 abbrev pub changed_prefix : Cmd → Option Prefix
 changed_prefix (Add prefix pref hop) = Some prefix

@@ -2,7 +2,6 @@
 pub mod OneOrMany
 pub mod TableState
 pub mod Maps
-pub mod Commands
 pub mod Offers
 pub mod OneProof
 pub mod Purges

@@ -2,13 +2,12 @@
 ghost use Rattle.std.specs.Prelude.{◌≡◌, ◌^◌, ◌<◌, ◌↔◌, IsTrue, [], length, map, sum, IfOk, OnErr};
 ghost use Rattle.rt_rib.specs.declared.commands.Cmd.TheVariants.{Withdraw, Purge};
 ghost use Rattle.rt_rib.specs.declared.commands.Reply.TheVariants.{Added};
-ghost use Rattle.rt_rib.specs.Sequential.{reply_of};
+ghost use Rattle.rt_rib.specs.Sequential.{reply_of, add_of, replace_of};
 ghost use Rattle.rt_rib.specs.Places.{from_place};
 ghost use Rattle.rt_rib.specs.Table.{count_of, purge, IsTable};
 ghost use Rattle.rt_rib.specs.LookUp.{look_up, look_up_all};
 ghost use Rattle.rt_rib.specs.Book.{IsLimit, IsFeed, table_state, Serves, HoldsRoutes};
 ghost use Rattle.rt_rib.specs.Selection.{selected};
-ghost use Rattle.rt_rib.specs.inside.Commands.{add_of, replace_of};
 
 use crate::answers::LookupCursor;
 use crate::commands::{Cmd, Reply};

@@ -1,7 +1,6 @@
 -- Examples of the routes of a table and of their order.
 use Rattle.std.proofs.Common.{◌≡◌, true, false, [], ◌∷◌, ◌++◌, refl, arith}
 use Rattle.table_examples.proofs.Cidr.{everything, ten_8, ten_0_16, last_32}
-use Rattle.rt_rib.specs.declared.routes.Hop.TheVariants.{Discard}
 use Rattle.rt_rib.specs.Table.{below_then, is_of, has, count_of, is_better, precedes, put_in, take_out, purge, IsTable}
 use Rattle.rt_rib.proofs.Tables.{IsTable-nil, IsTable-put_in}
 use Rattle.table_examples.proofs.Rib.Values.{upper_half, ten_1_16, route, nested}
@@ -59,7 +58,7 @@ by_base_before_length : precedes (route ten_8 64 9) (route upper_half 1 0) ≡ t
 by_base_before_length = refl
 
 by_length_before_preference :
-    precedes (route ten_8 2 100) (record { prefix = ten_0_16; feed = 1; pref = 0; hop = Discard }) ≡ true
+    precedes (route ten_8 2 100) (route ten_0_16 1 0) ≡ true
 by_length_before_preference = refl
 
 by_preference_before_feed : precedes (route ten_8 2 30) (route ten_8 1 50) ≡ true
