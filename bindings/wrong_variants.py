@@ -387,9 +387,12 @@ C = {f"{file.partition('.')[0]}: {name}": (file, *texts) for file, wrong in {
         "a block is freed under another lock": ("    lock_part(part);\n    put_back",
                                                 "    lock_part(&parts[(part - parts + 1) % PARTS]);\n    put_back"),
         "a child of a fork waits": ("pthread_atfork(lock_all, unlock_all, unlock_all)", "pthread_atfork(lock_all, unlock_all, NULL)"),
-        "a slab given back isn't used again": ("    chunk->numbers[chunk->unused++] = ", "    chunk->numbers[0] = "),
+        "a slab given back isn't used again": ("    chunk->numbers[chunk->unused++] = offset", "    chunk->numbers[0] = offset"),
+        "a huge page in use is given back": ("[page] == HUGE_PAGE / SLAB &&", "[page] >= HUGE_PAGE / SLAB / 2 &&"),
+        "no huge page is given back": ("[page] == HUGE_PAGE / SLAB &&", "[page] > HUGE_PAGE / SLAB &&"),
+        "slabs that wait keep huge pages": ("    is_keeping = false;\n    give_back_waiting();\n", "    is_keeping = false;\n"),
         "alignment is ignored": ("size_t step = alignment > STEP ? 2 * STEP : STEP;", "size_t step = STEP;\n    alignment = STEP;"),
-        "a longer block loses its end": ("        memcpy(made.block, block, slab->size);\n", "        memcpy(made.block, block, slab->size / 2);\n"),
+        "a longer block loses its end": ("    memcpy(place, block, kept);\n", "    memcpy(place, block, kept / 2);\n"),
         "a longer block stays where it is": ("if (slab && size <= slab->size) return", "if (slab && size <= LARGEST) return"),
         "a refusal is a block": ("    return (struct tried){block != NULL, block != NULL ? block : &nothing};\n",
                                  "    return (struct tried){true, block != NULL ? block : &nothing};\n"),
@@ -403,6 +406,10 @@ C = {f"{file.partition('.')[0]}: {name}": (file, *texts) for file, wrong in {
         "small blocks are malloc's": ("if (size <= LARGEST && alignment <= step) block", "if (size > LARGEST && size < LARGEST) block"),
     },
 }.items() for name, texts in wrong.items()}
+        "a large block isn't given back": ("    munmap(mapping, size);\n", "    (void)size;\n"),
+        "a large block that must move stays empty": ("whole, MREMAP_MAYMOVE | MREMAP_FIXED, place) != MAP_FAILED)", "whole, 0) == MAP_FAILED)"),
+        "what can't be mapped is refused": ("    if (!block) block = malloc(size);\n", "    if (!block && size < LEAST_MAPPED) block = malloc(size);\n"),
+        "a large block is a slab's": ("    set_beginning(mapping, MAPPING);\n    return (char *)mapping + HEAD;", "    set_beginning(mapping, SLABS);\n    return (char *)mapping + HEAD;"),
 
 
 # The test that has to notice each wrong variant: it is run before all others. For a variant without one all are run.
@@ -666,11 +673,12 @@ C = noticed_by({
     ),
     "test_heap calls": (
         "heap: a block is given twice", "heap: two threads allocate at once", "heap: alignment is ignored",
+        "heap: a huge page in use is given back", "heap: no huge page is given back",
         "heap: a longer block loses its end", "heap: a longer block stays where it is",
         "heap: kept blocks are freed twice", "heap: a kept block is freed under another lock", "heap: a lock isn't left",
     ),
     "test_heap give_back_together": (
-        "heap: kept blocks aren't freed", "heap: blocks are kept for good",
+        "heap: kept blocks aren't freed", "heap: blocks are kept for good", "heap: slabs that wait keep huge pages",
         "heap: more blocks are kept than there is room for",
     ),
     "test_heap forks": (
@@ -699,5 +707,14 @@ C = noticed_by({
     ),
     "test_heap refuse": (
         "heap: a refusal is a block",
+    ),
+    "test_heap resizes": (
+        "heap: a large block that must move stays empty", "heap: a large block is a slab's",
+    ),
+    "test_heap large": (
+        "heap: a large block isn't given back",
+    ),
+    "test_heap large_refused": (
+        "heap: what can't be mapped is refused",
     ),
 }, C)

@@ -1,5 +1,6 @@
 /* The library's heap: what the proved code calls for memory. Blocks of up to 128 bytes, which a table has many of, lie in slabs of one
- * size. Larger blocks, and those that no slab is found for, come from malloc.
+ * size. Blocks of 4 MiB or more, such as the entries of a forwarding table, are mapped by themselves. All others, and those that no
+ * slab or mapping is found for, come from malloc.
  *
  * glibc keeps small blocks that are freed in lists, and sorts all of them when a larger block is allocated later: after a free of a
  * million routes, some program's next call of malloc takes a third of a second. A slab only counts its blocks, and gives its memory back
@@ -9,8 +10,11 @@
  * block in the part that it is from. A lock takes longer than the rest of a free, so a call that frees a whole table keeps its blocks
  * for a while, and frees many of them under one lock.
  *
+ * A random look-up reads a place of a large block that no look-up has read for long. With pages of 4 KiB it then also waits for the
+ * page's translation. So the kernel is advised to use huge pages of 2 MiB for large blocks, and gives them if it has any.
+ *
  * With YARIB_NO_SLABS all blocks come from malloc, so that valgrind and sanitizers see them. */
-#define _DEFAULT_SOURCE
+#define _GNU_SOURCE
 #include <pthread.h>
 #include <stdbool.h>
 #include <stdint.h>
@@ -27,14 +31,20 @@ static const char __libc_single_threaded = 0;
 #define STEP ((size_t)8)
 #ifdef YARIB_NO_SLABS
 #define LARGEST ((size_t)0)
+#define LEAST_MAPPED SIZE_MAX
 #else
 #define LARGEST ((size_t)128)
+#define LEAST_MAPPED ((size_t)1 << 22)
 #endif
 #define SLAB ((uintptr_t)1 << 16)
 #define CHUNK ((uintptr_t)1 << 26)
+#define HUGE_PAGE ((uintptr_t)1 << 21)
+/* The first bytes of a chunk are in small pages, so that a small table doesn't take a huge one. */
+#define FEW ((uintptr_t)1 << 22)
 #define PARTS 8
-/* The size of a slab's head, so that its first block is at a multiple of 16. */
+/* The size of the head of a slab or a mapping, so that its first block is at a multiple of 16. */
 #define HEAD ((size_t)64)
+#define PAGE ((size_t)1 << 12)
 
 struct tried {
     bool ok;
@@ -56,17 +66,21 @@ struct part {
     struct slab *with_room[LARGEST / STEP + 1];
 } __attribute__((aligned(64)));
 
-/* Slabs come from chunks of the address space, which the heap keeps. The first slab of a chunk lists those that are unused. */
+/* Slabs come from chunks of the address space, which the heap keeps. The first slab of a chunk lists those that are unused, and counts
+ * those in the place of each huge page. */
 struct chunk {
     struct chunk *next;
     size_t unused;
     uint16_t numbers[CHUNK / SLAB];
+    uint16_t unused_within[CHUNK / HUGE_PAGE];
 };
 
 static struct part parts[PARTS] = {[0 ... PARTS - 1] = {.lock = PTHREAD_MUTEX_INITIALIZER}};
 static pthread_mutex_t lock = PTHREAD_MUTEX_INITIALIZER;
 static struct chunk *with_unused;
-static unsigned char is_chunk[((uintptr_t)1 << 47) / CHUNK];
+/* What begins at each multiple of CHUNK. The rest of CHUNK bytes after a mapping's end may have been given to others. */
+enum { OTHERS, SLABS, MAPPING };
+static unsigned char begins[((uintptr_t)1 << 47) / CHUNK];
 static unsigned threads;
 static __thread struct part *mine;
 
@@ -106,17 +120,37 @@ __attribute__((constructor)) static void begin(void)
     pthread_atfork(lock_all, unlock_all, unlock_all);
 }
 
-/* Maps a chunk at a multiple of its size. */
-static struct chunk *new_chunk(void)
+static unsigned char beginning(const void *at)
 {
-    char *mapped = mmap(NULL, 2 * CHUNK, PROT_READ | PROT_WRITE, MAP_PRIVATE | MAP_ANONYMOUS | MAP_NORESERVE, -1, 0);
+    return __atomic_load_n(&begins[(uintptr_t)at / CHUNK], __ATOMIC_RELAXED);
+}
+
+static void set_beginning(const void *at, unsigned char what)
+{
+    __atomic_store_n(&begins[(uintptr_t)at / CHUNK], what, __ATOMIC_RELAXED);
+}
+
+/* Maps whole pages at a multiple of CHUNK, or returns null. */
+static void *map_pages(size_t size, int flags)
+{
+    char *mapped = mmap(NULL, size + CHUNK, PROT_READ | PROT_WRITE, MAP_PRIVATE | MAP_ANONYMOUS | flags, -1, 0);
     if (mapped == MAP_FAILED) return NULL;
     char *at = (char *)(((uintptr_t)mapped + CHUNK - 1) & ~(CHUNK - 1));
     if (at > mapped) munmap(mapped, at - mapped);
-    munmap(at + CHUNK, mapped + CHUNK - at);
-    struct chunk *chunk = (struct chunk *)at;
-    for (size_t k = CHUNK / SLAB - 1; k > 0; k--) chunk->numbers[chunk->unused++] = k;
-    is_chunk[(uintptr_t)at / CHUNK] = 1;
+    munmap(at + size, mapped + CHUNK - at);
+    return at;
+}
+
+static struct chunk *new_chunk(void)
+{
+    struct chunk *chunk = map_pages(CHUNK, MAP_NORESERVE);
+    if (!chunk) return NULL;
+    madvise((char *)chunk + FEW, CHUNK - FEW, MADV_HUGEPAGE);
+    for (size_t k = CHUNK / SLAB - 1; k > 0; k--) {
+        chunk->numbers[chunk->unused++] = k;
+        chunk->unused_within[k * SLAB / HUGE_PAGE]++;
+    }
+    set_beginning(chunk, SLABS);
     return chunk;
 }
 
@@ -126,20 +160,26 @@ static struct slab *new_slab(void)
     struct chunk *chunk = with_unused ? with_unused : new_chunk();
     struct slab *slab = NULL;
     if (chunk) {
-        slab = (struct slab *)((char *)chunk + SLAB * chunk->numbers[--chunk->unused]);
+        uintptr_t offset = SLAB * chunk->numbers[--chunk->unused];
+        slab = (struct slab *)((char *)chunk + offset);
+        chunk->unused_within[offset / HUGE_PAGE]--;
         with_unused = chunk->unused > 0 ? chunk : chunk->next;
     }
     pthread_mutex_unlock(&lock);
     return slab;
 }
 
-/* Gives the memory of a slab back to the kernel. */
+/* Gives the memory of a slab back to the kernel, in the place of a huge page once all slabs there are unused: the kernel splits a huge
+ * page that is given back in parts, and later gives small ones for it. */
 static void give_back(struct slab *slab)
 {
     struct chunk *chunk = (struct chunk *)((uintptr_t)slab & ~(CHUNK - 1));
-    madvise(slab, SLAB, MADV_DONTNEED);
+    uintptr_t offset = (uintptr_t)slab - (uintptr_t)chunk, page = offset / HUGE_PAGE;
+    if (offset < FEW) madvise(slab, SLAB, MADV_DONTNEED);
     pthread_mutex_lock(&lock);
-    chunk->numbers[chunk->unused++] = ((uintptr_t)slab - (uintptr_t)chunk) / SLAB;
+    /* Under the lock, since a slab in use must not be given back. */
+    if (++chunk->unused_within[page] == HUGE_PAGE / SLAB && offset >= FEW) madvise((char *)chunk + page * HUGE_PAGE, HUGE_PAGE, MADV_DONTNEED);
+    chunk->numbers[chunk->unused++] = offset / SLAB;
     if (chunk->unused == 1) {
         chunk->next = with_unused;
         with_unused = chunk;
@@ -200,7 +240,7 @@ static void *alloc_small(size_t size)
 /* Returns the slab of a block, or null if malloc gave it. */
 static struct slab *slab_of(const void *block)
 {
-    return is_chunk[(uintptr_t)block / CHUNK] ? (struct slab *)((uintptr_t)block & ~(SLAB - 1)) : NULL;
+    return beginning(block) == SLABS ? (struct slab *)((uintptr_t)block & ~(SLAB - 1)) : NULL;
 }
 
 /* Puts a block back into its slab, whose part is locked. */
@@ -255,10 +295,86 @@ void begin_frees(void)
     is_keeping = !__libc_single_threaded;
 }
 
+/* Gives the unused slabs back that wait for the next block of their size: each may keep a huge page. */
+static void give_back_waiting(void)
+{
+    for (struct part *part = parts; part < parts + PARTS; part++) {
+        lock_part(part);
+        for (size_t k = 0; k <= LARGEST / STEP; k++) {
+            for (struct slab *slab = part->with_room[k], *next; slab; slab = next) {
+                next = slab->next;
+                if (slab->used > 0) continue;
+                unlink_slab(slab);
+                give_back(slab);
+            }
+        }
+        unlock_part(part);
+    }
+}
+
 void end_frees(void)
 {
     if (kept > 0) free_kept();
     is_keeping = false;
+    give_back_waiting();
+}
+
+/* The head of a mapping, before its block: its size in bytes, in whole pages. */
+struct mapping {
+    size_t size;
+};
+
+static size_t size_of_mapping(size_t size)
+{
+    return (HEAD + size + PAGE - 1) & ~(PAGE - 1);
+}
+
+/* Returns the mapping of a block, or null if it has none. */
+static struct mapping *mapping_of(const void *block)
+{
+    bool is_mapped = (uintptr_t)block % CHUNK == HEAD && beginning(block) == MAPPING;
+    return is_mapped ? (struct mapping *)((char *)block - HEAD) : NULL;
+}
+
+static void *block_of(struct mapping *mapping, size_t size)
+{
+    mapping->size = size;
+    set_beginning(mapping, MAPPING);
+    return (char *)mapping + HEAD;
+}
+
+/* Maps a block of at least LEAST_MAPPED bytes, or returns null. */
+static void *alloc_mapped(size_t size)
+{
+    if (size > SIZE_MAX / 4) return NULL;
+    size_t whole = size_of_mapping(size);
+    struct mapping *mapping = map_pages(whole, 0);
+    if (!mapping) return NULL;
+    madvise(mapping, whole, MADV_HUGEPAGE);
+    return block_of(mapping, whole);
+}
+
+static void free_mapped(struct mapping *mapping)
+{
+    /* First, since another thread may map this place as soon as it is free. */
+    size_t size = mapping->size;
+    set_beginning(mapping, OTHERS);
+    munmap(mapping, size);
+}
+
+/* Changes the size of a mapping, which may move without being copied. Returns its block, or null and leaves it. */
+static void *resize_mapped(struct mapping *mapping, size_t size)
+{
+    if (size > SIZE_MAX / 4) return NULL;
+    size_t before = mapping->size, whole = size_of_mapping(size);
+    if (mremap(mapping, before, whole, 0) != MAP_FAILED) return block_of(mapping, whole);
+    void *place = map_pages(whole, 0);
+    if (!place) return NULL;
+    set_beginning(mapping, OTHERS);
+    if (mremap(mapping, before, whole, MREMAP_MAYMOVE | MREMAP_FIXED, place) != MAP_FAILED) return block_of(place, whole);
+    set_beginning(mapping, MAPPING);
+    munmap(place, whole);
+    return NULL;
 }
 
 struct tried rattle_alloc(size_t size, size_t alignment)
@@ -267,6 +383,7 @@ struct tried rattle_alloc(size_t size, size_t alignment)
     if (size == 0) size = alignment;
     size_t step = alignment > STEP ? 2 * STEP : STEP;
     if (size <= LARGEST && alignment <= step) block = alloc_small((size + step - 1) / step * step);
+    if (size >= LEAST_MAPPED) block = alloc_mapped(size);
     if (!block) block = malloc(size);
     return (struct tried){block != NULL, block != NULL ? block : &nothing};
 }
@@ -274,24 +391,36 @@ struct tried rattle_alloc(size_t size, size_t alignment)
 void rattle_dealloc(void *block)
 {
     struct slab *slab = slab_of(block);
-    if (!slab) free(block);
-    else if (is_keeping) keep(block);
-    else free_small(slab, block);
+    struct mapping *mapping = mapping_of(block);
+    if (slab && is_keeping) keep(block);
+    else if (slab) free_small(slab, block);
+    else if (mapping) free_mapped(mapping);
+    else free(block);
 }
 
+/* Moves the first bytes of a block into another one, unless that is null. */
+static struct tried moved_to(void *place, void *block, size_t kept)
+{
+    if (!place) return (struct tried){false, &nothing};
+    memcpy(place, block, kept);
+    rattle_dealloc(block);
+    return (struct tried){true, place};
+}
+
+/* The first `kept` bytes stay, which are at most `size`. */
 struct tried rattle_realloc(void *block, size_t kept, size_t size, size_t alignment)
 {
     struct slab *slab = slab_of(block);
-    (void)kept;
+    struct mapping *mapping = mapping_of(block);
     if (size == 0) size = alignment;
     if (slab && size <= slab->size) return (struct tried){true, block};
-    if (slab) {
+    void *place = NULL;
+    if (mapping && size >= LEAST_MAPPED && (place = resize_mapped(mapping, size))) return (struct tried){true, place};
+    if (slab || mapping) {
         struct tried made = rattle_alloc(size, alignment);
-        if (!made.ok) return made;
-        memcpy(made.block, block, slab->size);
-        rattle_dealloc(block);
-        return made;
+        return moved_to(made.ok ? made.block : NULL, block, kept);
     }
-    void *moved = realloc(block, size);
-    return (struct tried){moved != NULL, moved != NULL ? moved : &nothing};
+    if (size >= LEAST_MAPPED && (place = alloc_mapped(size))) return moved_to(place, block, kept);
+    place = realloc(block, size);
+    return (struct tried){place != NULL, place != NULL ? place : &nothing};
 }

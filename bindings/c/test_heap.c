@@ -7,6 +7,7 @@
 #include <stdbool.h>
 #include <stdint.h>
 #include <string.h>
+#include <sys/prctl.h>
 #include <sys/resource.h>
 #include <sys/wait.h>
 #include <time.h>
@@ -23,6 +24,9 @@ void begin_frees(void);
 void end_frees(void);
 
 enum { THREADS = 4, SHELVES = 512, CALLS = 200000 };
+
+/* True if sanitizers or valgrind run the tests: they keep memory that was freed. */
+static bool is_watched;
 
 /* A block and what each of its bytes holds. Threads take blocks from shelves and put others there, so they free each other's. */
 struct held {
@@ -67,7 +71,7 @@ static void visit(struct held *one, uint64_t *last)
         fill(one, last);
     } else if (draw(last, 3) == 0) {
         size_t size = drawn_size(last), kept = size < one->size ? size : one->size;
-        struct tried moved = rattle_realloc(one->at, one->size, size, 1);
+        struct tried moved = rattle_realloc(one->at, kept, size, 1);
         CHECK(moved.ok);
         *one = (struct held){moved.block, kept, one->fill};
         check(one);
@@ -139,6 +143,28 @@ static size_t taken_bytes(bool is_resident)
     return (is_resident ? pages : all) * 4096;
 }
 
+/* Returns the number of this process's bytes in huge pages. */
+static size_t huge_bytes(void)
+{
+    char line[256];
+    size_t one, all = 0;
+    FILE *file = fopen("/proc/self/smaps", "r");
+    CHECK(file);
+    while (fgets(line, sizeof line, file)) if (sscanf(line, "AnonHugePages: %zu", &one) == 1) all += one * 1024;
+    fclose(file);
+    return all;
+}
+
+/* Returns true if the kernel has huge pages for memory for which it is advised to use them. */
+static bool has_huge_pages(void)
+{
+    char line[256] = "";
+    FILE *file = fopen("/sys/kernel/mm/transparent_hugepage/enabled", "r");
+    if (file && !fgets(line, sizeof line, file)) line[0] = '\0';
+    if (file) fclose(file);
+    return strstr(line, "[madvise]") || strstr(line, "[always]");
+}
+
 static double seconds(void)
 {
     struct timespec now;
@@ -169,8 +195,12 @@ static void give_back_many(bool is_kept)
         many[other] = one;
     }
     size_t full = taken_bytes(true);
+    if (has_huge_pages()) CHECK(huge_bytes() >= 32 << 20);
     if (is_kept) begin_frees();
-    for (size_t k = 0; k < MANY; k++) rattle_dealloc(many[k]);
+    for (size_t k = 0; k < MANY; k++) {
+        CHECK(*(unsigned char *)many[k] == 1);
+        rattle_dealloc(many[k]);
+    }
     if (is_kept) end_frees();
     size_t after = taken_bytes(true);
     double start = seconds();
@@ -182,8 +212,22 @@ static void give_back_many(bool is_kept)
     printf("%zu bytes for each block, %zu left of each, %.3f ms for the next allocations\n", (full - before) / MANY,
         (after > before ? after - before : 0) / MANY, taken * 1e3);
     CHECK((full - before) / MANY <= 44);
-    CHECK(after <= before + (full - before) / 50);
+    /* A slab stays for the next block, and with it a huge page, until a call frees a whole table. */
+    CHECK(after <= before + (full - before) / (is_kept ? 100 : 30));
     CHECK(taken < 1e-3);
+}
+
+/* A few small blocks take a few small pages. */
+static void take_few(void)
+{
+    size_t before = taken_bytes(true);
+    for (size_t k = 0; k < 1000; k++) {
+        struct tried made = rattle_alloc(40, 8);
+        CHECK(made.ok);
+        memset(many[k] = made.block, 1, 40);
+    }
+    CHECK(taken_bytes(true) <= before + (1 << 18));
+    for (size_t k = 0; k < 1000; k++) rattle_dealloc(many[k]);
 }
 
 static void give_back(void)
@@ -225,6 +269,99 @@ static void refuse(void)
     for (size_t k = 0; k < kept / 2; k++) CHECK(rattle_alloc(1 + k % 128, 1).ok);
 }
 
+/* Sizes in steps of 1 MiB, around the size from which a block has its own mapping. A resized block keeps its beginning. */
+static const unsigned char sizes[] = {3, 4, 5, 64, 5, 200, 66, 4, 3, 1, 9, 8, 130, 2, 40};
+
+static void write_ends(unsigned char *block, size_t size, unsigned char k)
+{
+    for (size_t j = 0; j < 4096; j++) block[j] = block[size - 1 - j] = k;
+    for (size_t j = 0; j < size; j += 4096) block[j] = k;
+}
+
+static void check_ends(const unsigned char *block, size_t size, unsigned char k)
+{
+    for (size_t j = 0; j < 4096; j++) CHECK(block[j] == k);
+    for (size_t j = 0; j < size; j += 4096) CHECK(block[j] == k);
+}
+
+/* Resizes two large blocks in turn, so that one is in the other's way, and frees them. */
+static void *resize_two(void *unused)
+{
+    struct tried both[2] = {rattle_alloc(100, 8), rattle_alloc(8 << 20, 8)};
+    size_t held[2] = {100, 8 << 20};
+    CHECK(both[0].ok && both[1].ok && (uintptr_t)both[1].block % 16 == 0);
+    memset(both[0].block, 0, 100);
+    write_ends(both[1].block, held[1], 1);
+    for (size_t k = 0; k < sizeof sizes; k++) {
+        size_t one = k % 2, size = ((size_t)sizes[k] << 20) + k, kept = size < held[one] ? size : held[one];
+        both[one] = rattle_realloc(both[one].block, kept, size, 8);
+        CHECK(both[one].ok && (uintptr_t)both[one].block % 16 == 0);
+        if (k > 0) check_ends(both[one].block, kept / 4096 * 4096, k > 1 ? k - 2 : 1);
+        write_ends(both[one].block, held[one] = size, k);
+    }
+    for (size_t k = sizeof sizes - 2; k < sizeof sizes; k++) check_ends(both[k % 2].block, held[k % 2] / 4096 * 4096, k);
+    rattle_dealloc(both[0].block);
+    rattle_dealloc(both[1].block);
+    return unused;
+}
+
+static void resize_large(void)
+{
+    pthread_t threads[THREADS];
+    size_t before = taken_bytes(true);
+    for (int k = 0; k < THREADS; k++) CHECK(pthread_create(&threads[k], NULL, resize_two, NULL) == 0);
+    for (int k = 0; k < THREADS; k++) CHECK(pthread_join(threads[k], NULL) == 0);
+    /* malloc keeps some of the smaller blocks for each thread. */
+    if (!is_watched) CHECK(taken_bytes(true) <= before + THREADS * (8 << 20));
+}
+
+/* Large blocks are in huge pages if there are any, keep what they hold, and are given back at once. */
+static void map_large(void)
+{
+    size_t before = taken_bytes(true), space = taken_bytes(false), huge = huge_bytes();
+    CHECK(!rattle_alloc((size_t)1 << 62, 8).ok && !rattle_alloc((size_t)1 << 48, 8).ok);
+    struct tried large = rattle_alloc(64 << 20, 8);
+    CHECK(large.ok);
+    write_ends(large.block, 64 << 20, 7);
+    CHECK(taken_bytes(false) <= space + (65 << 20) && taken_bytes(true) <= before + (65 << 20));
+    printf("%zu of 64 MiB in huge pages\n", (huge_bytes() - huge) >> 20);
+    if (has_huge_pages()) CHECK(huge_bytes() >= huge + (32 << 20));
+    CHECK(!rattle_realloc(large.block, 64 << 20, (size_t)1 << 62, 8).ok && !rattle_realloc(large.block, 64 << 20, (size_t)1 << 48, 8).ok);
+    check_ends(large.block, 64 << 20, 7);
+    rattle_dealloc(large.block);
+    CHECK(taken_bytes(true) <= before + (1 << 20));
+}
+
+/* Without huge pages large blocks are what they are with them, and if no mapping is found for them they come from malloc. */
+static void map_refused(void)
+{
+    struct rlimit whole, limit;
+    CHECK(prctl(PR_SET_THP_DISABLE, 1, 0, 0, 0) == 0);
+    size_t huge = huge_bytes();
+    resize_two(NULL);
+    struct tried large = rattle_alloc(30 << 20, 8);
+    write_ends(large.block, 30 << 20, 3);
+    CHECK(huge_bytes() == huge && getrlimit(RLIMIT_AS, &whole) == 0);
+    limit = whole;
+    limit.rlim_cur = taken_bytes(false) + (60 << 20);
+    CHECK(setrlimit(RLIMIT_AS, &limit) == 0);
+    struct tried other = rattle_alloc(8 << 20, 8);
+    CHECK(large.ok && other.ok && !rattle_alloc(90 << 20, 8).ok);
+    write_ends(other.block, 8 << 20, 4);
+    CHECK(!rattle_realloc(large.block, 30 << 20, 100 << 20, 8).ok);
+    check_ends(large.block, 30 << 20, 3);
+    other = rattle_realloc(other.block, 8 << 20, 20 << 20, 8);
+    CHECK(other.ok);
+    check_ends(other.block, 8 << 20, 4);
+    CHECK(setrlimit(RLIMIT_AS, &whole) == 0);
+    other = rattle_realloc(other.block, 20 << 20, 90 << 20, 8);
+    CHECK(other.ok);
+    check_ends(other.block, 8 << 20, 4);
+    rattle_dealloc(other.block);
+    rattle_dealloc(large.block);
+    CHECK(prctl(PR_SET_THP_DISABLE, 0, 0, 0, 0) == 0);
+}
+
 /* Rounds of calls, after which every block is as it was left. */
 static void call(uintptr_t first, uintptr_t last, void (*meanwhile)(void))
 {
@@ -250,14 +387,15 @@ static void call_and_fork(void)
 static const struct {
     const char *name;
     void (*run)(void);
-} tests[] = {{"calls", call_threads}, {"forks", call_and_fork}, {"give_back", give_back},
-    {"give_back_together", give_back_together}, {"refuse", refuse}};
+} tests[] = {{"few", take_few}, {"calls", call_threads}, {"forks", call_and_fork}, {"give_back", give_back},
+    {"give_back_together", give_back_together}, {"resizes", resize_large}, {"large", map_large}, {"large_refused", map_refused}, {"refuse", refuse}};
 
-/* With a word, only the test of this name is run; the status is 2 if there is none. Sanitizers run only the first: they need more
- * memory and time, and report what a child's missing threads held. */
+/* With a word, only the test of this name is run; the status is 2 if there is none. With a second word, a sanitizer or valgrind runs
+ * it. They run only calls and resizes: they need more memory and time, and report what a child's missing threads held. */
 int main(int size, char **words)
 {
     int run = 0;
+    is_watched = size > 2;
     alarm(600);
     for (int k = 0; k < SHELVES; k++) CHECK(pthread_mutex_init(&locks[k], NULL) == 0);
     for (size_t k = 0; k < sizeof tests / sizeof *tests; k++) {

@@ -45,12 +45,15 @@ static size_t used_of(const struct chunk *chunk, bool by_pages)
     return bytes;
 }
 
-/* Returns how many bytes were given and not freed, including malloc's own for each block. */
+/* Returns how many bytes were given and not freed, including malloc's own for each block and the rest of a mapping's last page. */
 static size_t given(bool by_pages)
 {
     struct mallinfo2 now = mallinfo2();
     size_t bytes = now.uordblks + now.hblkhd;
-    for (uintptr_t k = 0; k < sizeof is_chunk; k++) if (is_chunk[k]) bytes += used_of((struct chunk *)(k * CHUNK), by_pages);
+    for (uintptr_t k = 0; k < sizeof begins; k++) {
+        if (begins[k] == SLABS) bytes += used_of((struct chunk *)(k * CHUNK), by_pages);
+        if (begins[k] == MAPPING) bytes += ((struct mapping *)(k * CHUNK))->size;
+    }
     return bytes;
 }
 
