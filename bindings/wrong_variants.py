@@ -5,13 +5,14 @@ end, the test that has to notice it.
 """
 TABLES, LIBRARY = "yarib/_tables.py", "yarib/_library.py"
 PYTHON = {
-    "in finds longer prefixes": (TABLES, "if found[4] == length else None", "if found[4] >= length else None"),
-    "in finds shorter prefixes": (TABLES, "if found[4] == length else None", "if found[4] <= length else None"),
+    "in finds longer prefixes": (TABLES, "if found[4] == length and", "if found[4] >= length and"),
+    "in finds shorter prefixes": (TABLES, "if found[4] == length and", "if found[4] <= length and"),
     "in doesn't find what a longer prefix hides": (TABLES, "if found[4] > length or base", "if base"),
     "in accepts bits past the length": (TABLES, "if found[4] > length or base & LAST >> length:", "if found[4] > length:"),
     "a router is another one": (TABLES, "    return address_of(text)\n", "    return address_of(text) ^ 1\n"),
-    "a call's room is given back too early": (TABLES, "    if calls.yarib_look_up_one(handle, asked, room.at):\n",
-                                              "    rooms.append(room)\n    if calls.yarib_look_up_one(handle, asked, room.at):\n"),
+    "a call's room is given back too early": (TABLES, "            if self._held.yarib_look_up_one(self._at, asked, room.at):\n",
+                                              "            rooms.append(room)\n"
+                                              "            if self._held.yarib_look_up_one(self._at, asked, room.at):\n"),
     "a command's room is given back too early": (TABLES, "        if self._changing.yarib_apply(self._at, command, room.at):\n",
                                                  "        rooms.append(room)\n"
                                                  "        if self._changing.yarib_apply(self._at, command, room.at):\n"),
@@ -37,13 +38,14 @@ PYTHON = {
                                        "prefix, pref, ADDRESS(via)"),
     "an entry's address without its number": (TABLES, "return feed, name, ADDRESS(base)", "return feed, name, ADDRESS(0)"),
     "a route's discard as a router": (TABLES, "pref, via if hop == c.VIA else None))\n", "pref, via))\n"),
-    "an answer's discard as a router": (TABLES, "pref, via if hop == c.VIA else None)) if hop", "pref, via)) if hop"),
+    "an answer's discard as a router": (TABLES, "pref, via if hop == VIA else None)) if hop", "pref, via)) if hop"),
     "an answer without a route is a route": (TABLES, "None)) if hop else None", "None))"),
+    "in finds a default route that isn't there": (TABLES, "== length and found[5] else", "== length else"),
     "a difference's discard as a router": (TABLES, "else ADDRESS(raw.via) if raw.hop == c.VIA else None", "else ADDRESS(raw.via)"),
     "preference and feed are exchanged": (TABLES, "(base, length, feed, pref, via if hop == c.VIA else None))\n",
                                           "(base, length, pref, feed, via if hop == c.VIA else None))\n"),
-    "an answer's preference and feed are exchanged": (TABLES, "(base, length, feed, pref, via if hop == c.VIA else None)) if",
-                                                      "(base, length, pref, feed, via if hop == c.VIA else None)) if"),
+    "an answer's preference and feed are exchanged": (TABLES, "(base, length, feed, pref, via if hop == VIA else None)) if",
+                                                      "(base, length, pref, feed, via if hop == VIA else None)) if"),
     "lists are cut at 64": (TABLES, "            size = total.value\n", "            return memoryview(block)\n"),
     "lists are cut at 4,096": (TABLES, "            size = total.value\n",
                                "            if size == 4096:\n                return memoryview(block)\n            size = total.value\n"),
@@ -77,7 +79,7 @@ PYTHON = {
     "put keeps an old route": (TABLES, 'self.apply(feed, "replace", prefix, pref, via).said == "replaced"', "said"),
     "put overlooks a full feed": (TABLES, '            if said == "full":\n', '            if said == "full" and not feed:\n'),
     "del removes one feed's route": (TABLES, "for route in self.exact(prefix)]", "for route in self.exact(prefix, best=True)]"),
-    "in doesn't find addresses": (TABLES, "return self._get(key) is not None", "return is_prefix(key) and self._get(key) is not None"),
+    "in doesn't find addresses": (TABLES, "else self.look_up(key)) is not None", "else None) is not None"),
     "in finds other routes to a prefix": (TABLES, "return key in self.exact(key[:2], feed=key.feed)",
                                           "return bool(self.exact(key[:2], feed=key.feed))"),
     "a prefix is looked up by its base": (TABLES, "return found[-1] if found else None", "return self.look_up(prefix_of(prefix)[0])"),
@@ -88,7 +90,7 @@ PYTHON = {
     "a source deals by chance": (TABLES, "mixed = (base + length) * 2_654_435_769 & 0xFFFFFFFF",
                                      "mixed = threading.get_ident() + id(prefix) & 0xFFFFFFFF"),
     "a source deals otherwise": (TABLES, "2_654_435_769", "2_654_435_761"),
-    "an address isn't a key": (TABLES, "else self.look_up(key)  # type", "else None  # type"),
+    "an address isn't a key": (TABLES, "            return self.look_up(key)  # type", "            return None  # type"),
     "a source uses one feed": (TABLES, "return self.feeds[mixed * len(self.feeds) >> 32]", "return self.feeds[0]"),
     "close leaves a forwarding table open": (TABLES, "        self.close()\n", "        pass\n"),
     "one of two tables is counted": (TABLES, '        """Returns an estimate of the size of both tables in bytes, including attached forwarding tables."""\n',
@@ -100,10 +102,11 @@ PYTHON = {
                                         "        raw = [command_of(*words) for words in commands]\n"),
     "a replace is an add": (TABLES, "self._put(c.REPLACE, prefix,", "self._put(c.ADD, prefix,"),
     "every table is followed": (TABLES, "return found.value == 1", "return found.value <= 1"),
-    "the text of an address is cut": (TABLES, "text, size, room.at):\n            check(status_of(calls.yarib_look_up_text",
-                                      "text, size and size - 1, room.at):\n            check(status_of(calls.yarib_look_up_text"),
-    "an invalid text of an address is overlooked": (TABLES, "            check(status_of(calls.yarib_look_up_text, handle, text, size, room.at), address)\n",
-                                                    "            pass\n"),
+    "the text of an address is cut": (TABLES, "            if self._held.yarib_look_up_text(self._at, text, size, room.at):\n",
+                                      "            if self._held.yarib_look_up_text(self._at, text, size and size - 1, room.at):\n"),
+    "an invalid text of an address is overlooked": (TABLES,
+        "                check(status_of(self._held.yarib_look_up_text, self._at, text, size, room.at), address)\n",
+        "                pass\n"),
 }
 
 GO = {name: ("yarib.go", *texts) for name, texts in {
@@ -403,13 +406,13 @@ C = {f"{file.partition('.')[0]}: {name}": (file, *texts) for file, wrong in {
         "a kept block is freed under another lock": ("        if (slab->part != locked) {\n", "        if (!locked) {\n"),
         "a lock isn't left": ("            if (locked) unlock_part(locked);\n", ""),
         "more blocks are kept than there is room for": ("    if (kept == KEPT) free_kept();\n", "    if (kept == KEPT + 9) free_kept();\n"),
-        "small blocks are malloc's": ("if (size <= LARGEST && alignment <= step) block", "if (size > LARGEST && size < LARGEST) block"),
-    },
-}.items() for name, texts in wrong.items()}
         "a large block isn't given back": ("    munmap(mapping, size);\n", "    (void)size;\n"),
         "a large block that must move stays empty": ("whole, MREMAP_MAYMOVE | MREMAP_FIXED, place) != MAP_FAILED)", "whole, 0) == MAP_FAILED)"),
         "what can't be mapped is refused": ("    if (!block) block = malloc(size);\n", "    if (!block && size < LEAST_MAPPED) block = malloc(size);\n"),
         "a large block is a slab's": ("    set_beginning(mapping, MAPPING);\n    return (char *)mapping + HEAD;", "    set_beginning(mapping, SLABS);\n    return (char *)mapping + HEAD;"),
+        "small blocks are malloc's": ("if (size <= LARGEST && alignment <= step) block", "if (size > LARGEST && size < LARGEST) block"),
+    },
+}.items() for name, texts in wrong.items()}
 
 
 # The test that has to notice each wrong variant: it is run before all others. For a variant without one all are run.
@@ -434,10 +437,10 @@ PYTHON = noticed_by({
         "an address isn't a key",
     ),
     "test_calls.Conventions.test_keys": (
-        "in accepts bits past the length", "an answer without a route is a route", "del removes one feed's route",
+        "in accepts bits past the length", "in finds a default route that isn't there", "an answer without a route is a route", "del removes one feed's route",
         "in finds other routes to a prefix",
     ),
-    "test_yarib.Threads.test_they_meet_under_the_global_lock": (
+    "test_yarib.Threads.test_calls_between_a_call_and_its_results": (
         "a call's room is given back too early",
     ),
     "test_yarib.Threads.test_they_meet_without_the_global_lock": (
@@ -670,10 +673,10 @@ C = noticed_by({
     "test_heap give_back": (
         "heap: a slab in use is given back", "heap: no slab is given back", "heap: a block ends after its slab",
         "heap: a full slab stays in the list", "heap: a full slab isn't used again", "heap: small blocks are malloc's",
+        "heap: a huge page in use is given back", "heap: no huge page is given back",
     ),
     "test_heap calls": (
         "heap: a block is given twice", "heap: two threads allocate at once", "heap: alignment is ignored",
-        "heap: a huge page in use is given back", "heap: no huge page is given back",
         "heap: a longer block loses its end", "heap: a longer block stays where it is",
         "heap: kept blocks are freed twice", "heap: a kept block is freed under another lock", "heap: a lock isn't left",
     ),
@@ -705,9 +708,6 @@ C = noticed_by({
         "readers: a load is published at its end only", "readers: each line is published",
         "readers: the second side lacks a loaded route", "readers: a load begins without the change before",
     ),
-    "test_heap refuse": (
-        "heap: a refusal is a block",
-    ),
     "test_heap resizes": (
         "heap: a large block that must move stays empty", "heap: a large block is a slab's",
     ),
@@ -716,5 +716,8 @@ C = noticed_by({
     ),
     "test_heap large_refused": (
         "heap: what can't be mapped is refused",
+    ),
+    "test_heap refuse": (
+        "heap: a refusal is a block",
     ),
 }, C)

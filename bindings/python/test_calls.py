@@ -498,7 +498,7 @@ class Conventions(Limited):
                          [two, two, two, narrow])
         self.assertTrue(all(route in table for route in table))
         self.assertNotIn(one._replace(pref=6), table)
-        for key in ("10.0.0.0/9", "11.0.0.0", ADDRESS("11.0.0.0"), NETWORK("11.0.0.0/8")):
+        for key in ("10.0.0.0/9", "0.0.0.0/0", "11.0.0.0", ADDRESS("11.0.0.0"), NETWORK("11.0.0.0/8")):
             self.assertRaises(KeyError, table.__getitem__, key)
             self.assertRaises(yarib.Missing, table.__getitem__, key)
             self.assert_same((table.get(key), table.get(key, 5), key in table), (None, 5, False))

@@ -346,8 +346,9 @@ class Threads(unittest.TestCase):
         tables.held = tables.Handle._held = tables.Handle._changing = Interrupted(kept[0])
         try:
             table.add("12.0.0.0/8", via="192.0.2.1")
-            found = [table.look_up("12.0.0.1"), table.get("12.0.0.0/8"), table["12.0.0.1"], *table.routes()[1:2]]
-            self.assertEqual(found, [route("12.0.0.0/8", 1, 0, "192.0.2.1")] * 4)
+            found = [table.look_up("12.0.0.1"), table.look_up(12 << 24), table.get("12.0.0.0/8"), table["12.0.0.1"],
+                     *table.routes()[1:2]]
+            self.assertEqual(found, [route("12.0.0.0/8", 1, 0, "192.0.2.1")] * 5)
             self.assertEqual((table.apply(1, "purge").count, table.get("12.0.0.0/8"), table.look_up("12.0.0.1")), (3, None, None))
         finally:
             tables.held, tables.Handle._held, tables.Handle._changing = kept

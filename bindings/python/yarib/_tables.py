@@ -21,6 +21,8 @@ from ._library import (
 PAGE, ENTRIES = 256, 4096
 # A call without conversions accepts only sizes below it.
 MANY = 1 << 31
+# Of the library, which a short call reads often.
+VIA = c.VIA
 LAST = (1 << 32) - 1
 ADDRESS_FROM, PREFIX_FROM, ROUTE_FROM, REPLY_FROM = (
     one.unpack_from for one in (c.ADDRESS, c.PREFIX, ROUTE, REPLY))
@@ -96,6 +98,11 @@ def room_of_call() -> Room:
         return Room()
 
 
+def escaped(text: str) -> bytes:
+    """Returns a text that isn't ASCII for C."""
+    return text.encode("utf-8", "surrogateescape")
+
+
 def address_of(value: Address) -> int:
     """Returns the number of an address."""
     room = room_of_call()
@@ -107,7 +114,7 @@ def address_of(value: Address) -> int:
 def address_in(room: Room, value: Address) -> int:
     """Returns the number of an address, which is parsed in this room if it is a text."""
     if isinstance(value, str):
-        text = value.encode("utf-8", "surrogateescape")
+        text = value.encode() if value.isascii() else escaped(value)
         if status := held.yarib_address_parse(text, len(text) if len(text) < MANY else ctypes.c_size_t(len(text)), room.at):
             check(status, value)
         return ADDRESS_FROM(room.bytes)[0]  # type: ignore[no-any-return]
@@ -142,7 +149,7 @@ def prefix_of(value: Prefix) -> Tuple[int, int]:
 def prefix_in(room: Room, value: Prefix) -> Tuple[int, int]:
     """Returns the base and length of a prefix, which is parsed in this room if it is a text."""
     if isinstance(value, str):
-        text = value.encode("utf-8", "surrogateescape")
+        text = value.encode() if value.isascii() else escaped(value)
         if status := held.yarib_prefix_parse(text, len(text) if len(text) < MANY else ctypes.c_size_t(len(text)), room.at):
             check(status, value)
         return PREFIX_FROM(room.bytes)  # type: ignore[return-value]
@@ -208,10 +215,10 @@ def put_in(room: Room, operation: int, feed: int, prefix: Prefix, pref: int, via
     if via is None:
         return packed(operation, feed, base, length, pref, 0, c.DISCARD)
     try:
-        router = router_of(via) if type(via) is str else address_of(via)
-        return COMMAND.pack(operation, feed, base, pref, router, length, c.VIA)
+        router = router_of(via) if type(via) is str else via if type(via) is int else address_of(via)
+        return COMMAND.pack(operation, feed, base, pref, router, length, VIA)
     except struct.error:
-        return packed(operation, feed, base, length, pref)
+        return packed(operation, feed, base, length, pref, address_of(via), VIA)
 
 
 def packed(operation: int, feed: int, base: int, length: int = 0, pref: int = 0, via: int = 0, hop: int = 0) -> bytes:
@@ -291,26 +298,6 @@ def pointer_to(block: bytearray) -> Any:
     return (ctypes.c_char * len(block)).from_buffer(block) if block else (ctypes.c_char * 1)()
 
 
-def ask_one(handle: Any, address: Address, calls: Any = held) -> Optional[Route]:
-    try:
-        room = rooms.pop()
-    except IndexError:
-        room = Room()
-    if type(address) is str:
-        # One call of the library takes less time than two.
-        text = address.encode("utf-8", "surrogateescape")
-        size = len(text) if len(text) < MANY else ctypes.c_size_t(len(text))
-        if calls.yarib_look_up_text(handle, text, size, room.at):
-            check(status_of(calls.yarib_look_up_text, handle, text, size, room.at), address)
-    else:
-        asked = address_in(room, address)
-        if calls.yarib_look_up_one(handle, asked, room.at):
-            done(calls.yarib_look_up_one, handle, asked, room.at)
-    base, pref, via, feed, length, hop = ROUTE_FROM(room.bytes)
-    rooms.append(room)
-    return new(Route, (base, length, feed, pref, via if hop == c.VIA else None)) if hop else None
-
-
 def bytes_of(handle: Any, calls: Any = held) -> int:
     found = ctypes.c_size_t()
     done(calls.yarib_memory, handle, ctypes.byref(found))
@@ -342,6 +329,26 @@ class Handle:
         """Frees the handle's contents, once no other thread's call uses them. Closing twice is harmless."""
         self._change(self._freed.yarib_free, self._at)
 
+    def look_up(self, address: Address) -> Optional[Route]:
+        """Returns the best route of the longest prefix that covers the address, or None."""
+        try:
+            room = rooms.pop()
+        except IndexError:
+            room = Room()
+        if type(address) is str:
+            # One call of the library takes less time than two.
+            text = address.encode() if address.isascii() else escaped(address)
+            size = len(text) if len(text) < MANY else ctypes.c_size_t(len(text))
+            if self._held.yarib_look_up_text(self._at, text, size, room.at):
+                check(status_of(self._held.yarib_look_up_text, self._at, text, size, room.at), address)
+        else:
+            asked = address_in(room, address)
+            if self._held.yarib_look_up_one(self._at, asked, room.at):
+                done(self._held.yarib_look_up_one, self._at, asked, room.at)
+        base, pref, via, feed, length, hop = ROUTE_FROM(room.bytes)
+        rooms.append(room)
+        return new(Route, (base, length, feed, pref, via if hop == VIA else None)) if hop else None
+
     def __del__(self) -> None:
         if hasattr(self, "_at"):
             self._held.yarib_free(self._at)
@@ -357,16 +364,16 @@ class Routes(Handle):
         """Executes a command of the feed and returns its outcome: add or replace with prefix, preference and via, withdraw
         with prefix, lookup with address, dump or purge."""
         room = room_of_call()
-        found = outcome_of(*self._reply(room, command_of(feed, name, *words)))
+        found = outcome_of(*REPLY_FROM(self._execute(room, command_of(feed, name, *words))))
         rooms.append(room)
         return found
 
-    def _reply(self, room: Room, command: bytes) -> Tuple[int, ...]:
-        """Executes a command and returns the fields of its reply."""
+    def _execute(self, room: Room, command: bytes) -> bytearray:
+        """Executes a command and returns its reply."""
         if self._changing.yarib_apply(self._at, command, room.at):
             # After a status that isn't 0 nothing has changed, so the call can be made again.
             self._change(self._changing.yarib_apply, self._at, command, room.at)
-        return REPLY_FROM(room.bytes)
+        return room.bytes
 
     def apply_each(self, commands: Iterable[Sequence[Any]]) -> List[Outcome]:
         """Executes commands, given as the arguments of `apply`, and returns the list of their outcomes."""
@@ -382,7 +389,8 @@ class Routes(Handle):
             room = rooms.pop()
         except IndexError:
             room = Room()
-        code = self._reply(room, put_in(room, operation, feed, prefix, pref, via))[0]
+        # A reply begins with its code, which is below 256, and x86-64 stores the lowest byte first.
+        code = self._execute(room, put_in(room, operation, feed, prefix, pref, via))[0]
         rooms.append(room)
         if code in UNCHANGED:
             raise UNCHANGED[code](f"feed {feed}: {prefix}")
@@ -413,10 +421,6 @@ class Routes(Handle):
     def purge(self, feed: int = 1) -> int:
         """Removes all routes of the feed and returns their number."""
         return self.apply(feed, "purge").count
-
-    def look_up(self, address: Address) -> Optional[Route]:
-        """Returns the best route of the longest prefix that covers the address, or None."""
-        return ask_one(self._at, address, self._held)
 
     def look_up_each(self, addresses: Any) -> Answers:
         """Looks up all these addresses and returns the Answers. They are any iterable, or a buffer of 32-bit numbers. Other
@@ -513,10 +517,12 @@ class Routes(Handle):
         return route
 
     def _get(self, key: Union[Address, Prefix]) -> Optional[Route]:
-        return self._best(key) if is_prefix(key) else self.look_up(key)  # type: ignore[arg-type]
+        if not is_prefix(key):
+            return self.look_up(key)  # type: ignore[arg-type]
+        return None if (found := self._best(key)) is None else route_of(*found)  # type: ignore[arg-type]
 
-    def _best(self, prefix: Prefix) -> Optional[Route]:
-        """Returns the best route to exactly this prefix, which is the first one in order, or None."""
+    def _best(self, prefix: Prefix) -> Optional[Tuple[int, ...]]:
+        """Returns the fields of the best route to exactly this prefix, which is the first one in order, or None."""
         try:
             room = rooms.pop()
         except IndexError:
@@ -531,7 +537,7 @@ class Routes(Handle):
             done(self._held.yarib_routes_from, self._at, place, room.at, 1, room.size_at)
             found = ROUTE_FROM(room.bytes)
         rooms.append(room)
-        return route_of(*found) if found[4] == length else None
+        return found if found[4] == length and found[5] else None
 
     def get(self, key: Union[Address, Prefix], default: Any = None) -> Any:
         """Returns what `table[key]` returns, or the default if there is no such route."""
@@ -547,9 +553,9 @@ class Routes(Handle):
     def __contains__(self, key: object) -> bool:
         """Returns True if the table has exactly this route, if some feed has a route to exactly this prefix, or if some
         prefix covers this address."""
-        if isinstance(key, Route):
+        if type(key) is not str and isinstance(key, Route):
             return key in self.exact(key[:2], feed=key.feed)
-        return self._get(key) is not None  # type: ignore[arg-type]
+        return (self._best(key) if is_prefix(key) else self.look_up(key)) is not None  # type: ignore[arg-type]
 
     def save(self, path: Union[str, os.PathLike[str]], feed: int = 1) -> None:
         """Writes the feed's routes as a feed file of version 2."""
@@ -728,10 +734,6 @@ class Forwarding(Handle):
 
     def __reduce__(self) -> NoReturn:
         raise TypeError("yarib: a forwarding table can't be copied or pickled: copy its table and call forward()")
-
-    def look_up(self, address: Address) -> Optional[Route]:
-        """Returns the best route of the longest prefix that covers the address, or None."""
-        return ask_one(self._at, address)
 
     def look_up_each(self, addresses: Any) -> Answers:
         """Looks up all these addresses and returns the Answers. Other threads run meanwhile."""
