@@ -11,7 +11,7 @@ mod warnings;
 ghost use Rattle.std.specs.Prelude.{◌≡◌, ◌≤◌, length, vec_len, IfOk};
 ghost use Rattle.rt_rib.specs.declared.limits.TheConstants.{MAX_FEEDS};
 
-use command_line::{Arguments, Refusal, ReplayRequest, Request, RequestFault, RunRequest};
+use command_line::{Arguments, Refusal, ReplayRequest, Request, RunRequest};
 use feed_choice::FeedFiles;
 use program_error::NO_MEMORY;
 pub(crate) use program_error::ProgramError;
@@ -62,7 +62,12 @@ where
     O: Write,
     E: Write,
 {
-    let mut program = Program::new(rt, alloc, line, out, err);
+    let mut program = Program {
+        rt,
+        alloc,
+        out,
+        screen: Screen::new(rt, line, err),
+    };
     let status = program.run(words);
     program.screen.end();
     status
@@ -75,24 +80,6 @@ struct Program<'a, R, O, E> {
     alloc: Global,
     out: &'a mut O,
     screen: Screen<'a, R, E>,
-}
-
-impl<'a, R, O, E> Program<'a, R, O, E> {
-    fn new(
-        rt: &'a R,
-        alloc: Global,
-        line: &'a ProgressLine,
-        out: &'a mut O,
-        err: &'a mut E,
-    ) -> Program<'a, R, O, E> {
-        let screen = Screen::new(rt, line, err);
-        Program {
-            rt,
-            alloc,
-            out,
-            screen,
-        }
-    }
 }
 
 impl<R: Files + Threads + Wait + Sync + AllocGlobal, O: Write, E: Write> Program<'_, R, O, E> {
@@ -108,7 +95,7 @@ impl<R: Files + Threads + Wait + Sync + AllocGlobal, O: Write, E: Write> Program
     fn carry_out(&mut self, arguments: &Arguments<'_>) -> u8 {
         let done = match arguments.request() {
             Ok(request) => self.answer(&request),
-            Err(fault) => Err(ProgramError::Request(fault)),
+            Err(fault) => Err(ProgramError::from(fault)),
         };
         match done {
             Ok(status) => status,
@@ -208,6 +195,6 @@ fn show_replay<'w, O: Write>(
 ) -> Result<u8, ProgramError<'w>> {
     match request.picks(alloc)? {
         Some(picks) => Ok(replay_text(alloc, request.levels, picks.as_slice(), out)?),
-        None => Err(ProgramError::Request(RequestFault::Unknown)),
+        None => Err(ProgramError::UnknownArguments),
     }
 }

@@ -1,8 +1,9 @@
 //! `diff`: the addresses for which the tables of two sets of feed files differ, and reports of rejected input.
 
 use super::feed_choice::{FeedFiles, FeedNumbers};
-use super::queries::{asked_of, report_summary};
+use super::queries::asked_of;
 use super::styles::{check_sides, diff_options};
+use super::warnings::report_summary;
 use super::{Program, ProgramError};
 use command_line::DiffRequest;
 use rt_run::{ChosenTexts, diff_texts};

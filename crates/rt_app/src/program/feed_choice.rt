@@ -3,7 +3,7 @@
 ghost use Rattle.std.specs.Prelude.{◌≤◌, length};
 ghost use Rattle.rt_rib.specs.declared.limits.TheConstants.{MAX_FEEDS};
 
-use super::program_error::{ArgumentFault, ProgramError};
+use super::ProgramError;
 use command_line::NamedFeeds;
 use rt_print::{NameFault, check_names, feed_name};
 use rt_run::{FeedChoice, MAX_FEED_FILES};
@@ -30,10 +30,7 @@ impl<'w> FeedFiles<'w> {
         let files = self.names;
         match check_names(files) {
             Ok(()) => Ok(()),
-            Err(NameFault::Invalid(file)) => Err(ProgramError::Argument(
-                ArgumentFault::FeedName,
-                files[file],
-            )),
+            Err(NameFault::Invalid(file)) => Err(ProgramError::InvalidFeedName(files[file])),
             Err(NameFault::Duplicate(earlier, file)) => Err(ProgramError::DuplicateFeedName(
                 files[earlier],
                 files[file],
@@ -48,12 +45,12 @@ impl<'w> FeedFiles<'w> {
             let feed = index as u32 + 1;
             if is_identified(word, feed, file) {
                 if found.is_some() {
-                    return Err(ProgramError::Argument(ArgumentFault::SeveralFeeds, word));
+                    return Err(ProgramError::SeveralFeeds(word));
                 }
                 found = Some(feed);
             }
         }
-        found.ok_or(ProgramError::Argument(ArgumentFault::NoFeed, word))
+        found.ok_or(ProgramError::NoFeed(word))
     }
 }
 

@@ -1,26 +1,18 @@
 //! Prefixes on the command line.
 
-use super::program_error::{ArgumentFault, ProgramError};
+use super::ProgramError;
 use rt_cidr::{Addr, Prefix, TextFault, decimal_u32};
 
 /// Returns the prefix that the argument of an option is. An address without a length is the prefix of that address alone.
 pub(super) fn prefix_of(word: &str) -> Result<Prefix, ProgramError<'_>> {
-    if let Ok(Addr(address)) = Addr::parse(word.as_bytes()) {
-        return masked(address, 32).ok_or(ProgramError::Argument(ArgumentFault::Prefix, word));
+    let text = word.as_bytes();
+    if let Ok(Addr(address)) = Addr::parse(text) {
+        return masked(address, 32).ok_or(ProgramError::NotPrefix(word));
     }
-    match Prefix::parse(word.as_bytes()) {
-        Ok(prefix) => Ok(prefix),
-        Err(TextFault::Bits) => Err(host_bits(word)),
-        Err(_) => Err(ProgramError::Argument(ArgumentFault::Prefix, word)),
-    }
-}
-
-/// Returns why an argument with host bits isn't a prefix, with the prefix that was probably meant.
-fn host_bits(word: &str) -> ProgramError<'_> {
-    match without_host_bits(word) {
-        Some(meant) => ProgramError::HostBits(word, meant),
-        None => ProgramError::Argument(ArgumentFault::Prefix, word),
-    }
+    Prefix::parse(text).map_err(|fault| match (fault, without_host_bits(word)) {
+        (TextFault::Bits, Some(meant)) => ProgramError::HostBits(word, meant),
+        _ => ProgramError::NotPrefix(word),
+    })
 }
 
 /// Returns the prefix of an address, a slash and a length, whatever bits of the address past the length are set.

@@ -3,17 +3,16 @@
 ghost use Rattle.std.specs.Prelude.{◌≤◌, length};
 ghost use Rattle.rt_rib.specs.declared.limits.TheConstants.{MAX_FEEDS};
 
-use super::Program;
 use super::feed_choice::FeedNumbers;
 use super::prefixes::prefix_of;
-use super::program_error::{ArgumentFault, ProgramError};
 use super::styles::{format_of, style_of};
-use super::warnings::{report_faulty_lines, report_rejected};
+use super::warnings::{report_faulty_lines, report_summary};
+use super::{Program, ProgramError};
 use command_line::{LookupRequest, NamedFeeds, PrefixFilterArg, RunRequest, TableRequest};
 use rt_cidr::Addr;
 use rt_print::{Format, Style};
 use rt_rib::{PrefixFilter, Selection};
-use rt_run::{AskedRoutes, ChosenTexts, FeedChoice, LookupAddresses, Question, RunSummary, show};
+use rt_run::{AskedRoutes, ChosenTexts, FeedChoice, LookupAddresses, Question, show};
 use std::alloc::Global;
 use std::io::Write;
 use std::rt::Files;
@@ -156,13 +155,6 @@ pub(super) fn asked_of<'t>(
     ChosenTexts::new(texts, request.limit, request.batch as usize, choice)
 }
 
-/// Reports the rejected input of each file.
-pub(super) fn report_summary<E: Write>(err: &mut E, names: &[&str], summary: &RunSummary) {
-    for (name, tally) in names.iter().zip(summary.tallies.iter()) {
-        report_rejected(err, name, tally);
-    }
-}
-
 /// Returns the selection of the command line. Stops if an argument isn't a prefix.
 fn selection_of<'a>(request: &TableRequest<'a>) -> Result<Selection, ProgramError<'a>> {
     Ok(Selection {
@@ -192,7 +184,7 @@ fn named_addresses<'a>(
     let mut named = Vec::new(alloc);
     for word in request.addresses {
         let Ok(address) = Addr::parse(word.as_bytes()) else {
-            return Err(ProgramError::Argument(ArgumentFault::Address, word));
+            return Err(ProgramError::NotAddress(word));
         };
         named.push(address)?;
     }

@@ -54,13 +54,8 @@ pub(super) fn check_sides<'w>(request: &DiffRequest<'w>) -> Result<(), ProgramEr
     let old = FeedFiles::of(request.run.files)?;
     let new = FeedFiles::of(request.new_files)?;
     if request.names {
-        check_names(&old, &new)
-    } else {
-        Ok(())
+        old.check_names()?;
+        new.check_names()?;
     }
-}
-
-fn check_names<'w>(old: &FeedFiles<'w>, new: &FeedFiles<'w>) -> Result<(), ProgramError<'w>> {
-    old.check_names()?;
-    new.check_names()
+    Ok(())
 }
