@@ -4,10 +4,9 @@ use Rattle.std.proofs.Common.{false}
 use Rattle.std.proofs.lemmas.Bool.{ne_eqb}
 use Rattle.std.proofs.lemmas.List.Elements.{All-weaker}
 use Rattle.std.proofs.lemmas.List.Splits.{slice_split_at, slice_split_none, length-slice_split}
-use Rattle.rt_feed.specs.inside.Lines.{CutsAt}
 use Rattle.rt_feed.specs.Grammar.{fields}
 use Rattle.rt_feed.specs.CommandText.{space}
-use Rattle.rt_feed.specs.inside.Fields.{fields_of_rest}
+use Rattle.rt_feed.specs.inside.Fields.{CutsAt, fields_of_rest}
 
 -- a list of bytes other than space
 pub is_unspaced : (text : List ℕ) → All (λ byte. byte ≢ space) text → All (λ byte. eqb byte space ≡ false) text

@@ -9,4 +9,3 @@ pub mod Printing
 pub mod OneAnswer
 pub mod OneCut
 pub mod ReadAddresses
-pub mod Remembered

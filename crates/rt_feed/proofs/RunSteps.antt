@@ -18,9 +18,8 @@ use Rattle.rt_feed.specs.Lines.{heading, command_answer, line_answer, numbered, 
 use Rattle.rt_feed.specs.Grammar.{AnswersLine}
 use Rattle.rt_shared.specs.JournalVisits.{AnsweredBatch, visit_of}
 use Rattle.rt_feed.specs.Visits.{Gains, concatenated, piece_of, AnswersBatch}
-use Rattle.rt_feed.specs.inside.Filling.{filled}
 use Rattle.rt_feed.specs.FeedRuns.{RunsFeed, RunsPrefixOf, IsTold}
-use Rattle.rt_feed.specs.inside.FeedRuns.{AnswersWaiting, Gathers, HasRead, RunSoFar}
+use Rattle.rt_feed.specs.inside.FeedRuns.{filled, AnswersWaiting, Gathers, HasRead, RunSoFar}
 use Rattle.rt_feed.proofs.LinesYield.{becomes-push, becomes-at, becomes-alike, becomes-first, report_lines-append, report_lines-push, commands_of-append}
 use Rattle.rt_feed.proofs.FilledReports.{filled-none, filled-fault, filled-given}
 

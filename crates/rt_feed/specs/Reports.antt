@@ -3,7 +3,7 @@ use Rattle.std.specs.Prelude.{◌<◌, Bool, true, false, List, AllPairs}
 use Rattle.std.specs.List.{list_any}
 use Rattle.rt_feed.specs.declared.report.Line.{Line}
 use Rattle.rt_feed.specs.declared.report.Answer.{Answer}
-use Rattle.rt_feed.specs.declared.report.Answer.TheVariants.{Did, Refused, Fault}
+use Rattle.rt_feed.specs.declared.report.Answer.TheVariants.{Refused, Fault}
 
 -- each line has a smaller number than every later one
 abbrev pub NumbersRise : List Line → Type 0
@@ -11,15 +11,13 @@ NumbersRise lines = AllPairs (λ (earlier later : Line). earlier.number < later.
 
 -- a command was refused because memory ran out
 abbrev pub is_refusal : Answer → Bool
-is_refusal (Did reply) = false
 is_refusal Refused = true
-is_refusal (Fault fault) = false
+is_refusal _ = false
 
 -- a line was faulty
 abbrev pub is_fault : Answer → Bool
-is_fault (Did reply) = false
-is_fault Refused = false
 is_fault (Fault fault) = true
+is_fault _ = false
 
 -- some command was refused
 abbrev pub has_refusal : List Line → Bool

@@ -1,6 +1,6 @@
 //! A text of addresses, one a line.
-ghost use Rattle.std.specs.Prelude.{◌≡◌, ◌<◌, [], IfOk, OnOk};
-ghost use Rattle.rt_feed.specs.Addresses.{AnswersAddressLine, SaysAddresses, faulty_lines};
+ghost use Rattle.std.specs.Prelude.{◌<◌, IfOk, OnOk};
+ghost use Rattle.rt_feed.specs.Addresses.{AnswersAddressLine, SaysAddresses};
 ghost use Rattle.rt_feed.specs.inside.ReadAddresses.{PutsLine};
 
 use crate::faulty::FaultyLines;
@@ -24,7 +24,10 @@ pub struct AddressText {
 pub fn read_addresses(alloc: Global, text: &[u8]) -> Result<AddressText, AllocError>
     ensures { IfOk result (λ read. SaysAddresses text.now read.addresses.items read.faulty) }
 {
-    let mut read = AddressText::new(alloc);
+    let mut read = AddressText {
+        addresses: Vec::new(alloc),
+        faulty: FaultyLines::none(),
+    };
     let mut rest = text;
     let mut number = 0;
     while let Some((line, behind)) = next_line(rest) {
@@ -36,16 +39,6 @@ pub fn read_addresses(alloc: Global, text: &[u8]) -> Result<AddressText, AllocEr
 }
 
 impl AddressText {
-    fn new(alloc: Global) -> AddressText
-        ensures addresses { result.addresses.items ≡ [] }
-        ensures faulty { result.faulty ≡ faulty_lines [] }
-    {
-        AddressText {
-            addresses: Vec::new(alloc),
-            faulty: FaultyLines::none(),
-        }
-    }
-
     /// Reads the line of this number.
     fn put_line(&mut self, number: usize, line: &[u8]) -> Result<(), AllocError>
         requires { self.old.faulty.count < number }

@@ -54,7 +54,8 @@ pub fn run_feeds<R: Threads + Wait + Sync, G: Gate>(
             ensures { (t : _) → RunsOne G.name G.holds batch (slice_index_or texts.entry.now i t).items
                 feed.entry.now.gate feed.exit.now.gate feed.exit.now.report }
         {
-            run_one(rt, alloc, texts[i].as_slice(), batch, feed);
+            let text = texts[i].as_slice();
+            feed.report = run_feed(rt, alloc, text, batch, &mut feed.gate).ok();
         },
     );
     all_reported(feeds)
@@ -65,18 +66,9 @@ fn all_reported<G>(feeds: &[Feed<G>]) -> Result<(), RunFault>
     ensures ok { OnOk result (All (λ feed. IsSome feed.report) feeds.now) }
     ensures err { IfErr result (λ fault. (fault ≡ RunFault.Memory) × Any (λ feed. feed.report ≡ None) feeds.now) }
 {
-    for feed in feeds {
-        if feed.report.is_none() {
-            return Err(RunFault::Memory);
-        }
+    if feeds.iter().all(|feed| feed.report.is_some()) {
+        Ok(())
+    } else {
+        Err(RunFault::Memory)
     }
-    Ok(())
-}
-
-/// Runs the text through the feed's gate, and leaves the report with the feed.
-fn run_one<R: Wait, G: Gate>(rt: &R, alloc: Global, text: &[u8], batch: usize, feed: &mut Feed<G>)
-    requires { 1 ≤ batch }
-    ensures { RunsOne G.name G.holds batch text.now feed.old.gate feed.new.gate feed.new.report }
-{
-    feed.report = run_feed(rt, alloc, text, batch, &mut feed.gate).ok();
 }

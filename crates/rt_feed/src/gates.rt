@@ -96,7 +96,7 @@ impl<'a, const L: u32> Gate for TableGate<'a, L> {
     ghost use Rattle.std.specs.Prelude.{◌≡◌, ℕ, map};
     ghost use Rattle.rt_shared.specs.SharedTable.{SharedId};
     ghost use Rattle.rt_shared.specs.JournalVisits.{IsContiguousIn, entries};
-    ghost use Rattle.rt_feed.specs.inside.HeldVisits.{visits_in, one_list};
+    ghost use Rattle.rt_shared.specs.inside.VisitEntries.{visits_in, one_list};
 
     ghost Name = { SharedId × ℕ };
 

@@ -1,6 +1,6 @@
 //! A text as lines: LF ends a line, and the last LF is optional.
 ghost use Rattle.std.specs.Prelude.{◌≡◌, [], MatchOption};
-ghost use Rattle.rt_feed.specs.inside.Lines.{CutsAt};
+ghost use Rattle.rt_feed.specs.inside.Fields.{CutsAt};
 ghost use Rattle.rt_feed.specs.Lines.{CutsLine};
 
 use memchr::memchr;

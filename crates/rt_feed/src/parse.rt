@@ -142,11 +142,11 @@ fn parse_command(name: Name, rest: Option<&[u8]>, version: Version) -> Result<Cm
             Ok(Cmd::Replace { prefix, pref, hop })
         }
         Name::Withdraw => {
-            let prefix = parse_only_prefix(rest)?;
+            let prefix = parse_prefix(only_field(rest)?)?;
             Ok(Cmd::Withdraw { prefix })
         }
         Name::Lookup => {
-            let addr = parse_only_address(rest)?;
+            let addr = parse_address(only_field(rest)?)?;
             Ok(Cmd::Lookup { addr })
         }
         Name::Dump => {
@@ -207,24 +207,6 @@ fn three_fields(rest: Option<&[u8]>) -> Result<(&[u8], &[u8], &[u8]), LineFault>
     let (second, rest) = cut_field(rest.ok_or(LineFault::FieldCount)?);
     let third = only_field(rest)?;
     Ok((first, second, third))
-}
-
-/// Parses the fields of a `withdraw`: only a prefix.
-fn parse_only_prefix(rest: Option<&[u8]>) -> Result<Prefix, LineFault>
-    ensures { MatchResult result
-        (λ prefix. fields_of_rest rest.entry ≡ prefix_text prefix.base prefix.len ∷ [])
-        (λ answer. IsFaultAmong (Kind.prefix ∷ []) (fields_of_rest rest.entry) answer) }
-{
-    parse_prefix(only_field(rest)?)
-}
-
-/// Parses the fields of a `lookup`: only an address.
-fn parse_only_address(rest: Option<&[u8]>) -> Result<Addr, LineFault>
-    ensures { MatchResult result
-        (λ address. (address.0 < 2 ^ 32) × (fields_of_rest rest.entry ≡ address_text address.0 ∷ []))
-        (λ answer. IsFaultAmong (Kind.address ∷ []) (fields_of_rest rest.entry) answer) }
-{
-    parse_address(only_field(rest)?)
 }
 
 /// Parses the fields of an `add` or a `replace`: a prefix, a preference and a next hop.

@@ -1,7 +1,7 @@
 //! The answers to a feed's text, line by line.
 ghost use Rattle.std.specs.Prelude.{◌≡◌, ◌<◌, ◌≤◌, List, [], ◌∷◌, ◌++◌, All, length, take, drop, OnOk, OnErr};
 ghost use Rattle.rt_feed.specs.Lines.{command_answer};
-ghost use Rattle.rt_feed.specs.inside.Filling.{filled};
+ghost use Rattle.rt_feed.specs.inside.FeedRuns.{filled};
 
 use crate::parse::LineFault;
 use rt_rib::Reply;
@@ -27,20 +27,14 @@ impl Answer {
     pub fn is_refusal(&self) -> bool
         ensures { result ≡ is_refusal self.now }
     {
-        match self {
-            Answer::Refused => true,
-            Answer::Did(_) | Answer::Fault(_) => false,
-        }
+        matches!(self, Answer::Refused)
     }
 
     /// Returns true if a line was faulty.
     pub fn is_fault(&self) -> bool
         ensures { result ≡ is_fault self.now }
     {
-        match self {
-            Answer::Fault(_) => true,
-            Answer::Did(_) | Answer::Refused => false,
-        }
+        matches!(self, Answer::Fault(_))
     }
 }
 
@@ -74,7 +68,7 @@ impl Model for Report {
 
 impl Report {
     ghost use Rattle.rt_feed.specs.Reports.{NumbersRise, has_refusal, has_fault};
-    ghost use Rattle.rt_feed.specs.inside.Filling.{filled};
+    ghost use Rattle.rt_feed.specs.inside.FeedRuns.{filled};
 
     /// Returns a report without lines.
     pub fn new(alloc: Global) -> Report
@@ -131,13 +125,28 @@ fn fill_lines(lines: &mut [Line], first: usize, outcomes: &[Outcome])
     requires { first ≤ length lines.old }
     ensures { lines.new ≡ take first lines.old ++ filled (drop first lines.old) outcomes.now }
 {
-    let mut next = 0;
+    let mut rest = outcomes;
     for index in first..lines.len() {
-        if next < outcomes.len() && !lines[index].answer.is_fault() {
-            lines[index].answer = command_answer(outcomes[next]);
-            next += 1;
-        }
+        let (line, behind) = fill_line(lines[index], rest);
+        lines[index] = line;
+        rest = behind;
     }
+}
+
+/// Gives the first of these outcomes to the line, unless it is a fault or there is none. Returns the line, and the outcomes
+/// that remain.
+#[tactic(auto, using(crate::proofs::FilledReports::filling))]
+fn fill_line(line: Line, outcomes: &[Outcome]) -> (Line, &[Outcome])
+    ensures { (lines : List Line) → filled (line ∷ lines) outcomes.now ≡ result.0 ∷ filled lines result.1.now }
+{
+    let [outcome, rest @ ..] = outcomes else {
+        return (line, outcomes);
+    };
+    if line.answer.is_fault() {
+        return (line, outcomes);
+    }
+    let answer = command_answer(*outcome);
+    (Line { answer, ..line }, rest)
 }
 
 /// Returns the command's answer in a report.

@@ -51,15 +51,6 @@ labels_more {P} {V} {X} path_of label_in tell paths i none labels labels' label 
     ap (map label_in) pushed ∙ (map-append label_in labels (label ∷ []) ∙ (ap (λ l. l ++ label_in label ∷ []) so_far
     ∙ (ap (λ t. labelled tell 1 (map path_of (take i paths)) ++ t ∷ []) told ∙ sym (one_more path_of tell paths i none here))))
 
--- the same for the values of `tell`
-pub numbers_more : {P X : Type 0} (path_of : P → List ℕ) (tell : ℕ → List ℕ → X) (paths : List P) (i : ℕ) (none : P)
-    (numbers numbers' : List X) (number : X) → i < length paths → numbers' ≡ numbers ++ number ∷ []
-    → number ≡ tell (i + 1) (path_of (get_or paths i none)) → numbers ≡ labelled tell 1 (map path_of (take i paths))
-    → numbers' ≡ labelled tell 1 (map path_of (take (i + 1) paths))
-numbers_more path_of tell paths i none numbers numbers' number here pushed told so_far =
-    pushed ∙ (ap (λ l. l ++ number ∷ []) so_far
-    ∙ (ap (λ t. labelled tell 1 (map path_of (take i paths)) ++ t ∷ []) told ∙ sym (one_more path_of tell paths i none here)))
-
 -- the name of the feed of a path by its index
 pub named : {P : Type 0} (path_of : P → List ℕ) (paths : List P) (i : ℕ) (none : P) → path_of none ≡ [] → name_at (map path_of paths) i ≡ feed_name (path_of (get_or paths i none))
 named path_of paths i none is = ap (λ d. feed_name (get_or (map path_of paths) i d)) (sym is) ∙ ap feed_name (get_or-map path_of paths i none)

@@ -4,7 +4,7 @@
 -- the maximum lengths of the texts of a next hop and a route
 pub use Rattle.rt_print.proofs.LineParts.{hop_fits, route_fits}
 -- the contents of a writer after several texts or one text for each element of a list, also after an error within one
-pub use Rattle.rt_print.proofs.Writing.{breaks_off, writes_after, appends_next, stops_all, stops_in_one}
+pub use Rattle.rt_print.proofs.Writing.{breaks_off, stops_within, writes_after, appends_next, begins_all, stops_all, stops_in_one}
 -- the contents of a writer when text was written to it through a buffer
 pub use Rattle.rt_print.proofs.Writing.{stops, stops_held}
 -- the text of a replay is not empty

@@ -22,17 +22,15 @@ feed_name path = without_feed (base_name path)
 
 -- routes are printed as JSON objects
 abbrev pub is_json : Format → Bool
-is_json Numbers = false
-is_json Names = false
 is_json Json = true
 is_json JsonWithNames = true
+is_json _ = false
 
 -- feeds are printed by their names
 abbrev pub has_names : Format → Bool
-has_names Numbers = false
 has_names Names = true
-has_names Json = false
 has_names JsonWithNames = true
+has_names _ = false
 
 -- the label of the feed of this number and path: `FEED`, `NAME`, `FEED,"file":"PATH"`, or
 -- `FEED,"name":"NAME","file":"PATH"`

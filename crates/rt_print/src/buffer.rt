@@ -1,5 +1,5 @@
 //! A writer that collects text and passes it on in few large writes.
-ghost use Rattle.std.specs.Prelude.{◌≡◌, ℕ, ◌+◌, ◌<◌, ◌≤◌, List, [], ◌++◌, drop, length, vec_len, vec_capacity, IfOk, OnOk, OnErr};
+ghost use Rattle.std.specs.Prelude.{◌≡◌, ℕ, ◌+◌, ◌<◌, ◌≤◌, List, [], ◌++◌, drop, length, IfOk, OnOk, OnErr};
 ghost use Rattle.std.specs.Io.KnownBytes.{Keeps};
 ghost use Rattle.rt_print.specs.Buffer.{buffered};
 ghost use Rattle.rt_print.specs.declared.buffer.TheConstants.{OUTPUT_BYTES};
@@ -76,20 +76,10 @@ impl OutputRoom {
         requires { count ≤ length self.old }
         ensures { self.new ≡ drop count self.old }
     {
-        remove_front(&mut self.bytes, count);
+        let rest = self.bytes.len() - count;
+        self.bytes.as_mut_slice().copy_within(count.., 0);
+        self.bytes.truncate(rest);
     }
-}
-
-/// Removes the first `count` bytes.
-fn remove_front(bytes: &mut Vec<u8>, count: usize)
-    requires { count ≤ vec_len bytes.old }
-    ensures items { bytes.new.items ≡ drop count bytes.old.items }
-    ensures len { vec_len bytes.new ≤ vec_len bytes.old }
-    ensures capacity { vec_capacity bytes.new ≡ vec_capacity bytes.old }
-{
-    let rest = bytes.len() - count;
-    bytes.as_mut_slice().copy_within(count.., 0);
-    bytes.truncate(rest);
 }
 
 /// Collects text for a writer, so that it is passed on in few large writes. An output buffer is a writer itself, and
@@ -132,19 +122,6 @@ impl<'w, W: Write> OutputBuffer<'w, W> {
         } = self;
         writer
     }
-
-    /// Writes the bytes held. After an error, the bytes that weren't written are still held.
-    fn send(&mut self) -> Result<(), io::Error>
-        ensures kept { Keeps
-            (buffered self.old.writer.ghost_name (W.contents self.old.began.value) (W.contents self.old.writer.now) self.old.held)
-            (buffered self.new.writer.ghost_name (W.contents self.new.began.value) (W.contents self.new.writer.now) self.new.held) }
-        ensures ok { OnOk result (self.new.held ≡ []) }
-        ensures err { OnErr result (0 < length self.new.held) }
-    {
-        let (written, outcome) = put_counted(self.writer, self.held.as_bytes());
-        self.held.remove_front(written);
-        outcome
-    }
 }
 
 /// Shows the number of bytes held, but neither these bytes nor the writer.
@@ -163,7 +140,7 @@ impl<'w, W: Write> Write for OutputBuffer<'w, W> {
     /// longer than the whole buffer, accepts what a single `write` of the writer below accepts.
     fn write(&mut self, text: &[u8]) -> io::Result<usize> {
         if self.held.room() < text.len() {
-            self.send()?;
+            self.flush()?;
             if OUTPUT_BYTES < text.len() {
                 return self.writer.write(text);
             }
@@ -181,6 +158,8 @@ impl<'w, W: Write> Write for OutputBuffer<'w, W> {
         ensures ok { OnOk result (self.new.held ≡ []) }
         ensures err { OnErr result (0 < length self.new.held) }
     {
-        self.send()
+        let (written, outcome) = put_counted(self.writer, self.held.as_bytes());
+        self.held.remove_front(written);
+        outcome
     }
 }

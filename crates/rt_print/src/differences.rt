@@ -5,9 +5,10 @@ ghost use Rattle.rt_diff.specs.declared.table_answers.TableAnswer.TheVariants as
 ghost use Rattle.rt_print.specs.DifferenceText.{answer_as, answered_as, difference_as};
 
 use crate::diff_options::DiffOptions;
-use crate::routes::OpenRoute;
-use crate::style::Style;
+use crate::routes::put_route;
+use crate::style::{Style, either};
 use crate::text::Text;
+use rt_cidr::ShortText;
 use rt_diff::{Difference, TableAnswer};
 use rt_rib::Hop;
 use std::io::{self, Write};
@@ -60,7 +61,8 @@ impl Text for StyledAnswer<'_> {
             TableAnswer::NoRoute => "no route".put_to(w),
             TableAnswer::Hop(hop) => put_way(w, json, *hop),
             TableAnswer::Route(route) => {
-                (OpenRoute { style, route }, if json { "}" } else { "" }).put_to(w)
+                let (mut text, end) = (ShortText::new(), either(json, b"", b"}"));
+                put_route(w, &mut text, json, style.labels(), b"", route, end)
             }
         }
     }

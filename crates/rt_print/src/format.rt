@@ -20,19 +20,13 @@ impl Format {
     pub fn has_names(self) -> bool
         ensures { result ≡ has_names self }
     {
-        match self {
-            Format::Names | Format::JsonWithNames => true,
-            Format::Numbers | Format::Json => false,
-        }
+        matches!(self, Format::Names | Format::JsonWithNames)
     }
 
     /// Returns true if routes are printed as JSON objects.
     pub(crate) fn is_json(self) -> bool
         ensures { result ≡ is_json self }
     {
-        match self {
-            Format::Json | Format::JsonWithNames => true,
-            Format::Numbers | Format::Names => false,
-        }
+        matches!(self, Format::Json | Format::JsonWithNames)
     }
 }

@@ -92,24 +92,6 @@ pub(crate) fn put_route<W: Write>(
     (head, (front.as_bytes(), (label, text.as_bytes()))).put_to(w)
 }
 
-/// A route in a style, without an object's end.
-#[derive(Clone, Copy)]
-pub(crate) struct OpenRoute<'a> {
-    pub(crate) style: &'a Style,
-    pub(crate) route: &'a Route,
-}
-
-impl Text for OpenRoute<'_> {
-    ghost text = { λ r. route_open r.style.now.json (label_of r.style.now.labels r.route.now.feed) r.route.now };
-
-    #[tactic(auto, using(crate::proofs::LineParts::fits))]
-    fn put_to<W: Write>(&self, w: &mut W) -> io::Result<()> {
-        let mut text = ShortText::new();
-        let (json, labels) = (self.style.is_json(), self.style.labels());
-        put_route(w, &mut text, json, labels, b"", self.route, b"")
-    }
-}
-
 // Each function below prepends its text.
 
 /// Prepends the table's first line, with its LF.

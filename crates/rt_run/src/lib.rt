@@ -1,8 +1,9 @@
 //! Runs of feed texts and their output. The output is the reply to each command and the sorted table, or the result of a
 //! query.
 //!
-//! - [`run_texts`] runs the texts of 1 to 64 feeds over one table behind the lock. Each feed has its own thread, and the
-//!   output goes to a writer. Its clause `text` is the theorem from bytes to bytes: the output is the text of a run.
+//! - [`run_texts`] runs the texts of 1 to [`MAX_FEED_FILES`] feeds over one table behind the lock. Each feed has its own
+//!   thread, and the output goes to a writer. Its clause `text` is the theorem from bytes to bytes: the output is the text
+//!   of a run.
 //! - [`show`] executes the texts one after another and stores neither journal nor reports. It writes the answer to a
 //!   [`Question`] about the final table: the best route of each address, all routes that cover it, the selected routes, or
 //!   their number. It returns a tally of the rejected input of each text.

@@ -84,19 +84,10 @@ pub(crate) fn write_run<W: Write>(
     requires few { length reports.now ≤ MAX_FEEDS }
     ensures { WritesText (W.contents w.old) (W.contents w.new) (reports_text 1 reports.now ++ table_text routes.now) result }
 {
-    write_reports(w, reports)?;
-    write_table(w, routes)
-}
-
-/// Writes the reports, the k-th for feed k.
-fn write_reports<W: Write>(w: &mut W, reports: &[Report]) -> Result<(), io::Error>
-    requires few { length reports.now ≤ MAX_FEEDS }
-    ensures { WritesText (W.contents w.old) (W.contents w.new) (reports_text 1 reports.now) result }
-{
     for (index, report) in reports.iter().enumerate() {
         write_report(w, index as u32 + 1, report)?;
     }
-    Ok(())
+    write_table(w, routes)
 }
 
 /// Writes the result of looking up each address in the table, with its forwarding table if there is one.

@@ -13,8 +13,8 @@ use ya_core::{ReplayFault, replay};
 
 /// Replays a schedule of the lock in a tree of `levels` levels: from the start, the picked places make one step each, in
 /// order. Writes to `w` one line for each step, and then the place that is inside. Returns 0 if everything was written.
-/// Errors, in this order: P2 if `levels` isn't 1 to 6; P1 if a pick isn't a place; P3 if memory ran out. Nothing was
-/// written then. After `Write` a beginning of the text was written.
+/// Errors, in this order: P2 if `levels` isn't 1 to `ya_core::MAX_LEVELS`; P1 if a pick isn't a place; P3 if memory ran out.
+/// Nothing was written then. After `Write` a beginning of the text was written.
 pub fn replay_text<W: Write>(
     alloc: Global,
     levels: u32,

@@ -2,11 +2,10 @@
 ghost use Rattle.std.specs.Prelude.{◌≡◌, ◌↔◌, ◌⊎◌, ◌+◌, ◌*◌, ◌^◌, ◌<◌, ◌≤◌, ◌++◌, [], map, length, vec_len, vec_capacity, All, Some, None, IfOk, IsSome};
 ghost use Rattle.rt_rib.specs.declared.limits.TheConstants.{MAX_FEEDS};
 ghost use Rattle.rt_rib.specs.Book.{IsLimit};
-ghost use Rattle.std.specs.List.{list_any};
-ghost use Rattle.rt_feed.specs.Reports.{has_refusal, has_fault};
 ghost use Rattle.rt_run.specs.RunText.{IsRunText, WritesOrFails, reports_status};
 ghost use Rattle.rt_run.specs.inside.Runs.{RunOverBook, RunBeforeSettle};
 ghost use Rattle.rt_shared.specs.SharedTable.{ArePassesOf};
+ghost use Rattle.ya_core.specs.ArbitrationTree.{HasShape};
 
 use crate::faults::AppFault;
 use crate::output::{write_run, write_through};
@@ -97,7 +96,7 @@ fn run_in_tree<R: Threads + Wait + Sync, const L: u32>(
 ) -> Result<(Vec<Report>, Book<Global>), Refused>
     requires limited { IsLimit limit }
     requires batched { 1 ≤ batch }
-    requires levels { (1 ≤ L) × (L ≤ 6) }
+    requires levels { HasShape L }
     requires placed { length texts.now ≤ 2 ^ L }
     requires fewest { (L ≡ 1) ⊎ (2 ^ L < 2 * length texts.now) }
     ensures { IfOk result (λ run. RunOverBook (record { texts = map (λ text. text.items) texts.now; limit = limit; batch = batch }) run.0.items run.1) }
@@ -189,19 +188,7 @@ fn append_passes(passes: &mut Vec<FeedPass>, mut more: Vec<FeedPass>)
 fn status_of(reports: &[Report]) -> u8
     ensures { result ≡ reports_status reports.now }
 {
-    status_where(any_refusal(reports), any_fault(reports))
-}
-
-/// Returns true if some report contains a refused command.
-fn any_refusal(reports: &[Report]) -> bool
-    ensures { result ≡ list_any has_refusal reports.now }
-{
-    reports.iter().any(|report| report.has_refusal())
-}
-
-/// Returns true if some report contains a faulty line.
-fn any_fault(reports: &[Report]) -> bool
-    ensures { result ≡ list_any has_fault reports.now }
-{
-    reports.iter().any(|report| report.has_fault())
+    let refused = reports.iter().any(|report| report.has_refusal());
+    let faulty = reports.iter().any(|report| report.has_fault());
+    status_where(refused, faulty)
 }

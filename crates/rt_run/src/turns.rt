@@ -28,10 +28,7 @@ pub(crate) fn run_in_turn(
     if asked.count() == 0 {
         return Err(RunFault::NoText);
     }
-    match execute_texts(alloc, asked.texts, asked.limit, asked.choice) {
-        Ok(run) => Ok(run),
-        Err(AllocError) => Err(RunFault::Memory),
-    }
+    execute_texts(alloc, asked.texts, asked.limit, asked.choice).map_err(|_| RunFault::Memory)
 }
 
 /// Executes the texts one after another over one table. Its result doesn't depend on the batch.

@@ -1,15 +1,23 @@
--- The progress of a run: the lines read, the commands that wait, and the gate's gains.
-use Rattle.std.specs.Prelude.{◌≡◌, ◌⊎◌, ℕ, ◌+◌, ◌<◌, List, [], ◌∷◌, ◌++◌, All, length, map, take, drop, zip}
+-- The progress of a run: the lines read, the commands that wait (in the report as refused), and the gate's gains.
+use Rattle.std.specs.Prelude.{◌≡◌, ◌⊎◌, ℕ, ◌+◌, ◌<◌, if◌then◌else◌, List, [], ◌∷◌, ◌++◌, All, length, map, take, drop, zip}
 use Rattle.rt_rib.specs.declared.commands.Cmd.{Cmd}
 use Rattle.rt_shared.specs.declared.outcome.Outcome.{Outcome}
 use Rattle.rt_shared.specs.declared.outcome.Outcome.TheVariants.{Refused}
 use Rattle.rt_feed.specs.declared.report.Line.{Line}
 use Rattle.rt_feed.specs.declared.report.Answer.TheVariants as answer
 use Rattle.rt_feed.specs.declared.versions.Version.{Version}
-use Rattle.rt_feed.specs.Lines.{CutsLine, LineOutcome, TextYields, heading, report_lines, commands_of}
+use Rattle.rt_feed.specs.Reports.{is_fault}
+use Rattle.rt_feed.specs.Lines.{CutsLine, LineOutcome, TextYields, heading, command_answer, report_lines, commands_of}
 use Rattle.rt_shared.specs.JournalVisits.{AnsweredBatch, visit_of}
 use Rattle.rt_feed.specs.Visits.{Gains, concatenated, piece_of}
-use Rattle.rt_feed.specs.inside.Filling.{filled}
+
+-- the lines, after those that aren't faults were given these outcomes, in order
+abbrev pub filled : List Line → List Outcome → List Line
+filled [] outcomes = []
+filled (line ∷ lines) [] = line ∷ lines
+filled (line ∷ lines) (outcome ∷ outcomes) =
+    if is_fault line.answer then line ∷ filled lines (outcome ∷ outcomes)
+    else record line { answer = command_answer outcome } ∷ filled lines outcomes
 
 -- the commands that waited were executed, in one visit if there are any, and the report has their outcomes from this
 -- index on

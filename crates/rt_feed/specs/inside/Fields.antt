@@ -1,5 +1,5 @@
--- The parser's way from field to field, and the fields read until then.
-use Rattle.std.specs.Prelude.{◌≡◌, ℕ, ◌^◌, ◌<◌, List, [], ◌∷◌, codes, Option, None, Some, Ok, Err}
+-- The split of a text at a byte, the parser's way from field to field, and the fields read until then.
+use Rattle.std.specs.Prelude.{◌≡◌, ◌≢◌, ℕ, ◌^◌, ◌<◌, List, [], ◌∷◌, ◌++◌, All, codes, Option, None, Some, Ok, Err, MatchOption}
 use Rattle.std.specs.declared.result.Result.{Result}
 use Rattle.std.specs.Borrow.{Bor}
 use Rattle.rt_cidr.specs.declared.prefixes.Prefix.{Prefix}
@@ -11,6 +11,11 @@ use Rattle.rt_feed.specs.declared.parse.Name.{Name}
 use Rattle.rt_feed.specs.declared.parse.Name.TheVariants as name
 use Rattle.rt_feed.specs.CommandText.{words, route_words, HasHop, HasCommand}
 use Rattle.rt_feed.specs.Grammar.{Kind, prefix, preference, hop, fields, IsOfKind, IsFaultOf, IsFaultAfter, IsFaultOfFields}
+
+-- the text before the first such byte, and the text after it if the byte occurs
+pub record CutsAt (mark : ℕ) (text first : List ℕ) (rest : Option (Bor (List ℕ))) : Type 0 where
+  pub unmarked : All (λ byte. byte ≢ mark) first
+  pub joined : MatchOption rest (text ≡ first) (λ rest. text ≡ first ++ mark ∷ rest.now)
 
 -- the fields of the text after a space, if there is one
 abbrev pub fields_of_rest : Option (Bor (List ℕ)) → List (List ℕ)

@@ -1,4 +1,6 @@
-use Rattle.std.proofs.Common.{◌≡◌, ◌<◌, ℕ, Bool, List, [], codes, get_or, ap, arith}
+use Rattle.std.proofs.Common.{◌≡◌, ◌+◌, ◌<◌, ℕ, Bool, List, [], codes, get_or, ap, arith}
+use Rattle.rt_rib.specs.declared.limits.TheConstants.{MAX_FEEDS}
+use Rattle.rt_print.specs.declared.counts.TheConstants.{MAX_BITS}
 use Rattle.rt_print.specs.Counts.{count_as, each_below, counts_as}
 use Rattle.rt_print.specs.Styles.{label_of}
 use Rattle.rt_print.proofs.Counting.{each_same}
@@ -14,6 +16,6 @@ unfolding counts_as
 returns g c =
     let style = c.args.style.now in
     let counts = c.counts_of-counts in
-    let feeds = same_numbers style.json (codes "feed") style.labels (λ n. get_or counts.result.feeds n 0) _ 65 (λ k below. counts.ensures.feeds k (omega (arith, below))) in
-    let lengths = same_numbers style.json (codes "length") [] (λ n. get_or counts.result.lengths n 0) _ 33 (λ k below. counts.ensures.lengths k (omega (arith, below))) in
+    let feeds = same_numbers style.json (codes "feed") style.labels (λ n. get_or counts.result.feeds n 0) _ (MAX_FEEDS + 1) (λ k below. counts.ensures.feeds k (omega (arith, below))) in
+    let lengths = same_numbers style.json (codes "length") [] (λ n. get_or counts.result.lengths n 0) _ (MAX_BITS + 1) (λ k below. counts.ensures.lengths k (omega (arith, below))) in
     rw (← feeds, ← lengths) (rw (c.is_json-json.ensures, c.labels.ensures) at c.put_to.ensures)

@@ -1,5 +1,6 @@
 use Rattle.std.proofs.Common.{◌≡◌, ◌≤◌, ◌++◌, List, ℕ, length, map, ap, arith, rules}
 use Rattle.std.proofs.lemmas.List.{length-map}
+use Rattle.rt_rib.specs.declared.limits.TheConstants.{MAX_FEEDS}
 use Rattle.rt_print.specs.Routes.{table_text}
 use Rattle.rt_run.specs.RunText.{IsRunText, reports_text}
 use Rattle.rt_run.proofs.SeveralFeeds.{run_text}
@@ -10,7 +11,7 @@ pub write_through-requires-clause-called : goal.write_through-requires-clause-ca
 write_through-requires-clause-called g c =
     let same = ap length c.as_slice-reports.ensures.value in
     let texts = length-map c.args.texts.now (λ text. text.items) in
-    let few : length c.as_slice-reports.result.now ≤ 64 = omega (arith, (c.in_ok-reports.ensures {u = tt}).counted, same, texts, c.requires.few) in
+    let few : length c.as_slice-reports.result.now ≤ MAX_FEEDS = omega (arith, (c.in_ok-reports.ensures {u = tt}).counted, same, texts, c.requires.few) in
     search rules
 
 pub returns-clause-text : goal.returns-clause-text

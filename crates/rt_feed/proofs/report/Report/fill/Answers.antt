@@ -15,5 +15,5 @@ invariant_of-self c =
     let all : take c.self.inside.lines.len (now ++ drop (length now) items) ≡ now =
     rw (none, append-nil, c.self.inside.lines.ok.0, ← kept) (take_all (length now) now (omega arith)) in
     subst NumbersRise (sym all)
-    (numbers_rise-refilled c.args.first c.deref_mut.result.now now c.args.outcomes.now
+    (numbers_rise-refilled c.args.first c.deref_mut.result.now c.args.outcomes.now now
     (subst NumbersRise (sym value) c.self.invariant) c.fill_lines.ensures)

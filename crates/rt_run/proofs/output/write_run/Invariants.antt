@@ -1,7 +1,7 @@
 use Rattle.std.proofs.Common.{take}
 use Rattle.std.specs.Io.KnownBytes.{Appends}
 use Rattle.rt_run.specs.RunText.{reports_text}
-use Rattle.rt_run.proofs.output.write_reports.Given as goal
+use Rattle.rt_run.proofs.output.write_run.Given as goal
 
 -- the reports so far were written
 abbrev pub invariant-loop-index : goal.invariant-loop-index

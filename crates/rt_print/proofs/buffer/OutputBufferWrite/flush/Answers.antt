@@ -1,6 +1,6 @@
 use Rattle.std.proofs.Common.{◌≡◌, ℕ, ◌<◌, List, [], length, drop, Result, Ok, Err, OnOk, OnErr, arith, ap, sym, ◌∙◌, length-drop}
 use Rattle.std.proofs.Math.Seq.{drop-length}
-use Rattle.rt_print.proofs.buffer.OutputBuffer.send.Goals as goal
+use Rattle.rt_print.proofs.buffer.OutputBufferWrite.flush.Goals as goal
 
 -- if everything was written, nothing remains
 no_rest : {X E : Type 0} (r : Result X E) (held rest : List ℕ) (n : ℕ) → rest ≡ drop n held → OnOk r (n ≡ length held) → OnOk r (rest ≡ [])
