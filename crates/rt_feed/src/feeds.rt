@@ -66,9 +66,10 @@ fn all_reported<G>(feeds: &[Feed<G>]) -> Result<(), RunFault>
     ensures ok { OnOk result (All (λ feed. IsSome feed.report) feeds.now) }
     ensures err { IfErr result (λ fault. (fault ≡ RunFault.Memory) × Any (λ feed. feed.report ≡ None) feeds.now) }
 {
-    if feeds.iter().all(|feed| feed.report.is_some()) {
-        Ok(())
-    } else {
-        Err(RunFault::Memory)
+    for feed in feeds {
+        if feed.report.is_none() {
+            return Err(RunFault::Memory);
+        }
     }
+    Ok(())
 }

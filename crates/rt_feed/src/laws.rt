@@ -23,7 +23,6 @@ pub fn one_address()
 }
 
 /// `read_addresses` returns the only result that its contract allows.
-#[tactic(auto, using(crate::proofs::ReadAddresses::one_address_text))]
 pub fn one_address_text()
     ensures { AddressTextHasOneReading }
 {
@@ -39,19 +38,16 @@ pub fn command_text()
 }
 
 /// A text that does not begin with the line `version 2` is read whole, as version 1.
-#[tactic(auto, using(crate::proofs::OneCut::older_texts))]
 pub fn older_texts()
     ensures { OlderTextsStay }
 {}
 
 /// `next_line` returns the only split that its contract allows.
-#[tactic(auto, using(crate::proofs::OneCut::one_cut))]
 pub fn one_cut()
     ensures { TextHasOneCut }
 {}
 
 /// Each line of a text has the same meaning, whatever the outcomes of its commands.
-#[tactic(auto, using(crate::proofs::OneCut::one_reading))]
 pub fn one_reading()
     ensures { TextHasOneReading }
 {

@@ -1,5 +1,5 @@
 -- The texts of a run in which some feeds are left out: as many as all, and one text more.
-use Rattle.std.proofs.Common.{◌≡◌, ℕ, zero, suc, ◌+◌, ◌<◌, Bool, true, false, List, [], ◌∷◌, ◌++◌, length, map, take, get_or, if◌then◌else◌, refl, sym, ap, subst, ◌∙◌, arith}
+use Rattle.std.proofs.Common.{◌≡◌, ℕ, zero, suc, ◌+◌, ◌<◌, Bool, true, false, List, [], ◌∷◌, ◌++◌, length, map, take, get_or, if◌then◌else◌, refl, sym, ap, ◌∙◌, arith}
 use Rattle.std.proofs.lemmas.Bool.{cond-true, cond-false}
 use Rattle.std.proofs.lemmas.List.{length-map}
 use Rattle.rt_run.specs.ChosenFeeds.{texts_kept, AreWithout}
@@ -40,27 +40,21 @@ kept_count {V} out items texts i here =
     omega (arith, counted, same)
 
 -- the text of each feed, by its place
-kept_others : (out : ℕ → Bool) (feed : ℕ) (texts : List (List ℕ)) (k : ℕ) → out (k + feed) ≡ false → get_or (texts_kept out feed texts) k [] ≡ get_or texts k []
-kept_others out feed [] k stays = refl
-kept_others out feed (text ∷ texts) zero stays =
-    let here : 0 + feed ≡ feed = omega arith in
-    cond-false (out feed) [] text (ap out (sym here) ∙ stays)
-kept_others out feed (text ∷ texts) (suc k) stays =
-    let next : k + (feed + 1) ≡ suc k + feed = omega arith in
-    kept_others out (feed + 1) texts k (ap out next ∙ stays)
+either_way : (b : Bool) (text : List ℕ) → text ≡ (if b then text else text)
+either_way true text = refl
+either_way false text = refl
 
-kept_empty : (out : ℕ → Bool) (feed : ℕ) (texts : List (List ℕ)) (k : ℕ) → out (k + feed) ≡ true → get_or (texts_kept out feed texts) k [] ≡ []
-kept_empty out feed [] k leaves = refl
-kept_empty out feed (text ∷ texts) zero leaves =
-    let here : 0 + feed ≡ feed = omega arith in
-    cond-true (out feed) [] text (ap out (sym here) ∙ leaves)
-kept_empty out feed (text ∷ texts) (suc k) leaves =
+kept_at : (out : ℕ → Bool) (feed : ℕ) (texts : List (List ℕ)) (k : ℕ) → get_or (texts_kept out feed texts) k [] ≡ (if out (k + feed) then [] else get_or texts k [])
+kept_at out feed [] k = either_way (out (k + feed)) []
+kept_at out feed (text ∷ texts) zero =
+    let here : feed ≡ 0 + feed = omega arith in ap (λ (n : ℕ). if out n then [] else text) here
+kept_at out feed (text ∷ texts) (suc k) =
     let next : k + (feed + 1) ≡ suc k + feed = omega arith in
-    kept_empty out (feed + 1) texts k (ap out next ∙ leaves)
+    kept_at out (feed + 1) texts k ∙ ap (λ (n : ℕ). if out n then [] else get_or texts k []) next
 
 pub are_without : (out : ℕ → Bool) (texts : List (List ℕ)) → AreWithout out texts (texts_kept out 1 texts)
 are_without out texts = record {
   as_many = kept_length out 1 texts;
-  others = λ k stays. kept_others out 1 texts k stays;
-  empty = λ k leaves. kept_empty out 1 texts k leaves;
+  others = λ k stays. kept_at out 1 texts k ∙ cond-false (out (k + 1)) [] (get_or texts k []) stays;
+  empty = λ k leaves. kept_at out 1 texts k ∙ cond-true (out (k + 1)) [] (get_or texts k []) leaves;
 }

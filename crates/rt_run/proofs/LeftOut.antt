@@ -16,7 +16,8 @@ use Rattle.rt_shared.specs.JournalVisits.{AnsweredBatch, entries}
 use Rattle.std.specs.Prelude.{codes, not}
 use Rattle.rt_feed.specs.declared.versions.Version.{Version}
 use Rattle.rt_feed.specs.declared.versions.Version.TheVariants.{One, Two}
-use Rattle.rt_feed.specs.Lines.{LineOutcome, CutsLine, IsBody, LinesYield, TextYields, heading, commands_of, lf}
+use Rattle.rt_feed.specs.Lines.{LineOutcome, CutsLine, IsBody, LinesYield, TextYields, heading, commands_of}
+use Rattle.rt_feed.proofs.Promised.{length-cut}
 use Rattle.rt_run.specs.SameTable.{table_alone, LeavesAlone, LosesLeftOut, ShowsUnion, ShowsRest}
 use Rattle.rt_run.proofs.Lists.{contains_kept, kept_contains}
 use Rattle.rt_run.proofs.SameTables.{commands, alone-commands, did, table-entries, nothing}
@@ -52,12 +53,8 @@ alone_own alone limit feed all r c =
     (subst (λ l. Contains l r) (sym own) c))
 
 -- an empty text has no line, hence no command
-not_empty : (front rest : List ℕ) → [] ≡ front ++ lf ∷ rest → ⊥
-not_empty [] rest e = absurd (cc)
-not_empty (byte ∷ front) rest e = absurd (cc)
-
 no_cut : (line rest : List ℕ) → CutsLine [] line rest → ⊥
-no_cut line rest cut = elim cut.ended [ inl more ↦ not_empty line rest more | inr whole ↦ whole.1 (sym whole.0) ]
+no_cut line rest cut = let less = length-cut [] line rest cut in omega (arith, less)
 
 no_lines : (version : Version) (lines : List ℕ) (read : List LineOutcome)
     → IsBody [] version lines → LinesYield version lines read [] → heading version ++ read ≡ []

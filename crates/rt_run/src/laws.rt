@@ -17,7 +17,6 @@ use rt_shared::laws::visits;
 /// - `alone`: the replies to `add`, `replace`, `withdraw` and `purge` are those that a text gets if no other feed executes
 ///   anything;
 /// - `tallies`: the reports of two runs of the same texts and limit have the same tallies of rejected input.
-#[tactic(auto, using(crate::proofs::SameTables::leaves_union, crate::proofs::SameTables::one_union, crate::proofs::SameTables::own_replies_are_independent, crate::proofs::SameTallies::same_tallies))]
 pub fn union()
     ensures leaves { LeavesUnion }
     ensures one { HaveOneUnion }
@@ -33,7 +32,6 @@ pub fn union()
 
 /// - `ends`: a run writes its reports and the table of the union;
 /// - `same`: two runs of the same texts and limit end in the same table with the same status.
-#[tactic(auto, using(crate::proofs::SameTables::ends_in_union, crate::proofs::SameTables::final_table_is_deterministic))]
 pub fn run_output()
     ensures ends { EndsInUnion }
     ensures same { EndInOneTable }
@@ -47,7 +45,6 @@ pub fn run_output()
 ///   tallies;
 /// - `answers`: two calls of `show` with the same texts, limit, style and question write the same bytes and return the same
 ///   summaries.
-#[tactic(auto, using(crate::proofs::SameTables::shows_union, crate::proofs::SameTables::query_output_is_deterministic, crate::proofs::SameOutputs::answers_are_deterministic))]
 pub fn query_output()
     ensures shows { ShowsUnion }
     ensures same { ShowOneTable }
@@ -61,7 +58,6 @@ pub fn query_output()
 ///   the first run's union without the routes of these feeds;
 /// - `shows`: the output of a query without some feeds is that for the routes of the other feeds: of the union of all texts,
 ///   those that aren't of a feed that is left out.
-#[tactic(auto, using(crate::proofs::LeftOut::loses_left_out, crate::proofs::LeftOut::shows_rest))]
 pub fn left_out()
     ensures loses { LosesLeftOut }
     ensures shows { ShowsRest }
@@ -74,7 +70,6 @@ pub fn left_out()
 /// - `differs`: `diff_texts` writes the differences between the union of the old texts and the union of the new texts;
 /// - `same`: two comparisons of the same texts and limits, with the same options, write the same bytes and return the same
 ///   statuses and tallies.
-#[tactic(auto, using(crate::proofs::SameOutputs::diffs_unions, crate::proofs::SameOutputs::diff_output_is_deterministic))]
 pub fn comparison_output()
     ensures differs { DiffsUnions }
     ensures same { DiffOnce }

@@ -14,9 +14,3 @@ returns-clause-text g c =
     rw c.as_slice-steps.ensures.value (is_replay_text c.args.levels c.args.picks.now _ c.inside_place-inside.result shaped c.in-Ok.ensures.steps tells) in
     leaves_replay _ _ _ _ _ c.write_through.result is c.write_through.ensures.fault
     (c.write_through.ensures.text _ (replay_text-some _ _) (λ old written new called. search rules))
-
-pub returns-in-Err-clause-levels : goal.returns-in-Err-clause-levels
-returns-in-Err-clause-levels g c = search rules
-
-pub returns-in-Err-clause-place : goal.returns-in-Err-clause-place
-returns-in-Err-clause-place g c = search rules
