@@ -3,6 +3,7 @@ use Rattle.std.proofs.Common.{◌≡◌, ◌≢◌, ◌⊎◌, inl, inr, ℕ, ze
 use Rattle.std.proofs.Common.{get_or, refl, sym, ap, subst, ◌∙◌, arith, add-one, append_assoc, append-nil, length-append, length-drop, take-append-drop}
 use Rattle.std.proofs.Math.Seq.{take-suc}
 use Rattle.std.proofs.lemmas.Bool.{cases_lt}
+use Rattle.std.proofs.lemmas.List as lists
 use Rattle.std.proofs.lemmas.List.{map-append, length-map, length-take-le}
 use Rattle.std.proofs.lemmas.List.Elements.{All-nil, All-cons, All-append, All-weaker}
 use Rattle.rt_rib.specs.declared.commands.Cmd.{Cmd}
@@ -280,10 +281,8 @@ leaves_all texts limit batch table tallies summary so_far same status = record {
 -- the texts so far, and one more
 pub texts_more : {V : Type 0} (items : V → List ℕ) (texts : List V) (i : ℕ) (one : V) (text : List ℕ) → i < length texts → one ≡ get_or texts i one
     → text ≡ items one → map items (take i texts) ++ text ∷ [] ≡ map items (take (i + 1) texts)
-texts_more {V} items texts i one text here is same =
-    let next : take (i + 1) texts ≡ take i texts ++ one ∷ [] =
-    ap (λ n. take n texts) (add-one i) ∙ (take-suc texts i one here ∙ ap (λ (x : V). take i texts ++ x ∷ []) (sym is)) in
-    ap (λ (t : List ℕ). map items (take i texts) ++ t ∷ []) same ∙ (sym (map-append items (take i texts) (one ∷ [])) ∙ ap (map items) (sym next))
+texts_more items texts i one text here is same =
+    ap (λ (t : List ℕ). map items (take i texts) ++ t ∷ []) (same ∙ ap items is) ∙ sym (lists.map_more items texts i one here)
 
 pub texts_count : {V : Type 0} (items : V → List ℕ) (texts : List V) (i : ℕ) → i < length texts → i + 1 ≡ length (map items (take i texts)) + 1
 texts_count items texts i here =

@@ -2,14 +2,14 @@
 use Rattle.std.proofs.Common.{◌≡◌, ℕ, ◌+◌, inl, inr, true, false, Some, List, [], ◌∷◌, ◌++◌, length, map, get_or, refl, sym, ap, subst, ◌∙◌, arith, eqb-true, Bool}
 use Rattle.std.specs.List.{slice_get, Contains, filter}
 use Rattle.std.specs.Bool.{◌==◌}
-use Rattle.std.proofs.lemmas.Bool.{cases_Bool, eq-eqb, cond-true}
-use Rattle.std.proofs.lemmas.List.Elements.{All-contains, filter_passes}
+use Rattle.std.proofs.lemmas.Bool.{cases_Bool, eq-eqb, cond-true, not-true}
 use Rattle.std.proofs.lemmas.Option.{slice_get-get_or, slice_get_within, same_Some}
 use Rattle.rt_rib.specs.declared.routes.Route.{Route}
 use Rattle.rt_rib.specs.declared.commands.Cmd.{Cmd}
 use Rattle.rt_rib.specs.declared.commands.Cmd.TheVariants.{Dump}
 use Rattle.rt_rib.specs.declared.commands.Reply.TheVariants.{Added}
 use Rattle.rt_rib.specs.Sequential.{table_of_journal}
+use Rattle.rt_rib.proofs.Sets.{filter-keeps, filter-from}
 use Rattle.rt_rib.specs.Laws.{FeedsStandAlone, feed_entries, feed_routes, OneTableOfSet}
 use Rattle.rt_shared.specs.declared.outcome.Outcome.{Outcome}
 use Rattle.rt_shared.specs.JournalVisits.{AnsweredBatch, entries}
@@ -19,7 +19,6 @@ use Rattle.rt_feed.specs.declared.versions.Version.TheVariants.{One, Two}
 use Rattle.rt_feed.specs.Lines.{LineOutcome, CutsLine, IsBody, LinesYield, TextYields, heading, commands_of}
 use Rattle.rt_feed.proofs.Promised.{length-cut}
 use Rattle.rt_run.specs.SameTable.{table_alone, LeavesAlone, LosesLeftOut, ShowsUnion, ShowsRest}
-use Rattle.rt_run.proofs.Lists.{contains_kept, kept_contains}
 use Rattle.rt_run.proofs.SameTables.{commands, alone-commands, did, table-entries, nothing}
 use Rattle.std.proofs.lemmas.List.Kept.{AllPairs-filter}
 use Rattle.rt_rib.specs.Table.{IsTable, precedes, is_of}
@@ -47,10 +46,7 @@ alone_own alone limit feed all r c =
     table-entries limit feed visit ∙ alone-commands limit feed (map did visit) all (same_commands all) in
     let own : feed_routes feed (table_of_journal limit (entries feed visit)) ≡ table_alone limit feed all =
     (alone limit feed (entries feed visit) Dump).0 ∙ (ap (table_of_journal limit) (own_entries feed visit) ∙ left) in
-    let Mine : Route → Type 0 = λ s. (s.feed == feed) ≡ true in
-    eqb-true r.feed feed
-    (All-contains Mine (feed_routes feed (table_of_journal limit (entries feed visit))) r (filter_passes (λ s. s.feed == feed) _)
-    (subst (λ l. Contains l r) (sym own) c))
+    eqb-true r.feed feed (filter-from (λ s. s.feed == feed) (table_of_journal limit (entries feed visit)) r (subst (λ l. Contains l r) (sym own) c)).1
 
 -- an empty text has no line, hence no command
 no_cut : (line rest : List ℕ) → CutsLine [] line rest → ⊥
@@ -130,10 +126,6 @@ filtered_table test table is = record {
   single = AllPairs-filter (λ r s. is_of s.feed s.prefix r ≡ false) test table is.single;
 }
 
-not_true : (b : Bool) → not b ≡ true → b ≡ false
-not_true true e = absurd (cc)
-not_true false e = refl
-
 pub shows_rest : ShowsUnion → LosesLeftOut → OneTableOfSet → ShowsRest
 shows_rest shows loses one is_left_out all union asked text_of bytes summary without of_all is not_refused =
     let stays : Route → Bool = λ r. not (is_left_out r.feed) in
@@ -142,10 +134,9 @@ shows_rest shows loses one is_left_out all union asked text_of bytes summary wit
     one rest.0 (filter stays union) rest.1.table (filtered_table stays union of_all.table) (λ r. (
       (λ c.
           let both = (loses is_left_out all asked.texts asked.limit union rest.0 without of_all rest.1 r).0 c in
-          contains_kept stays union r both.0 (ap not both.1)),
-      (λ c. (loses is_left_out all asked.texts asked.limit union rest.0 without of_all rest.1 r).1 (
-        kept_contains stays union r c,
-        not_true (is_left_out r.feed) (All-contains (λ x. stays x ≡ true) (filter stays union) r (filter_passes stays union) c),
-      )),
+          filter-keeps stays union r both.0 (ap not both.1)),
+      (λ c.
+          let kept = filter-from stays union r c in
+          (loses is_left_out all asked.texts asked.limit union rest.0 without of_all rest.1 r).1 (kept.0, not-true (is_left_out r.feed) kept.1)),
     )) in
     rest.2 ∙ ap text_of same

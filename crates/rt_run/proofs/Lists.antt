@@ -1,11 +1,8 @@
 -- Lemmas on lists: maps, filters, counts, pieces, and a vector that is written through a slice.
-use Rattle.std.proofs.Common.{◌≡◌, ℕ, suc, ◌+◌, true, false, Bool, List, [], ◌∷◌, ◌++◌, map, length, take, drop, refl, sym, ap, subst, ◌∙◌, arith, zero-add, append-nil, append_assoc}
+use Rattle.std.proofs.Common.{◌≡◌, ℕ, ◌+◌, true, false, Bool, List, [], ◌∷◌, ◌++◌, map, length, take, drop, refl, sym, ap, ◌∙◌, arith, zero-add, append-nil, append_assoc}
 use Rattle.std.specs.Prelude.{nat_lt, count_by, cond, ◌||◌}
-use Rattle.std.specs.List.{list_any, filter, Contains}
-use Rattle.std.proofs.Math.Seq.{split_at}
-use Rattle.std.proofs.lemmas.Bool.{cond-true}
+use Rattle.std.specs.List.{list_any, filter}
 use Rattle.std.proofs.lemmas.Bool.Decides.{nat_tests}
-use Rattle.std.proofs.lemmas.List.Elements.{All-contains, All-contains_itself, All-filter, Contains-append_right, filter-append}
 use Rattle.std.proofs.lemmas.List.{map-append, drop_all, take_all}
 use Rattle.std.proofs.lemmas.List.Sums.{sum_by-cons}
 use Rattle.rt_feed.specs.Visits.{concatenated, piece_of}
@@ -46,20 +43,6 @@ pub filter_split : {X : Type 0} (test : X → Bool) (xs ys zs : List X) (y : X) 
 filter_split test [] [] zs y is = absurd cc
 filter_split test [] (z ∷ ys) zs y is = absurd cc
 filter_split test (x ∷ xs) ys zs y is = kept_split test xs (filter_split test xs) x (test x) refl ys zs y is
-
--- what a filter keeps
-pub contains_kept : {X : Type 0} (test : X → Bool) (xs : List X) (x : X) → Contains xs x → test x ≡ true → Contains (filter test xs) x
-contains_kept test xs x c passes =
-    let front = take c.0 xs in
-    let back = drop (suc c.0) xs in
-    let split : xs ≡ front ++ x ∷ back = split_at xs c.0 x c.1 ∙ ap (λ y. front ++ y ∷ back) c.2 in
-    let first : Contains (filter test (x ∷ back)) x =
-    subst (λ l. Contains l x) (sym (cond-true (test x) (x ∷ filter test back) (filter test back) passes)) (0, omega arith, refl) in
-    subst (λ l. Contains (filter test l) x) (sym split)
-    (subst (λ l. Contains l x) (sym (filter-append test front (x ∷ back))) (Contains-append_right (filter test front) (filter test (x ∷ back)) x first))
-
-pub kept_contains : {X : Type 0} (test : X → Bool) (xs : List X) (x : X) → Contains (filter test xs) x → Contains xs x
-kept_contains test xs x c = All-contains (Contains xs) (filter test xs) x (All-filter test (Contains xs) xs (All-contains_itself xs)) c
 
 -- a count is above 0 if some element passes the test
 one_is_some : (n : ℕ) → nat_lt 0 (1 + n) ≡ true

@@ -15,6 +15,7 @@ use Rattle.rt_rib.specs.declared.commands.Cmd.TheVariants.{Dump}
 use Rattle.rt_rib.specs.declared.commands.Reply.{Reply}
 use Rattle.rt_rib.specs.declared.commands.Entry.{Entry}
 use Rattle.rt_rib.specs.Sequential.{reply_of, table_after, IsLawfulJournal, table_of_journal}
+use Rattle.rt_rib.proofs.Sets.{filter-keeps, filter-from}
 use Rattle.rt_rib.specs.Laws.{FeedsStandAlone, TableByEntry, OneTableOfSet, is_own, feed_entries, feed_routes}
 use Rattle.rt_shared.specs.declared.outcome.Outcome.{Outcome}
 use Rattle.rt_shared.specs.declared.outcome.Outcome.TheVariants as outcome
@@ -33,7 +34,7 @@ use Rattle.rt_run.specs.RunText.{RunContents, Explains, ExplainsFrom, IsJournalO
 use Rattle.rt_run.specs.TableText.{tally_of, has_refused, has_rejected, tallies_status, IsSummary, LeavesTable}
 use Rattle.rt_run.specs.SameTable.{table_alone, IsUnion, IsAnsweredAlone, HaveSameInput, HaveSameSummary}
 use Rattle.rt_run.specs.SameTable.{LeavesUnion, AnswersAlone, HaveSameTallies, HaveOneUnion, EndsInUnion, EndInOneTable, ShowsUnion, ShowOneTable}
-use Rattle.rt_run.proofs.Lists.{counts_some, cut-joined, map_split, filter_split, contains_kept, kept_contains}
+use Rattle.rt_run.proofs.Lists.{counts_some, cut-joined, map_split, filter_split}
 use Rattle.rt_run.proofs.CountedLines.{some_faulty}
 use Rattle.rt_run.proofs.InTurn.{entries-append}
 
@@ -263,7 +264,7 @@ leaves_union alone by_entry law once texts limit batch journal outcomes history 
       table = by_entry.table limit journal;
       contains = λ r. (
         (λ c.
-            let own : Contains (feed_routes r.feed table) r = contains_kept (λ s. s.feed == r.feed) table r c (eq-eqb r.feed r.feed refl) in
+            let own : Contains (feed_routes r.feed table) r = filter-keeps (λ s. s.feed == r.feed) table r c (eq-eqb r.feed r.feed refl) in
             elim (has_text journal (length texts) r.feed history.no_other (feed_entries r.feed journal) refl) [
               | inl empty ↦
                   absurd (nothing r
@@ -291,7 +292,7 @@ leaves_union alone by_entry law once texts limit batch journal outcomes history 
             let same = one_asking once text some.1.1 here.lines some.1.3 here.explains.becomes in
             let own = subst (λ l. Contains l r)
             (alone-commands limit (k + 1) (commands_of some.1.1) (commands_of here.lines) same ∙ sym (routes k text here)) some.1.4 in
-            kept_contains (λ s. s.feed == (k + 1)) table r own),
+            (filter-from (λ s. s.feed == (k + 1)) table r own).0),
       );
     }
 

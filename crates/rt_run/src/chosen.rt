@@ -76,7 +76,6 @@ impl<'a> Model for ChosenTexts<'a> {
 impl<'a> ChosenTexts<'a> {
     /// Returns the input of a run of these texts, without those of the feeds that the choice leaves out: the k-th text is
     /// feed k's; a feed has at most `limit` routes; up to `batch` of its commands may be executed together.
-    #[tactic(auto, using(crate::proofs::KeptTexts::are_without))]
     pub fn new(
         texts: &'a [Vec<u8>],
         limit: u32,

@@ -2,6 +2,8 @@
 ghost use Rattle.std.specs.Prelude.{◌≡◌, ◌↔◌, ◌⊎◌, ◌+◌, ◌*◌, ◌^◌, ◌<◌, ◌≤◌, ◌++◌, [], map, length, vec_len, vec_capacity, All, Some, None, IfOk, IsSome};
 ghost use Rattle.rt_rib.specs.declared.limits.TheConstants.{MAX_FEEDS};
 ghost use Rattle.rt_rib.specs.Book.{IsLimit};
+ghost use Rattle.std.specs.List.{list_any};
+ghost use Rattle.rt_feed.specs.Reports.{has_refusal, has_fault};
 ghost use Rattle.rt_run.specs.RunText.{IsRunText, WritesOrFails, reports_status};
 ghost use Rattle.rt_run.specs.inside.Runs.{RunOverBook, RunBeforeSettle};
 ghost use Rattle.rt_shared.specs.SharedTable.{ArePassesOf};
@@ -188,7 +190,19 @@ fn append_passes(passes: &mut Vec<FeedPass>, mut more: Vec<FeedPass>)
 fn status_of(reports: &[Report]) -> u8
     ensures { result ≡ reports_status reports.now }
 {
-    let refused = reports.iter().any(|report| report.has_refusal());
-    let faulty = reports.iter().any(|report| report.has_fault());
-    status_where(refused, faulty)
+    status_where(any_refusal(reports), any_fault(reports))
+}
+
+/// Returns true if some report contains a refused command.
+fn any_refusal(reports: &[Report]) -> bool
+    ensures { result ≡ list_any has_refusal reports.now }
+{
+    reports.iter().any(|report| report.has_refusal())
+}
+
+/// Returns true if some report contains a faulty line.
+fn any_fault(reports: &[Report]) -> bool
+    ensures { result ≡ list_any has_fault reports.now }
+{
+    reports.iter().any(|report| report.has_fault())
 }

@@ -1,5 +1,6 @@
 //! Tallies of rejected input, for callers that don't read the reports of a run.
 ghost use Rattle.std.specs.Prelude.{◌≡◌, ◌<◌, List, [], ◌∷◌, ◌++◌};
+ghost use Rattle.std.specs.List.{list_any};
 ghost use Rattle.rt_feed.specs.declared.report.Line.{Line};
 ghost use Rattle.rt_run.specs.RunText.{status_where};
 ghost use Rattle.rt_run.specs.TableText.{was_full, was_existing, was_missing, has_refused, has_rejected, tallies_status};
@@ -99,12 +100,23 @@ pub(crate) fn summary_of(tallies: Vec<RejectedInput>) -> RunSummary
     ensures tallies { result.tallies ≡ tallies }
     ensures is_status { result.status ≡ tallies_status tallies.items }
 {
-    let refused = tallies.iter().any(|tally| tally.has_refused());
-    let rejected = tallies.iter().any(|tally| tally.has_rejected());
-    RunSummary {
-        status: status_where(refused, rejected),
-        tallies,
-    }
+    let refused = any_refused(tallies.as_slice());
+    let status = status_where(refused, any_rejected(tallies.as_slice()));
+    RunSummary { status, tallies }
+}
+
+/// Returns true if some command ran out of memory.
+fn any_refused(tallies: &[RejectedInput]) -> bool
+    ensures { result ≡ list_any has_refused tallies.now }
+{
+    tallies.iter().any(|tally| tally.has_refused())
+}
+
+/// Returns true if some line was faulty or some `add` was over the limit.
+fn any_rejected(tallies: &[RejectedInput]) -> bool
+    ensures { result ≡ list_any has_rejected tallies.now }
+{
+    tallies.iter().any(|tally| tally.has_rejected())
 }
 
 /// Returns true if an `add` was over the limit.
