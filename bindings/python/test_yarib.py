@@ -82,7 +82,7 @@ class Tables(unittest.TestCase):
         first = next(going)
         table.purge(feed=first.feed)
         rest = list(going)
-        self.assertEqual(rest[255:], [one for one in table.routes() if key(one) > key(rest[254])])
+        self.assertEqual(rest[255:], [one for one in table.routes() if in_order(one) > in_order(rest[254])])
         table.close()
         self.assertRaises(yarib.Refused, list, table)
 
