@@ -9,7 +9,7 @@ use Rattle.rt_cidr.specs.Prefix.{covers, contains, same_prefix}
 use Rattle.rt_cidr.specs.Laws.{CoversItsRange, ContainsWhatItCovers, CoveringAreNested}
 use Rattle.rt_rib.specs.declared.routes.Route.{Route}
 use Rattle.rt_rib.specs.declared.commands.Cmd.{Cmd}
-use Rattle.rt_rib.specs.declared.commands.Cmd.TheVariants.{Add, Replace, Withdraw, Lookup, Dump, Purge}
+use Rattle.rt_rib.proofs.Promised.{each_command}
 use Rattle.rt_rib.specs.declared.commands.Reply.{Reply}
 use Rattle.rt_rib.specs.Table.{has, count_of, put_in, take_out, is_of, IsTable}
 use Rattle.rt_rib.specs.LookUp.{look_up}
@@ -61,30 +61,29 @@ module _ (prefix : Prefix) (t : List Route) where
   and_then u v one two x other = ((λ c. (two x other).0 ((one x other).0 c)), (λ c. (one x other).1 ((two x other).1 c)))
 
 -- what each command of a table keeps
-command_keeps : (limit : ℕ) (t : List Route) (feed : ℕ) (cmd : Cmd) → PutInAdds → TakeOutLeavesOthers
+command_keeps : (limit : ℕ) (t : List Route) → PutInAdds → TakeOutLeavesOthers → (feed : ℕ) (cmd : Cmd)
     → KeepsOtherRoutes cmd t (table_after limit t feed cmd)
 unfolding table_after
-command_keeps limit t feed (Add prefix pref hop) adds leaves =
-    let r : Route = record { prefix = prefix; feed = feed; pref = pref; hop = hop } in
-    of_two prefix t (has feed prefix t) t _ (itself prefix t)
-    (of_two prefix t (nat_le limit (count_of feed t)) t _ (itself prefix t) (put_others prefix t r adds (same_itself prefix)))
-command_keeps limit t feed (Replace prefix pref hop) adds leaves =
-    let r : Route = record { prefix = prefix; feed = feed; pref = pref; hop = hop } in
-    let left : List Route = take_out feed prefix t in
-    of_two prefix t (has feed prefix t) _ t
-    (and_then prefix t left _ (taken_others prefix t feed leaves) (put_others prefix left r adds (same_itself prefix))) (itself prefix t)
-command_keeps limit t feed (Withdraw prefix) adds leaves =
-    of_two prefix t (has feed prefix t) _ t (taken_others prefix t feed leaves) (itself prefix t)
-command_keeps limit t feed (Lookup addr) adds leaves = refl
-command_keeps limit t feed Dump adds leaves = refl
-command_keeps limit t feed Purge adds leaves = tt
+command_keeps limit t adds leaves =
+    each_command (λ feed cmd. KeepsOtherRoutes cmd t (table_after limit t feed cmd))
+    (λ r.
+    of_two r.prefix t (has r.feed r.prefix t) t _ (itself r.prefix t)
+    (of_two r.prefix t (nat_le limit (count_of r.feed t)) t _ (itself r.prefix t) (put_others r.prefix t r adds (same_itself r.prefix))))
+    (λ r.
+    let left : List Route = take_out r.feed r.prefix t in
+    of_two r.prefix t (has r.feed r.prefix t) _ t
+    (and_then r.prefix t left _ (taken_others r.prefix t r.feed leaves) (put_others r.prefix left r adds (same_itself r.prefix))) (itself r.prefix t))
+    (λ feed prefix. of_two prefix t (has feed prefix t) _ t (taken_others prefix t feed leaves) (itself prefix t))
+    (λ feed addr. refl)
+    (λ feed. refl)
+    (λ feed. tt)
 
 -- and so each command that a table answers
 pub served_others : (old new : TableState) (feed : ℕ) (cmd : Cmd) (reply : Reply) → PutInAdds → TakeOutLeavesOthers
     → Serves old new feed cmd reply → KeepsOtherRoutes cmd old.routes new.routes
 served_others old new feed cmd reply adds leaves serves =
     let after : new.routes ≡ table_after old.limit old.routes feed cmd = ap (λ (s : TableState). s.routes) serves.changed in
-    subst (KeepsOtherRoutes cmd old.routes) (sym after) (command_keeps old.limit old.routes feed cmd adds leaves)
+    subst (KeepsOtherRoutes cmd old.routes) (sym after) (command_keeps old.limit old.routes adds leaves feed cmd)
 
 -- a prefix of another length is another
 another_length : (p q : Prefix) → p.len ≢ q.len → same_prefix p q ≡ false

@@ -9,14 +9,13 @@ use Rattle.rt_cidr.specs.Prefix.{covers, same_prefix}
 use Rattle.rt_cidr.specs.Cidr.{size_of}
 use Rattle.rt_rib.specs.declared.routes.Route.{Route}
 use Rattle.rt_rib.specs.declared.commands.Cmd.{Cmd}
-use Rattle.rt_rib.specs.declared.commands.Cmd.TheVariants.{Add, Replace, Withdraw, Lookup, Dump, Purge}
 use Rattle.rt_rib.specs.declared.commands.Reply.{Reply}
 use Rattle.rt_rib.specs.Table.{has, count_of, put_in, take_out, is_of, IsTable}
 use Rattle.rt_rib.specs.LookUp.{look_up}
 use Rattle.rt_rib.specs.Sequential.{table_after}
 use Rattle.rt_rib.specs.Book.{TableState, Serves}
 use Rattle.rt_rib.specs.Laws.{PutInAdds, TakeOutLeavesOthers, LookUpFindsBest, IsBestMatch}
-use Rattle.rt_rib.proofs.Promised.{IsTable-after}
+use Rattle.rt_rib.proofs.Promised.{IsTable-after, each_command}
 use Rattle.rt_fib.specs.Laws.{KeepsOutside}
 
 pub not_both : {b : Bool} → b ≡ false → b ≡ true → ⊥
@@ -106,26 +105,27 @@ module _ (addr : Addr) (t : List Route) where
   of_two false u v one other = other
 
 -- what each command of a table keeps
-command_keeps : (limit : ℕ) (t : List Route) (feed : ℕ) (cmd : Cmd) → PutInAdds → TakeOutLeavesOthers → LookUpFindsBest → IsTable t
+command_keeps : (limit : ℕ) (t : List Route) → PutInAdds → TakeOutLeavesOthers → LookUpFindsBest → IsTable t → (feed : ℕ) (cmd : Cmd)
     → IsTable (table_after limit t feed cmd) → KeepsOutside cmd t (table_after limit t feed cmd)
 unfolding table_after
-command_keeps limit t feed (Add prefix pref hop) adds leaves finds of_t of_u = λ addr misses.
-    let r : Route = record { prefix = prefix; feed = feed; pref = pref; hop = hop } in
+command_keeps limit t adds leaves finds of_t =
+    each_command (λ feed cmd. IsTable (table_after limit t feed cmd) → KeepsOutside cmd t (table_after limit t feed cmd))
+    (λ r of_u addr misses.
     found_alike addr t _ finds of_t of_u
-    (of_two addr t (has feed prefix t) t _ (itself addr t)
-    (of_two addr t (nat_le limit (count_of feed t)) t _ (itself addr t) (put_elsewhere addr t r adds misses)))
-command_keeps limit t feed (Replace prefix pref hop) adds leaves finds of_t of_u = λ addr misses.
-    let r : Route = record { prefix = prefix; feed = feed; pref = pref; hop = hop } in
+    (of_two addr t (has r.feed r.prefix t) t _ (itself addr t)
+    (of_two addr t (nat_le limit (count_of r.feed t)) t _ (itself addr t) (put_elsewhere addr t r adds misses))))
+    (λ r of_u addr misses.
+    let left : List Route = take_out r.feed r.prefix t in
     found_alike addr t _ finds of_t of_u
-    (of_two addr t (has feed prefix t) _ t
-    (and_then addr t (take_out feed prefix t) _ (taken_elsewhere addr t feed prefix leaves misses) (put_elsewhere addr (take_out feed prefix t) r adds misses))
-    (itself addr t))
-command_keeps limit t feed (Withdraw prefix) adds leaves finds of_t of_u = λ addr misses.
+    (of_two addr t (has r.feed r.prefix t) _ t
+    (and_then addr t left _ (taken_elsewhere addr t r.feed r.prefix leaves misses) (put_elsewhere addr left r adds misses))
+    (itself addr t)))
+    (λ feed prefix of_u addr misses.
     found_alike addr t _ finds of_t of_u
-    (of_two addr t (has feed prefix t) _ t (taken_elsewhere addr t feed prefix leaves misses) (itself addr t))
-command_keeps limit t feed (Lookup addr) adds leaves finds of_t of_u = refl
-command_keeps limit t feed Dump adds leaves finds of_t of_u = refl
-command_keeps limit t feed Purge adds leaves finds of_t of_u = tt
+    (of_two addr t (has feed prefix t) _ t (taken_elsewhere addr t feed prefix leaves misses) (itself addr t)))
+    (λ feed addr of_u. refl)
+    (λ feed of_u. refl)
+    (λ feed of_u. tt)
 
 -- and so each command that a table answers
 pub served_keeps : (old new : TableState) (feed : ℕ) (cmd : Cmd) (reply : Reply)
@@ -134,4 +134,4 @@ pub served_keeps : (old new : TableState) (feed : ℕ) (cmd : Cmd) (reply : Repl
 served_keeps old new feed cmd reply adds leaves finds of_old serves =
     let after : new.routes ≡ table_after old.limit old.routes feed cmd = ap (λ (s : TableState). s.routes) serves.changed in
     subst (KeepsOutside cmd old.routes) (sym after)
-    (command_keeps old.limit old.routes feed cmd adds leaves finds of_old (IsTable-after old.limit old.routes feed cmd of_old))
+    (command_keeps old.limit old.routes adds leaves finds of_old feed cmd (IsTable-after old.limit old.routes feed cmd of_old))

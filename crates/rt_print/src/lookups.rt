@@ -23,8 +23,8 @@ struct Best<'a> {
     ghost short: { length tail.now ≤ 100 },
 }
 
-/// Writes the result of a look-up of the address, in the style: `ADDR route PREFIX feed F pref P via HOP`, or
-/// `ADDR no route`, and LF, or a JSON object. Errors and memory are as for `write_routes`.
+/// Writes the result of a look-up of the address, in the style: `ADDR route` and the route, as `write_routes` writes it, or
+/// `ADDR no route` and LF; or a JSON object. Errors and memory are as for `write_routes`.
 #[tactic(auto, using(crate::proofs::LineParts::found_parts, crate::proofs::LineParts::none_parts))]
 pub fn write_lookup<W: Write>(
     w: &mut W,
@@ -51,7 +51,7 @@ pub fn write_lookup<W: Write>(
 }
 
 /// Writes all routes that cover the address, given best first, in the style: the first on the line that `write_lookup`
-/// writes, and each further one as `ADDR also PREFIX feed F pref P via HOP REASON` and LF; in JSON all in one object. The
+/// writes, and each further one as `ADDR also`, the route, its reason and LF; in JSON all in one object. The
 /// reason is the step at which the route lost to the first one (RFC 1812, section 5.2.4.3): `shorter` for a shorter
 /// prefix; `preference` for an equally long prefix and a higher preference; and `feed` if both are equal. For an empty
 /// list it writes that there is no route. Errors and memory are as for `write_routes`.

@@ -35,9 +35,9 @@ pub struct QuerySummary {
 
 /// Executes the texts one after another. Then writes the answer to `w` in the given style, and nothing else:
 ///
-/// - for `Question::Best` and each address in order a line `ADDR route PREFIX feed F pref P via HOP` or `ADDR no route`, or
-///   a JSON object (`write_lookup`);
-/// - for `Question::All` also a line `ADDR also PREFIX feed F pref P via HOP REASON` for each further route
+/// - for `Question::Best` and each address in order a line, `ADDR route` with the route or `ADDR no route`, or a JSON object
+///   (`write_lookup`);
+/// - for `Question::All` also a line, `ADDR also` with the route and its reason, for each further route
 ///   (`write_all_matches`). All routes are stored before the first is written;
 /// - for `Question::Routes` the selected routes, without the table's first line;
 /// - for `Question::Counts` their numbers (`write_counts`).

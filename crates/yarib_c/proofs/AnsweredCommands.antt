@@ -5,12 +5,12 @@ use Rattle.rt_rib.specs.declared.commands.Cmd.{Cmd}
 use Rattle.rt_rib.specs.declared.commands.Reply.{Reply}
 use Rattle.rt_rib.specs.declared.refused.Refused.{Refused}
 use Rattle.rt_rib.specs.declared.routes.Route.{Route}
-use Rattle.rt_rib.specs.declared.commands.Cmd.TheVariants.{Add, Replace, Withdraw, Lookup, Dump, Purge}
+use Rattle.rt_rib.specs.declared.commands.Cmd.TheVariants.{Purge}
 use Rattle.rt_rib.specs.declared.commands.Reply.TheVariants.{Added, Exists, Full, Replaced, Withdrawn, Missing}
 use Rattle.rt_rib.specs.Table.{has, count_of}
 use Rattle.rt_rib.specs.Sequential.{reply_of, table_after, table_of_journal}
 use Rattle.rt_rib.specs.Book.{TableState, table_state, BookContents, Applies, Refuses}
-use Rattle.rt_rib.proofs.Promised.{table_of_journal-push}
+use Rattle.rt_rib.proofs.Promised.{table_of_journal-push, each_command}
 use Rattle.yarib_c.specs.declared.held.Held.TheVariants.{Plain, Journaled}
 use Rattle.yarib_c.specs.Plain.{PlainContents}
 use Rattle.yarib_c.specs.Kinds.{IsNew, SaysChange, Applied, NotApplied}
@@ -67,12 +67,14 @@ kept_unless false reply kept more says none = refl
 pub no_change : (limit : ℕ) (routes : List Route) (feed : ℕ) (cmd : Cmd) → ¬ SaysChange (reply_of limit routes feed cmd)
     → table_after limit routes feed cmd ≡ routes
 unfolding reply_of table_after
-no_change limit routes feed (Add prefix pref hop) none = kept_by (has feed prefix routes) (nat_le limit (count_of feed routes)) routes _ none
-no_change limit routes feed (Replace prefix pref hop) none = kept_unless (has feed prefix routes) Replaced routes _ tt none
-no_change limit routes feed (Withdraw prefix) none = kept_unless (has feed prefix routes) Withdrawn routes _ tt none
-no_change limit routes feed (Lookup addr) none = refl
-no_change limit routes feed Dump none = refl
-no_change limit routes feed Purge none = absurd (none tt)
+no_change limit routes =
+    each_command (λ feed cmd. ¬ SaysChange (reply_of limit routes feed cmd) → table_after limit routes feed cmd ≡ routes)
+    (λ r none. kept_by (has r.feed r.prefix routes) (nat_le limit (count_of r.feed routes)) routes _ none)
+    (λ r none. kept_unless (has r.feed r.prefix routes) Replaced routes _ tt none)
+    (λ feed prefix none. kept_unless (has feed prefix routes) Withdrawn routes _ tt none)
+    (λ feed addr none. refl)
+    (λ feed none. refl)
+    (λ feed none. absurd (none tt))
 
 pub purge_says : (limit : ℕ) (routes : List Route) (feed : ℕ) → SaysChange (reply_of limit routes feed Purge)
 unfolding reply_of
