@@ -61,7 +61,7 @@ fn apply_each(mut table: Table, pairs: &[u32]) -> Result<Table, Error> {
 }
 
 fn sum(answers: &[Option<Route>]) -> u64 {
-    answers.iter().flatten().map(|route| u64::from(route.prefix.base()) + u64::from(route.prefix.len())).sum()
+    answers.iter().flatten().map(|route| u64::from(u32::from(route.prefix.base())) + u64::from(route.prefix.len())).sum()
 }
 
 fn look_up(table: &mut Table, asked: &[u32], size: usize) -> Result<u64, Error> {
