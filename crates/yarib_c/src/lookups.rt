@@ -77,14 +77,18 @@ fn look_up_each(held: &Held, addresses: &[Addr], answers: &mut [Option<Route>])
     }
 }
 
-/// Returns the answer for one address.
-pub(crate) fn answer_one(held: &Held, addr: Addr) -> Option<Route>
-    ensures { result ≡ look_up addr (routes_in held.now) }
+/// Returns the answer for one address. Each case makes its answer by itself: joined first, the routes would pass through memory,
+/// and fewer look-ups would wait for theirs at the same time.
+pub(crate) fn answer_one(held: &Held, addr: Addr) -> YaribRoute
+    ensures { result ≡ answer_as (look_up addr (routes_in held.now)) }
 {
     match held {
-        Held::Plain(plain) => plain.look_up(addr),
-        Held::Journaled(book) => book.table().look_up(addr),
-        Held::Forwarding(fib) => fib.look_up(addr),
+        Held::Plain(plain) => match plain.beside() {
+            None => YaribRoute::answer(plain.table().look_up(addr)),
+            Some(fib) => YaribRoute::answer(fib.look_up(addr)),
+        },
+        Held::Journaled(book) => YaribRoute::answer(book.table().look_up(addr)),
+        Held::Forwarding(fib) => YaribRoute::answer(fib.look_up(addr)),
     }
 }
 

@@ -139,16 +139,6 @@ impl PlainTable {
         self.beside.is_some()
     }
 
-    /// Returns the best route of the longest prefix that covers the address.
-    pub(crate) fn look_up(&self, addr: Addr) -> Option<Route>
-        ensures { result ≡ look_up addr self.now.table.routes }
-    {
-        match &self.beside {
-            None => self.table.look_up(addr),
-            Some(fib) => fib.look_up(addr),
-        }
-    }
-
     /// Returns about how many bytes it takes.
     pub(crate) fn bytes(&self) -> usize
         ensures table { trie_bytes self.now.table.trie ≤ result }

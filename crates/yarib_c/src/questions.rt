@@ -57,7 +57,7 @@ pub extern "C" fn yarib_look_up_one(
     ensures known { IsOneOf (DONE ∷ NOTHING ∷ []) result }
 {
     with_held!(table, alloc, held => {
-        *answer = YaribRoute::answer(answer_one(&held, Addr(address)));
+        *answer = answer_one(&held, Addr(address));
         DONE
     })
 }
