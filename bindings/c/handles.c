@@ -78,8 +78,12 @@ void take_place(void)
     }
 }
 
+/* A reading call's entry and exit have no calls and few stores of their own: the processor has the next look-up under way only as far as
+ * there is room for both. */
+#define SHORT static inline __attribute__((always_inline))
+
 /* Counts a reading call in the handle. Returns 0 if a change is under way. */
-static int count_reading(yarib *handle, yarib *copy)
+static __attribute__((noinline)) int count_reading(yarib *handle, yarib *copy)
 {
     void *word = __atomic_load_n(&handle->inside, __ATOMIC_RELAXED);
     do {
@@ -91,10 +95,13 @@ static int count_reading(yarib *handle, yarib *copy)
 }
 
 /* Enters a reading call and makes its copy of the handle. Returns 0 if a change is under way. */
-static int enter_reading(const yarib *handle, struct own *own)
+SHORT int enter_reading(const yarib *handle, struct own *own)
 {
-    if (!is_known) take_place();
     struct place *place = my_place;
+    if (!place && !is_known) {
+        take_place();
+        place = my_place;
+    }
     if (!place || place->reading) {
         own->place = NULL;
         return count_reading((yarib *)handle, &own->handle);
@@ -112,7 +119,7 @@ static int enter_reading(const yarib *handle, struct own *own)
     return 1;
 }
 
-static void leave_reading(const yarib *handle, const struct own *own)
+SHORT void leave_reading(const yarib *handle, const struct own *own)
 {
     if (own->place) __atomic_store_n(&own->place->reading, NULL, __ATOMIC_RELEASE);
     else __atomic_fetch_sub(&((yarib *)handle)->inside, READER, __ATOMIC_RELEASE);
