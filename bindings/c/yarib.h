@@ -352,7 +352,7 @@ typedef struct yarib_view {
 #define YARIB_NUMBER_DISCARD 1  /* packets are discarded */
 #define YARIB_FIRST_ROUTER 2    /* this number or a higher one is the router's index in `routers` */
 
-/* Writes the sizes of the arrays `blocks` and `routers`, at least 1 each. A later change of the table may change them.
+/* Writes the sizes of the arrays `blocks` and `routers`, at least 1 and 2. A later change of the table may change them.
  * Errors: YARIB_NOTHING, YARIB_WRONG_KIND (the handle holds neither a forwarding table nor a table with an attached one). */
 YARIB_STATUS yarib_view_sizes(const yarib *table, size_t *blocks, size_t *routers);
 

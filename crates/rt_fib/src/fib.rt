@@ -219,7 +219,9 @@ impl<A: Allocator + Copy, B: Allocator + Copy> Fib<A, B> {
     }
 
     /// Returns the sizes of the arrays that [`write_view`](Fib::write_view) fills. It may use fewer routers.
-    pub fn view_sizes(&self) -> ViewSizes {
+    pub fn view_sizes(&self) -> ViewSizes
+        ensures { 2 ≤ result.routers }
+    {
         let pools = &self.cells.pools;
         ViewSizes {
             blocks: pools.blocks.values.len().saturating_mul(256),

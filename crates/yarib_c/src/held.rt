@@ -63,7 +63,7 @@ impl Held {
 
     /// Returns the forwarding table that answers its look-ups, if there is one.
     pub(crate) fn forwarding(&self) -> Option<&Fib<Global>>
-        ensures { MatchOption result (¬ HasFib self.now) (λ fib. fib.now ≡ routes_in self.now) }
+        ensures { MatchOption result (¬ HasFib self.now) (λ fib. HasFib self.now × (fib.now ≡ routes_in self.now)) }
     {
         match self {
             Held::Plain(plain) => plain.beside(),

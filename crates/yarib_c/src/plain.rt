@@ -127,7 +127,8 @@ impl PlainTable {
 
     /// Returns the forwarding table that follows it, if there is one.
     pub(crate) fn beside(&self) -> Option<&Fib<Global>>
-        ensures { MatchOption result (self.now.is_followed ≡ false) (λ fib. fib.now ≡ self.now.table.routes) }
+        ensures { MatchOption result (self.now.is_followed ≡ false)
+            (λ fib. (self.now.is_followed ≡ true) × (fib.now ≡ self.now.table.routes)) }
     {
         self.beside.as_ref()
     }

@@ -26,7 +26,7 @@ pub struct YaribView<'a> {
     pub routers: &'a [u32],
 }
 
-/// Writes how many numbers the blocks and the routers of a view need, at least 1 each. Its entries are 2 ^ 24 numbers.
+/// Writes how many numbers the blocks and the routers of a view need, at least 1 and 2. Its entries are 2 ^ 24 numbers.
 #[unsafe(no_mangle)]
 pub extern "C" fn yarib_view_sizes(
     alloc: Global,
@@ -34,6 +34,7 @@ pub extern "C" fn yarib_view_sizes(
     blocks: &mut usize,
     routers: &mut usize,
 ) -> u32
+    ensures done { result ≡ DONE → HandleHolds table.old HasFib × (1 ≤ blocks.new) × (2 ≤ routers.new) }
     ensures same { held_in table.new ≡ held_in table.old }
     ensures absent { result ≡ NOTHING → held_in table.old ≡ None }
     ensures kind { result ≡ WRONG_KIND → HandleHolds table.old (λ held. ¬ HasFib held) }
