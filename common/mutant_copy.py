@@ -9,7 +9,7 @@ another proof cites a part of its proof."""
 import re
 import shutil
 
-from .rust_sources import Source
+from .rust_sources import Source, closing
 
 BODY = "loop {}"
 CITED = re.compile(r"\bproofs\.([\w.+'-]+)")
@@ -137,6 +137,22 @@ def empty(crate, folder, whole):
             file.write_text("\n".join(lines))
 
 
+def goals_named(crate, path, text):
+    """Returns the text of a file of answers with a name for the goals of its function, and this name."""
+    goals = f"Rattle.{crate}.proofs.{'.'.join(path)}.Goals"
+    # A file may import a module only once.
+    if named := re.search(rf"^use {re.escape(goals)} as (\w+)$", text, re.M):
+        return text, named[1]
+    return f"use {goals} as goal\n{text}", "goal"
+
+
+def answers_file(proofs, path):
+    """Returns the path of the file of a function's answers, and the function's path below `proofs/`."""
+    *module, name = path
+    own = [*module, f"+{name}" if proofs.joinpath(*module, f"+{name}").exists() else name]
+    return proofs.joinpath(*own, "Answers.antt"), own
+
+
 # A name of no goal.
 UNKNOWN = "goal-of-no-function"
 
@@ -144,15 +160,63 @@ UNKNOWN = "goal-of-no-function"
 def ask_no_offers(crate, folder, function):
     """Answers a goal that this function doesn't have. A function with a wrong answer isn't proved, but the prover doesn't
     search again for answers to offer."""
-    *module, name = function.split("::")
-    proofs = folder / "proofs"
-    is_recursive = proofs.joinpath(*module, f"+{name}").exists()
-    path = [*module, f"+{name}" if is_recursive else name]
-    file, goals = proofs.joinpath(*path, "Answers.antt"), f"Rattle.{crate}.proofs.{'.'.join(path)}.Goals"
+    file, path = answers_file(folder / "proofs", function.split("::"))
     file.parent.mkdir(parents=True, exist_ok=True)
-    text = file.read_text() if file.exists() else ""
-    if goals not in text:
-        text = f"use {goals} as goal\n{text}"
-    # A file may import a module only once.
-    if named := re.search(rf"^use {re.escape(goals)} as (\w+)$", text, re.M):
-        file.write_text(f"{text}\npub {UNKNOWN} : {named[1]}.{UNKNOWN}\n{UNKNOWN} c = ?\n")
+    text, named = goals_named(crate, path, file.read_text() if file.exists() else "")
+    file.write_text(f"{text}\npub {UNKNOWN} : {named}.{UNKNOWN}\n{UNKNOWN} c = ?\n")
+
+
+# The most steps that a tactic takes in an answer. One that finds no proof takes up to 10,000,000 without a limit.
+STEPS = 200_000
+ANSWER = re.compile(r"^pub (\S+) : \w+\.\1$", re.M)
+TACTIC = re.compile(r"(?<![\w.'-])(?:search|grind)(?![\w'-])")
+LIST = re.compile(r" (?!(?:depth|fits|parts|steps)\b)[\w.'-]*[\w']")
+LIMIT = re.compile(r" (?:depth|fits|parts) \d+")
+
+
+def limited(answer):
+    """Returns an answer in which each call of a tactic is limited in its steps."""
+    found, start = [], 0
+    for call in TACTIC.finditer(answer):
+        end = call.end()
+        if answer[end:end + 2] == " (":
+            end = closing(answer, end + 1, "()")
+        elif named := LIST.match(answer, end):
+            end = named.end()
+        while given := LIMIT.match(answer, end):
+            end = given.end()
+        if call.start() >= start and not answer.startswith(" steps ", end):
+            found.append(f"{answer[start:end]} steps {STEPS}")
+            start = end
+    return "".join(found) + answer[start:]
+
+
+def answers_only(proofs, path, goal):
+    """Makes holes of the answers of this function to other goals than this one or, without one, than those at its end.
+    Returns the goals whose answers stay, with limited tactics."""
+    file, _ = answers_file(proofs, path)
+    head, *parts = re.split(r"^(?=pub )", file.read_text() if file.exists() else "", flags=re.M)
+    names = [found[1] if (found := ANSWER.match(part)) else None for part in parts]
+    asked = {name for name in names if name and (name == goal or not goal and name.startswith("returns"))}
+    if asked:
+        parts = [limited(part) if name in asked or not name else f"{part.partition(chr(10))[0]}\n{name} = ?\n\n"
+                 for name, part in zip(names, parts)]
+        file.write_text("".join([head, *parts]))
+    return asked
+
+
+def ask_answered(folder, goals):
+    """Has the prover look, in each of these functions, only for the goal that is given with it or, if that is None, for the
+    goals at its end, as far as they have an answer. Returns these goals of each function that has one."""
+    found = {}
+    for file, its in functions(folder / "src").items():
+        lines = file.read_text().split("\n")
+        for path, item in sorted(its, key=lambda one: -one[1].start):
+            name = "::".join(path)
+            asked = answers_only(folder / "proofs", path, goals[name]) if name in goals else set()
+            if asked:
+                found[name], above = asked, [line for line in item.above() if not line.startswith("#[tactic(")]
+                lines[item.start - len(item.above()):item.start] = [" " * item.margin + line
+                                                                    for line in [*above, "#[tactic(none)]"]]
+        file.write_text("\n".join(lines))
+    return found

@@ -5,7 +5,7 @@ from .crates import CRATES
 from .rust_sources import Source
 
 FORM = re.compile(r"([\w-]+)\n\n```\nfile: (src/\S+\.rt)\n((?:old: .+\nnew:.*\n)+)"
-                  r"refused in: ([\w:]+?)(?:: ([\w-]+))?\n```\n+")
+                  r"refused in: ([\w:]+?)(?:: ([\w-]+))?\n(searched: all goals\n)?```\n+")
 
 
 class BadBody(Exception):
@@ -14,13 +14,15 @@ class BadBody(Exception):
 
 class Body:
     """A mutant of a list: its crate, text and name. If its form is valid, it also has its file, its pairs of old and new,
-    the function that the prover refuses, as the prover names it, and optionally a goal of that function. In a pair `⏎`
-    denotes the end of a line."""
+    the function that the prover refuses, as the prover names it, optionally a goal of that function, and whether the
+    prover has to search for all goals at once, since the function's answers need more steps than the first round allows.
+    In a pair `⏎` denotes the end of a line."""
 
     def __init__(self, crate, section):
         self.crate, self.section, self.name = crate, section, section.partition("\n")[0]
         self.form = FORM.fullmatch(section)
-        _, self.file, pairs, self.function, self.goal = self.form.groups() if self.form else ("", "", "", "", None)
+        _, self.file, pairs, self.function, self.goal, searched = self.form.groups() if self.form else ("",) * 6
+        self.is_searched_whole = bool(searched)
         self.pairs = [tuple(one.replace("⏎", "\n") for one in pair)
                       for pair in re.findall(r"^old: (.+)\nnew: ?(.*)$", pairs, re.M)]
 
