@@ -170,7 +170,7 @@ def ask_no_offers(crate, folder, function):
 STEPS = 200_000
 ANSWER = re.compile(r"^pub (\S+) : \w+\.\1$", re.M)
 TACTIC = re.compile(r"(?<![\w.'-])(?:search|grind)(?![\w'-])")
-LIST = re.compile(r" (?!(?:depth|fits|parts|steps)\b)[\w.'-]*[\w']")
+LIST = re.compile(r" (?!(?:depth|fits|parts|steps|in)\b)[\w.'-]*[\w']")
 LIMIT = re.compile(r" (?:depth|fits|parts) \d+")
 
 
