@@ -191,6 +191,15 @@ def limited(answer):
     return "".join(found) + answer[start:]
 
 
+def without_answer(part, name):
+    """Returns this part of a file of answers, which begins with an answer to the goal of this name, with a hole in its place.
+    What else is in the part stays, since other answers may use it."""
+    first, *lines = part.split("\n")
+    own = (" ", f"{name} ", "unfolding ")
+    rest = next((number for number, line in enumerate(lines) if line and not line.startswith(own)), len(lines))
+    return "\n".join([first, f"{name} = ?", "", *lines[rest:]]) + "\n"
+
+
 def answers_only(proofs, path, goal):
     """Makes holes of the answers of this function to other goals than this one or, without one, than those at its end.
     Returns the goals whose answers stay, with limited tactics."""
@@ -199,7 +208,7 @@ def answers_only(proofs, path, goal):
     names = [found[1] if (found := ANSWER.match(part)) else None for part in parts]
     asked = {name for name in names if name and (name == goal or not goal and name.startswith("returns"))}
     if asked:
-        parts = [limited(part) if name in asked or not name else f"{part.partition(chr(10))[0]}\n{name} = ?\n\n"
+        parts = [limited(part) if name in asked or not name else without_answer(part, name)
                  for name, part in zip(names, parts)]
         file.write_text("".join([head, *parts]))
     return asked
