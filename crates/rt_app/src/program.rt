@@ -62,12 +62,7 @@ where
     O: Write,
     E: Write,
 {
-    let mut program = Program {
-        rt,
-        alloc,
-        out,
-        screen: Screen::new(rt, line, err),
-    };
+    let mut program = Program::new(rt, alloc, line, out, err);
     let status = program.run(words);
     program.screen.end();
     status
@@ -80,6 +75,24 @@ struct Program<'a, R, O, E> {
     alloc: Global,
     out: &'a mut O,
     screen: Screen<'a, R, E>,
+}
+
+impl<'a, R, O, E> Program<'a, R, O, E> {
+    fn new(
+        rt: &'a R,
+        alloc: Global,
+        line: &'a ProgressLine,
+        out: &'a mut O,
+        err: &'a mut E,
+    ) -> Program<'a, R, O, E> {
+        let screen = Screen::new(rt, line, err);
+        Program {
+            rt,
+            alloc,
+            out,
+            screen,
+        }
+    }
 }
 
 impl<R: Files + Threads + Wait + Sync + AllocGlobal, O: Write, E: Write> Program<'_, R, O, E> {
