@@ -7,7 +7,8 @@ the given number of prefixes (500,000) of a real table's lengths, and look up ad
 The program bench/benches draws the same, and is left out if it doesn't time a forwarding table. A row has a call, and
 for each program the minimum nanoseconds of processor time for one prefix or address. `apply_journaled` is of a table with a
 journal, `forward` makes a forwarding table, and the number at the end of a look-up's name says how many addresses one
-call looks up. `forwarding_one` is a call without arrays, `contains` asks for a prefix, and `free` frees the table.
+call looks up. `forwarding_one` is a call without arrays, `add_text` adds and `contains` asks for a prefix as text, and
+`free` frees the table.
 """
 import array
 import importlib.machinery
@@ -20,14 +21,14 @@ import tempfile
 
 from common import checks, figures
 from common.table_model import dotted
-from others import built_lpm, drawn, each, has_patricia, patricia_rows, printed, radix_rows, write_input
+from others import built_lpm, call_each, drawn, each, has_patricia, patricia_rows, printed, radix_rows, write_input
 
 ASKED = 1 << 17
 BINDINGS = checks.TOP / "bindings"
 WHO = ("Rattle", "C", "Rust", "Python", "py-radix", "Net::Patricia", "rte_lpm")
-CALLS = ("apply", "apply_each", "apply_journaled", "look_up_1", "look_up_text", "look_up_256", "look_up_4096",
-         "look_up_array", "contains", "forward", "forwarding_1", "forwarding_256", "forwarding_4096", "forwarding_array",
-         "forwarding_one", "view_1", "view_256", "free")
+CALLS = ("apply", "add_text", "apply_each", "apply_journaled", "look_up_1", "look_up_text", "look_up_256", "look_up_4096",
+         "look_up_array", "contains", "forward", "forwarding_1", "forwarding_text", "forwarding_256", "forwarding_4096",
+         "forwarding_array", "forwarding_one", "view_1", "view_256", "free")
 
 
 def python_library():
@@ -44,13 +45,16 @@ def python_rows(yarib, pairs, asked):
     table = yarib.Table()
     yield each("apply", len(pairs), lambda: [table.apply(1, "add", pair, k, k) for k, pair in enumerate(pairs)])
     texts, prefixes = [dotted(address) for address in asked], [f"{dotted(base)}/{length}" for base, length in pairs]
-    yield each("look_up_1", ASKED, lambda: [table.look_up(address) for address in asked])
-    yield each("look_up_text", ASKED, lambda: [table.look_up(text) for text in texts])
+    yield each("look_up_1", ASKED, lambda: call_each(table.look_up, asked))
+    yield each("look_up_text", ASKED, lambda: call_each(table.look_up, texts))
     yield each("look_up_array", ASKED, lambda: table.look_up_each(block))
-    yield each("contains", len(pairs), lambda: [prefix in table for prefix in prefixes])
+    yield each("contains", len(pairs), lambda: call_each(lambda prefix: prefix in table, prefixes))
     forwarding = table.forward()
-    yield each("forwarding_1", ASKED, lambda: [forwarding.look_up(address) for address in asked])
+    yield each("forwarding_1", ASKED, lambda: call_each(forwarding.look_up, asked))
+    yield each("forwarding_text", ASKED, lambda: call_each(forwarding.look_up, texts))
     yield each("forwarding_array", ASKED, lambda: forwarding.look_up_each(block))
+    other, once = yarib.Table(), list(dict.fromkeys(prefixes))
+    yield each("add_text", len(once), lambda: call_each(lambda prefix: other.add(prefix, 7, 5), once))
 
 
 def rattle_rows(benches, prefixes):

@@ -53,14 +53,21 @@ def each(name, count, call):
     return name, (time.process_time() - began) / count * 1e9
 
 
+def call_each(call, items):
+    """Makes a call with each of the items, and keeps no result."""
+    for item in items:
+        call(item)
+
+
 def radix_rows(radix, pairs, asked):
     tree = radix.Radix()
     networks = [(dotted(base), length) for base, length in pairs]
     texts = [dotted(address) for address in asked]
     yield each("apply", len(pairs), lambda: [tree.add(network=base, masklen=length) for base, length in networks])
-    yield each("look_up_text", len(asked), lambda: [tree.search_best(text) for text in texts])
+    yield each("look_up_text", len(asked), lambda: call_each(tree.search_best, texts))
     prefixes = [f"{base}/{length}" for base, length in networks]
-    yield each("contains", len(pairs), lambda: [tree.search_exact(prefix) is not None for prefix in prefixes])
+    yield each("add_text", len(pairs), lambda: call_each(radix.Radix().add, prefixes))
+    yield each("contains", len(pairs), lambda: call_each(lambda prefix: tree.search_exact(prefix) is not None, prefixes))
 
 
 def printed(words):
