@@ -175,7 +175,7 @@ LIMIT = re.compile(r" (?:depth|fits|parts) \d+")
 
 
 def limited(answer):
-    """Returns an answer in which each call of a tactic is limited in its steps."""
+    """Limits the steps of each tactic that an answer calls."""
     found, start = [], 0
     for call in TACTIC.finditer(answer):
         end = call.end()
@@ -215,8 +215,8 @@ def answers_only(proofs, path, goal):
 
 
 def ask_answered(folder, goals):
-    """Has the prover look, in each of these functions, only for the goal that is given with it or, if that is None, for the
-    goals at its end, as far as they have an answer. Returns these goals of each function that has one."""
+    """Has the prover look in each of these functions only for its given goal or, without one, for the goals at its end, if they
+    have an answer. Returns these goals of each function that has any."""
     found = {}
     for file, its in functions(folder / "src").items():
         lines = file.read_text().split("\n")
