@@ -265,6 +265,8 @@ C = {f"{file.partition('.')[0]}: {name}": (file, *texts) for file, wrong in {
         "a change begins beside a counted reader": (
             "if (((uintptr_t)word & (CHANGING | READERS)) != 0) return 0;\n    own->inside = word;",
             "if (((uintptr_t)word & CHANGING) != 0) return 0;\n    own->inside = (void *)((uintptr_t)word & ~READERS);"),
+        "attach leaves its memory to changes": ("    if (begin_filling) begin_filling();\n", ""),
+        "attach fills for good": ("    if (end_filling) end_filling();\n", ""),
         "a reader begins beside a change": ("if ((word & CHANGING) != 0) {", "if (0) {"),
         "a reader counts itself beside a change": ("((uintptr_t)word & CHANGING) != 0 || ", ""),
         "no reader is counted": ("#define READER ((uintptr_t)1 << 48)", "#define READER ((uintptr_t)0)"),
@@ -287,6 +289,8 @@ C = {f"{file.partition('.')[0]}: {name}": (file, *texts) for file, wrong in {
         "load accepts feed 0": ("(feed < 1 || feed > YARIB_MAX_FEED)", "(feed > YARIB_MAX_FEED)"),
     },
     "readers.c": {
+        "the second table leaves its memory to changes": ("status = attach(&own);",
+                                                          "status = k == 0 ? attach(&own) : (enum yarib_status)proved_yarib_follow(&own);"),
         "a change is made in the side that readers use": (
             "    yarib own = sides->tables[1 - sides->front];\n    enum yarib_status status = proved_yarib_apply(&own, command, reply);\n"
             "    sides->tables[1 - sides->front] = own;", "    enum yarib_status status = proved_yarib_apply(&sides->tables[sides->front], command, reply);"),
@@ -409,6 +413,9 @@ C = {f"{file.partition('.')[0]}: {name}": (file, *texts) for file, wrong in {
         "a large block isn't given back": ("    munmap(mapping, size);\n", "    (void)size;\n"),
         "a large block that must move stays empty": ("whole, MREMAP_MAYMOVE | MREMAP_FIXED, place) != MAP_FAILED)", "whole, 0) == MAP_FAILED)"),
         "what can't be mapped is refused": ("    if (!block) block = malloc(size);\n", "    if (!block && size < LEAST_MAPPED) block = malloc(size);\n"),
+        "filling finds no memory": ("if (is_filling && offset", "if (0 && offset"),
+        "filling goes on": ("    is_filling = false;\n", ""),
+        "a resized block isn't filled": ("    fill_from(mapping, before);\n", ""),
         "a large block is a slab's": ("    set_beginning(mapping, MAPPING);\n    return (char *)mapping + HEAD;", "    set_beginning(mapping, SLABS);\n    return (char *)mapping + HEAD;"),
         "small blocks are malloc's": ("if (size <= LARGEST && alignment <= step) block", "if (size > LARGEST && size < LARGEST) block"),
     },
@@ -641,6 +648,10 @@ C = noticed_by({
         "handles: a reader stays counted", "handles: a reader keeps its place",
         "handles: a handle is compared with itself",
     ),
+    "test_followed": (
+        "handles: attach leaves its memory to changes", "handles: attach fills for good",
+        "readers: the second table leaves its memory to changes",
+    ),
     "test_view": (
         "handles: the number of routers is left out", "handles: the number of routers is written always",
         "handles: the sizes are exchanged", "handles: the blocks are said to be entries",
@@ -683,6 +694,9 @@ C = noticed_by({
     "test_heap give_back_together": (
         "heap: kept blocks aren't freed", "heap: blocks are kept for good", "heap: slabs that wait keep huge pages",
         "heap: more blocks are kept than there is room for",
+    ),
+    "test_heap fills": (
+        "heap: filling finds no memory", "heap: filling goes on", "heap: a resized block isn't filled",
     ),
     "test_heap forks": (
         "heap: a block is freed under another lock", "heap: a child of a fork waits",

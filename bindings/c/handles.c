@@ -165,6 +165,15 @@ void free_contents(yarib *table)
     if (end_frees) end_frees();
 }
 
+enum yarib_status attach(yarib *table)
+{
+    /* The forwarding table has room that only later changes write to. */
+    if (begin_filling) begin_filling();
+    enum yarib_status status = proved_yarib_follow(table);
+    if (end_filling) end_filling();
+    return status;
+}
+
 enum yarib_status yarib_new(yarib *table, uint32_t limit, uint32_t kind)
 {
     yarib own;
@@ -214,7 +223,7 @@ enum yarib_status yarib_fib_attach(yarib *table)
 {
     yarib own;
     if (!enter_change(table, &own)) return YARIB_BUSY;
-    enum yarib_status status = proved_yarib_follow(&own);
+    enum yarib_status status = attach(&own);
     leave_change(table, &own);
     return status;
 }

@@ -11,7 +11,8 @@
  * for a while, and frees many of them under one lock.
  *
  * A random look-up reads a place of a large block that no look-up has read for long. With pages of 4 KiB it then also waits for the
- * page's translation. So the kernel is advised to use huge pages of 2 MiB for large blocks, and gives them if it has any.
+ * page's translation. So the kernel is advised to use huge pages of 2 MiB for large blocks, and gives them if it has any. The first write
+ * to such a page waits until the kernel has cleared it. A call that makes room for later changes has the kernel do this at once.
  *
  * With YARIB_NO_SLABS all blocks come from malloc, so that valgrind and sanitizers see them. */
 #define _GNU_SOURCE
@@ -39,6 +40,9 @@ static const char __libc_single_threaded = 0;
 #define SLAB ((uintptr_t)1 << 16)
 #define CHUNK ((uintptr_t)1 << 26)
 #define HUGE_PAGE ((uintptr_t)1 << 21)
+#ifndef MADV_POPULATE_WRITE
+#define MADV_POPULATE_WRITE 23
+#endif
 /* The first bytes of a chunk are in small pages, so that a small table doesn't take a huge one. */
 #define FEW ((uintptr_t)1 << 22)
 #define PARTS 8
@@ -343,6 +347,25 @@ static void *block_of(struct mapping *mapping, size_t size)
     return (char *)mapping + HEAD;
 }
 
+/* True while this thread has the kernel find the memory of mappings before they are written. */
+static __thread bool is_filling;
+
+void begin_filling(void)
+{
+    is_filling = true;
+}
+
+void end_filling(void)
+{
+    is_filling = false;
+}
+
+/* Finds the memory of a mapping from an offset on, if that is to be done. An old kernel can't, and a write finds it later. */
+static void fill_from(struct mapping *mapping, size_t offset)
+{
+    if (is_filling && offset < mapping->size) madvise((char *)mapping + offset, mapping->size - offset, MADV_POPULATE_WRITE);
+}
+
 /* Maps a block of at least LEAST_MAPPED bytes, or returns null. */
 static void *alloc_mapped(size_t size)
 {
@@ -351,7 +374,9 @@ static void *alloc_mapped(size_t size)
     struct mapping *mapping = map_pages(whole, 0);
     if (!mapping) return NULL;
     madvise(mapping, whole, MADV_HUGEPAGE);
-    return block_of(mapping, whole);
+    void *block = block_of(mapping, whole);
+    fill_from(mapping, 0);
+    return block;
 }
 
 static void free_mapped(struct mapping *mapping)
@@ -362,19 +387,30 @@ static void free_mapped(struct mapping *mapping)
     munmap(mapping, size);
 }
 
-/* Changes the size of a mapping, which may move without being copied. Returns its block, or null and leaves it. */
+/* Changes the size of a mapping, which may move without being copied. Returns the mapping, or null and leaves it. */
+static struct mapping *moved(struct mapping *mapping, size_t whole)
+{
+    size_t before = mapping->size;
+    if (mremap(mapping, before, whole, 0) != MAP_FAILED) return mapping;
+    void *place = map_pages(whole, 0);
+    if (!place) return NULL;
+    set_beginning(mapping, OTHERS);
+    if (mremap(mapping, before, whole, MREMAP_MAYMOVE | MREMAP_FIXED, place) != MAP_FAILED) return place;
+    set_beginning(mapping, MAPPING);
+    munmap(place, whole);
+    return NULL;
+}
+
+/* Resizes the block of a mapping, or returns null and leaves it. */
 static void *resize_mapped(struct mapping *mapping, size_t size)
 {
     if (size > SIZE_MAX / 4) return NULL;
     size_t before = mapping->size, whole = size_of_mapping(size);
-    if (mremap(mapping, before, whole, 0) != MAP_FAILED) return block_of(mapping, whole);
-    void *place = map_pages(whole, 0);
-    if (!place) return NULL;
-    set_beginning(mapping, OTHERS);
-    if (mremap(mapping, before, whole, MREMAP_MAYMOVE | MREMAP_FIXED, place) != MAP_FAILED) return block_of(place, whole);
-    set_beginning(mapping, MAPPING);
-    munmap(place, whole);
-    return NULL;
+    mapping = moved(mapping, whole);
+    if (!mapping) return NULL;
+    void *block = block_of(mapping, whole);
+    fill_from(mapping, before);
+    return block;
 }
 
 struct tried rattle_alloc(size_t size, size_t alignment)

@@ -22,6 +22,14 @@ void rattle_dealloc(void *block);
 void begin_frees(void) __attribute__((weak));
 void end_frees(void) __attribute__((weak));
 
+/* From begin_filling to end_filling the library's heap has the kernel find the memory of the large blocks that this thread allocates,
+ * so that later writes don't wait for it. A heap that replaces it may lack these. */
+void begin_filling(void) __attribute__((weak));
+void end_filling(void) __attribute__((weak));
+
+/* Attaches a forwarding table to a table, as proved_yarib_follow does. */
+enum yarib_status attach(yarib *table);
+
 /* Frees what a handle holds, as proved_yarib_free does. */
 void free_contents(yarib *table);
 

@@ -359,7 +359,7 @@ enum yarib_status yarib_concurrent_fib_attach(yarib_concurrent *table)
     if (sides) status = catch_up(sides) ? YARIB_DONE : YARIB_NO_MEMORY;
     for (int k = 0; k < 2 && status == YARIB_DONE; k++) {
         yarib own = sides->tables[1 - sides->front];
-        status = proved_yarib_follow(&own);
+        status = attach(&own);
         sides->tables[1 - sides->front] = own;
         if (k == 1 || status != YARIB_DONE) break;
         publish(sides);

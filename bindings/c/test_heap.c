@@ -7,6 +7,7 @@
 #include <stdbool.h>
 #include <stdint.h>
 #include <string.h>
+#include <sys/mman.h>
 #include <sys/prctl.h>
 #include <sys/resource.h>
 #include <sys/wait.h>
@@ -22,6 +23,8 @@ struct tried rattle_realloc(void *block, size_t kept, size_t size, size_t alignm
 void rattle_dealloc(void *block);
 void begin_frees(void);
 void end_frees(void);
+void begin_filling(void);
+void end_filling(void);
 
 enum { THREADS = 4, SHELVES = 512, CALLS = 200000 };
 
@@ -332,6 +335,38 @@ static void map_large(void)
     CHECK(taken_bytes(true) <= before + (1 << 20));
 }
 
+/* Returns true if the kernel can find memory before it is written. */
+static bool fills(void)
+{
+    void *page = mmap(NULL, 4096, PROT_READ | PROT_WRITE, MAP_PRIVATE | MAP_ANONYMOUS, -1, 0);
+    bool is_done = page != MAP_FAILED && madvise(page, 4096, 23 /* MADV_POPULATE_WRITE */) == 0;
+    munmap(page, 4096);
+    return is_done;
+}
+
+/* Only between begin_filling and end_filling are large blocks in memory before they are written, also what a resized one gets more. */
+static void fill_large(void)
+{
+    size_t before = taken_bytes(true);
+    begin_filling();
+    struct tried filled = rattle_alloc(16 << 20, 8);
+    if (fills()) CHECK(taken_bytes(true) >= before + (16 << 20));
+    filled = rattle_realloc(filled.block, 16 << 20, 48 << 20, 8);
+    if (fills()) CHECK(taken_bytes(true) >= before + (48 << 20));
+    filled = rattle_realloc(filled.block, 8 << 20, 8 << 20, 8);
+    end_filling();
+    CHECK(filled.ok && taken_bytes(true) <= before + (9 << 20));
+    struct tried later = rattle_alloc(16 << 20, 8);
+    CHECK(later.ok && taken_bytes(true) <= before + (11 << 20));
+    filled = rattle_realloc(filled.block, 8 << 20, 24 << 20, 8);
+    CHECK(filled.ok && taken_bytes(true) <= before + (13 << 20));
+    write_ends(later.block, 16 << 20, 5);
+    write_ends(filled.block, 24 << 20, 6);
+    check_ends(later.block, 16 << 20, 5);
+    rattle_dealloc(later.block);
+    rattle_dealloc(filled.block);
+}
+
 /* Without huge pages large blocks are what they are with them, and if no mapping is found for them they come from malloc. */
 static void map_refused(void)
 {
@@ -388,7 +423,7 @@ static const struct {
     const char *name;
     void (*run)(void);
 } tests[] = {{"few", take_few}, {"calls", call_threads}, {"forks", call_and_fork}, {"give_back", give_back},
-    {"give_back_together", give_back_together}, {"resizes", resize_large}, {"large", map_large}, {"large_refused", map_refused}, {"refuse", refuse}};
+    {"give_back_together", give_back_together}, {"resizes", resize_large}, {"large", map_large}, {"fills", fill_large}, {"large_refused", map_refused}, {"refuse", refuse}};
 
 /* With a word, only the test of this name is run; the status is 2 if there is none. With a second word, a sanitizer or valgrind runs
  * it. They run only calls and resizes: they need more memory and time, and report what a child's missing threads held. */
