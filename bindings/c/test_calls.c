@@ -71,7 +71,7 @@ static void faults(void)
     CHECK(yarib_new(&table, 0, YARIB_PLAIN) == YARIB_BAD_NUMBER && count_of(&table) == 1);
     yarib_command commands[] = {add_eight, add_eight, add_eight};
     commands[0].feed = 0;
-    commands[1].feed = 65;
+    commands[1].feed = YARIB_MAX_FEED + 1;
     memset(&reply, MARK, sizeof reply);
     CHECK(yarib_apply(&table, &commands[0], &reply) == YARIB_BAD_NUMBER);
     CHECK(yarib_apply(&table, &commands[1], &reply) == YARIB_BAD_NUMBER);
@@ -91,7 +91,7 @@ static void faults(void)
     commands[2].hop = 3;
     CHECK(yarib_apply(&table, &commands[2], &reply) == YARIB_BAD_COMMAND && is_marked(&reply, sizeof reply));
     CHECK(yarib_apply_each(&table, commands, 3, replies, 2) == YARIB_BAD_SIZE);
-    commands[1] = (yarib_command){.operation = YARIB_DUMP, .feed = 64};
+    commands[1] = (yarib_command){.operation = YARIB_DUMP, .feed = YARIB_MAX_FEED};
     CHECK(yarib_apply_each(&table, commands, 3, replies, 3) == YARIB_DONE && count_of(&table) == 1);
     CHECK(replies[0].code == YARIB_UNANSWERED && replies[0].count == YARIB_BAD_NUMBER);
     CHECK(replies[1].code == YARIB_DUMPED && replies[1].count == 1);
@@ -180,7 +180,7 @@ static void parts(void)
     total = 99;
     memset(rest, MARK, sizeof rest);
     CHECK(yarib_select(&table, &faulty, 0, rest, 6, &total) == YARIB_BAD_NUMBER);
-    faulty = (yarib_selection){.feed = 65};
+    faulty = (yarib_selection){.feed = YARIB_MAX_FEED + 1};
     CHECK(yarib_select(&table, &faulty, 0, rest, 6, &total) == YARIB_BAD_NUMBER);
     faulty = (yarib_selection){.only_best = 2};
     CHECK(yarib_select(&table, &faulty, 0, rest, 6, &total) == YARIB_BAD_NUMBER);

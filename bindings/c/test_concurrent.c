@@ -227,7 +227,7 @@ static void change_at_random(void)
             uint32_t drawn = (uint32_t)(state >> 33), operation = drawn % 64 == 0 ? YARIB_PURGE : 1 + drawn % 5;
             batch[j] = command(operation, 1 + drawn / 64 % 2, (drawn / 512 % 40) << 24, 8, drawn / 20000);
         }
-        if (k % 100 == 0) batch[0].feed = 65;
+        if (k % 100 == 0) batch[0].feed = YARIB_MAX_FEED + 1;
         CHECK(yarib_concurrent_apply_each(&table, batch, size, replies, size) == YARIB_DONE);
         CHECK(yarib_apply_each(&model, batch, size, right, size) == YARIB_DONE);
         CHECK(memcmp(replies, right, size * sizeof *replies) == 0);
@@ -389,7 +389,7 @@ static void statuses(void)
     CHECK(empty.inside == NULL);
     begin();
     CHECK(yarib_concurrent_new(&table, 0) == YARIB_BAD_NUMBER);
-    fault.feed = 65;
+    fault.feed = YARIB_MAX_FEED + 1;
     CHECK(yarib_concurrent_apply(&table, &fault, &reply) == YARIB_BAD_NUMBER);
     fault = one;
     fault.hop = 0;

@@ -326,18 +326,18 @@ static void refuse(void)
     struct stream stream = {.bytes = again, .most = sizeof again}, lines = {.bytes = text, .size = 5, .most = 6};
     FILE *file = opened(&stream, "w"), *from = opened(&lines, "r");
     yarib_loaded loaded = {77, 78, 79};
-    CHECK(save(0, file) == YARIB_NOTHING && load(65, from, &loaded) == YARIB_NOTHING);
+    CHECK(save(0, file) == YARIB_NOTHING && load(YARIB_MAX_FEED + 1, from, &loaded) == YARIB_NOTHING);
     CHECK(new_table(3) == YARIB_DONE);
     for (uint32_t k = 0; k < 3; k++) {
-        const uint32_t feeds[] = {0, 65, 0xffffffff};
+        const uint32_t feeds[] = {0, YARIB_MAX_FEED + 1, 0xffffffff};
         CHECK(save(feeds[k], file) == YARIB_BAD_NUMBER && load(feeds[k], from, &loaded) == YARIB_BAD_NUMBER);
     }
     if (!is_concurrent) {
         CHECK(yarib_fib_new(&plain, &other) == YARIB_DONE);
-        CHECK(yarib_save(&other, 65, file) == YARIB_BAD_NUMBER && yarib_load(&other, 0, from, &loaded) == YARIB_BAD_NUMBER);
+        CHECK(yarib_save(&other, YARIB_MAX_FEED + 1, file) == YARIB_BAD_NUMBER && yarib_load(&other, 0, from, &loaded) == YARIB_BAD_NUMBER);
         CHECK(yarib_save(&other, 1, file) == YARIB_WRONG_KIND && yarib_load(&other, 1, from, &loaded) == YARIB_WRONG_KIND);
         CHECK(yarib_new(&other, 3, YARIB_JOURNALED) == YARIB_DONE);
-        CHECK(loaded_from("add 1.0.0.0/8 1 2.2.2.2", 23, 64, &loaded) == YARIB_DONE && loaded.routes == 1);
+        CHECK(loaded_from("add 1.0.0.0/8 1 2.2.2.2", 23, YARIB_MAX_FEED, &loaded) == YARIB_DONE && loaded.routes == 1);
         loaded = (yarib_loaded){77, 78, 79};
         CHECK(yarib_free(&other) == YARIB_DONE);
     }
@@ -354,9 +354,9 @@ static void load_journaled(void)
     yarib_loaded loaded;
     size_t total;
     CHECK(yarib_new(&plain, 3, YARIB_JOURNALED) == YARIB_DONE);
-    CHECK(loaded_from("add 1.0.0.0/8 1 2.2.2.2\n#\nadd 1.0.0.0/8 1 2.2.2.2\n", 50, 64, &loaded) == YARIB_NOT_ADDED && loaded.line == 3);
+    CHECK(loaded_from("add 1.0.0.0/8 1 2.2.2.2\n#\nadd 1.0.0.0/8 1 2.2.2.2\n", 50, YARIB_MAX_FEED, &loaded) == YARIB_NOT_ADDED && loaded.line == 3);
     CHECK(yarib_journal(&plain, 0, entries, 4, &total) == YARIB_DONE && total == 2);
-    CHECK(entries[0].command.feed == 64 && entries[0].reply.code == YARIB_ADDED && entries[1].reply.code == YARIB_EXISTS);
+    CHECK(entries[0].command.feed == YARIB_MAX_FEED && entries[0].reply.code == YARIB_ADDED && entries[1].reply.code == YARIB_EXISTS);
     CHECK(yarib_free(&plain) == YARIB_DONE);
 }
 

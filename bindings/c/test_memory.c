@@ -233,7 +233,7 @@ static void apart(void (*one)(enum shape, enum who, uint32_t, uint32_t), enum sh
 
 int main(void)
 {
-    static const uint32_t feeds[] = {1, 2, 8, 33, 64};
+    static const uint32_t feeds[] = {1, 2, 8, 33, YARIB_MAX_FEED};
     setvbuf(stdout, NULL, _IONBF, 0); /* so that printing doesn't allocate */
     apart(measure, ROUTER, EACH, 0, 1);
     for (uint32_t count = 100; count <= MOST; count *= 10) apart(measure, ROUTER, EACH, count, 1);

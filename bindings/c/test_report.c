@@ -62,7 +62,7 @@ static void ask(const yarib_route *routes, size_t size)
 {
     uint32_t asked[ASKED];
     uint32_t hops[ASKED], forwarded_hops[ASKED];
-    yarib_route answers[ASKED], forwarded[ASKED], shared[ASKED], all[64 * 33];
+    yarib_route answers[ASKED], forwarded[ASKED], shared[ASKED], all[YARIB_MAX_FEED * (YARIB_MAX_PREFIX_LENGTH + 1)];
     yarib forwarding = YARIB_EMPTY, other = YARIB_EMPTY;
     for (uint32_t k = 0; k < ASKED; k++) asked[k] = k % 3 && size ? routes[k * 7 % size].base + k : k * 4294967u;
     CHECK(yarib_look_up(&table, asked, ASKED, answers, ASKED) == YARIB_DONE);
@@ -79,7 +79,7 @@ static void ask(const yarib_route *routes, size_t size)
         yarib_reply reply;
         size_t total;
         CHECK(yarib_apply(&table, &command, &reply) == YARIB_DONE);
-        CHECK(yarib_look_up_all(&table, asked[k], 0, all, 64 * 33, &total) == YARIB_DONE);
+        CHECK(yarib_look_up_all(&table, asked[k], 0, all, sizeof all / sizeof *all, &total) == YARIB_DONE);
         found = reply.code == YARIB_FOUND ? reply.route : none;
         CHECK(is_same_route(&found, &answers[k]) && is_same_route(&found, &forwarded[k]) && is_same_route(&found, &shared[k]));
         CHECK(yarib_look_up_one(&table, asked[k], &one) == YARIB_DONE && is_same_route(&found, &one));

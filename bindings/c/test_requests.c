@@ -51,7 +51,7 @@ static void add_each_kind(yarib *table)
     CHECK(requests() == 0);
 }
 
-/* A look-up through 33 nested prefixes makes no call, and a list of all 64 offers of a prefix as many as it grows. */
+/* A look-up through 33 nested prefixes makes no call, and a list of all offers of a prefix as many as it grows. */
 static void look_up_deep(yarib *table)
 {
     yarib_route routes[YARIB_MAX_FEED + YARIB_MAX_PREFIX_LENGTH];

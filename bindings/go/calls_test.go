@@ -163,10 +163,10 @@ func TestEveryCallAnswersAsTheModel(t *testing.T) {
 		for k := 0; k < 200; k++ {
 			command := drawnCommand(draw)
 			if k%50 == 7 {
-				command.Feed = 65
+				command.Feed = MaxFeed + 1
 			}
 			commands = append(commands, command)
-			if command.Feed == 65 {
+			if command.Feed == MaxFeed+1 {
 				outcomes = append(outcomes, Outcome{Err: &CommandError{command, ErrNumber}})
 				continue
 			}
@@ -428,7 +428,7 @@ func TestWhatIsRefusedIsNamed(t *testing.T) {
 		}, ErrFull, "yarib: feed 1: add 0.0.0.0/0 5 0.0.0.1: the feed is at its limit"},
 		{func() error { _, err := one.Withdraw(2, ten); return err }, ErrMissing, "yarib: feed 2: withdraw 10.0.0.0/8: the feed has no route to this prefix"},
 		{func() error { _, err := one.Replace(2, ten, 3, Discard); return err }, ErrMissing, "yarib: feed 2: replace 10.0.0.0/8 3 discard: the feed has no route to this prefix"},
-		{refused(Command{Operation: Purge, Feed: 65}), ErrNumber, "yarib: feed 65: purge: the feed isn't 1 to 64"},
+		{refused(Command{Operation: Purge, Feed: MaxFeed + 1}), ErrNumber, "yarib: feed 65: purge: the feed isn't 1 to 64"},
 		{refused(Command{Operation: 9, Feed: 1}), ErrCommand, "yarib: feed 1: Operation(9): the operation is unknown"},
 		{refused(Command{Operation: Lookup, Feed: 1, Address: netip.MustParseAddr("::1")}), ErrCommand, "yarib: feed 1: lookup ::1: the address isn't IPv4"},
 		{refused(Command{Operation: Withdraw, Feed: 1, Prefix: netip.MustParsePrefix("::/0")}), ErrCommand, "yarib: feed 1: withdraw ::/0: the prefix isn't IPv4"},
@@ -436,7 +436,7 @@ func TestWhatIsRefusedIsNamed(t *testing.T) {
 		{refused(Command{Operation: Add, Feed: 1, Prefix: ten, Hop: Via(netip.MustParseAddr("::1"))}), ErrCommand, "yarib: feed 1: add 10.0.0.0/8 0 ::1: the next hop isn't IPv4"},
 		{func() error { _, _, err := one.LookUp(netip.MustParseAddr("::1")); return err }, ErrCommand, "yarib: a prefix or an address isn't IPv4: ::1"},
 		{func() error { _, err := one.LookUpAll(netip.MustParseAddr("::1")); return err }, ErrCommand, "yarib: a prefix or an address isn't IPv4: ::1"},
-		{selected(Selection{Feed: 65}), ErrNumber, "yarib: a limit or a feed is out of range: all invalid Prefix of feed 65"},
+		{selected(Selection{Feed: MaxFeed + 1}), ErrNumber, "yarib: a limit or a feed is out of range: all invalid Prefix of feed 65"},
 		{selected(Selection{Part: Exact, Prefix: netip.MustParsePrefix("::/0")}), ErrCommand, "yarib: a prefix or an address isn't IPv4: ::/0"},
 		{func() error {
 			_, err := one.RoutesFrom(Place{Prefix: netip.MustParsePrefix("10.0.0.1/8")}, 1)
@@ -448,7 +448,7 @@ func TestWhatIsRefusedIsNamed(t *testing.T) {
 		{parsed("10.0.0.1/8"), ErrBits, "yarib: a bit past the length is set: \"10.0.0.1/8\""},
 		{func() error { _, err := one.Journal(); return err }, ErrKind, "yarib: the table doesn't support this call"},
 		{func() error { return one.Save(io.Discard, 0) }, ErrNumber, "yarib: a limit or a feed is out of range: feed 0, not 1 to 64"},
-		{func() error { _, err := NewSource(one, 64, 2); return err }, ErrNumber, "yarib: a limit or a feed is out of range: 2 feeds from feed 64 on, of 64"},
+		{func() error { _, err := NewSource(one, MaxFeed, 2); return err }, ErrNumber, "yarib: a limit or a feed is out of range: 2 feeds from feed 64 on, of 64"},
 	} {
 		err := faulty.call()
 		if !errors.Is(err, faulty.reason) {
@@ -626,7 +626,7 @@ func TestASourceIsOneFeedInEveryAnswer(t *testing.T) {
 
 // The feeds of these prefixes are the same in each language's package.
 func TestWhereEveryPrefixOfASourceIs(t *testing.T) {
-	source, err := NewSource(table(t, 1, false), 1, 64)
+	source, err := NewSource(table(t, 1, false), 1, MaxFeed)
 	must(t, err)
 	found := []uint32{}
 	for _, text := range []string{"0.0.0.0/0", "10.0.0.0/8", "10.1.0.0/16", "192.0.2.0/24", "255.255.255.255/32", "128.0.0.0/1"} {
@@ -634,12 +634,12 @@ func TestWhereEveryPrefixOfASourceIs(t *testing.T) {
 	}
 	same(t, "feeds", found, []uint32{1, 11, 38, 2, 11, 8})
 	same(t, "no feed", source.FeedOf(netip.Prefix{}), uint32(1))
-	for _, faulty := range [][2]uint32{{0, 1}, {1, 0}, {1, 65}, {65, 1}, {64, 2}, {2, 1<<32 - 1}} {
+	for _, faulty := range [][2]uint32{{0, 1}, {1, 0}, {1, MaxFeed + 1}, {MaxFeed + 1, 1}, {MaxFeed, 2}, {2, 1<<32 - 1}} {
 		if _, err := NewSource(table(t, 1, false), faulty[0], faulty[1]); !errors.Is(err, ErrNumber) {
 			t.Fatal(faulty, err)
 		}
 	}
-	for _, right := range [][2]uint32{{1, 64}, {64, 1}, {63, 2}} {
+	for _, right := range [][2]uint32{{1, MaxFeed}, {MaxFeed, 1}, {MaxFeed - 1, 2}} {
 		_, err := NewSource(table(t, 1, false), right[0], right[1])
 		must(t, err)
 	}

@@ -276,7 +276,7 @@ func TestErrorsLeaveAllAsItWas(t *testing.T) {
 		command Command
 		err     error
 	}{
-		{Command{Operation: Add, Feed: 65, Prefix: ten}, ErrNumber},
+		{Command{Operation: Add, Feed: MaxFeed + 1, Prefix: ten}, ErrNumber},
 		{Command{Operation: Add, Feed: 1, Prefix: netip.MustParsePrefix("::/0")}, ErrCommand},
 		{Command{Operation: Add, Feed: 1}, ErrCommand},
 		{Command{Operation: Add, Feed: 1, Prefix: netip.MustParsePrefix("10.0.0.1/8")}, ErrCommand},

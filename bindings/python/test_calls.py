@@ -148,10 +148,10 @@ class Drawn(random.Random):
         return None if address is None else self.choice((address, ADDRESS(address), str(ADDRESS(address))))
 
     def feed(self):
-        return self.choice((1, 2, 3, 64))
+        return self.choice((1, 2, 3, yarib.MAX_FEED))
 
     def selection(self):
-        return {"feed": self.choice((None, None, 1, 2, 3, 64)), "best": self.choice((False, True))}
+        return {"feed": self.choice((None, None, 1, 2, 3, yarib.MAX_FEED)), "best": self.choice((False, True))}
 
 
 class Limited(unittest.TestCase):
@@ -190,7 +190,7 @@ class Limited(unittest.TestCase):
         self.assert_same(table.get(draw.given(address)), model.best(address))
         best = (model.selected("covering", prefix, best=True) or [None])[-1]
         self.assert_same(table.look_up_prefix(draw.given_prefix(prefix)), best)
-        pref, feed = draw.choice((0, 1, 2, LAST)), draw.choice((0, 1, 2, 3, 64, 65))
+        pref, feed = draw.choice((0, 1, 2, LAST)), draw.choice((0, 1, 2, 3, yarib.MAX_FEED, yarib.MAX_FEED + 1))
         wanted = [route for route in model.listed() if in_order(route) >= (*prefix, pref, feed)]
         self.assert_same(list(table.routes_from(draw.given_prefix(prefix), pref, feed)), wanted)
 
@@ -320,7 +320,7 @@ class Calls(Limited):
 
     def test_a_command_without_an_answer_says_why(self):
         table = yarib.Table()
-        outcomes = table.apply_each([(0, "dump"), (65, "purge"), (1, "add", (0, 0), 0, None), (1, "dump")])
+        outcomes = table.apply_each([(0, "dump"), (yarib.MAX_FEED + 1, "purge"), (1, "add", (0, 0), 0, None), (1, "dump")])
         self.assert_same(outcomes, [
             yarib.Outcome("unanswered", 0, None, "bad number"), yarib.Outcome("unanswered", 0, None, "bad number"),
             yarib.Outcome("added", 0, None, None), yarib.Outcome("dumped", 1, None, None)])
@@ -375,11 +375,11 @@ class Borders(Limited):
             self.assert_same(list(answers), [best[address] for address in asked])
 
     def test_lists_of_one_address(self):
-        """64 feeds and 33 lengths: lists of up to 2,112 routes."""
+        """All feeds and lengths: the longest lists of routes."""
         model, table, added = Model(99), yarib.Table(), 0
         for length in range(33):
             prefix = (10 << 24) >> 32 - length << 32 - length, length
-            for feed in range(1, 65):
+            for feed in range(1, yarib.MAX_FEED + 1):
                 table.add(prefix, via=feed, pref=feed % 7, feed=feed)
                 model.stored[(*prefix, feed)] = yarib.Route(*prefix, feed, feed % 7, feed)
                 added += 1
@@ -393,8 +393,8 @@ class Borders(Limited):
             table, wanted = yarib.Table(journal=True), []
             for k in range(size):
                 prefix, via = (k << 12, 24), None if k % 3 == 0 else k
-                table.apply(1 + k % 64, "add", prefix, k, via)
-                command = 1 + k % 64, "add", NETWORK(prefix), k, None if via is None else ADDRESS(via)
+                table.apply(1 + k % yarib.MAX_FEED, "add", prefix, k, via)
+                command = 1 + k % yarib.MAX_FEED, "add", NETWORK(prefix), k, None if via is None else ADDRESS(via)
                 wanted.append(yarib.Entry(command, yarib.Outcome("added", 0, None, None)))
             self.assert_same(table.journal(), wanted)
 
@@ -412,7 +412,7 @@ class Given(Limited):
     def test_numbers_out_of_range(self):
         table = yarib.Table(10, journal=True)
         table.add("10.0.0.0/8", via=1)
-        for feed in (0, 65, -1, 1 << 32, (1 << 32) + 1):
+        for feed in (0, yarib.MAX_FEED + 1, -1, 1 << 32, (1 << 32) + 1):
             for call in (lambda: table.add("11.0.0.0/8", 1, 0, feed), lambda: table.replace("10.0.0.0/8", 1, 0, feed),
                          lambda: table.withdraw("10.0.0.0/8", feed), lambda: table.purge(feed),
                          lambda: table.routes(feed=feed), lambda: table.exact("10.0.0.0/8", feed=feed),
@@ -591,7 +591,7 @@ class Conventions(Limited):
                 model.apply(draw.feed(), "add", draw.prefix(), *draw.put())
             for one in model.listed():
                 table.add(one[:2], one.via, one.pref, one.feed)
-            for feed in (1, 2, 3, 64, 5):
+            for feed in (1, 2, 3, yarib.MAX_FEED, 5):
                 table.save(path, feed)
                 other.load(str(path), feed)
             self.assert_same(other.routes(), model.listed())
@@ -634,12 +634,12 @@ class Conventions(Limited):
         self.assert_same(list(map(one_feed, source.routes())), sorted(model.selected("routes", feed=3)))
         self.assertEqual(source.purge(), len(model.own(3)))
         self.assertEqual(source.routes(), [])
-        for first, feeds in ((0, 2), (64, 2), (1, 0), (1, 65), (63, 3)):
+        for first, feeds in ((0, 2), (yarib.MAX_FEED, 2), (1, 0), (1, yarib.MAX_FEED + 1), (yarib.MAX_FEED - 1, 3)):
             self.assertRaises(ValueError, yarib.Source, table, first, feeds)
-        self.assertEqual(yarib.Source(table, 1, 64).feeds, range(1, 65))
+        self.assertEqual(yarib.Source(table, 1, yarib.MAX_FEED).feeds, range(1, yarib.MAX_FEED + 1))
         # The feeds of these prefixes are the same in each language's package.
         prefixes = ("0.0.0.0/0", "10.0.0.0/8", "10.1.0.0/16", "192.0.2.0/24", "255.255.255.255/32", "128.0.0.0/1")
-        feeds = list(map(yarib.Source(table, 1, 64).feed_of, prefixes))
+        feeds = list(map(yarib.Source(table, 1, yarib.MAX_FEED).feed_of, prefixes))
         self.assertEqual(feeds, [1, 11, 38, 2, 11, 8])
 
     def test_a_source_spreads_its_prefixes(self):

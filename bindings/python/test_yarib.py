@@ -57,7 +57,7 @@ class Tables(unittest.TestCase):
         self.assertEqual(table.covering("10.0.0.0/24"), [two, one, three])
         self.assertEqual(table.routes(feed=3), table.within("11.0.0.0/24"))
         self.assertEqual(len(table.routes(best=True)), 103)
-        for feed in (0, 65, -1):
+        for feed in (0, yarib.MAX_FEED + 1, -1):
             self.assertRaises(ValueError, table.exact, "10.0.0.0/8", feed)
         self.assertRaises(ValueError, table.within, "10.0.0.1/8")
 
@@ -123,7 +123,7 @@ class Tables(unittest.TestCase):
         for limit in (0, 1_000_001, -1, 1 << 32):
             self.assertRaises(ValueError, yarib.Table, limit)
         table = yarib.Table()
-        for feed in (0, 65, -1, 1 << 32, (1 << 32) + 1):
+        for feed in (0, yarib.MAX_FEED + 1, -1, 1 << 32, (1 << 32) + 1):
             self.assertRaises(ValueError, table.add, "10.0.0.0/8", None, 0, feed)
         for preference in (-1, 1 << 32):
             self.assertRaises(ValueError, table.add, "10.0.0.0/8", None, preference)
@@ -429,7 +429,7 @@ class Model(unittest.TestCase):
             limit = draw.choice((3, 8, 1000))
             table, model = yarib.Table(limit, journal=seed % 2 == 1), table_model.Table(limit)
             for _ in range(400):
-                feed, words = draw.randrange(1, 65) if seed % 4 else draw.randrange(1, 4), self.words(draw)
+                feed, words = draw.randrange(1, yarib.MAX_FEED + 1) if seed % 4 else draw.randrange(1, 4), self.words(draw)
                 self.assertEqual(self.said(table.apply(feed, *self.typed(words))), model.apply(feed, words),
                                  (seed, words))
 

@@ -289,12 +289,12 @@ fn a_concurrent_table_answers_as_the_model() {
             assert_eq!(found, wanted);
             let asked: Vec<(u32, Command)> = (0..draw.below(6))
                 .map(|_| (1 + draw.below(5), draw.command()))
-                .chain([(65, Command::Dump)])
+                .chain([(MAX_FEED + 1, Command::Dump)])
                 .collect();
             let wanted: Vec<_> = asked
                 .iter()
                 .map(|(feed, command)| match feed {
-                    65 => Err(Error::Number),
+                    feed if *feed > MAX_FEED => Err(Error::Number),
                     _ => Ok(model.apply(*feed, *command)),
                 })
                 .collect();
@@ -399,7 +399,7 @@ fn a_followed_table_answers_as_before() {
     }
     assert!(table.memory().unwrap() >= 1 << 26);
     assert_eq!(Table::with_journal(5).unwrap().follow(), Err(Error::Kind));
-    for feed in [0, 65] {
+    for feed in [0, MAX_FEED + 1] {
         let asked = Selection {
             feed: Some(feed),
             ..Selection::of(Part::All)
@@ -413,7 +413,7 @@ fn errors_leave_all_as_it_was() {
     assert_eq!(Table::new(0).unwrap_err(), Error::Number);
     assert_eq!(Table::new(1_000_001).unwrap_err(), Error::Number);
     let mut table = Table::new(5).unwrap();
-    for feed in [0, 65, u32::MAX] {
+    for feed in [0, MAX_FEED + 1, u32::MAX] {
         assert_eq!(table.apply(feed, Command::Dump), Err(Error::Number));
     }
     let outcomes = table
@@ -814,7 +814,7 @@ fn files_hold_every_route() {
         assert_eq!(other.routes().unwrap(), model.listed());
     }
     let one = Table::new(5).unwrap();
-    for feed in [0, 65] {
+    for feed in [0, MAX_FEED + 1] {
         let refused = one.save(feed, Vec::new());
         assert!(matches!(refused, Err(FileError::Table(Error::Number))));
     }
@@ -990,7 +990,7 @@ fn as_one(route: Route) -> Route {
 /// The feeds of these prefixes are the same in each language's package.
 #[test]
 fn feeds_of_a_source() {
-    let source = Source::new(1, 64).unwrap();
+    let source = Source::new(1, MAX_FEED).unwrap();
     let found: Vec<u32> = [
         "0.0.0.0/0",
         "10.0.0.0/8",
@@ -1003,10 +1003,17 @@ fn feeds_of_a_source() {
     .map(|text| source.feed_of(text.parse().unwrap()))
     .collect();
     assert_eq!(found, [1, 11, 38, 2, 11, 8]);
-    for (first, feeds) in [(0, 1), (1, 0), (1, 65), (65, 1), (64, 2), (2, u32::MAX)] {
+    for (first, feeds) in [
+        (0, 1),
+        (1, 0),
+        (1, MAX_FEED + 1),
+        (MAX_FEED + 1, 1),
+        (MAX_FEED, 2),
+        (2, u32::MAX),
+    ] {
         assert_eq!(Source::new(first, feeds), Err(Error::Number));
     }
-    for (first, feeds) in [(1, 64), (64, 1), (63, 2)] {
+    for (first, feeds) in [(1, MAX_FEED), (MAX_FEED, 1), (MAX_FEED - 1, 2)] {
         assert!(Source::new(first, feeds).is_ok());
     }
     let (mut table, source) = (Table::new(1).unwrap(), Source::new(7, 1).unwrap());
