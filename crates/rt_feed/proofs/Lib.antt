@@ -1,6 +1,7 @@
 pub mod Promised
 pub mod CutBytes
 pub mod CommandWords
+pub mod Remembered
 pub mod LinesYield
 pub mod FilledReports
 pub mod RunSteps

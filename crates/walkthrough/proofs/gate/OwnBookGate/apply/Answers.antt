@@ -1,6 +1,6 @@
 use Rattle.std.proofs.Common.{◌∷◌, [], ap}
 use Rattle.std.proofs.lemmas.Result.{IfOk-weaker, on_err_weaker}
-use Rattle.walkthrough.proofs.Remembered.{gains_visit, gains_still}
+use Rattle.rt_feed.proofs.Remembered.{gains_visit, gains_still}
 use Rattle.walkthrough.specs.inside.JournalTold.{told}
 use Rattle.walkthrough.proofs.JournalTold.{told_more}
 use Rattle.walkthrough.proofs.gate.OwnBookGate.apply.Goals as goal

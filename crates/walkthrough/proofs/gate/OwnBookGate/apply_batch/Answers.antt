@@ -3,7 +3,7 @@ use Rattle.std.proofs.Math.Seq.{take-suc, take-length}
 use Rattle.rt_rib.specs.declared.commands.Cmd.{Cmd}
 use Rattle.rt_shared.specs.declared.outcome.Outcome.{Outcome}
 use Rattle.rt_shared.specs.JournalVisits.{visit_of}
-use Rattle.walkthrough.proofs.Remembered.{HasAnswered, answered_more, gains_visit, refuses_batch}
+use Rattle.rt_feed.proofs.Remembered.{HasAnswered, answered_more, gains_visit, refuses_batch}
 use Rattle.walkthrough.specs.inside.JournalTold.{told}
 use Rattle.walkthrough.proofs.gate.OwnBookGate.apply_batch.Goals as goal
 

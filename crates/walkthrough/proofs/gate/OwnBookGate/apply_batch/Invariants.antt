@@ -1,5 +1,5 @@
 use Rattle.std.proofs.Common.{◌+◌, ◌≤◌, take, length, vec_len, vec_capacity}
-use Rattle.walkthrough.proofs.Remembered.{HasAnswered}
+use Rattle.rt_feed.proofs.Remembered.{HasAnswered}
 use Rattle.walkthrough.specs.inside.JournalTold.{told}
 use Rattle.walkthrough.proofs.gate.OwnBookGate.apply_batch.Given as goal
 
