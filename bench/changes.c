@@ -1,7 +1,7 @@
 /* Times single changes of a followed table: builds a table of ROUTES random prefixes with the lengths of a full Internet table,
  * attaches a forwarding table, and executes CHANGES random commands, each a withdrawal, a replacement or an insertion of one of the
  * prefixes. Then it changes 400 prefixes of each of some short lengths. It prints percentiles in microseconds of the thread's
- * processor time, and the bytes that the table is said to take at the start, after each tenth part, and at the end.
+ * processor time, how many changes took over 2 ms, and the bytes that the table is said to take at the start, after each tenth part, and at the end.
  *
  *   bindings/build && gcc -O2 -I bindings/c bench/changes.c bindings/out/libyarib.a -o changes && ./changes 1000000 3000000 */
 #define _POSIX_C_SOURCE 200809L
@@ -82,7 +82,9 @@ static void show(const char *name, float *times, size_t count)
     qsort(times, count, sizeof *times, by_time);
     printf("%-10s", name);
     for (size_t k = 0; k < sizeof parts / sizeof *parts; k++) printf(" %g%% %.1f", parts[k] * 100, times[(size_t)((double)(count - 1) * parts[k])]);
-    printf(" worst %.1f\n", times[count - 1]);
+    size_t long_ones = 0;
+    while (long_ones < count && times[count - 1 - long_ones] > 2000) long_ones++;
+    printf(" worst %.1f, %zu over 2 ms\n", times[count - 1], long_ones);
 }
 
 int main(int count, char **words)
