@@ -77,9 +77,11 @@ def may_copy(folder, body):
     text = (folder / body.file).read_text()
     item, home = changed_by(body, text), folder.joinpath("proofs", *path)
     around = next(one for one in Source(None, text).items if one.start <= item.start < one.end)
-    is_free = around.kind == "fn" or around.kind == "impl" and not around.of_impl()[0]
+    is_method = around.kind == "impl"
+    is_free = around.kind == "fn" or is_method and not around.of_impl()[0]
     is_apart = (home / f"+{name}").exists() or (home / name / "Proof.antt").exists() or any(home.rglob(f"fn/{name}"))
-    return is_free and not is_apart and not re.search(rf"\b{name}\(", "\n".join(item.lines[1:]))
+    itself = rf"\b(?:self\.|(?:Self|{path[-1]})\b[^\n(]*::){name}\(" if is_method else rf"(?<![\w.:]){name}\("
+    return is_free and not is_apart and not re.search(itself, "\n".join(item.lines[1:]))
 
 
 def plant(folder, file, bodies):
@@ -95,7 +97,8 @@ def plant(folder, file, bodies):
             item = changed_by(body, text)
             head, *rest = item.written()
             name = item.name if number == 1 else f"{item.name}_mutant_{number}"
-            written += item.above() * (number > 1) + [head.replace(f"fn {item.name}", f"fn {name}", 1), *rest]
+            above = [" " * item.margin + line for line in item.above() if number > 1]
+            written += [*above, head.replace(f"fn {item.name}", f"fn {name}", 1), *rest]
             paths[body] = "::".join([*body.function.split("::")[:-1], name])
         lines[start:Source(None, text).function_at(start).end] = written
     (folder / file).write_text("\n".join(lines))
@@ -195,18 +198,19 @@ def without_answer(part, name):
     """Returns this part of a file of answers, which begins with an answer to the goal of this name, with a hole in its place.
     What else is in the part stays, since other answers may use it."""
     first, *lines = part.split("\n")
-    own = (" ", f"{name} ", "unfolding ")
+    own = (" ", ")", "]", "}", f"{name} ", "unfolding ")
     rest = next((number for number, line in enumerate(lines) if line and not line.startswith(own)), len(lines))
     return "\n".join([first, f"{name} = ?", "", *lines[rest:]]) + "\n"
 
 
 def answers_only(proofs, path, goal):
-    """Makes holes of the answers of this function to other goals than this one or, without one, than those at its end.
-    Returns the goals whose answers stay, with limited tactics."""
+    """Makes holes of the answers of this function to other goals than this one or, without one, than those at its end, if
+    it has any. Returns the goals whose answers stay, with limited tactics."""
     file, _ = answers_file(proofs, path)
     head, *parts = re.split(r"^(?=pub )", file.read_text() if file.exists() else "", flags=re.M)
     names = [found[1] if (found := ANSWER.match(part)) else None for part in parts]
-    asked = {name for name in names if name and (name == goal or not goal and name.startswith("returns"))}
+    answered = {name for name in names if name and (name == goal or not goal)}
+    asked = {name for name in answered if name.startswith("returns")} or answered
     if asked:
         parts = [limited(part) if name in asked or not name else without_answer(part, name)
                  for name, part in zip(names, parts)]
@@ -215,8 +219,8 @@ def answers_only(proofs, path, goal):
 
 
 def ask_answered(folder, goals):
-    """Has the prover look in each of these functions only for its given goal or, without one, for the goals at its end, if they
-    have an answer. Returns these goals of each function that has any."""
+    """Has the prover look in each of these functions only for goals that have an answer: its given goal or, without one, those
+    at its end or, if none of these has, the others. Returns these goals of each function that has any."""
     found = {}
     for file, its in functions(folder / "src").items():
         lines = file.read_text().split("\n")
