@@ -218,7 +218,8 @@ impl<A: Allocator + Copy, B: Allocator + Copy> Fib<A, B> {
         }
     }
 
-    /// Returns the sizes of the arrays that [`write_view`](Fib::write_view) fills. It may use fewer routers.
+    /// Returns the sizes of the arrays that [`write_view`](Fib::write_view) fills: room for at least two routers, of which it
+    /// may use fewer.
     pub fn view_sizes(&self) -> ViewSizes
         ensures { 2 ≤ result.routers }
     {
