@@ -1,6 +1,13 @@
 """The model of a table: addresses, the sequential table, and what runs, look-ups, lists and comparisons print."""
 import functools
 import json
+import re
+
+from .crates import CRATES
+
+# The maximum number of feeds, as crates/rt_rib defines it.
+LIMITS = (CRATES / "rt_rib/src/limits.rt").read_text()
+MAX_FEEDS = int(re.search(r"^pub const MAX_FEEDS: usize = (\d+);$", LIMITS, re.M)[1])
 
 
 def dotted(number):
@@ -167,6 +174,7 @@ def run_text(texts, refused):
 
 
 # The messages of errors on standard error.
+TOO_MANY_FILES = f"yarib: more than {MAX_FEEDS} files\n"
 E1 = "E1: the first field is no command of this version"
 E3 = "E3: the field is no prefix or address (the CR of CRLF is part of it)"
 E8 = "E8: the line has over 128 bytes"

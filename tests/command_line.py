@@ -27,11 +27,14 @@ import tty
 
 from common import calls
 from common.checks import TOP, Program, chosen, close_all, compare, end, expect, is_unproved, run_each
-from common.table_model import E1, E3, E8, Table, differences_text, dotted, json_text, members, row, shown
+from common.table_model import (E1, E3, E8, MAX_FEEDS, TOO_MANY_FILES, Table, differences_text, dotted, json_text,
+                                members, row, shown)
 from schedules import in_turns, loaded
 from texts import ROW, ROW_OUT
 
-CANNOT_WRITE = (6, "", "yarib: cannot write\n")
+CANNOT_WRITE, TOO_MANY = (6, "", "yarib: cannot write\n"), (3, "", TOO_MANY_FILES)
+# The maximum number of levels of a tree: crates/rt_shared proves that it has as many places as there are feeds.
+MAX_LEVELS = MAX_FEEDS.bit_length() - 1
 
 
 def route(feed, prefix="10.0.0.0/8", preference=100, hop="192.0.2.1"):
@@ -96,20 +99,19 @@ def file_order(yarib):
                (0, "1:1 added\n2:1 added\n3:1 added\n" + table(*routes), ""))
 
 
-# Catches a program that rejects 64 files: `64 files`.
-# Catches a program that reads the files before it counts them: `65 files, the first missing`.
+# Catches a program that rejects the maximum number of files: `MAX_FEEDS files`.
+# Catches a program that reads the files before it counts them: `too many files, the first missing`.
 def many_files(yarib):
     names = []
-    for feed in range(1, 66):
+    for feed in range(1, MAX_FEEDS + 2):
         names.append(f"{feed}.feed")
-        pathlib.Path(names[-1]).write_text(f"add 10.0.0.0/8 {100 - feed} 192.0.2.{feed}\n")
-    for count in (63, 64):
+        pathlib.Path(names[-1]).write_text(f"add 10.0.0.0/8 {1000 - feed} 192.0.2.{feed}\n")
+    for count, what in ((MAX_FEEDS - 1, "MAX_FEEDS - 1"), (MAX_FEEDS, "MAX_FEEDS")):
         added = "".join(f"{feed}:1 added\n" for feed in range(1, count + 1))
-        routes = [route(feed, preference=100 - feed, hop=f"192.0.2.{feed}") for feed in range(count, 0, -1)]
-        expect(f"{count} files", yarib("run", *names[:count]), (0, added + table(*routes), ""))
-    too_many = (3, "", "yarib: more than 64 files\n")
-    expect("65 files", yarib("run", *names), too_many)
-    expect("65 files, the first missing", yarib("run", "missing", *names[:64]), too_many)
+        routes = [route(feed, preference=1000 - feed, hop=f"192.0.2.{feed}") for feed in range(count, 0, -1)]
+        expect(f"{what} files", yarib("run", *names[:count]), (0, added + table(*routes), ""))
+    expect("too many files", yarib("run", *names), TOO_MANY)
+    expect("too many files, the first missing", yarib("run", "missing", *names[:-1]), TOO_MANY)
 
 
 # Catches a program that names the last unreadable file instead of the first: `two missing files`.
@@ -327,14 +329,14 @@ class Tree:
         return "".join(lines) + f"inside {'none' if self.inside is None else f'p{self.inside}'}\n"
 
 
-# Catches a replay without the last of 13 picks, or P3 for 1,000 picks or for six levels: the replay.
+# Catches a replay without the last of 13 picks, or P3 for 1,000 picks or for the most levels: the replay.
 def replays(yarib):
     def compare(levels, picks, *shown):
         words = list(shown or map(str, picks))
         ended = yarib("replay", "--levels", str(levels), *words)
         expect(f"a replay of {levels} levels: {' '.join(words)[:60]}", ended, (0, Tree(levels).text(picks), ""))
 
-    for levels in range(1, 7):
+    for levels in range(1, MAX_LEVELS + 1):
         last = 2**levels - 1
         compare(levels, [last] * (7 * levels))
         compare(levels, [0] * 3 + [last] * 3 + [0])
@@ -345,16 +347,18 @@ def replays(yarib):
         choice = random.Random(levels)
         compare(levels, [choice.randrange(2**levels) for _ in range(300)])
         compare(levels, [choice.choice((0, last)) for _ in range(300)])
-    compare(6, [0, 9, 10, 63, 7], "0", "9", "10", "63", "7")
+    most, last = MAX_LEVELS, MAX_FEEDS - 1
+    compare(most, [0, 9, 10, last, 7], "0", "9", "10", str(last), "7")
     compare(1, [1, 0, 1], "--", "1", "0", "1")
     choice = random.Random(1000)
-    compare(6, [choice.randrange(64) for _ in range(1000)])
+    compare(most, [choice.randrange(MAX_FEEDS) for _ in range(1000)])
     compare(2, [choice.randrange(4) for _ in range(1000)])
-    for pick in ("64", "99", "100", "200", "255"):
-        expect(f"the pick {pick}", yarib("replay", "--levels", "6", "63", pick), (3, "", "yarib: fault P1\n"))
+    replay = ["replay", "--levels", str(most)]
+    for pick in (str(last + 1), "200", "255"):
+        expect(f"the pick {pick}", yarib(*replay, str(last), pick), (3, "", "yarib: fault P1\n"))
     for pick in ("256", "1000", "-1", "x", "", "1.5", "18446744073709551616"):
-        misused(f"the pick {pick!r}", yarib("replay", "--levels", "6", "--", "63", pick), f"'{pick}'")
-    for levels in ("0", "7", "8", "64", "255"):
+        misused(f"the pick {pick!r}", yarib(*replay, "--", str(last), pick), f"'{pick}'")
+    for levels in ("0", str(most + 1), str(most + 2), "64", "255"):
         for picks in ([], ["0"], ["200"]):
             expect(f"{levels} levels, {picks}", yarib("replay", "--levels", levels, *picks),
                    (3, "", "yarib: fault P2\n"))
@@ -618,7 +622,8 @@ def unknown_feeds(yarib):
     queries = [("lookup", "--feed", ["--address", "10.0.0.1"]), ("lookup", "--without", ["--address", "10.0.0.1"]),
                ("table", "--feed", []), ("table", "--without", [])]
     for command, option, words in queries:
-        for word in ("3", "0", "65", "-1", "4294967297", "sam", "same.feed", "missing/same", "SAME", "", " 1"):
+        beyond = str(MAX_FEEDS + 1)
+        for word in ("3", "0", beyond, "-1", "4294967297", "sam", "same.feed", "missing/same", "SAME", "", " 1"):
             ended = yarib(command, f"{option}={word}", *words, *missing)
             expect(f"{command} {option} {word}", ended, (3, "", f"yarib: no feed has this number or name: {word}\n"))
             ended = yarib(command, f"{option}=other", f"{option}={word}", *words, *missing)
@@ -639,7 +644,7 @@ def unknown_feeds(yarib):
     compare("a number as a name", yarib("table", "--without", "65001", "row.feed", "missing/65001.feed"), 0, route(1))
     compare("all feeds left out", yarib("table", "--without", "1", "--without", "2", *missing), 0, "")
     misused("--without of a run", yarib("run", "--without", "1", "row.feed"), "--without")
-    expect("65 files", yarib("table", "--without", "1", *["missing"] * 65), (3, "", "yarib: more than 64 files\n"))
+    expect("too many files", yarib("table", "--without", "1", *["missing"] * (MAX_FEEDS + 1)), TOO_MANY)
 
 
 def counts_text(rows):
@@ -684,10 +689,10 @@ def counted_tables(yarib):
                 found = [json.loads(line) for line in out.splitlines()]
                 expect(f"--count --json of {count} {words}", (status, found, err), (0, wanted, ""))
     prefixes = [f"{dotted(cut(10 << 24, length))}/{length}" for length in range(33)]
-    wanted = counts_text([f"{prefix} feed {feed:02}" for feed in range(1, 65) for prefix in prefixes])
-    wanted = re.sub("feed 0", "feed ", wanted)
+    wanted = counts_text([f"{prefix} feed {feed:03}" for feed in range(1, MAX_FEEDS + 1) for prefix in prefixes])
+    wanted = re.sub("feed 0+", "feed ", wanted)
     pathlib.Path("lengths.feed").write_text("".join(f"add {prefix} 1 192.0.2.1\n" for prefix in prefixes))
-    compare("64 feeds and 33 lengths", yarib("table", "--count", *["lengths.feed"] * 64), 0, wanted)
+    compare("MAX_FEEDS feeds and 33 lengths", yarib("table", "--count", *["lengths.feed"] * MAX_FEEDS), 0, wanted)
     ended = yarib("table", "--count", "--json", "--names", "--best", "a folder/lengths.feed", "lengths.feed")
     expect("--count of two files of one name", ended[0], 3)
     compare("one feed's as JSON, to the byte", yarib("table", "--count", "--json", "--names", "row.feed"), 0, (
@@ -737,7 +742,7 @@ def not_asked(yarib):
     for command in (["lookup", "--address", "10.0.0.1"], ["table"]):
         expect(f"{command} of a missing file", yarib(*command, "row.feed", "missing"),
                (4, "", "yarib: cannot read missing\n"))
-        expect(f"{command} of 65 files", yarib(*command, *["missing"] * 65), (3, "", "yarib: more than 64 files\n"))
+        expect(f"{command} of too many files", yarib(*command, *["missing"] * (MAX_FEEDS + 1)), TOO_MANY)
         missing = yarib(*command, "row.feed", "nor", "missing")
         expect(f"{command}: the first missing file is named", missing, (4, "", "yarib: cannot read nor\n"))
         misused(f"{command} of no file", yarib(*command), "<FILE>")
@@ -779,8 +784,7 @@ def compared_tables(yarib):
     pathlib.Path("odd.feed").write_text("frob\n" + ROW)
     told = f"yarib: odd.feed: faulty lines: 1, the first is line 1: {E1}\n"
     expect("what was not taken of both", yarib("diff", "odd.feed", "--", "row.feed", "odd.feed"), (2, "", told * 2))
-    expect("more than 64 new files", yarib("diff", "row.feed", "--", *["row.feed"] * 65),
-           (3, "", "yarib: more than 64 files\n"))
+    expect("too many new files", yarib("diff", "row.feed", "--", *["row.feed"] * (MAX_FEEDS + 1)), TOO_MANY)
     expect("an old file that is missing", yarib("diff", "missing", "--", "row.feed"),
            (4, "", "yarib: cannot read missing\n"))
     misused("no new file", yarib("diff", "row.feed"), "<NEW>")
@@ -822,8 +826,8 @@ def compared_as_json(yarib):
     compare("a range as JSON, to the byte", ended, 1, (
         '{"first":"10.0.0.0","last":"10.255.255.255","old":{"via":"192.0.2.1"},"new":null}\n'))
     compare("no range as JSON", yarib("diff", "--json", "row.feed", "--", "row.feed"), 0, "")
-    ended = yarib("diff", "--json", "row.feed", "--", *["row.feed"] * 65)
-    expect("65 new files, as JSON", ended, (3, "", "yarib: more than 64 files\n"))
+    ended = yarib("diff", "--json", "row.feed", "--", *["row.feed"] * (MAX_FEEDS + 1))
+    expect("too many new files, as JSON", ended, TOO_MANY)
 
 
 # Catches a comparison that pairs feeds by number instead of name: `a file that one side lacks`.
@@ -943,8 +947,10 @@ def files_told(yarib):
     pathlib.Path("over.feed").write_text(ROW + "add 11.0.0.0/8 1 192.0.2.1\n")
     over = yarib("table", "--limit", "1", "over.feed")
     expect("adds over the limit alone", over, (2, route(1), "yarib: over.feed: adds over the limit: 1\n"))
-    many = [f"{name}.feed" for name in ("again", "gone", "row")] * 21 + ["again.feed"]
-    expect("64 files, most of them told of", table(*many), (0, route(1), (again + gone) * 21 + again))
+    turns, more = divmod(MAX_FEEDS, 3)
+    many = [f"{name}.feed" for name in ("again", "gone", "row")] * turns + ["again.feed", "gone.feed"][:more]
+    told = (again + gone) * turns + "".join([again, gone][:more])
+    expect("MAX_FEEDS files, most of them told of", table(*many), (0, route(1), told))
     counts = {"frob\n": 70_001, "add 11.0.0.0/8 1 192.0.2.1\n": 70_002, ROW: 70_003, "withdraw 12.0.0.0/8\n": 70_004}
     pathlib.Path("many.feed").write_text(ROW + "".join(line * count for line, count in counts.items()))
     told = "".join(f"yarib: many.feed: {what}\n" for what in (
@@ -1042,8 +1048,8 @@ def on_terminal(words, told=None, go_on=lambda: None, out_too=False, is_short=Fa
 
 OTHERS = {
     "yarib: files read: 0 of 1", "yarib: files read: 1 of 2",
-    *(f"yarib: files read: {read} of 64" for read in range(64)), "yarib: feeds running: 1", "yarib: feeds running: 2",
-    "yarib: feeds running: 64", "yarib: writing",
+    *(f"yarib: files read: {read} of {MAX_FEEDS}" for read in range(MAX_FEEDS)),
+    *(f"yarib: feeds running: {feeds}" for feeds in (1, 2, MAX_FEEDS)), "yarib: writing",
 }
 
 
@@ -1118,7 +1124,7 @@ def line_each_second(yarib):
     os.close(screen)
 
 
-# Catches a progress line that only counts the old feeds of a comparison: `32 busy feeds compared with 32`.
+# Catches a progress line that only counts the old feeds of a comparison: `busy feeds compared with as many`.
 # Catches another text than the run's progress, or a previous one that isn't erased.
 # Catches a progress line before a run has begun: `a long replay`.
 # Catches a progress line on a terminal that has output already: `a long output on a terminal alone`.
@@ -1134,17 +1140,18 @@ def progress_of_long_runs(yarib):
     picks = [5] * 20_000
     replay = [yarib, "replay", "--levels", "6", *map(str, picks)]
     expect("a long replay", on_terminal(replay, go_on=unread), (0, Tree(6).text(picks), ""))
-    expect("a fault of a replay", on_terminal([yarib, "replay", "--levels", "7"], is_short=True),
+    expect("a fault of a replay", on_terminal([yarib, "replay", "--levels", "0"], is_short=True),
            (3, "", "yarib: fault P2\n"))
     # each purge goes over all routes of the first feed
     rows = "".join(f"add 10.{place >> 8}.{place & 255}.0/24 1 192.0.2.1\n" for place in range(20_000))
     pathlib.Path("rows.feed").write_text(f"version 2\n{rows}")
     pathlib.Path("purges.feed").write_text("version 2\n" + "add 255.0.0.0/8 1 192.0.2.1\npurge\n" * 250)
-    busy = [yarib, "table", "--feed", "2", "rows.feed", *["purges.feed"] * 63]
-    expect("64 busy feeds", on_terminal(busy, "yarib: feeds running: 64"), (0, "", ""))
-    side = ["rows.feed", *["purges.feed"] * 31]
+    running, half = f"yarib: feeds running: {MAX_FEEDS}", MAX_FEEDS // 2
+    busy = [yarib, "table", "--feed", "2", "rows.feed", *["purges.feed"] * (MAX_FEEDS - 1)]
+    expect("MAX_FEEDS busy feeds", on_terminal(busy, running), (0, "", ""))
+    side = ["rows.feed", *["purges.feed"] * (half - 1)]
     both = [yarib, "diff", *side, "--", *side]
-    expect("32 busy feeds compared with 32", on_terminal(both, "yarib: feeds running: 64"), (0, "", ""))
+    expect("busy feeds compared with as many", on_terminal(both, running), (0, "", ""))
 
 
 CASES = (

@@ -17,7 +17,7 @@ import signal
 import subprocess
 
 from common.checks import LAUNCHED, chosen, close_all, end, expect, run, run_each
-from common.table_model import row, run_text
+from common.table_model import MAX_FEEDS, row, run_text
 from refusing import Wrong, answered_addresses, check_shown, refuse_each, refuser, run_refused
 from texts import AGAIN, FORWARDED, ROW, ROW_OUT, many_routes, own_text, written
 
@@ -62,16 +62,16 @@ def judge(what, ended, ample, texts, words):
 
 
 def little_memory(yarib):
-    row, long, many = [ROW], [AGAIN * 20_000], [own_text(feed) for feed in range(1, 65)]
+    row, long, many = [ROW], [AGAIN * 20_000], [own_text(feed) for feed in range(1, MAX_FEEDS + 1)]
     small, own = written("small", row), written("own", many)
     cases = [
         ("one small file", ["run", *small], row, 16_384, 0),
         ("one long file", ["run", "--batch", "100", *written("long", long)], long, 65_536, 0.02),
-        ("64 files", ["run", *own], many, 65_536, 0.05),
-        ("a look-up in 64 files", ["lookup", "--address", "9.2.3.4", *own], None, 65_536, 0.1),
-        ("all that covers, in 64 files", ["lookup", "--all", "--address", "9.2.3.4", *own], None, 65_536, 0.1),
-        ("the table of 64 files", ["table", *own], None, 65_536, 0.1),
-        ("a comparison of 64 files with one", ["diff", *own, "--", *small], None, 65_536, 0.1),
+        ("MAX_FEEDS files", ["run", *own], many, 65_536, 0.05),
+        ("a look-up in MAX_FEEDS files", ["lookup", "--address", "9.2.3.4", *own], None, 65_536, 0.1),
+        ("all that covers, in MAX_FEEDS files", ["lookup", "--all", "--address", "9.2.3.4", *own], None, 65_536, 0.1),
+        ("the table of MAX_FEEDS files", ["table", *own], None, 65_536, 0.1),
+        ("a comparison of MAX_FEEDS files with one", ["diff", *own, "--", *small], None, 65_536, 0.1),
         ("a replay", ["replay", "--levels", "6", *["5", "63"] * 100], None, 16_384, 0),
         ("the help", ["run", "--help"], None, 16_384, 0),
     ]
@@ -152,15 +152,16 @@ def files(yarib):
     row, empty, missing = folder / "row.feed", folder / "empty.feed", folder / "missing.feed"
     row.write_text(ROW)
     empty.write_text("")
-    sixty = [row] * 61
-    ended = yarib("run", *sixty, empty, missing, folder)
-    expect("64 files, one missing, one a folder, one empty", ended, unreadable(missing))
-    expect("the folder before the missing one", yarib("run", *sixty, folder, empty, missing), unreadable(folder))
-    expect("the missing one first", yarib("run", missing, *sixty, folder, empty), unreadable(missing))
-    status, out, err = yarib("run", *sixty, empty, row, row)
-    expect("one empty file of 64", (status, out.count(" added\n"), "table 63\n" in out, err), (0, 63, True, ""))
-    ended = yarib("lookup", "--address", "10.0.0.1", *sixty, empty, missing, folder)
-    expect("look-ups in one of 64 files that is missing", ended, unreadable(missing))
+    others = [row] * (MAX_FEEDS - 3)
+    ended = yarib("run", *others, empty, missing, folder)
+    expect("MAX_FEEDS files, one missing, one a folder, one empty", ended, unreadable(missing))
+    expect("the folder before the missing one", yarib("run", *others, folder, empty, missing), unreadable(folder))
+    expect("the missing one first", yarib("run", missing, *others, folder, empty), unreadable(missing))
+    status, out, err = yarib("run", *others, empty, row, row)
+    found = status, out.count(" added\n"), f"table {MAX_FEEDS - 1}\n" in out, err
+    expect("one empty file of MAX_FEEDS", found, (0, MAX_FEEDS - 1, True, ""))
+    ended = yarib("lookup", "--address", "10.0.0.1", *others, empty, missing, folder)
+    expect("look-ups in one of MAX_FEEDS files that is missing", ended, unreadable(missing))
     locked = folder / "locked.feed"
     locked.write_text(ROW)
     locked.chmod(0)
@@ -170,22 +171,23 @@ def files(yarib):
 
 # Catches F3 of `lookup` or `table` for more than 6 texts, or a seventh file that `table` can't read: `the table of 7
 # files`.
-# Catches F3 for more than 33 texts, or a `lookup` that rejects 64 files: `addresses from a pipe and 64 files`.
+# Catches F3 for more than 33 texts, or a `lookup` that rejects the maximum number of files: `addresses from a pipe and
+# MAX_FEEDS files`.
 def one_file_over_and_over(yarib):
     file = pathlib.Path("row.feed").resolve()
     file.write_text(ROW)
     both = "1:1 added\n2:1 added\ntable 2\n" + "".join(row("10.0.0.0/8", k, 100) for k in (1, 2))
     expect("the same file twice", yarib("run", file, file), (0, both, ""))
-    for count in (1, 7, 64):
+    for count, what in ((1, "1"), (7, "7"), (MAX_FEEDS, "MAX_FEEDS")):
         listed = "".join(row("10.0.0.0/8", k, 100) for k in range(1, count + 1))
-        expect(f"the table of {count} files", yarib("table", *[file] * count), (0, listed, ""))
+        expect(f"the table of {what} files", yarib("table", *[file] * count), (0, listed, ""))
         found = yarib("lookup", "--addresses", "/dev/stdin", *[file] * count, input=b"10.0.0.1\n")
-        expect(f"addresses from a pipe and {count} files", found,
+        expect(f"addresses from a pipe and {what} files", found,
                (0, "10.0.0.1 route " + listed.splitlines(True)[0], ""))
         first, *others = listed.splitlines()
         every = f"10.0.0.1 route {first}\n" + "".join(f"10.0.0.1 also {line} feed\n" for line in others)
         found = yarib("lookup", "--all", "--address", "10.0.0.1", *[file] * count)
-        expect(f"all that covers, in {count} files", found, (0, every, ""))
+        expect(f"all that covers, in {what} files", found, (0, every, ""))
 
 
 def pipes(yarib):

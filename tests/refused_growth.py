@@ -17,7 +17,7 @@ import re
 import tempfile
 
 from common import checks
-from common.table_model import Table, dotted, run_text
+from common.table_model import MAX_FEEDS, Table, dotted, run_text
 from refusing import Wrong, agree, check_shown, refuse_each, refuser
 from texts import own_text, written
 
@@ -293,7 +293,7 @@ def of_yarib(name, words, compare):
 def asked():
     """The name of a text of addresses, one of its lines faulty."""
     path = pathlib.Path("asked.txt")
-    path.write_text("10.0.0.1\nfrob\n" + "".join(f"{feed}.2.3.4\n" for feed in range(1, 65)))
+    path.write_text("10.0.0.1\nfrob\n" + "".join(f"{feed}.2.3.4\n" for feed in range(1, MAX_FEEDS + 1)))
     return path
 
 
@@ -318,7 +318,7 @@ CASES = [
     of_benches("three feeds", "feeds", check_feeds),
     *cases_of("one file", [SIX_COMMANDS]),
     *cases_of("three files", [own_text(feed) for feed in range(1, 4)]),
-    *cases_of("64 files", [own_text(feed) for feed in range(1, 65)]),
+    *cases_of("MAX_FEEDS files", [own_text(feed) for feed in range(1, MAX_FEEDS + 1)]),
     of_yarib("a replay", lambda: ["replay", "--levels", "1", "0", "0", "0", "0"], check_same),
     of_yarib("a replay of 6 levels", lambda: ["replay", "--levels", "6", *["5", "63"] * 30], check_same),
     of_yarib("the help", lambda: ["run", "--help"], check_same),

@@ -8,6 +8,7 @@ If the plain reader accepts a line as a command, other lines are put around it, 
 the program read in that line. Runs of random feeds on threads are judged by tests/linearizability.py: some order of the feeds'
 batches has to explain each.
 """
+import itertools
 import json
 import os
 import pathlib
@@ -18,7 +19,7 @@ import time
 from typing import NamedTuple
 
 from common.checks import chosen, compare, end, expect, is_unproved, run_each
-from common.table_model import E1, E3, E8, Table, dotted, run_text, table_text
+from common.table_model import E1, E3, E8, MAX_FEEDS, TOO_MANY_FILES, Table, dotted, run_text, table_text
 from common.worked import REPLAYS, SIX, WORKED, report
 import linearizability
 from schedules import in_turns
@@ -184,45 +185,45 @@ def addresses(yarib):
 
 # Answers of look-ups
 
-# The routes of each feed, in the order of the feeds; feed 64 is the last.
+# The routes of each feed, in the order of the feeds; MAX_FEEDS is the last.
 OFFERS = {
     1: "add 10.1.0.0/16 70 192.0.2.4\nadd 10.0.0.0/8 5 192.0.2.1\nadd 0.0.0.0/0 0 192.0.2.3\n",
     2: "add 10.0.0.0/8 5 192.0.2.1\n",
-    64: "version 2\nadd 10.0.0.0/8 4294967295 discard\nadd 128.0.0.0/1 0 discard\n",
+    MAX_FEEDS: "version 2\nadd 10.0.0.0/8 4294967295 discard\nadd 128.0.0.0/1 0 discard\n",
 }
 
-FOUND = """10.1.2.3 route 10.1.0.0/16 feed 1 pref 70 via 192.0.2.4
+FOUND = f"""10.1.2.3 route 10.1.0.0/16 feed 1 pref 70 via 192.0.2.4
 10.255.255.255 route 10.0.0.0/8 feed 1 pref 5 via 192.0.2.1
 11.0.0.0 route 0.0.0.0/0 feed 1 pref 0 via 192.0.2.3
-255.255.255.255 route 128.0.0.0/1 feed 64 pref 0 via discard
+255.255.255.255 route 128.0.0.0/1 feed {MAX_FEEDS} pref 0 via discard
 """
 
-ALL_FOUND = """10.1.2.3 route 10.1.0.0/16 feed 1 pref 70 via 192.0.2.4
+ALL_FOUND = f"""10.1.2.3 route 10.1.0.0/16 feed 1 pref 70 via 192.0.2.4
 10.1.2.3 also 10.0.0.0/8 feed 1 pref 5 via 192.0.2.1 shorter
 10.1.2.3 also 10.0.0.0/8 feed 2 pref 5 via 192.0.2.1 shorter
-10.1.2.3 also 10.0.0.0/8 feed 64 pref 4294967295 via discard shorter
+10.1.2.3 also 10.0.0.0/8 feed {MAX_FEEDS} pref 4294967295 via discard shorter
 10.1.2.3 also 0.0.0.0/0 feed 1 pref 0 via 192.0.2.3 shorter
 10.255.255.255 route 10.0.0.0/8 feed 1 pref 5 via 192.0.2.1
 10.255.255.255 also 10.0.0.0/8 feed 2 pref 5 via 192.0.2.1 feed
-10.255.255.255 also 10.0.0.0/8 feed 64 pref 4294967295 via discard preference
+10.255.255.255 also 10.0.0.0/8 feed {MAX_FEEDS} pref 4294967295 via discard preference
 10.255.255.255 also 0.0.0.0/0 feed 1 pref 0 via 192.0.2.3 shorter
 11.0.0.0 route 0.0.0.0/0 feed 1 pref 0 via 192.0.2.3
-255.255.255.255 route 128.0.0.0/1 feed 64 pref 0 via discard
+255.255.255.255 route 128.0.0.0/1 feed {MAX_FEEDS} pref 0 via discard
 255.255.255.255 also 0.0.0.0/0 feed 1 pref 0 via 192.0.2.3 shorter
 """
 
-ALL_ROWS = """0.0.0.0/0 feed 1 pref 0 via 192.0.2.3
+ALL_ROWS = f"""0.0.0.0/0 feed 1 pref 0 via 192.0.2.3
 10.0.0.0/8 feed 1 pref 5 via 192.0.2.1
 10.0.0.0/8 feed 2 pref 5 via 192.0.2.1
-10.0.0.0/8 feed 64 pref 4294967295 via discard
+10.0.0.0/8 feed {MAX_FEEDS} pref 4294967295 via discard
 10.1.0.0/16 feed 1 pref 70 via 192.0.2.4
-128.0.0.0/1 feed 64 pref 0 via discard
+128.0.0.0/1 feed {MAX_FEEDS} pref 0 via discard
 """
 
 
 # Catches `write_lookup`, `write_all_matches` or `write_routes` failing at once.
 def answers_of_lookups(yarib):
-    names = [f"offers{feed}.feed" for feed in range(1, 65)]
+    names = [f"offers{feed}.feed" for feed in range(1, MAX_FEEDS + 1)]
     for feed, name in enumerate(names, 1):
         pathlib.Path(name).write_text(OFFERS.get(feed, ""))
     words = [word for line in FOUND.splitlines() for word in ("--address", line.split()[0])]
@@ -348,8 +349,8 @@ def answers_with_names(yarib):
         ended = yarib("table", "--names", *offered_by(["west.feed", first, "other.feed", second]))
         compare(f"{first} and {second}", ended, 3, "", f"yarib: two feeds with the same name (rename a file, or leave out --names): {first}, {second}\n")
         expect(f"{first} and {second} by their numbers", yarib("table", *offered_by([first, second]))[0], 0)
-    expect("65 files, with names", yarib("table", "--names", *["east.feed"] * 65),
-           (3, "", "yarib: more than 64 files\n"))
+    expect("too many files, with names", yarib("table", "--names", *["east.feed"] * (MAX_FEEDS + 1)),
+           (3, "", TOO_MANY_FILES))
 
 
 # Hostile lines
@@ -552,10 +553,14 @@ def feeds_meet_in_one_table(yarib):
             compare(f"{texts} in batches of {batch}", ended, 2 if "fault" in wanted else 0, wanted)
 
 
+# The number of places of the lock's tree at each height.
+PLACES = [2**levels for levels in range(1, MAX_FEEDS.bit_length())]
+
+
 # Catches F3 for 17 feeds.
-def a_place_for_each_of_64_feeds(yarib):
+def a_place_for_each_feed(yarib):
     # The minimum and the maximum number of feeds for each height of the lock's tree.
-    for count in (1, 2, 3, 4, 5, 8, 9, 16, 17, 32, 33, 64):
+    for count in sorted({1, *PLACES, *(places + 1 for places in PLACES[:-1])}):
         feeds = range(1, count + 1)
         rows = [f"10.0.0.0/8 feed {feed} pref 5 via 192.0.2.{feed}" for feed in feeds]
         ended = run_texts(yarib, [f"add 10.0.0.0/8 5 192.0.2.{feed}\n" for feed in feeds])
@@ -564,7 +569,7 @@ def a_place_for_each_of_64_feeds(yarib):
 
 # Catches `SharedRib::new` failing for a limit over 65,536, or for some number of levels, such as that of 16 feeds.
 def tables_of_each_size(yarib):
-    for feeds, limit in ((2, 1), (4, 65_536), (8, 65_537), (16, 100_000), (32, 999_999), (64, 1_000_000)):
+    for feeds, limit in zip(PLACES, itertools.cycle((1, 65_536, 65_537, 100_000, 999_999, 1_000_000))):
         ended = run_texts(yarib, [""] * feeds, ["--limit", str(limit)])
         compare(f"{feeds} feeds of {limit} routes", ended, 0, table_text([]))
 
@@ -805,7 +810,7 @@ CASES = (
     worked_runs, every_batch_size, hundreds_of_thousands_of_lines, versions, texts_are_cut_into_lines, faulty_lines,
     texts_of_one_byte, addresses, answers_of_lookups, answers_as_json, answers_with_names,
     every_byte_at_every_place, a_byte_more_or_less_at_every_place, lines_about_128_bytes, forty_thousand_hostile_lines,
-    feeds_meet_in_one_table, a_place_for_each_of_64_feeds, tables_of_each_size,
+    feeds_meet_in_one_table, a_place_for_each_feed, tables_of_each_size,
     changes_of_one_feed, each_address_of_a_small_universe,
     a_thousand_routes_of_two_feeds, feeds_run_at_the_same_time, some_order_explains_each_run,
     no_order_explains_what_was_changed, the_judge_tells_what_an_order_explains, replays,
