@@ -2,10 +2,12 @@
 those of the whole table."""
 import re
 
-from trial import SAMPLES, Failed, files_of, run, run_here, state
+from trial import MAX_FEED_FILES, SAMPLES, Failed, files_of, run, run_here, state
 
 LINE = "TABLE_DUMP2|1|B|127.0.{}.{}|1|{}|1|IGP|192.0.2.{}|0|0||NAG||\n"
 LIMITS = (1, 3, 5)
+# more sources than a run accepts
+MANY = MAX_FEED_FILES + 6
 DEALT = re.compile(r"(.*)-([0-9]+)of([0-9]+)")
 
 
@@ -115,10 +117,10 @@ def check_changing(made):
 
 
 def many_peers():
-    """70 peers; some have a route to each prefix, and the shortest path isn't the first peer's."""
+    """MANY peers; some have a route to each prefix, and the shortest path isn't the first peer's."""
     lines = []
     for second in range(40):
-        for peer in range(70):
+        for peer in range(MANY):
             if (second * 7 + peer) % 3 == 0:
                 line = LINE.format(peer // 8, peer % 8, f"10.{second}.0.0/16", peer)
                 path = " ".join(["1"] * (1 + (second * 31 + peer * 17) % 5))
@@ -127,20 +129,23 @@ def many_peers():
 
 
 def check_many(made):
-    """More than 64 sources end with status 3, or are merged; then the answers are the same."""
+    """Too many sources end with status 3, or are merged; then the answers are the same."""
     data = many_peers()
     whole, said = converted("bgpdump-to-feeds", data, made / "many", statuses=(3,))
-    if len(whole) != 70 or "70 feeds are in the directory, and `yarib` accepts at most 64 files (status 3): use --merge 64" not in said:
-        raise Failed(f"70 sources make {len(whole)} feeds, and it says {said}")
+    too_many = (f"{MANY} feeds are in the directory, and `yarib` accepts at most {MAX_FEED_FILES} files (status 3): "
+                f"use --merge {MAX_FEED_FILES}")
+    if len(whole) != MANY or too_many not in said:
+        raise Failed(f"{MANY} sources make {len(whole)} feeds, and it says {said}")
+    merge = f"--merge {MAX_FEED_FILES}"
     for constants in ("", "GREATEST_LIMIT = 10"):
-        files, said = converted("bgpdump-to-feeds --merge 64", data, made / f"fewer{len(constants)}", statuses=(0,),
+        files, said = converted(f"bgpdump-to-feeds {merge}", data, made / f"fewer{len(constants)}", statuses=(0,),
                                 constants=constants)
-        if len(files) > 64 or best_of(files) != best_of(whole) or "routes into merged.feed" not in said:
-            raise Failed(f"--merge 64 with {constants!r} writes {len(files)} feeds and says {said}")
+        if len(files) > MAX_FEED_FILES or best_of(files) != best_of(whole) or "routes into merged.feed" not in said:
+            raise Failed(f"{merge} with {constants!r} writes {len(files)} feeds and says {said}")
         own = {re.sub("-[0-9]+of[0-9]+$", "", file.stem) for file in files}
         sizes = {file.stem: len(file.read_text().splitlines()) for file in whole}
         if max(size for name, size in sizes.items() if name not in own) > min(sizes[name] for name in own if name in sizes):
-            raise Failed(f"--merge 64 with {constants!r} merges others than the sources with the fewest routes")
+            raise Failed(f"{merge} with {constants!r} merges others than the sources with the fewest routes")
     status, _, said = run("bgpdump-to-feeds --merge 3", data, made / "refused", constants="GREATEST_LIMIT = 10")
     if status != 1 or "the routes need more than 3 feeds, of 10 routes each" not in said or (made / "refused").exists():
         raise Failed(f"--merge 3 for 40 prefixes of 10 a feed has status {status} and says {said}")

@@ -7,7 +7,7 @@ import signal
 import subprocess
 import time
 
-from trial import Failed, files_of, run, words
+from trial import MAX_FEED_FILES, Failed, files_of, run, words
 
 LINE = "TABLE_DUMP2|1|B|127.0.{}.{}|1|10.0.0.0/8|1|IGP|192.0.2.1|0|0||NAG||\n"
 DUMP = LINE.format(0, 1).encode()
@@ -40,8 +40,9 @@ def check_own(made):
     folder = made / "own"
     many = "".join(LINE.format(number // 200, number % 200) for number in range(1500)).encode()
     expect("many sources", converted("bgpdump-to-feeds", many, folder, 3),
-           ["1500 feeds are in the directory, and `yarib` accepts at most 64 files (status 3): use --merge 64 to merge the "
-            "sources with the fewest routes; the sources are 127.0.0.0, 127.0.0.1, 127.0.0.2, .."])
+           [f"1500 feeds are in the directory, and `yarib` accepts at most {MAX_FEED_FILES} files (status 3): use "
+            f"--merge {MAX_FEED_FILES} to merge the sources with the fewest routes; the sources are 127.0.0.0, "
+            "127.0.0.1, 127.0.0.2, .."])
     expect("many sources", len(files_of(folder)), 1500)
     expect("its own", converted("bgpdump-to-feeds", DUMP, folder), ["replaced 1500 feeds that bgpdump-to-feeds had written"])
     expect("its own", names_in(folder), [".written", "127.0.0.1.feed"])

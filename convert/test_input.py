@@ -6,7 +6,7 @@ import random
 import re
 import subprocess
 
-from trial import SAMPLES, Failed, files_of, run, run_here, table_of, text_of, words
+from trial import MAX_FEED_FILES, SAMPLES, Failed, files_of, run, run_here, table_of, text_of, words
 
 CUTS = 3
 # the converters that read lines, each with a sample
@@ -158,13 +158,14 @@ def check_many(made):
     few = "BLOCK, MOST_WAITING = 4096, 50"
     for name, peers, each, constants in (
         ("lines", 1, 310000, "MOST_WAITING = 20000"), ("blocks", 3, 700, few), ("peers", 2100, 1, few),
-        ("more than 64 peers", 70, 30, few),
+        ("more peers than files", MAX_FEED_FILES + 6, 30, few),
     ):
         folder = made / f"many-{name}"
         data = "".join(DUMPED.format(f"127.0.{peer >> 8}.{peer & 255}", prefix) for prefix in prefixes(each)
                        for peer in range(peers))
         status, _, said = run("bgpdump-to-feeds", data.encode(), folder, constants=constants)
-        expect(f"many {name}: {said}", (status, said.split(";")[0]), (3 if peers > 64 else 0, f"accepted {peers * each} routes"))
+        wanted = (3 if peers > MAX_FEED_FILES else 0, f"accepted {peers * each} routes")
+        expect(f"many {name}: {said}", (status, said.split(";")[0]), wanted)
         files = files_of(folder)
         expect(f"many {name}", len(files), peers)
         for peer in range(peers):

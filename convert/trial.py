@@ -3,6 +3,7 @@ import importlib
 import ipaddress
 import os
 import pathlib
+import re
 import runpy
 import subprocess
 import sys
@@ -12,6 +13,8 @@ import argparse, codecs, gc, json, shlex, shutil, signal, socket, typing
 
 HERE = pathlib.Path(__file__).resolve().parent
 SAMPLES = HERE / "samples"
+# It is read, since feeds.py takes the name for its messages from the process that loads it.
+MAX_FEED_FILES = int(re.search(r"^MAX_FEED_FILES = (\d+)$", (HERE / "feeds.py").read_text(), re.M)[1])
 # Python compiles the modules of the converters once, to where nothing else looks for them.
 COMPILED = tempfile.TemporaryDirectory(prefix="convert-")
 sys.pycache_prefix, sys.dont_write_bytecode = COMPILED.name, False
