@@ -1,9 +1,9 @@
 /* The size that yarib_memory reports for a table and the memory that the library's heap gives for it differ by at most a factor of 1.3,
- * and by 16 KiB for the handle and for pages that are not full. This is tested for 1 to 64 feeds with the same prefixes, with different
- * ones and with some in common, and for several kinds of prefixes. After filling the table, the heap's pages are counted, and the
- * blocks in use; after withdrawals and purges only the blocks in use, since slabs may be partly empty then. If only prefixes that
- * contain others are withdrawn, the heap gives up to twice the reported size. For a journal, which grows by doubling, it also gives up
- * to twice the reported size, and for a forwarding table at most a hundredth more. */
+ * and by 16 KiB for the handle and for pages that are not full. This is tested for 1 to YARIB_MAX_FEED feeds with the same prefixes,
+ * with different ones and with some in common, and for several kinds of prefixes. After filling the table, the heap's pages are
+ * counted, and the blocks in use; after withdrawals and purges only the blocks in use, since slabs may be partly empty then. If only
+ * prefixes that contain others are withdrawn, the heap gives up to twice the reported size. For a journal, which grows by doubling, it
+ * also gives up to twice the reported size, and for a forwarding table at most a hundredth more. */
 #define _GNU_SOURCE
 #include "heap.c"
 

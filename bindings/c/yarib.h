@@ -12,8 +12,8 @@
  *     if (yarib_look_up_one(&table, 0x0a010203, &answer) != YARIB_DONE) return 1;   // answer is that route
  *     yarib_free(&table);
  *
- * Numbers. An address is a uint32_t in host byte order; 10.0.0.0 is 0x0a000000. Feeds are 1 to 64. The lowest preference
- * number is preferred; between equal preferences, the lowest feed. Sizes count elements, not bytes.
+ * Numbers. An address is a uint32_t in host byte order; 10.0.0.0 is 0x0a000000. Feeds are 1 to YARIB_MAX_FEED. The
+ * lowest preference number is preferred; between equal preferences, the lowest feed. Sizes count elements, not bytes.
  *
  * Statuses. Every call returns an enum yarib_status, except yarib_version and yarib_status_text, which return strings, and
  * yarib_view_look_up. YARIB_DONE

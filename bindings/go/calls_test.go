@@ -428,7 +428,7 @@ func TestWhatIsRefusedIsNamed(t *testing.T) {
 		}, ErrFull, "yarib: feed 1: add 0.0.0.0/0 5 0.0.0.1: the feed is at its limit"},
 		{func() error { _, err := one.Withdraw(2, ten); return err }, ErrMissing, "yarib: feed 2: withdraw 10.0.0.0/8: the feed has no route to this prefix"},
 		{func() error { _, err := one.Replace(2, ten, 3, Discard); return err }, ErrMissing, "yarib: feed 2: replace 10.0.0.0/8 3 discard: the feed has no route to this prefix"},
-		{refused(Command{Operation: Purge, Feed: MaxFeed + 1}), ErrNumber, "yarib: feed 65: purge: the feed isn't 1 to 64"},
+		{refused(Command{Operation: Purge, Feed: MaxFeed + 1}), ErrNumber, fmt.Sprintf("yarib: feed %d: purge: the feed isn't 1 to %d", MaxFeed+1, MaxFeed)},
 		{refused(Command{Operation: 9, Feed: 1}), ErrCommand, "yarib: feed 1: Operation(9): the operation is unknown"},
 		{refused(Command{Operation: Lookup, Feed: 1, Address: netip.MustParseAddr("::1")}), ErrCommand, "yarib: feed 1: lookup ::1: the address isn't IPv4"},
 		{refused(Command{Operation: Withdraw, Feed: 1, Prefix: netip.MustParsePrefix("::/0")}), ErrCommand, "yarib: feed 1: withdraw ::/0: the prefix isn't IPv4"},
@@ -436,7 +436,7 @@ func TestWhatIsRefusedIsNamed(t *testing.T) {
 		{refused(Command{Operation: Add, Feed: 1, Prefix: ten, Hop: Via(netip.MustParseAddr("::1"))}), ErrCommand, "yarib: feed 1: add 10.0.0.0/8 0 ::1: the next hop isn't IPv4"},
 		{func() error { _, _, err := one.LookUp(netip.MustParseAddr("::1")); return err }, ErrCommand, "yarib: a prefix or an address isn't IPv4: ::1"},
 		{func() error { _, err := one.LookUpAll(netip.MustParseAddr("::1")); return err }, ErrCommand, "yarib: a prefix or an address isn't IPv4: ::1"},
-		{selected(Selection{Feed: MaxFeed + 1}), ErrNumber, "yarib: a limit or a feed is out of range: all invalid Prefix of feed 65"},
+		{selected(Selection{Feed: MaxFeed + 1}), ErrNumber, fmt.Sprintf("yarib: a limit or a feed is out of range: all invalid Prefix of feed %d", MaxFeed+1)},
 		{selected(Selection{Part: Exact, Prefix: netip.MustParsePrefix("::/0")}), ErrCommand, "yarib: a prefix or an address isn't IPv4: ::/0"},
 		{func() error {
 			_, err := one.RoutesFrom(Place{Prefix: netip.MustParsePrefix("10.0.0.1/8")}, 1)
@@ -447,8 +447,8 @@ func TestWhatIsRefusedIsNamed(t *testing.T) {
 		{parsed("10.0.0.0"), ErrText, "yarib: the text isn't a prefix: \"10.0.0.0\""},
 		{parsed("10.0.0.1/8"), ErrBits, "yarib: a bit past the length is set: \"10.0.0.1/8\""},
 		{func() error { _, err := one.Journal(); return err }, ErrKind, "yarib: the table doesn't support this call"},
-		{func() error { return one.Save(io.Discard, 0) }, ErrNumber, "yarib: a limit or a feed is out of range: feed 0, not 1 to 64"},
-		{func() error { _, err := NewSource(one, MaxFeed, 2); return err }, ErrNumber, "yarib: a limit or a feed is out of range: 2 feeds from feed 64 on, of 64"},
+		{func() error { return one.Save(io.Discard, 0) }, ErrNumber, fmt.Sprintf("yarib: a limit or a feed is out of range: feed 0, not 1 to %d", MaxFeed)},
+		{func() error { _, err := NewSource(one, MaxFeed, 2); return err }, ErrNumber, fmt.Sprintf("yarib: a limit or a feed is out of range: 2 feeds from feed %d on, of %d", MaxFeed, MaxFeed)},
 	} {
 		err := faulty.call()
 		if !errors.Is(err, faulty.reason) {

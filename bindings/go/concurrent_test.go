@@ -46,7 +46,7 @@ func TestEveryCallOfAConcurrentTableAnswersAsTheModel(t *testing.T) {
 			for j := draw.Intn(5); j > 0; j-- {
 				command := drawnCommand(draw)
 				if draw.Intn(20) == 0 {
-					command.Feed = 65
+					command.Feed = MaxFeed + 1
 					outcomes = append(outcomes, Outcome{Err: &CommandError{command, ErrNumber}})
 				} else {
 					outcomes = append(outcomes, Outcome{Reply: m.apply(command)})

@@ -1,6 +1,6 @@
 // Package yarib provides IPv4 routing tables with proved answers.
 //
-// Feeds are 1 to 64. The lowest preference number is preferred; between equal preferences, the lowest feed. After an error the
+// Feeds are 1 to MaxFeed. The lowest preference number is preferred; between equal preferences, the lowest feed. After an error the
 // table is unchanged, except after an error of Load. Goroutines may share a Table and a Forwarding: calls that only read run at the
 // same time, and a change waits until no other call runs. Close frees memory at once; otherwise the garbage collector does.
 package yarib

@@ -18,6 +18,7 @@ import tempfile
 import unittest
 
 import yarib
+from common.table_model import MAX_FEEDS
 
 NETWORK, ADDRESS = ipaddress.IPv4Network, ipaddress.IPv4Address
 LAST = (1 << 32) - 1
@@ -546,7 +547,7 @@ class Conventions(Limited):
             self.assertTrue(issubclass(error, yarib.Error) and issubclass(error, base), error)
 
     def test_limits(self):
-        self.assert_same((yarib.MAX_FEED, yarib.MAX_LIMIT, yarib.MAX_LENGTH), (64, 1_000_000, 32))
+        self.assert_same((yarib.MAX_FEED, yarib.MAX_LIMIT, yarib.MAX_LENGTH), (MAX_FEEDS, 1_000_000, 32))
         table = yarib.Table(yarib.MAX_LIMIT)
         table.add((0, yarib.MAX_LENGTH), None, feed=yarib.MAX_FEED)
         self.assertRaises(ValueError, yarib.Table, yarib.MAX_LIMIT + 1)

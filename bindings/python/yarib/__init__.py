@@ -9,7 +9,7 @@
         table.look_up("192.0.2.1")                      # None: no prefix covers it.
 
 A prefix is a text ("10.0.0.0/8"), an ipaddress.IPv4Network or a pair (base, length) of numbers. An address is a text,
-an ipaddress.IPv4Address or a number. Feeds are 1 to 64. The lowest preference number is preferred; between equal
+an ipaddress.IPv4Address or a number. Feeds are 1 to MAX_FEED. The lowest preference number is preferred; between equal
 preferences, the lowest feed. Error is the base class of this package's errors: an invalid number, text or prefix raises
 Invalid, a ValueError, and OutOfMemory is a MemoryError. An argument of the wrong type raises TypeError. After each of
 these the table is unchanged.

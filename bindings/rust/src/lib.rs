@@ -12,7 +12,7 @@
 //! # Ok::<(), yarib::Error>(())
 //! ```
 //!
-//! Feeds are 1 to 64. The lowest preference number is preferred; between equal preferences, the lowest feed. After an [`Error`]
+//! Feeds are 1 to [`MAX_FEED`]. The lowest preference number is preferred; between equal preferences, the lowest feed. After an [`Error`]
 //! the table is unchanged. Calls that only read take `&self`, so any number of threads can look up in one table at the same time. With
 //! changes in between they share it in a [`RwLock`](std::sync::RwLock). In a [`ConcurrentTable`] threads look up during a change.
 #![deny(unsafe_code)]
