@@ -6,7 +6,9 @@ has to be one of these calls (tools/check).
 """
 import collections
 import pathlib
+import re
 
+from .crates import TOP
 from .table_model import E3
 
 EXAMPLES = pathlib.Path(__file__).resolve().parent.parent / "examples"
@@ -17,6 +19,12 @@ Call = collections.namedtuple("Call", "words ending")
 
 def call(words, out="", status=0, err=""):
     return Call(words.split(), (status, out, err))
+
+
+def help_texts():
+    """Returns each help text by its subcommand, and that of the program by `yarib`: the sections of docs/CLI.md."""
+    section = re.compile(r"^## `(?:yarib )?(\w+)`\n\n```text\n(.*?)^```$", re.M | re.S)
+    return dict(section.findall((TOP / "docs/CLI.md").read_text()))
 
 
 TUTORIAL = {name: (EXAMPLES / name).read_text() for name in ("north.feed", "south.feed", "east.feed", "packets.txt")}

@@ -5,7 +5,7 @@ tests/command_line.py [PROGRAM [CASE..]], or --list for the names of the cases. 
 
 The program's own outputs are compared whole, to the byte; calls that need no preparation are in common/calls.py. A
 message of the library that parses the command line only has to be an error that names the argument. The help pages are
-compared with tests/help. A replay is compared with a model of the tree, written from docs/FORMATS.md. Another feed that
+those of docs/CLI.md. A replay is compared with a model of the tree, written from docs/FORMATS.md. Another feed that
 takes turns with the first one observes the number of commands in a batch: its `dump`s change only where a batch of each
 feed ends. Each case's directory contains row.feed, empty.feed and faulty.feed.
 """
@@ -375,17 +375,17 @@ def replays(yarib):
 
 # Catches a missing or different line of a help page: the page.
 def pages(yarib):
-    page = lambda name: (TOP / "tests" / "help" / f"{name}.txt").read_text()
+    page = calls.help_texts()
     for words in (["--help"], ["-h"], ["help"]):
-        expect(f"{words}", yarib(*words), (0, page("yarib"), ""))
+        expect(f"{words}", yarib(*words), (0, page["yarib"], ""))
     for name in ("run", "lookup", "table", "diff", "replay"):
         for words in ([name, "--help"], [name, "-h"], ["help", name], [name, "--help", "row.feed"]):
-            expect(f"{words}", yarib(*words), (0, page(name), ""))
+            expect(f"{words}", yarib(*words), (0, page[name], ""))
     stored = lambda name: (TOP / "tests" / "help" / name).read_text()
     for words in (["--version"], ["-V"]):
         expect(f"{words}", yarib(*words), (0, "yarib 0.1.0\n", ""))
     expect("the version that ./yarib prints without a program", stored("version"), "yarib 0.1.0\n")
-    expect("no word", yarib(), (3, "", page("yarib")))
+    expect("no word", yarib(), (3, "", page["yarib"]))
     # The output of ./yarib for such arguments without a built program, except a hint at a similar argument and at where
     # it belongs.
     for name, listed in (("no-subcommand", ("walk", "RUN", "runs", "row.feed", "-", "a b", "help.")),

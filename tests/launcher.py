@@ -19,6 +19,7 @@ import tempfile
 import time
 
 from common.built import LOGIC
+from common.calls import help_texts
 from common.checks import TOP, chosen, compiled, end, expect, library_stub, run, run_case, text_of
 from common.crates import all_crates, below
 from common.prover import kit
@@ -89,6 +90,8 @@ class Copy:
             os.utime(path, (time.time() - 1_000,) * 2)
         self.notes.write_text("")
         shutil.copytree(TOP / "tests/help", self.top / "tests/help")
+        (self.top / "docs").mkdir()
+        shutil.copy(TOP / "docs/CLI.md", self.top / "docs")
 
     def names(self, path="with"):
         """The environment of a call."""
@@ -489,20 +492,22 @@ def changed_meanwhile(copy):
 # status for them.
 # Catches a launcher that still prints the stored texts once there is a program.
 def without_a_program(copy):
-    page = lambda name: (TOP / "tests/help" / name).read_text()
-    known = [([name, flag], 0, f"{name}.txt") for name in ("run", "lookup", "table", "diff", "replay")
+    stored, page = (lambda name: (TOP / "tests/help" / name).read_text()), help_texts()
+    known = [([name, flag], page[name]) for name in ("run", "lookup", "table", "diff", "replay")
              for flag in ("--help", "-h")]
-    known += [(["help", name], 0, f"{name}.txt") for name in ("run", "replay")]
-    known += [(["run", "--help", "one.feed"], 0, "run.txt"), (["--version"], 0, "version"), (["-V"], 0, "version")]
-    known += [([word], 0, "yarib.txt") for word in ("--help", "-h", "help")]
-    for words, status, name in known:
-        expect(f"without a program {words}", copy.start(*words, path="without"), (status, page(name), ""))
-    expect("without a program, no word", copy.start(path="without"), (3, "", page("yarib.txt")))
+    known += [(["help", name], page[name]) for name in ("run", "replay")]
+    known += [(["run", "--help", "one.feed"], page["run"])]
+    known += [([word], stored("version")) for word in ("--version", "-V")]
+    known += [([word], page["yarib"]) for word in ("--help", "-h", "help")]
+    for words, text in known:
+        expect(f"without a program {words}", copy.start(*words, path="without"), (0, text, ""))
+    expect("without a program, no word", copy.start(path="without"), (3, "", page["yarib"]))
     for words, name in ((["walk"], "no-subcommand"), (["a&b\\c", "x"], "no-subcommand"), (["--frob", "run"], "no-option")):
-        misuse = page(name).replace("WORD", words[0])
+        misuse = stored(name).replace("WORD", words[0])
         expect(f"without a program {words}", copy.start(*words, path="without"), (3, "", misuse))
     expect("nothing is built for them", copy.built(), [])
-    for words in (["run", "one.feed", "--help"], ["help", "walk"], ["-hx"], ["--help=x"], ["--"], ["run"], ["a\tb"]):
+    for words in (["run", "one.feed", "--help"], ["help", "walk"], ["help", "yarib"], ["-hx"], ["--help=x"], ["--"],
+                  ["run"], ["a\tb"]):
         expect(f"what needs a program {words}", copy.start(*words, path="without")[0], 127)
     copy.start("run", "x.feed")
     for words in (["--help"], ["--version"], ["walk"], []):
@@ -543,15 +548,15 @@ def offered(*words):
 
 # Catches completions with an invalid word, or without one of the help: `--limit of run`, `the options of run`.
 def completions(copy):
-    page = lambda name: (TOP / "tests/help" / f"{name}.txt").read_text()
-    commands = re.findall(r"^  (\w+)  ", page("yarib").partition("Options:")[0], re.M)
-    options = re.findall(r"(--\w+)", page("yarib"))
+    page = help_texts()
+    commands = re.findall(r"^  (\w+)  ", page["yarib"].partition("Options:")[0], re.M)
+    options = re.findall(r"(--\w+)", page["yarib"])
     expect("the first word", offered(""), sorted(commands + options))
     for name in commands:
         expect(f"the first word {name}", offered(name), [name])
     expect("behind help", offered("help", ""), sorted(set(commands) - {"help"}))
     for name in sorted(set(commands) - {"help"}):
-        text = page(name)
+        text = page[name]
         listed = re.findall(r"^ +(?:-\w, )?(--[\w-]+)(?: <(\w+)>)? .*?(?:\[possible values: (.*)\])?$", text, re.M)
         expect(f"the options of {name}", offered(name, "-"), sorted(option for option, _, _ in listed))
         for option, value, values in listed:
