@@ -384,7 +384,7 @@ class Borders(Limited):
                 table.add(prefix, via=feed, pref=feed % 7, feed=feed)
                 model.stored[(*prefix, feed)] = yarib.Route(*prefix, feed, feed % 7, feed)
                 added += 1
-                if added in (63, 64, 65, 127, 128, 255, 256, 257, 2112):
+                if added in (63, 64, 65, 127, 128, 255, 256, 257, 33 * yarib.MAX_FEED):
                     self.assert_same(table.look_up_all("10.0.0.0"), model.all(10 << 24))
                     self.assert_same(table.covering("10.0.0.0/32"), model.listed())
                     self.assert_same(table.exact(prefix), model.selected("exact", prefix))
