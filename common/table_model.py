@@ -12,7 +12,7 @@ MAX_FEEDS = int(re.search(r"^pub const MAX_FEEDS: usize = (\d+);$", LIMITS, re.M
 
 def dotted(number):
     """A number as the address that a feed's text has."""
-    return ".".join(str(number >> shift & 255) for shift in (24, 16, 8, 0))
+    return f"{number >> 24 & 255}.{number >> 16 & 255}.{number >> 8 & 255}.{number & 255}"
 
 
 @functools.cache
@@ -146,7 +146,12 @@ def differences_text(old, new, by, names=({}, {})):
 
 def ran(texts, refused, limit=65_536):
     """The lines of the reports that a run of these texts prints if these lines, by feed and number, are refused, and
-    its table."""
+    its table. Neither may be changed: the next call for the same texts returns them again."""
+    return last_run(tuple(texts), frozenset(refused), limit)
+
+
+@functools.lru_cache(1)
+def last_run(texts, refused, limit):
     table, printed = Table(limit), []
     for feed, text in enumerate(texts, 1):
         for at, line in enumerate(text.splitlines(), 1):

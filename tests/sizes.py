@@ -6,7 +6,7 @@ Usage: tests/sizes.py [PROGRAM [CASE..]], or --list for the names of the cases. 
 No clause can say that an allocation succeeds if there is memory. So the cases are:
 
 1. A million routes of one feed, and more than a million lines, entries and answers.
-2. Each number of files from 1 to 64, with one route of each to the same prefix.
+2. Each number of files from 1 to MAX_FEEDS, with one route of each to the same prefix.
 3. Feeds that each have different text.
 4. Batches about the sizes at which lists grow.
 5. The highest numbers and the last address.
@@ -14,20 +14,21 @@ No clause can say that an allocation succeeds if there is memory. So the cases a
 `lookup` and `table` are called on each number of files, on 300,000 routes and with 100,000 addresses. `lookup` is also
 called with just fewer and just more addresses and routes than a forwarding table needs to answer. Each option that
 changes the output is given at, just above and far above these sizes. All cases run with the memory settings of the
-launchers. With the C library's default, 64 threads share several arenas. This matters in cases with 64 threads and in
-cases that fill large pages. These (`OF_MEMORY`) are run once more with that default. The others are about numbers in
-the code, and are run once.
+launchers. With the C library's default, many threads share several arenas. This matters in cases with many threads and
+in cases that fill large pages. In these (`OF_MEMORY`) each `run` is called with both; the other commands have one
+thread. The other cases are about numbers in the code.
 """
 import ipaddress
 import os
 import pathlib
 import subprocess
 
-from common.checks import LAUNCHED, chosen, compare, end, expect, run_each
-from common.table_model import all_answers_text, answers_text, dotted, json_text, members, ran, row, run_text, told_text
+from common.checks import LAUNCHED, Program, chosen, compare, end, expect, run_each
+from common.table_model import (MAX_FEEDS, all_answers_text, answers_text, dotted, json_text, members, ran, row,
+                                run_text, told_text)
 from texts import FORWARDED, many_routes
 
-MOST = 1_000_000
+MOST, MANY = 1_000_000, 300_001
 
 
 # Catches a journal of 1,000,000 entries or more that never grows: `a million routes`, `1:1048578 refused`.
@@ -35,13 +36,14 @@ def million(yarib):
     """A feed that fills its limit with single addresses in no order, the last one among them, and goes on."""
     bases = [0xFFFF_FFFF - at * 2_654_435_761 % 2**32 for at in range(MOST)]
     preferences = [0xFFFF_FFFF - at % 7 for at in range(MOST)]
-    lines = [f"add {dotted(base)}/32 {preference} 192.0.2.1\n" for base, preference in zip(bases, preferences)]
-    listed = lambda at: row(f"{dotted(bases[at])}/32", 1, preferences[at])
+    places = list(map(dotted, bases))
+    lines = [f"add {place}/32 {preference} 192.0.2.1\n" for place, preference in zip(places, preferences)]
+    listed = lambda at: row(f"{places[at]}/32", 1, preferences[at])
     answers = ["added"] * MOST
     rest = [
         ("add 0.0.0.0/0 1 192.0.2.1", "full"),
         ("lookup 255.255.255.255", "route " + listed(0).strip()),
-        (f"lookup {dotted(bases[-1])}", "route " + listed(MOST - 1).strip()),
+        (f"lookup {places[-1]}", "route " + listed(MOST - 1).strip()),
         ("dump", f"dumped {MOST}"),
         ("withdraw 255.255.255.255/32", "withdrawn"),
         ("lookup 255.255.255.255", "no route"),
@@ -104,17 +106,17 @@ def purges(yarib):
         compare(f"a purge of {count}", yarib("run", "--batch", "64", "purge.feed"), 0, out)
 
 
-# Catches F3 for 40 texts, or a refusal of the ninth or the 64th route to a prefix: `40 feeds in batches of 1`, `9 feeds
-# in batches of 1`, `64 feeds in batches of 1`.
+# Catches F3 for 40 texts, or a refusal of the ninth or the last route to a prefix: `40 feeds in batches of 1`, `9 feeds
+# in batches of 1`, `MAX_FEEDS feeds in batches of 1`.
 # Catches a refusal of an `add` of preference 2^32 - 1 or of 255.255.255.255/32: `1 feeds in batches of 1`, `1:3
 # refused`.
-# Catches a refusal of a `dump` of feed 64 if the journal has no room: `feed 64 alone asks`, `64:1 refused`.
+# Catches a refusal of a `dump` of the last feed if the journal has no room: `the last feed alone asks`, its line 1.
 def feeds(yarib):
-    """From 1 to 64 feeds: each has a route to the same prefix and one to the last address, and other routes."""
+    """From 1 to MAX_FEEDS feeds: each has a route to the same prefix and one to the last address, and other routes."""
     texts = []
-    for feed in range(1, 65):
+    for feed in range(1, MAX_FEEDS + 1):
         texts.append(f"""version 2
-add 10.0.0.0/8 {(65 - feed) // 2} 192.0.2.{feed}
+add 10.0.0.0/8 {(MAX_FEEDS + 1 - feed) // 2} 192.0.2.{feed}
 add 255.255.255.255/32 4294967295 discard
 add {feed + 10}.0.0.0/8 {feed} 192.0.2.1
 lookup {feed + 10}.1.2.3
@@ -123,33 +125,34 @@ withdraw {feed + 10}.0.0.0/8
 add {feed + 10}.128.0.0/9 0 discard
 """)
         pathlib.Path(f"{feed}.feed").write_text(texts[-1])
-    names = [f"{feed}.feed" for feed in range(1, 65)]
-    for count in range(1, 65):
-        for batch in ("1", "3", "1024") if count in (1, 2, 5, 9, 17, 40, 64) else ("2",):
+    names = [f"{feed}.feed" for feed in range(1, MAX_FEEDS + 1)]
+    for count in range(1, MAX_FEEDS + 1):
+        said = "MAX_FEEDS" if count == MAX_FEEDS else count
+        for batch in ("1", "3", "1024") if count in (1, 2, 5, 9, 17, 40, MAX_FEEDS) else ("2",):
             ended = yarib("run", "--batch", batch, *names[:count])
-            compare(f"{count} feeds in batches of {batch}", ended, 0, run_text(texts[:count], set()))
+            compare(f"{said} feeds in batches of {batch}", ended, 0, run_text(texts[:count], set()))
         shown(yarib, texts[:count], names[:count])
     pathlib.Path("empty.feed").write_text("")
     last = texts[-1].replace("version 2\n", "").replace("discard", "192.0.2.9")
     pathlib.Path("last.feed").write_text("dump\n" + last + "dump\n")
-    answers = ["dumped 0", "added", "added", "added", "route " + row("74.0.0.0/8", 64, 64).strip(),
+    answers = ["dumped 0", "added", "added", "added", "route " + row(f"{feed + 10}.0.0.0/8", feed, feed).strip(),
                "replaced", "withdrawn", "added", "dumped 3"]
-    report = "".join(f"64:{line} {answer}\n" for line, answer in enumerate(answers, 1))
-    routes = [("10.0.0.0/8", 64, 0, "192.0.2.64"), ("74.128.0.0/9", 64, 0, "192.0.2.9"),
-              ("255.255.255.255/32", 64, 4294967294, "192.0.2.64")]
+    report = "".join(f"{feed}:{line} {answer}\n" for line, answer in enumerate(answers, 1))
+    routes = [("10.0.0.0/8", feed, 0, f"192.0.2.{feed}"), (f"{feed + 10}.128.0.0/9", feed, 0, "192.0.2.9"),
+              ("255.255.255.255/32", feed, 4294967294, f"192.0.2.{feed}")]
     wanted = report + "table 3\n" + "".join(row(*route) for route in routes)
-    compare("feed 64 alone asks", yarib("run", *["empty.feed"] * 63, "last.feed"), 0, wanted)
+    compare("the last feed alone asks", yarib("run", *["empty.feed"] * (MAX_FEEDS - 1), "last.feed"), 0, wanted)
 
 
 def shown(yarib, texts, names):
-    """What `lookup`, `table` and `diff` print and report for these files. Each file has a line that is rejected, each
-    time of another kind."""
+    """What `lookup`, `table` and `diff` print and report for these files, the last of which is new. Each file has a line
+    that is rejected, each time of another kind."""
     turns = ("frob", "add 10.0.0.0/8 1 192.0.2.1", "withdraw 9.0.0.0/8", "add 99.0.0.0/8 1 192.0.2.1")
     texts = [text + turns[feed % 4] + "\n" for feed, text in enumerate(texts)]
     names = [f"shown-{name}" for name in names]
-    for name, text in zip(names, texts):
-        pathlib.Path(name).write_text(text)
-    asked = [addr for feed in range(1, len(names) + 1) for addr in (f"{feed + 10}.129.0.1", f"{feed + 10}.1.2.3")]
+    pathlib.Path(names[-1]).write_text(texts[-1])
+    feeds = range(1, MAX_FEEDS + 1) if len(names) == MAX_FEEDS else (1, len(names))
+    asked = [addr for feed in feeds for addr in (f"{feed + 10}.129.0.1", f"{feed + 10}.1.2.3")]
     asked += ["10.9.8.7", "255.255.255.255", "9.9.9.9"]
     words = [word for addr in asked for word in ("--address", addr)]
     told, status = told_text(texts, names, 3), 2
@@ -211,73 +214,79 @@ def at_limit(yarib):
     compare("a run of 65,537 routes", yarib(*batched, "--limit", "1000000"), 0, whole)
 
 
-# Catches a default limit of 65,536 or 999,999 for a feed of `lookup`, `table` or `diff`: `the table of 1000000 routes`,
-# `a look-up in 1000000 routes`, `1000000 routes compared with none`.
+# Catches a default limit of 65,536 or 999,999 for a feed of `lookup`, `table` or `diff`: `the table of 1000001 routes`,
+# `a look-up in 1000001 routes`, `1000001 routes compared with none`.
 def at_greatest_limit(yarib):
-    """A million routes of a feed, as many as `lookup`, `table` and `diff` accept without --limit, and one more."""
+    """A million routes of a feed, as many as `lookup`, `table` and `diff` accept without --limit, and one more, which
+    each of them reports."""
     places = [dotted(0x0A00_0000 + 64 * at) for at in range(MOST + 1)]
     pathlib.Path("none.feed").write_text("")
     pathlib.Path("full.feed").write_text("".join(f"add {place}/32 1 192.0.2.1\n" for place in places[:MOST]))
     pathlib.Path("over.feed").write_text("".join(f"add {place}/32 1 192.0.2.1\n" for place in places))
     over = "yarib: over.feed: adds over the limit: 1\n"
-    host = lambda place: row(f"{place}/32")
+    listed = "".join([row(f"{place}/32") for place in places[:MOST]])
     asked = ["--address", places[MOST - 1], "--address", places[MOST]]
-    answers = f"{places[MOST - 1]} route {host(places[MOST - 1])}{places[MOST]} no route\n"
+    answers = f"{places[MOST - 1]} route {row(places[MOST - 1] + '/32')}{places[MOST]} no route\n"
     ranges = "".join(f"{place}-{place} no route -> via 192.0.2.1\n" for place in places[:MOST])
-    for name, count, status, err in (("full.feed", MOST, 0, ""), ("over.feed", MOST + 1, 2, over)):
-        compare(f"the table of {count} routes", yarib("table", name), status, "".join(map(host, places[:MOST])), err)
-        compare(f"a look-up in {count} routes", yarib("lookup", *asked, name), status, answers, err)
-        compare(f"{count} routes compared with none", yarib("diff", "none.feed", "--", name), max(status, 1), ranges, err)
+    compare("the table of 1000000 routes", yarib("table", "full.feed"), 0, listed)
+    compare("the table of 1000001 routes", yarib("table", "over.feed"), 2, listed, over)
+    compare("a look-up in 1000001 routes", yarib("lookup", *asked, "over.feed"), 2, answers, over)
+    compare("1000001 routes compared with none", yarib("diff", "none.feed", "--", "over.feed"), 2, ranges, over)
 
 
-# Catches F3 if over 128 routes, or over 2,000, cover an address: `addresses that 64 to 2112 routes cover`.
+# Catches F3 if over 128 routes, or over 2,000, cover an address: `all routes that can cover an address`.
 def covered(yarib):
-    """All prefixes of an address from 64 feeds, the maximum that can cover it, and numbers about powers of two."""
-    # How many feeds have the prefix of each length: 64, 127, 128, 129, 193, 255, 256, 257, then 64 more at each.
-    offers = [64, 63, 1, 1, 64, 62, 1, 1] + [64] * 25
+    """All prefixes of an address from each feed, the maximum that can cover it, and numbers about powers of two."""
+    # How many feeds have the prefix of each length: in all 64, 127, 128, 129, 193, 255, 256 and 257 routes, and then
+    # MAX_FEEDS more at each length.
+    offers = [64, 63, 1, 1, 64, 62, 1, 1] + [MAX_FEEDS] * 25
     base = 0b1010_1010_1010_1010_1010_1010_1010_1010
     prefix = lambda length: f"{dotted(base >> 32 - length << 32 - length)}/{length}"
     # Each address leaves the others' path after another bit.
     asked = [dotted(base ^ (1 << 31 - length if length < 32 else 0)) for length in range(33)]
-    for name, counts in (("some", offers), ("all", [64] * 33)):
+    for name, counts in (("some", offers), ("all", [MAX_FEEDS] * 33)):
         add = lambda feed, length: f"add {prefix(length)} {feed} 192.0.2.{feed}\n"
         texts = ["".join(add(feed, length) for length, count in enumerate(counts) if feed <= count)
-                 for feed in range(1, 65)]
-        names = [f"{name}{feed}.feed" for feed in range(1, 65)]
+                 for feed in range(1, MAX_FEEDS + 1)]
+        names = [f"{name}{feed}.feed" for feed in range(1, MAX_FEEDS + 1)]
         for file, text in zip(names, texts):
             pathlib.Path(file).write_text(text)
         ended = yarib("lookup", "--all", *[f"--address={addr}" for addr in asked], *names)
-        compare(f"addresses that {counts[0]} to {sum(counts)} routes cover", ended, 0, all_answers_text(texts, asked))
+        compare(f"{name} routes that can cover an address", ended, 0, all_answers_text(texts, asked))
         listed = ran(texts, set())[1].listed()
-        covers = lambda line, addr: ipaddress.IPv4Address(addr) in ipaddress.IPv4Network(line.split()[0])
+        networks = [ipaddress.IPv4Network(line.split()[0]) for line in listed]
         for addr in asked[:: 8 if name == "some" else 1]:
-            rows = [line for line in listed if covers(line, addr)]
+            rows = [line for line, network in zip(listed, networks) if ipaddress.IPv4Address(addr) in network]
             compare(f"{len(rows)} routes by --covering", yarib("table", "--covering", f"{addr}/32", *names), 0,
                     "".join(line + "\n" for line in rows))
 
 
-def rows_by_options(places, name):
-    """The output of `table`, `lookup` and `diff` for the route of each place, a single address, of the first file,
-    which has this name: calls with options, and their outputs."""
+def forms_by_options(name):
+    """The options of calls of `table`, `lookup` and `diff`, and the line that each prints for the route of a place {0},
+    a single address, in the first file, which has this name."""
     whole = ("{0}/32", 1, 1, "192.0.2.1")
-    said, named = (json_text(members(whole, **names, file=f"{name}.feed")).replace("{", "{{").replace("}", "}}")
-                   .replace("{{0}}", "{0}") for names in ({}, {"name": name}))
-    hop, route = "via 192.0.2.1", row("{0}/32", "{1}").strip()
+    said, named = (json_text(members(whole, **names, file=f"{name}.feed")) for names in ({}, {"name": name}))
+    hop, route, by_name = "via 192.0.2.1", row("{0}/32").strip(), row("{0}/32", name).strip()
     tables = [(options, route) for options in (
         ["--within", "10.0.0.0/7"], ["--feed", "1"], ["--best"], ["--best", "--feed", "1"])]
-    tables += [(["--names"], route.replace("{1}", name)), (["--json"], said), (["--names", "--json"], named),
+    tables += [(["--names"], by_name), (["--json"], said), (["--names", "--json"], named),
                (["--json", "--within", "10.0.0.0/7", "--feed", "1"], said)]
     answers = [(options, "{0} route " + route) for options in ([], ["--all"])]
-    answers += [([*more, "--names"], "{0} route " + route.replace("{1}", name)) for more in ([], ["--all"])]
-    answers += [(["--json"], '{{"address":"{0}","route":' + said + "}}"),
-                (["--json", "--all", "--names"], '{{"address":"{0}","route":' + named + ',"also":[]}}')]
+    answers += [([*more, "--names"], "{0} route " + by_name) for more in ([], ["--all"])]
+    answers += [(["--json"], '{"address":"{0}","route":' + said + "}"),
+                (["--json", "--all", "--names"], '{"address":"{0}","route":' + named + ',"also":[]}')]
     ranges = [([], "{0}-{0} no route -> " + hop),
               (["--by", "route"], "{0}-{0} no route -> " + route),
-               (["--by", "route", "--names"], "{0}-{0} no route -> " + route.replace("{1}", name)),
-               (["--json"], '{{"first":"{0}","last":"{0}","old":null,"new":{{"via":"192.0.2.1"}}}}'),
-               (["--by", "route", "--json"], '{{"first":"{0}","last":"{0}","old":null,"new":' + said + "}}")]
-    print_each = lambda form: "".join(form.format(place, 1) + "\n" for place in places)
-    return [[(options, print_each(form)) for options, form in forms] for forms in (tables, answers, ranges)]
+               (["--by", "route", "--names"], "{0}-{0} no route -> " + by_name),
+               (["--json"], '{"first":"{0}","last":"{0}","old":null,"new":{"via":"192.0.2.1"}}'),
+               (["--by", "route", "--json"], '{"first":"{0}","last":"{0}","old":null,"new":' + said + "}")]
+    return tables, answers, ranges
+
+
+def printed(form, places):
+    """The lines of this form for these places: each place is put between the parts of the form."""
+    parts = f"{form}\n".split("{0}")
+    return "".join([place.join(parts) for place in places])
 
 
 # Catches F3 for --within or --feed with over 2,000 rows, or for JSON with over 5,000: `['--feed', '1'] of 2001 rows`,
@@ -285,18 +294,21 @@ def rows_by_options(places, name):
 def options(yarib):
     """Each option that changes what is printed, at, just above and far above the sizes of the other cases."""
     pathlib.Path("none.feed").write_text("")
-    for count in (1, 64, 65, 2_001, 2_113, 5_001, 65_537, 300_001):
+    for count in (1, 64, 65, 2_001, 2_113, 5_001, 65_537, MANY):
         places = [dotted(0x0A00_0000 + 2 * at) for at in range(count)]
         pathlib.Path("rows.feed").write_text("".join(f"add {place}/32 1 192.0.2.1\n" for place in places))
         pathlib.Path("asked.txt").write_text("".join(place + "\n" for place in places))
         files = ["rows.feed", "none.feed"]
-        tables, answers, ranges = rows_by_options(places, "rows")
-        for words, out in tables:
-            compare(f"{words} of {count} rows", yarib("table", *words, *files), 0, out)
-        for words, out in answers:
-            compare(f"{words} of {count} answers", yarib("lookup", *words, "--addresses", "asked.txt", *files), 0, out)
-        for words, out in ranges:
-            compare(f"{words} of {count} ranges", yarib("diff", *words, "none.feed", "--", *files), 1, out)
+        # The last options of each command print the most; with the most rows only they are given.
+        tables, answers, ranges = [forms[-1:] if count == MANY else forms for forms in forms_by_options("rows")]
+        for words, form in tables:
+            compare(f"{words} of {count} rows", yarib("table", *words, *files), 0, printed(form, places))
+        for words, form in answers:
+            ended = yarib("lookup", *words, "--addresses", "asked.txt", *files)
+            compare(f"{words} of {count} answers", ended, 0, printed(form, places))
+        for words, form in ranges:
+            ended = yarib("diff", *words, "none.feed", "--", *files)
+            compare(f"{words} of {count} ranges", ended, 1, printed(form, places))
         counts = f"routes {count} prefixes {count}\nfeed 1 routes {count}\nlength 32 routes {count}\n"
         for words in ([], ["--best"], ["--feed", "1"], ["--within", "10.0.0.0/7"]):
             compare(f"--count {words} of {count} rows", yarib("table", "--count", *words, *files), 0, counts)
@@ -304,14 +316,14 @@ def options(yarib):
 
 # Catches F3 for --names of over 40 files, or of a name of over 200 bytes: `--names of 41 files`, `a name of 201 bytes`.
 def names(yarib):
-    """Feeds by name and as JSON: from 1 to 64 files, and names up to the longest of a file."""
-    files = [f"file{feed}.feed" for feed in range(1, 65)]
+    """Feeds by name and as JSON: from 1 to MAX_FEEDS files, and names up to the longest of a file."""
+    files = [f"file{feed}.feed" for feed in range(1, MAX_FEEDS + 1)]
     named = lambda feed: row("10.0.0.0/8", f"file{feed}", feed)
     told = lambda feed: json_text(
         members(("10.0.0.0/8", feed, feed, "192.0.2.1"), name=f"file{feed}", file=f"file{feed}.feed")) + "\n"
     for feed, file in enumerate(files, 1):
         pathlib.Path(file).write_text(f"add 10.0.0.0/8 {feed} 192.0.2.1\n")
-    for count in range(1, 65):
+    for count in range(1, MAX_FEEDS + 1):
         each = range(1, count + 1)
         compare(f"--names of {count} files", yarib("table", "--names", *files[:count]), 0, "".join(map(named, each)))
         ended = yarib("table", "--names", "--json", *files[:count])
@@ -351,7 +363,7 @@ def compared(yarib):
 def addresses(yarib):
     pathlib.Path("row.feed").write_text("add 10.0.0.0/8 1 192.0.2.1\n")
     answer = "10.0.0.1 route " + row("10.0.0.0/8")
-    for count in (100_001, MOST + 1, 2_500_000):
+    for count in (100_001, MOST + 1):
         pathlib.Path("asked.txt").write_text("10.0.0.1\n" * count)
         for words in ([], ["--all"]):
             ended = yarib("lookup", *words, "--addresses", "asked.txt", "row.feed")
@@ -363,8 +375,8 @@ def forwarded(yarib):
     """Look-ups on both sides of the numbers from which on a forwarding table answers them, and far above."""
     addresses, routes, a_route = FORWARDED
     cases = [(addresses - 1, routes), (addresses, routes), (addresses + 1, routes), (addresses, routes - 1)]
-    cases += [(addresses, addresses // a_route + more) for more in (-1, 0, 1)] + [(2_500_000, routes),
-                                                                                  (addresses, 65_001)]
+    cases += [(2_500_000, routes), (addresses, 65_001)]
+    cases += [(addresses, addresses // a_route + more) for more in (-1, 0, 1)]
     for count, size in cases:
         text, asked, answers = many_routes(size)
         times, rest = divmod(count, len(asked))
@@ -384,7 +396,8 @@ def in_all(yarib):
     pathlib.Path("whole.feed").write_text("".join(adds))
     pathlib.Path("rest.feed").write_text("".join(adds[:left]))
     names = ["whole.feed"] * 15 + ["rest.feed"]
-    listed = "".join(row(place, feed) for at, place in enumerate(places) for feed in range(1, 17 if at < left else 16))
+    rests = [row("", feed) for feed in range(1, 17)]
+    listed = "".join([place + rest for at, place in enumerate(places) for rest in rests[: 16 if at < left else 15]])
     compare("the table of 1000001 routes in all", yarib("table", *names), 0, listed)
     report = "".join(f"{feed}:{line} added\n" for feed in range(1, 17)
                      for line in range(1, 65_537 if feed < 16 else left + 1))
@@ -394,7 +407,7 @@ def in_all(yarib):
     last = ["--address", "10.255.255.1"]
     for count, more in ((16, names), (64, ["whole.feed"] * 64)):
         compare(f"the best routes of {count} feeds", yarib("table", "--best", *more), 0, "".join(best))
-        compare(f"a look-up in {count} feeds", yarib("lookup", *last, *more), 0, "10.255.255.1 route " + best[-1])
+    compare("a look-up in 16 feeds", yarib("lookup", *last, *names), 0, "10.255.255.1 route " + best[-1])
     compare("16 feeds compared with 16", yarib("diff", *names, "--", *names), 0, "")
 
 
@@ -423,19 +436,28 @@ def part_of_a_million(yarib):
         expect(f"{name}: {more} bytes more than a look-up", more < 4_000_000, True)
 
 
-CASES = (batches, purges, feeds, many_offers, at_limit, at_greatest_limit, covered, options, names, compared, addresses, forwarded, in_all, million,
-         part_of_a_million)
+CASES = (batches, purges, feeds, many_offers, at_limit, at_greatest_limit, covered, options, names, compared, addresses,
+         forwarded, in_all, million, part_of_a_million)
 OF_MEMORY = (feeds, many_offers, in_all, million)
+
+
+class Twice(Program):
+    """The program. A `run` is called twice: with the launchers' memory settings, and with the C library's default."""
+
+    def __call__(self, *words, **how):
+        ended = super().__call__(*words, **how)
+        if words[0] == "run":
+            without = {name: value for name, value in os.environ.items() if name not in LAUNCHED}
+            other = super().__call__(*words, **how, env=without)
+            compare(f"{' '.join(words)[:60]}, with the C library's default memory", other, *ended)
+        return ended
 
 
 def main():
     words = chosen(__doc__, CASES)
     os.environ |= LAUNCHED
-    print("memory as the launchers set it:", flush=True)
-    run_each(words.cases, words.program)
-    del os.environ["GLIBC_TUNABLES"]
-    print("memory as the C library gives it:", flush=True)
-    run_each([case for case in words.cases if case in OF_MEMORY], words.program)
+    for case in words.cases:
+        run_each([case], Twice(words.program) if case in OF_MEMORY else words.program)
     end()
 
 

@@ -1,4 +1,5 @@
 """Texts of feeds that several scripts run, and their outputs."""
+import functools
 import pathlib
 
 from common.table_model import dotted, row, shown
@@ -38,13 +39,20 @@ def written(name, texts):
 
 def many_routes(count):
     """A feed of `count` routes, addresses in and between them, and what a look-up of each prints."""
+    text, asked, answers = routes_of_blocks((count - 1) // 4)
+    return text + "".join(f"add 15.0.0.{place}/32 5 discard\n" for place in range((count - 1) % 4)), asked, answers
+
+
+@functools.lru_cache(1)
+def routes_of_blocks(count):
+    """The same, of one route and four in each of `count` blocks of addresses."""
     lines, asked, answers = ["version 2\n", "add 8.0.0.0/5 9 discard\n"], [], []
 
     def ask(addr, route=None):
         asked.append(f"{addr}\n")
         answers.append(f"{addr} route {shown(route)}\n" if route else f"{addr} no route\n")
 
-    for at in range((count - 1) // 4):
+    for at in range(count):
         base = 0x0A00_0000 + (at << 10)
         whole, part, host = f"{dotted(base)}/23", f"{dotted(base + 256)}/28", f"{dotted(base + 511)}/32"
         lines += [f"add {whole} 3 192.0.2.1\n", f"add {part} 2 192.0.2.2\n", f"add {host} 1 192.0.2.3\n"]
@@ -56,7 +64,6 @@ def many_routes(count):
         ask(dotted(base + 511), (host, 1, 1, "192.0.2.3"))
         ask(dotted(base + 512), ("8.0.0.0/5", 1, 9, "discard"))
         ask(dotted(base + 1023), (f"{dotted(base + 768)}/24", 1, 4, "192.0.2.4"))
-    lines += [f"add 15.0.0.{place}/32 5 discard\n" for place in range((count - 1) % 4)]
     ask("7.255.255.255")
     ask("255.255.255.255")
     return "".join(lines), asked, answers
