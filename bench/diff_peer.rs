@@ -11,7 +11,7 @@ use std::{env, fs};
 struct Route {
     first: u32,
     len: u8,
-    pref: u32,
+    preference: u32,
     hop: u32,
 }
 
@@ -19,10 +19,10 @@ impl Route {
     fn parse(line: &str) -> Option<Route> {
         let mut fields = line.split(' ').skip(1);
         let (address, len) = fields.next()?.split_once('/')?;
-        let pref = fields.next()?.parse().ok()?;
+        let preference = fields.next()?.parse().ok()?;
         let hop = fields.next()?.parse::<Ipv4Addr>().ok()?;
         let first = address.parse::<Ipv4Addr>().ok()?;
-        Some(Route { first: first.into(), len: len.parse().ok()?, pref, hop: hop.into() })
+        Some(Route { first: first.into(), len: len.parse().ok()?, preference, hop: hop.into() })
     }
 
     fn last(&self) -> u32 {
@@ -34,7 +34,7 @@ impl Route {
 fn table(name: &str) -> io::Result<Vec<Route>> {
     let text = fs::read_to_string(name)?;
     let mut routes: Vec<Route> = text.lines().filter_map(Route::parse).collect();
-    routes.sort_by_key(|route| (route.first, route.len, route.pref));
+    routes.sort_by_key(|route| (route.first, route.len, route.preference));
     routes.dedup_by_key(|route| (route.first, route.len));
     Ok(routes)
 }

@@ -13,7 +13,7 @@ enum { ENTRIES = 1 << 24, AT_ONCE = 16, CHUNK = 256 };
 
 /* The same size in bytes as an answer of rt_fib. */
 struct answer {
-    uint32_t is_found, base, len, feed, pref, is_via, via;
+    uint32_t is_found, base, len, feed, preference, is_via, via;
 };
 
 static uint32_t (*blocks)[CHUNK], *entries, block_count;

@@ -19,7 +19,7 @@ struct Route {
     base: u32,
     len: u8,
     feed: u32,
-    pref: u32,
+    preference: u32,
     hop: Hop,
 }
 
@@ -78,8 +78,8 @@ impl Table {
         if before.is_some_and(|route| route.len == len) {
             return;
         }
-        let (feed, pref) = (1, number - 1);
-        self.answers[number as usize] = Some(Route { base, len, feed, pref, hop: Hop::Via(pref) });
+        let (feed, preference) = (1, number - 1);
+        self.answers[number as usize] = Some(Route { base, len, feed, preference, hop: Hop::Via(preference) });
         places.fill(number);
     }
 

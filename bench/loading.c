@@ -5,10 +5,9 @@
  *     bindings/build && gcc -O2 -I bindings/c bench/loading.c bindings/out/libyarib.a -pthread -o loading && ./loading 1000000 3 */
 #define _POSIX_C_SOURCE 200809L
 #include <pthread.h>
-#include <stdio.h>
+#include <routes.h>
 #include <stdlib.h>
 #include <time.h>
-#include <yarib.h>
 
 static yarib_command *commands;
 static size_t prefixes = 1000000;
@@ -49,8 +48,7 @@ static void draw_commands(void)
     for (size_t k = 0; k < prefixes; k++) {
         uint8_t len = length();
         uint32_t base = 0x01000000 + (uint32_t)((uint64_t)draw() * 0xdf000000 >> 32);
-        commands[k] = (yarib_command){.operation = YARIB_ADD, .feed = 1, .base = base >> (32 - len) << (32 - len), .len = len,
-                                      .pref = (uint32_t)k, .hop = YARIB_VIA, .via = draw() % 64};
+        commands[k] = put_command(YARIB_ADD, 1, base >> (32 - len) << (32 - len), len, (uint32_t)k, draw() % 64);
     }
 }
 
