@@ -15,7 +15,7 @@ import sys
 import zlib
 
 import chart
-from reading import Refused
+from reading import ROUTE_TEXT, Refused
 
 NAME = os.path.basename(sys.argv[0])
 TEMPLATE = pathlib.Path(__file__).resolve().parent / "page.html"
@@ -37,7 +37,7 @@ def columns(made, colourings):
     for side, answers in made.sides.items():
         four |= {f"{side}hop": answers.hops}
         if made.are_routes:
-            four |= {f"{side}pref": answers.prefs}
+            four |= {f"{side}{name}": numbers for name, numbers in answers.numbers.items()}
             one |= {f"{side}length": answers.lengths, f"{side}feed": answers.feeds}
     for colouring in colourings:
         one[f"class by {colouring.name}"] = colouring.classes
@@ -62,6 +62,7 @@ def page(title, kind, order, feeds, held, colourings):
         "kind": kind,
         "order": order,
         "feeds": feeds.texts,
+        "route": ROUTE_TEXT,
         "ways": chart.WAYS,
         "columns": [[name, column.itemsize, len(column)] for name, column in held.items()],
         "colourings": [vars(colouring) | {"classes": f"class by {colouring.name}"} for colouring in colourings],

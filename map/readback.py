@@ -73,8 +73,10 @@ class Page:
             return via if hop == 2 else f"via {via}"
         length = self.held[f"{side}length"][number]
         base = self.firsts[number] >> 32 - length << 32 - length
-        feed, pref = self.about["feeds"][self.held[f"{side}feed"][number]], self.held[f"{side}pref"][number]
-        return f"{text_of(base)}/{length} feed {feed} pref {pref} via {via}"
+        feed = self.about["feeds"][self.held[f"{side}feed"][number]]
+        parts = {"prefix": f"{text_of(base)}/{length}", "feed": feed, "via": via}
+        part = lambda found: parts.get(found[1]) or str(self.held[side + found[1]][number])
+        return re.sub(r"{(\w+)}", part, self.about["route"])
 
     def colours(self, number):
         """For each colouring the range's text in the legend."""

@@ -9,7 +9,7 @@ import typing
 from socket import AF_INET, inet_pton
 
 END = 1 << 32
-# the highest preference; the maximum number of feeds, of both sides of a comparison together
+# the highest of a route's numbers; the maximum number of feeds, of both sides of a comparison together
 GREATEST, MAX_FEEDS = END - 1, 128
 # bytes read at once; a longer line than the second isn't printed by yarib, also not with the longest paths
 BLOCK, LONGEST = 1 << 20, 1 << 16
@@ -26,7 +26,13 @@ NUMBER = struct.Struct(">I").unpack
 # the bits past a prefix of that length
 HOST_BITS = {str(length): (1 << 32 - length) - 1 for length in range(33)}
 MIXED = "some answers are next hops and some are routes: the input has more than one output"
-ROUTE = re.compile(r"feed ([^ \x00-\x1f\x7f]+) pref (0|[1-9][0-9]{0,9}) via (\S+)")
+# a route's numbers in the order in which they are printed, and what they are if no route is printed
+NUMBERS = ("pref",)
+NO_NUMBERS = (0,) * len(NUMBERS)
+# a route after its prefix, and a whole one
+ROUTE = re.compile(r"feed ([^ \x00-\x1f\x7f]+)" + "".join(f" {name} (0|[1-9][0-9]{{0,9}})" for name in NUMBERS)
+                   + r" via (\S+)")
+ROUTE_TEXT = "{prefix} feed {feed}" + "".join(f" {name} {{{name}}}" for name in NUMBERS) + " via {via}"
 
 
 class Refused(Exception):
@@ -97,17 +103,17 @@ class Feeds:
 
 
 class Answers:
-    """The answers of one table: for each range the next hop, and the route's prefix length, feed and preference."""
+    """The answers of one table: for each range the next hop, and the route's prefix length, feed and numbers."""
 
     def __init__(self, answers):
-        hops, lengths, feeds, prefs = (map(operator.itemgetter(part), answers) for part in range(4))
-        self.hops, self.prefs = array.array("I", hops), array.array("I", prefs)
-        self.lengths, self.feeds = array.array("B", lengths), array.array("B", feeds)
+        hops, lengths, feeds, *numbers = (map(operator.itemgetter(part), answers) for part in range(3 + len(NUMBERS)))
+        self.hops, self.lengths, self.feeds = array.array("I", hops), array.array("B", lengths), array.array("B", feeds)
+        self.numbers = {name: array.array("I", held) for name, held in zip(NUMBERS, numbers)}
 
 
 def without_route(hop):
     """An answer without a printed route."""
-    return hop, NO_LENGTH, NO_FEED, 0
+    return hop, NO_LENGTH, NO_FEED, *NO_NUMBERS
 
 
 class Ranges(typing.NamedTuple):
@@ -162,17 +168,19 @@ def route_reader(hops, feeds):
         found = ROUTE.fullmatch(text)
         if not found or "\ufffd" in text:
             raise ValueError
-        pref = int(found[2])
-        if pref > GREATEST:
+        feed, *numbers, hop = found.groups()
+        numbers = tuple(map(int, numbers))
+        if max(numbers) > GREATEST:
             raise Wrong(f"{shown(text)} has a number that is too high")
-        return hops.number(found[3]), feeds.number(found[1]), pref
+        return hops.number(hop), feeds.number(feed), *numbers
 
     return read
 
 
 # the members of an object that is a route, with the type of each; a feed's name comes before its file
-ROUTE_MEMBERS = {"prefix": str, "feed": int, "file": str, "pref": int, "via": (str, type(None))}
-NAMED_MEMBERS = {"prefix": str, "feed": int, "name": str, "file": str, "pref": int, "via": (str, type(None))}
+FURTHER_MEMBERS = {"file": str, **dict.fromkeys(NUMBERS, int), "via": (str, type(None))}
+ROUTE_MEMBERS = {"prefix": str, "feed": int, **FURTHER_MEMBERS}
+NAMED_MEMBERS = {"prefix": str, "feed": int, "name": str, **FURTHER_MEMBERS}
 
 
 def has_members(found, members):
@@ -195,7 +203,7 @@ def text_of_route(found):
     hop = hop_of_object(found)
     if not (has_members(found, ROUTE_MEMBERS) or has_members(found, NAMED_MEMBERS)):
         raise ValueError
-    return f"{found['prefix']} feed {found.get('name', found['feed'])} pref {found['pref']} via {hop}"
+    return ROUTE_TEXT.format_map(found | {"feed": found.get("name", found["feed"]), "via": hop})
 
 
 def text_of_answer(found):
@@ -261,12 +269,12 @@ def read_table(stream):
         nonlocal before
         prefix, _, rest = row_text(line).partition(" ")
         base, last, length = prefix_range(prefix)
-        hop, feed, pref = route(rest)
+        hop, feed, *numbers = route(rest)
         if (base, length) <= before:
             refuse_order(prefix, (base, length) == before)
         before = base, length
         close(base)
-        opened.append((last, (hop, length, feed, pref)))
+        opened.append((last, (hop, length, feed, *numbers)))
 
     rows = each(stream, take, "yarib table --best")
     close(END)
@@ -293,8 +301,8 @@ def answer_reader(hops, feeds):
         if prefix == "via":
             return without_route(hops.number(hop_address(rest))), None
         base, last, length = prefix_range(prefix)
-        hop, feed, pref = route(rest)
-        return (hop, length, feed, pref), (base, last)
+        hop, feed, *numbers = route(rest)
+        return (hop, length, feed, *numbers), (base, last)
 
     return read
 
@@ -332,7 +340,7 @@ def read_diff(stream):
     """The ranges of `yarib diff`, and those between them, which are answered as before."""
     hops, feeds, firsts, olds, news = Hops(), Feeds(), array.array("I"), [], []
     change = change_reader(hops, feeds)
-    same, at, are_routes = (UNCHANGED, SAME_LENGTH, SAME_FEED, 0), 0, None
+    same, at, are_routes = (UNCHANGED, SAME_LENGTH, SAME_FEED, *NO_NUMBERS), 0, None
 
     def append(first, old, new):
         firsts.append(first)
