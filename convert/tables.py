@@ -5,6 +5,7 @@ import re
 import sys
 
 import feeds
+from rows import ROW
 
 REPORT = re.compile(r"\d+:\d+ .+")
 # a report's text for a line whose route is not in the table
@@ -43,10 +44,10 @@ def route_of(line):
         route = json.loads(line)
         prefix, hop = feeds.member(route, "prefix", str), route.get("via")
         return prefix, feeds.DISCARD if hop is None and feeds.member(route, "discard", bool) else hop
-    prefix, feed, name, pref, preference, via, hop = line.split(" ")
-    if (feed, pref, via) != ("feed", "pref", "via") or not name or not preference.isdecimal():
+    found = ROW.fullmatch(line)
+    if found is None:
         raise ValueError
-    return prefix, hop
+    return found.groups()
 
 
 def best_routes(most, notes):

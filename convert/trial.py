@@ -11,6 +11,8 @@ import tempfile
 # what converters load, so that copies of this process have it
 import argparse, codecs, gc, json, shlex, shutil, signal, socket, typing
 
+from rows import row_text
+
 HERE = pathlib.Path(__file__).resolve().parent
 SAMPLES = HERE / "samples"
 # It is read, since feeds.py takes the name for its messages from the process that loads it.
@@ -70,11 +72,6 @@ def run_in_child(words, constants):
         print(repr(error), file=sys.stderr)
         status = 2
     os._exit(status)
-
-
-def row_text(prefix, hop, feed=1, preference=1):
-    """A line of a table."""
-    return f"{prefix} feed {feed} pref {preference} via {hop}"
 
 
 def table_of(sample):
