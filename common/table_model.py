@@ -65,7 +65,7 @@ class Table:
 
     def of_prefix(self, prefix):
         """The routes of a prefix: by preference, and of equal ones by feed."""
-        found = [(prefix, feed, pref, hop) for feed, (pref, hop) in self.offered.get(prefix, {}).items()]
+        found = [(prefix, feed, *offer) for feed, offer in self.offered.get(prefix, {}).items()]
         return sorted(found, key=lambda route: (int(route[2]), route[1]))
 
     def routes(self):
@@ -99,15 +99,18 @@ class Table:
         return list(map(shown, self.routes()))
 
 
+def route_text(prefix, feed=1, preference=1, hop="192.0.2.1"):
+    """A route as it is printed; the feed is its number or its name."""
+    return f"{prefix} feed {feed} pref {preference} via {hop}"
+
+
 def shown(route):
-    """A route as it is printed: (prefix, feed or its name, preference, hop)."""
-    prefix, feed, pref, hop = route
-    return f"{prefix} feed {feed} pref {pref} via {hop}"
+    return route_text(*route)
 
 
-def row(prefix, feed=1, preference=1, hop="192.0.2.1"):
+def row(*route):
     """The line of a route in a table."""
-    return shown((prefix, feed, preference, hop)) + "\n"
+    return shown(route) + "\n"
 
 
 def members(route, **more):

@@ -1,7 +1,7 @@
 """Worked runs, line by line, and whole replays: what the program writes for each."""
 from typing import NamedTuple
 
-from .table_model import table_text
+from .table_model import route_text, table_text
 
 
 class Worked(NamedTuple):
@@ -39,10 +39,10 @@ SIX = Worked(
         ("add 10.1.0.0/16 10 192.0.2.2", "added"),
         ("add 10.2.0.0/16 10 192.0.2.3", "added"),
         ("withdraw 10.1.0.0/16", "withdrawn"),
-        ("lookup 10.1.2.3", "route 10.0.0.0/8 feed 1 pref 10 via 192.0.2.1"),
+        ("lookup 10.1.2.3", "route " + route_text("10.0.0.0/8", 1, 10)),
         ("dump", "dumped 2"),
     ],
-    ["10.0.0.0/8 feed 1 pref 10 via 192.0.2.1", "10.2.0.0/16 feed 1 pref 10 via 192.0.2.3"],
+    [route_text("10.0.0.0/8", 1, 10), route_text("10.2.0.0/16", 1, 10, "192.0.2.3")],
 )
 
 WORKED = [
@@ -51,8 +51,8 @@ WORKED = [
     Worked(
         "one route",
         [("add 10.0.0.0/8 100 192.0.2.1", "added"),
-         ("lookup 10.1.2.3", "route 10.0.0.0/8 feed 1 pref 100 via 192.0.2.1")],
-        ["10.0.0.0/8 feed 1 pref 100 via 192.0.2.1"],
+         ("lookup 10.1.2.3", "route " + route_text("10.0.0.0/8", 1, 100))],
+        [route_text("10.0.0.0/8", 1, 100)],
     ),
     Worked(
         "the shortest and the longest prefix",
@@ -60,15 +60,12 @@ WORKED = [
             ("add 0.0.0.0/0 1 192.0.2.1", "added"),
             ("add 10.0.0.0/8 1 192.0.2.2", "added"),
             ("add 10.255.255.255/32 1 192.0.2.3", "added"),
-            ("lookup 10.255.255.255", "route 10.255.255.255/32 feed 1 pref 1 via 192.0.2.3"),
-            ("lookup 10.255.255.254", "route 10.0.0.0/8 feed 1 pref 1 via 192.0.2.2"),
-            ("lookup 11.0.0.0", "route 0.0.0.0/0 feed 1 pref 1 via 192.0.2.1"),
+            ("lookup 10.255.255.255", "route " + route_text("10.255.255.255/32", 1, 1, "192.0.2.3")),
+            ("lookup 10.255.255.254", "route " + route_text("10.0.0.0/8", 1, 1, "192.0.2.2")),
+            ("lookup 11.0.0.0", "route " + route_text("0.0.0.0/0")),
         ],
-        [
-            "0.0.0.0/0 feed 1 pref 1 via 192.0.2.1",
-            "10.0.0.0/8 feed 1 pref 1 via 192.0.2.2",
-            "10.255.255.255/32 feed 1 pref 1 via 192.0.2.3",
-        ],
+        [route_text("0.0.0.0/0"), route_text("10.0.0.0/8", 1, 1, "192.0.2.2"),
+         route_text("10.255.255.255/32", 1, 1, "192.0.2.3")],
     ),
     Worked("a bit past the length", [("add 10.0.0.1/8 1 192.0.2.1", "fault E5")]),
     Worked(
@@ -87,7 +84,7 @@ WORKED = [
             ("add 10.0.0.0/8 1 192.0.2.1", "exists"),
             ("add 11.0.0.0/8 1 192.0.2.1", "full"),
         ],
-        ["10.0.0.0/8 feed 1 pref 1 via 192.0.2.1"],
+        [route_text("10.0.0.0/8")],
         limit=1,
     ),
     Worked("what is not there", [("replace 10.0.0.0/8 1 192.0.2.1", "missing"), ("withdraw 10.0.0.0/8", "missing")]),
@@ -96,12 +93,12 @@ WORKED = [
         [
             ("add 128.0.0.0/1 1 192.0.2.1", "added"),
             ("add 0.0.0.0/1 1 192.0.2.2", "added"),
-            ("lookup 127.255.255.255", "route 0.0.0.0/1 feed 1 pref 1 via 192.0.2.2"),
+            ("lookup 127.255.255.255", "route " + route_text("0.0.0.0/1", 1, 1, "192.0.2.2")),
             ("withdraw 0.0.0.0/1", "withdrawn"),
             ("add 0.0.0.0/2 1 192.0.2.3", "added"),
             ("lookup 64.0.0.0", "no route"),
         ],
-        ["0.0.0.0/2 feed 1 pref 1 via 192.0.2.3", "128.0.0.0/1 feed 1 pref 1 via 192.0.2.1"],
+        [route_text("0.0.0.0/2", 1, 1, "192.0.2.3"), route_text("128.0.0.0/1")],
     ),
     Worked(
         "each fault but two",
@@ -124,9 +121,9 @@ WORKED = [
         [
             ("add 10.0.0.0/8 5 192.0.2.1", "added"),
             ("replace 10.0.0.0/8 9 192.0.2.2", "replaced"),
-            ("lookup 10.255.255.255", "route 10.0.0.0/8 feed 1 pref 9 via 192.0.2.2"),
+            ("lookup 10.255.255.255", "route " + route_text("10.0.0.0/8", 1, 9, "192.0.2.2")),
         ],
-        ["10.0.0.0/8 feed 1 pref 9 via 192.0.2.2"],
+        [route_text("10.0.0.0/8", 1, 9, "192.0.2.2")],
     ),
     Worked(
         "the tutorial's change",
@@ -136,7 +133,7 @@ WORKED = [
             ("replace 10.0.0.0/8 20 192.0.2.9", "replaced"),
             ("dump", "dumped 1"),
         ],
-        ["10.0.0.0/8 feed 1 pref 20 via 192.0.2.9"],
+        [route_text("10.0.0.0/8", 1, 20, "192.0.2.9")],
     ),
     Worked(
         "an aggregate whose addresses lead nowhere, but for one part of it; a purge takes out all that the feed has",
@@ -145,8 +142,8 @@ WORKED = [
             ("# note", None),
             ("add 10.0.0.0/8 5 discard", "added"),
             ("add 10.1.0.0/16 5 192.0.2.1", "added"),
-            ("lookup 10.1.0.1", "route 10.1.0.0/16 feed 1 pref 5 via 192.0.2.1"),
-            ("lookup 10.2.0.1", "route 10.0.0.0/8 feed 1 pref 5 via discard"),
+            ("lookup 10.1.0.1", "route " + route_text("10.1.0.0/16", 1, 5)),
+            ("lookup 10.2.0.1", "route " + route_text("10.0.0.0/8", 1, 5, "discard")),
             ("purge", "purged 2"),
             ("lookup 10.1.0.1", "no route"),
         ],
@@ -157,12 +154,12 @@ WORKED = [
             ("version 2", None),
             ("add 10.0.0.0/8 5 discard", "added"),
             ("add 10.1.0.0/16 5 192.0.2.1", "added"),
-            ("lookup 10.1.0.1", "route 10.1.0.0/16 feed 1 pref 5 via 192.0.2.1"),
-            ("lookup 10.2.0.1", "route 10.0.0.0/8 feed 1 pref 5 via discard"),
+            ("lookup 10.1.0.1", "route " + route_text("10.1.0.0/16", 1, 5)),
+            ("lookup 10.2.0.1", "route " + route_text("10.0.0.0/8", 1, 5, "discard")),
             ("replace 10.0.0.0/8 5 192.0.2.9", "replaced"),
-            ("lookup 10.2.0.1", "route 10.0.0.0/8 feed 1 pref 5 via 192.0.2.9"),
+            ("lookup 10.2.0.1", "route " + route_text("10.0.0.0/8", 1, 5, "192.0.2.9")),
         ],
-        ["10.0.0.0/8 feed 1 pref 5 via 192.0.2.9", "10.1.0.0/16 feed 1 pref 5 via 192.0.2.1"],
+        [route_text("10.0.0.0/8", 1, 5, "192.0.2.9"), route_text("10.1.0.0/16", 1, 5)],
     ),
     Worked(
         "a comment before the version",
@@ -190,7 +187,7 @@ WORKED = [
             ("purge", "purged 1"),
             ("add 11.0.0.0/8 1 192.0.2.1", "added"),
         ],
-        ["11.0.0.0/8 feed 1 pref 1 via 192.0.2.1"],
+        [route_text("11.0.0.0/8")],
         limit=1,
     ),
     Worked("a version with a carriage return", [("version 2\r", "fault E1"), ("purge", "fault E1")]),
@@ -201,16 +198,16 @@ WORKED = [
     Worked(
         "a version before a comment and a last line without LF",
         [("version 2", None), ("", None), ("# note", None), ("add 10.0.0.0/8 5 discard", "added")],
-        ["10.0.0.0/8 feed 1 pref 5 via discard"],
+        [route_text("10.0.0.0/8", 1, 5, "discard")],
         end="",
     ),
     Worked(
         "the least and the greatest preference",
         [
             ("add 10.0.0.0/8 4294967295 192.0.2.1", "added"),
-            ("lookup 10.0.0.1", "route 10.0.0.0/8 feed 1 pref 4294967295 via 192.0.2.1"),
+            ("lookup 10.0.0.1", "route " + route_text("10.0.0.0/8", 1, 4294967295)),
             ("replace 10.0.0.0/8 0 255.255.255.255", "replaced"),
-            ("lookup 10.0.0.1", "route 10.0.0.0/8 feed 1 pref 0 via 255.255.255.255"),
+            ("lookup 10.0.0.1", "route " + route_text("10.0.0.0/8", 1, 0, "255.255.255.255")),
             ("withdraw 10.0.0.0/8", "withdrawn"),
         ],
     ),

@@ -17,7 +17,7 @@ import re
 import tempfile
 
 from common import checks
-from common.table_model import MAX_FEEDS, Table, dotted, run_text
+from common.table_model import MAX_FEEDS, Table, dotted, run_text, shown
 from refusing import Wrong, agree, check_shown, refuse_each, refuser
 from texts import own_text, written
 
@@ -40,8 +40,7 @@ def reply_of(reply):
     """A reply of the crate's program as a feed's report has it."""
     reply = plain(reply)
     if reply.startswith("Found"):
-        prefix, feed, pref, hop = re.findall(r": ([^ ,()]+)", reply)
-        return f"route {prefix} feed {feed} pref {pref} via {hop}"
+        return f"route {shown(re.findall(r': ([^ ,()]+)', reply))}"
     if reply == "NoRoute":
         return "no route"
     return re.sub(r"\((\d+)\)", r" \1", reply).lower()
@@ -76,9 +75,9 @@ class Asked:
     def __init__(self, kinds):
         self.table, self.journal, self.told, self.kinds = Table(2), [], [], kinds
 
-    def answered(self, feed, command, reply):
-        agree(reply_of(reply), self.table.apply(feed, words_of(command)), command)
-        self.journal.append((feed, command, reply))
+    def answered(self, feed, words, reply):
+        agree(reply_of(reply), self.table.apply(feed, words), " ".join(words))
+        self.journal.append((feed, words, reply))
 
     def read_batch(self, feed, outcomes):
         """Reads the outcomes of a batch, which follow the outcomes reported before."""
@@ -89,12 +88,12 @@ class Asked:
             if outcome == "Refused":
                 self.kinds.add("a command of a batch")
             else:
-                self.answered(feed, command, outcome[4:-1])
+                self.answered(feed, command.split(), outcome[4:-1])
         self.told = outcomes
 
     def read(self, line):
         if one := re.fullmatch(r"feed (\d+) (.*) Ok\((.*)\)", line):
-            self.answered(int(one[1]), one[2], one[3])
+            self.answered(int(one[1]), words_of(one[2]), one[3])
         elif one := re.fullmatch(r"feed \d+ (\w+).* Err\(Refused\)", line):
             self.kinds.add("SharedRib::apply " + one[1])
         elif one := re.fullmatch(r"batch of feed (\d+) Err\(Refused\) \[(.*)\]", line):
@@ -107,8 +106,9 @@ class Asked:
         elif line.startswith("room"):
             agree(line, "room Ok(())", "the room")
         elif line.startswith("journal"):
-            feed, command, reply = self.journal.pop(0) if self.journal else (0, "nothing", "")
-            agree(line, f"journal feed {feed} {command} {reply}", "the journal")
+            feed, words, reply = self.journal.pop(0) if self.journal else (0, ["nothing"], "")
+            command = line.removeprefix(f"journal feed {feed} ").removesuffix(f" {reply}")
+            agree((line, words_of(command)), (f"journal feed {feed} {command} {reply}", words), "the journal")
         elif line.startswith("routes"):
             agree(routes_of(line), self.table.listed(), "the routes")
         else:
@@ -132,11 +132,8 @@ def check_table(lines, ample, kinds):
     agree(asked.journal, [], "entries that the journal has not")
 
 
-BATCH = [
-    "Add { prefix: Prefix { base: 167903232, len: 16 }, pref: 1, hop: Discard }",
-    "Lookup { addr: Addr(167903233) }",
-    "Dump",
-]
+# As in bench/benches/src/growth/table.rt.in.
+BATCH = ["add 10.2.0.0/16 1 discard", "lookup 10.2.0.1", "dump"]
 
 
 def outcomes_of(text):
