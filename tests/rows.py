@@ -19,7 +19,8 @@ import time
 from typing import NamedTuple
 
 from common.checks import chosen, compare, end, expect, is_unproved, run_each
-from common.table_model import E1, E3, E8, MAX_FEEDS, TOO_MANY_FILES, Table, dotted, run_text, table_text
+from common.table_model import (E1, E3, E8, MAX_FEEDS, TOO_MANY_FILES, Table, dotted, json_text, members, route_text,
+                                run_text, table_text)
 from common.worked import REPLAYS, SIX, WORKED, report
 import linearizability
 from schedules import in_turns
@@ -54,7 +55,7 @@ def every_batch_size(yarib):
 def hundreds_of_thousands_of_lines(yarib):
     prefixes = [f"10.{at >> 16}.{at >> 8 & 255}.{at & 255}/32" for at in range(200_000)]
     text = "".join(f"add {prefix} 7 192.0.2.1\n" for prefix in prefixes)
-    rows = [f"{prefix} feed 1 pref 7 via 192.0.2.1" for prefix in prefixes]
+    rows = [route_text(prefix, 1, 7) for prefix in prefixes]
     wanted = report(1, ["added"] * 200_000) + table_text(rows)
     compare("200,000 routes", run_texts(yarib, [text], ["--limit", "200000"]), 0, wanted)
 
@@ -167,7 +168,7 @@ NO_ADDRESS = [
 def addresses(yarib):
     pathlib.Path("each.feed").write_text("".join(f"add {address}/32 1 192.0.2.1\n"
                                                  for address in ["1.2.3.4", *ADDRESSES]))
-    found = lambda address: f"{address} route {address}/32 feed 1 pref 1 via 192.0.2.1\n"
+    found = lambda address: f"{address} route {route_text(f'{address}/32')}\n"
 
     def asked(lines):
         pathlib.Path("asked.txt").write_bytes("\n".join(lines).encode())
@@ -192,33 +193,33 @@ OFFERS = {
     MAX_FEEDS: "version 2\nadd 10.0.0.0/8 4294967295 discard\nadd 128.0.0.0/1 0 discard\n",
 }
 
-FOUND = f"""10.1.2.3 route 10.1.0.0/16 feed 1 pref 70 via 192.0.2.4
-10.255.255.255 route 10.0.0.0/8 feed 1 pref 5 via 192.0.2.1
-11.0.0.0 route 0.0.0.0/0 feed 1 pref 0 via 192.0.2.3
-255.255.255.255 route 128.0.0.0/1 feed {MAX_FEEDS} pref 0 via discard
+# Their routes as they are printed, those to 10.0.0.0/8 by feed.
+ALL, PART = route_text("0.0.0.0/0", 1, 0, "192.0.2.3"), route_text("10.1.0.0/16", 1, 70, "192.0.2.4")
+TEN_OF_1, TEN_OF_2 = route_text("10.0.0.0/8", 1, 5), route_text("10.0.0.0/8", 2, 5)
+TEN_OF_LAST = route_text("10.0.0.0/8", MAX_FEEDS, 4294967295, "discard")
+UPPER = route_text("128.0.0.0/1", MAX_FEEDS, 0, "discard")
+
+FOUND = f"""10.1.2.3 route {PART}
+10.255.255.255 route {TEN_OF_1}
+11.0.0.0 route {ALL}
+255.255.255.255 route {UPPER}
 """
 
-ALL_FOUND = f"""10.1.2.3 route 10.1.0.0/16 feed 1 pref 70 via 192.0.2.4
-10.1.2.3 also 10.0.0.0/8 feed 1 pref 5 via 192.0.2.1 shorter
-10.1.2.3 also 10.0.0.0/8 feed 2 pref 5 via 192.0.2.1 shorter
-10.1.2.3 also 10.0.0.0/8 feed {MAX_FEEDS} pref 4294967295 via discard shorter
-10.1.2.3 also 0.0.0.0/0 feed 1 pref 0 via 192.0.2.3 shorter
-10.255.255.255 route 10.0.0.0/8 feed 1 pref 5 via 192.0.2.1
-10.255.255.255 also 10.0.0.0/8 feed 2 pref 5 via 192.0.2.1 feed
-10.255.255.255 also 10.0.0.0/8 feed {MAX_FEEDS} pref 4294967295 via discard preference
-10.255.255.255 also 0.0.0.0/0 feed 1 pref 0 via 192.0.2.3 shorter
-11.0.0.0 route 0.0.0.0/0 feed 1 pref 0 via 192.0.2.3
-255.255.255.255 route 128.0.0.0/1 feed {MAX_FEEDS} pref 0 via discard
-255.255.255.255 also 0.0.0.0/0 feed 1 pref 0 via 192.0.2.3 shorter
+ALL_FOUND = f"""10.1.2.3 route {PART}
+10.1.2.3 also {TEN_OF_1} shorter
+10.1.2.3 also {TEN_OF_2} shorter
+10.1.2.3 also {TEN_OF_LAST} shorter
+10.1.2.3 also {ALL} shorter
+10.255.255.255 route {TEN_OF_1}
+10.255.255.255 also {TEN_OF_2} feed
+10.255.255.255 also {TEN_OF_LAST} preference
+10.255.255.255 also {ALL} shorter
+11.0.0.0 route {ALL}
+255.255.255.255 route {UPPER}
+255.255.255.255 also {ALL} shorter
 """
 
-ALL_ROWS = f"""0.0.0.0/0 feed 1 pref 0 via 192.0.2.3
-10.0.0.0/8 feed 1 pref 5 via 192.0.2.1
-10.0.0.0/8 feed 2 pref 5 via 192.0.2.1
-10.0.0.0/8 feed {MAX_FEEDS} pref 4294967295 via discard
-10.1.0.0/16 feed 1 pref 70 via 192.0.2.4
-128.0.0.0/1 feed {MAX_FEEDS} pref 0 via discard
-"""
+ALL_ROWS = "".join(f"{row}\n" for row in (ALL, TEN_OF_1, TEN_OF_2, TEN_OF_LAST, PART, UPPER))
 
 
 # Catches `write_lookup`, `write_all_matches` or `write_routes` failing at once.
@@ -262,9 +263,7 @@ def offered_by(paths):
 
 def object_of(route, reason=None):
     """The JSON object for this route of the text output; feed k was read from the k-th path."""
-    prefix, _, feed, _, pref, _, hop = route
-    way = {"via": None, "discard": True} if hop == "discard" else {"via": hop}
-    return {"prefix": prefix, "feed": int(feed), "pref": int(pref), **way, **({"reason": reason} if reason else {})}
+    return members(route[::2]) | ({"reason": reason} if reason else {})
 
 
 def objects_of(command, out):
@@ -326,11 +325,9 @@ def answers_as_json(yarib):
     compare("no route of a look-up as JSON", none, 0, '{"address":"10.1.2.3","route":null}\n')
     compare("no row as JSON", yarib("table", "--json", *empty), 0, "")
     rows = yarib("table", "--json", *offered_by(["east.feed"]))
-    compare("rows as JSON, to the byte", rows, 0, (
-        '{"prefix":"0.0.0.0/0","feed":1,"file":"east.feed","pref":0,"via":"192.0.2.3"}\n'
-        '{"prefix":"10.0.0.0/8","feed":1,"file":"east.feed","pref":5,"via":null,"discard":true}\n'
-        '{"prefix":"10.1.0.0/16","feed":1,"file":"east.feed","pref":70,"via":"192.0.2.4"}\n'
-    ))
+    routes = [("0.0.0.0/0", 1, 0, "192.0.2.3"), ("10.0.0.0/8", 1, 5, "discard"), ("10.1.0.0/16", 1, 70, "192.0.2.4")]
+    wanted = "".join(json_text(members(route, file="east.feed")) + "\n" for route in routes)
+    compare("rows as JSON, to the byte", rows, 0, wanted)
 
 
 # Catches another feed's name in a feed's place.
@@ -398,8 +395,8 @@ def address_fault(text, _version):
 
 
 def preference_fault(text, _version):
-    pref = decimal(text)
-    return 6 if pref is None or pref >= 2**32 else None
+    number = decimal(text)
+    return 6 if number is None or number >= 2**32 else None
 
 
 def hop_fault(text, version):
@@ -420,16 +417,16 @@ def around(said):
     other = lambda prefix: (f"add {prefix} 7 203.0.113.7", "added")
     gone = lambda prefix: (f"withdraw {prefix}", "withdrawn")
     if name in ("add", "replace"):
-        prefix, pref, hop = fields
-        shown = f"route {prefix} feed 1 pref {pref} via {hop}"
+        prefix, *offer = fields
+        found = f"route {route_text(prefix, 1, *offer)}"
         before = [other(prefix)] if name == "replace" else []
-        return before, "added" if name == "add" else "replaced", [(f"lookup {prefix.split('/')[0]}", shown),
+        return before, "added" if name == "add" else "replaced", [(f"lookup {prefix.split('/')[0]}", found),
                                                                   gone(prefix)]
     if name == "withdraw":
         return [other(fields[0])], "withdrawn", [("dump", "dumped 0")]
     if name == "lookup":
         host, rest = f"{fields[0]}/32", "0.0.0.0/0"
-        return [other(rest), other(host)], f"route {host} feed 1 pref 7 via 203.0.113.7", [gone(rest), gone(host)]
+        return [other(rest), other(host)], f"route {route_text(host, 1, 7, '203.0.113.7')}", [gone(rest), gone(host)]
     if name == "purge":
         return [other("10.0.0.0/8")], "purged 1", [("dump", "dumped 0")]
     return [other("10.0.0.0/8")], "dumped 1", [gone("10.0.0.0/8")]
@@ -528,17 +525,17 @@ FEEDS = [
     (
         ["add 10.0.0.0/8 5 192.0.2.1\n", "add 10.0.0.0/8 5 192.0.2.2\n"],
         [["added"], ["added"]],
-        ["10.0.0.0/8 feed 1 pref 5 via 192.0.2.1", "10.0.0.0/8 feed 2 pref 5 via 192.0.2.2"],
+        [route_text("10.0.0.0/8", 1, 5), route_text("10.0.0.0/8", 2, 5, "192.0.2.2")],
     ),
     (
         ["add 10.0.0.0/8 7 192.0.2.1\n", "add 10.0.0.0/8 5 192.0.2.2\n"],
         [["added"], ["added"]],
-        ["10.0.0.0/8 feed 2 pref 5 via 192.0.2.2", "10.0.0.0/8 feed 1 pref 7 via 192.0.2.1"],
+        [route_text("10.0.0.0/8", 2, 5, "192.0.2.2"), route_text("10.0.0.0/8", 1, 7)],
     ),
     (
         ["version 2\nadd 10.0.0.0/8 1 192.0.2.1\npurge\n", "add 10.0.0.0/8 2 192.0.2.2\npurge\n"],
         [[None, "added", "purged 1"], ["added", "fault E1"]],
-        ["10.0.0.0/8 feed 2 pref 2 via 192.0.2.2"],
+        [route_text("10.0.0.0/8", 2, 2, "192.0.2.2")],
     ),
 ]
 
@@ -562,7 +559,7 @@ def a_place_for_each_feed(yarib):
     # The minimum and the maximum number of feeds for each height of the lock's tree.
     for count in sorted({1, *PLACES, *(places + 1 for places in PLACES[:-1])}):
         feeds = range(1, count + 1)
-        rows = [f"10.0.0.0/8 feed {feed} pref 5 via 192.0.2.{feed}" for feed in feeds]
+        rows = [route_text("10.0.0.0/8", feed, 5, f"192.0.2.{feed}") for feed in feeds]
         ended = run_texts(yarib, [f"add 10.0.0.0/8 5 192.0.2.{feed}\n" for feed in feeds])
         compare(f"{count} feeds", ended, 0, "".join(report(feed, ["added"]) for feed in feeds) + table_text(rows))
 
@@ -619,7 +616,7 @@ def a_thousand_routes_of_two_feeds(yarib):
     """Two feeds add 500 routes each at the same time; each finds its own, and the table has all."""
     base = lambda feed, at: f"{feed}.{at >> 8}.{at & 255}.0"
     lines = lambda feed: (f"add {base(feed, at)}/24 {at} 192.0.2.1\nlookup {base(feed, at)}\n" for at in range(500))
-    rows = {feed: [f"{base(feed, at)}/24 feed {feed} pref {at} via 192.0.2.1" for at in range(500)] for feed in (1, 2)}
+    rows = {feed: [route_text(f"{base(feed, at)}/24", feed, at) for at in range(500)] for feed in (1, 2)}
     reports = [report(feed, [answer for row in rows[feed] for answer in ("added", f"route {row}")]) for feed in (1, 2)]
     for batch in (1, 3, 7, 256):
         ended = run_texts(yarib, ["".join(lines(1)), "".join(lines(2))], ["--limit", "500", "--batch", str(batch)])
@@ -753,8 +750,7 @@ def no_order_explains_what_was_changed(yarib):
 COMES_AND_GOES = ["add 10.0.0.0/8 1 192.0.2.1\nwithdraw 10.0.0.0/8\n", "dump\n"]
 ASKED_TWICE = ["add 10.0.0.0/8 1 192.0.2.1\n", "lookup 10.1.2.3\nlookup 10.1.2.3\n"]
 EACH_OTHER = ["lookup 10.0.0.1\nadd 11.0.0.0/8 1 192.0.2.1\n", "lookup 11.0.0.1\nadd 10.0.0.0/8 2 192.0.2.2\n"]
-TEN, ELEVEN = "10.0.0.0/8 feed 1 pref 1 via 192.0.2.1", "11.0.0.0/8 feed 1 pref 1 via 192.0.2.1"
-OTHER_TEN = "10.0.0.0/8 feed 2 pref 2 via 192.0.2.2"
+TEN, ELEVEN, OTHER_TEN = route_text("10.0.0.0/8"), route_text("11.0.0.0/8"), route_text("10.0.0.0/8", 2, 2, "192.0.2.2")
 
 # Texts, how many commands are executed at once, the lines of an output, and whether some order of batches explains it.
 JUDGED = [
