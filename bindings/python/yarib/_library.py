@@ -28,24 +28,16 @@ CODES = ("unanswered", "added", "exists", "full", "replaced", "withdrawn", "miss
          "dumped", "purged")
 
 
-class RawRoute(ctypes.Structure):
-    _fields_ = [("base", ctypes.c_uint32), ("pref", ctypes.c_uint32), ("via", ctypes.c_uint32),
-                ("feed", ctypes.c_uint32), ("len", ctypes.c_uint8), ("hop", ctypes.c_uint8)]
-
-
 class RawSelection(ctypes.Structure):
     _fields_ = [("part", ctypes.c_uint32), ("feed", ctypes.c_uint32), ("base", ctypes.c_uint32),
                 ("len", ctypes.c_uint8), ("only_best", ctypes.c_uint8)]
 
 
-class RawDifference(ctypes.Structure):
-    _fields_ = [("first", ctypes.c_uint32), ("last", ctypes.c_uint32), ("before", RawRoute), ("after", RawRoute)]
-
-
 # The header's structures: base, preference, router, feed, length and hop of a route; operation, feed, base, preference, router,
-# length and hop of a command; code and count of a reply, and its route.
+# length and hop of a command; code and count of a reply, and its route; first and last address of a difference, and two routes.
 ROUTE, COMMAND, REPLY = struct.Struct("=IIIIBBxx"), struct.Struct("=IIIIIBBxx"), struct.Struct("=IIIIIIBBxx")
 ENTRY, PREFIX, ADDRESS = struct.Struct("=IIIIIBBxxIIIIIIBBxx"), struct.Struct("=IBxxx"), struct.Struct("=I")
+DIFFERENCE = struct.Struct("=IIIIIIBBxxIIIIBBxx")
 
 NUMBER, SIZE, POINTER = ctypes.c_uint32, ctypes.c_size_t, ctypes.c_void_p
 CALLS: Dict[str, Tuple[Any, ...]] = {

@@ -630,15 +630,17 @@ class Table(Routes):
             return
         if by not in ("hop", "route"):
             raise Invalid(f"yarib: {by!r} is not \"hop\" or \"route\"")
-        kind, told = {"hop": (0, hop_of), "route": (1, whole_route)}[by]
-        raw, first = c.RawDifference(), 0
-        while first < 1 << 32:
-            status = status_of(held.yarib_first_difference, self._at, other._at, kind, first, ctypes.byref(raw))
+        kinds: Dict[str, Tuple[int, Callable[..., object]]] = {"hop": (0, hop_of), "route": (1, route_of)}
+        kind, told = kinds[by]
+        raw, place = ctypes.create_string_buffer(c.DIFFERENCE.size), 0
+        while place <= LAST:
+            status = status_of(held.yarib_first_difference, self._at, other._at, kind, place, raw)
             if status == c.NONE_LEFT:
                 return
             check(status)
-            yield Difference(raw.first, raw.last, told(raw.before), told(raw.after))
-            first = raw.last + 1
+            first, last, *routes = c.DIFFERENCE.unpack(raw)
+            yield Difference(first, last, told(*routes[:6]), told(*routes[6:]))
+            place = last + 1
 
     def forward(self) -> Forwarding:
         """Returns a forwarding table with the current answers of this table."""
@@ -705,12 +707,9 @@ def restored(limit: int, journal: bool, commands: List[Sequence[Any]]) -> Table:
     return table
 
 
-def whole_route(raw: Any) -> Optional[Route]:
-    return route_of(raw.base, raw.pref, raw.via, raw.feed, raw.len, raw.hop)
-
-
-def hop_of(raw: Any) -> object:
-    return False if raw.hop == c.NO_ROUTE else ADDRESS(raw.via) if raw.hop == c.VIA else None
+def hop_of(*fields: int) -> object:
+    answer = route_of(*fields)
+    return False if answer is None else answer.next_hop
 
 
 class Forwarding(Handle):
