@@ -178,14 +178,14 @@ GO = {name: ("yarib.go", *texts) for name, texts in {
     "load skips a last line without its end": ("case line != \"\" && line[0]", "case ended == nil && line != \"\" && line[0]"),
     "load counts lines from 0": ("&LineError{number, line, err}", "&LineError{number - 1, line, err}"),
     "load accepts long comments": ("len(line) > maxLine:", "len(line) > maxLine+1:"),
+}.items()} | {name: ("yarib.go", *texts) for name, texts in {
+    "every table is followed": ("return attached == 1, err", "return attached < 2, err"),
     "load accepts other forms of a preference": ("strconv.FormatUint(pref, 10) != fields[2]", "pref > 1<<32"),
     "load accepts discard in version 1": ('fields[3] != "discard" || !hasDiscard', 'fields[3] != "discard"'),
     "a source uses one feed": ("uint64(source.feeds)>>32", "uint64(source.feeds)>>63"),
     "a source deals otherwise": ("2654435769", "2654435761"),
     "a source purges its first feed": ("source.first+source.feeds; feed++", "source.first+1; feed++"),
     "a source lists other feeds": ("if source.first <= route.Feed && ", "if "),
-}.items()} | {name: ("yarib.go", *texts) for name, texts in {
-    "every table is followed": ("return attached == 1, err", "return attached < 2, err"),
 }.items()}
 
 RUST = {name: ("src/lib.rs", *texts) for name, texts in {

@@ -4,8 +4,6 @@ import (
 	"bufio"
 	"fmt"
 	"io"
-	"net/netip"
-	"strconv"
 	"strings"
 )
 
@@ -43,7 +41,7 @@ func (table *common) Save(to io.Writer, feed uint32) error {
 	writer := bufio.NewWriter(to)
 	fmt.Fprintln(writer, version)
 	for _, route := range routes {
-		fmt.Fprintf(writer, "add %v %d %v\n", route.Prefix, route.Pref, route.Hop)
+		fmt.Fprintln(writer, route.line())
 	}
 	return writer.Flush()
 }
@@ -77,107 +75,11 @@ func (table *common) Load(from io.Reader, feed uint32) (int, error) {
 }
 
 func (table *common) loadLine(line string, feed uint32, hasDiscard bool) error {
-	fields := strings.Split(line, " ")
-	if len(fields) != 4 || fields[0] != "add" {
-		return ErrLine
-	}
-	prefix, err := ParsePrefix(fields[1])
+	command, err := parseAdd(line, hasDiscard)
 	if err != nil {
 		return err
 	}
-	pref, err := strconv.ParseUint(fields[2], 10, 32)
-	if err != nil || strconv.FormatUint(pref, 10) != fields[2] {
-		return ErrLine
-	}
-	hop := Discard
-	if fields[3] != "discard" || !hasDiscard {
-		router, err := parseAddress(fields[3])
-		if err != nil {
-			return ErrLine
-		}
-		hop = Via(router)
-	}
-	_, err = table.Add(feed, prefix, uint32(pref), hop)
+	command.Feed = feed
+	_, err = table.done(command)
 	return err
-}
-
-// Source is a source of more routes than a feed may have, in consecutive feeds of a table. Each prefix belongs to exactly one of the
-// feeds, so the table's answers are those of a single feed without its limit, but for the feed's number. ErrFull is returned as soon
-// as the feed of the prefix is at its limit: usually about 1,990,000 routes fit into two feeds of MaxLimit. The methods of the zero Source
-// return ErrClosed.
-type Source struct {
-	table        common
-	first, feeds uint32
-}
-
-// NewSource returns a source in this many feeds of a table, from the first one on. No other caller may change these feeds.
-func NewSource(table AnyTable, first, feeds uint32) (Source, error) {
-	if first < 1 || feeds < 1 || first > MaxFeed || feeds > MaxFeed+1-first {
-		return Source{}, about(ErrNumber, "%d feeds from feed %d on, of %d", feeds, first, MaxFeed)
-	}
-	return Source{table.shared(), first, feeds}, nil
-}
-
-// FeedOf returns the feed that a prefix belongs to, and the source's first feed if the prefix isn't IPv4.
-func (source Source) FeedOf(prefix netip.Prefix) uint32 {
-	base, length, isRight := numbersOf(prefix)
-	if !isRight {
-		return source.first
-	}
-	mixed := (uint32(base) + uint32(length)) * 2654435769
-	return source.first + uint32(uint64(mixed)*uint64(source.feeds)>>32)
-}
-
-// Add adds a route. It returns ErrExists or ErrFull if nothing changed.
-func (source Source) Add(prefix netip.Prefix, pref uint32, hop Hop) (Reply, error) {
-	return source.table.Add(source.FeedOf(prefix), prefix, pref, hop)
-}
-
-// Replace changes preference and next hop of the source's route. It returns ErrMissing if the source has no route to the prefix.
-func (source Source) Replace(prefix netip.Prefix, pref uint32, hop Hop) (Reply, error) {
-	return source.table.Replace(source.FeedOf(prefix), prefix, pref, hop)
-}
-
-// Put adds a route, or changes the source's route to this prefix. It returns ErrFull if nothing changed.
-func (source Source) Put(prefix netip.Prefix, pref uint32, hop Hop) (Reply, error) {
-	return source.table.Put(source.FeedOf(prefix), prefix, pref, hop)
-}
-
-// Withdraw removes the source's route. It returns ErrMissing if the source has no route to the prefix.
-func (source Source) Withdraw(prefix netip.Prefix) (Reply, error) {
-	return source.table.Withdraw(source.FeedOf(prefix), prefix)
-}
-
-// Purge removes all routes of the source and returns their number.
-func (source Source) Purge() (int, error) {
-	count := 0
-	if source.feeds == 0 {
-		return 0, ErrClosed
-	}
-	for feed := source.first; feed < source.first+source.feeds; feed++ {
-		reply, err := source.table.Apply(Command{Operation: Purge, Feed: feed})
-		if err != nil {
-			return count, err
-		}
-		count += int(reply.Count)
-	}
-	return count, nil
-}
-
-// Routes returns the routes of the source, sorted by base and length.
-func (source Source) Routes() ([]Route, error) {
-	if source.feeds == 0 {
-		return nil, ErrClosed
-	}
-	routes := []Route{}
-	err := source.table.Walk(Place{}, func(route Route) bool {
-		if source.first <= route.Feed && route.Feed < source.first+source.feeds {
-			routes = append(routes, route)
-		}
-		return true
-	})
-	if err != nil {
-		return nil, err
-	}
-	return routes, nil
 }
