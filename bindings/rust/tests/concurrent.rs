@@ -1,6 +1,9 @@
 //! Threads that read a concurrent table while one changes it.
 //!
 //! Table k has routes to `PREFIXES` prefixes, all with the next hop k. If k is odd, each prefix also has a longer one in it.
+mod routes;
+
+use routes::route;
 use std::net::Ipv4Addr;
 use std::sync::atomic::{AtomicBool, AtomicU32, Ordering};
 use std::thread;
@@ -50,14 +53,9 @@ fn publish(table: &ConcurrentTable, k: u32) {
 /// Returns the routes of table k, in order.
 fn published(k: u32) -> Vec<Route> {
     let lengths: &[u8] = if k % 2 == 1 { &[8, 16] } else { &[8] };
-    let route = |j, len| Route {
-        prefix: prefix(j, len),
-        feed: 1,
-        pref: 0,
-        hop: via(k),
-    };
+    let published = |j, len| route(prefix(j, len), 1, 0, via(k));
     (0..PREFIXES)
-        .flat_map(|j| lengths.iter().map(move |len| route(j, *len)))
+        .flat_map(|j| lengths.iter().map(move |len| published(j, *len)))
         .collect()
 }
 
@@ -298,23 +296,23 @@ fn a_source_is_the_same_in_both_tables() {
             .wrapping_mul(6_364_136_223_846_793_005)
             .wrapping_add(1_442_695_040_888_963_407);
         let drawn = u32::try_from(state >> 33).unwrap();
-        let (one, pref, hop) = (
+        let (one, preference, hop) = (
             prefix(drawn % 150, 8 + u8::from(drawn % 7 == 0)),
             drawn % 11,
             via(drawn % 13),
         );
         let (found, wanted) = match drawn / 1024 % 16 {
             0..=6 => (
-                own.add(one, pref, hop),
-                source.add(&mut table, one, pref, hop),
+                own.add(one, preference, hop),
+                source.add(&mut table, one, preference, hop),
             ),
             7..=9 => (
-                own.put(one, pref, hop),
-                source.put(&mut table, one, pref, hop),
+                own.put(one, preference, hop),
+                source.put(&mut table, one, preference, hop),
             ),
             10..=11 => (
-                own.replace(one, pref, hop),
-                source.replace(&mut table, one, pref, hop),
+                own.replace(one, preference, hop),
+                source.replace(&mut table, one, preference, hop),
             ),
             12..=14 => (own.withdraw(one), source.withdraw(&mut table, one)),
             _ if drawn / 65536 % 8 > 0 => continue,

@@ -1,8 +1,10 @@
 //! Random commands beside a model of the table in plain Rust, and what the crate adds to the library's calls.
 #![allow(clippy::cast_possible_truncation, clippy::too_many_lines)]
 
+mod routes;
+
+use routes::{adding, line, place, rank, route, shown};
 use std::collections::{BTreeMap, BTreeSet};
-use std::fmt::Write;
 use std::net::Ipv4Addr;
 use std::sync::atomic::{AtomicBool, Ordering};
 use std::sync::RwLock;
@@ -66,44 +68,32 @@ impl Model {
             let past = 32 - u32::from(prefix.len());
             u64::from(u32::from(prefix.base())) >> past == u64::from(address) >> past
         };
-        let rank = |route: &&Route| (32 - route.prefix.len(), route.pref, route.feed);
         self.routes
             .values()
             .filter(|route| covers(route.prefix))
-            .min_by_key(rank)
+            .min_by_key(|route| rank(route))
             .copied()
     }
 
     fn apply(&mut self, feed: u32, command: Command) -> Reply {
         let own = self.routes.keys().filter(|key| key.1 == feed).count();
         match command {
-            Command::Add(prefix, pref, hop) => {
+            Command::Add(prefix, preference, hop) => {
                 if self.routes.contains_key(&(prefix, feed)) {
                     return Reply::Exists;
                 }
                 if own >= self.limit {
                     return Reply::Full;
                 }
-                self.routes.insert(
-                    (prefix, feed),
-                    Route {
-                        prefix,
-                        feed,
-                        pref,
-                        hop,
-                    },
-                );
+                self.routes
+                    .insert((prefix, feed), route(prefix, feed, preference, hop));
                 Reply::Added
             }
-            Command::Replace(prefix, pref, hop) => match self.routes.get_mut(&(prefix, feed)) {
+            Command::Replace(prefix, preference, hop) => match self.routes.get_mut(&(prefix, feed))
+            {
                 None => Reply::Missing,
-                Some(route) => {
-                    *route = Route {
-                        prefix,
-                        feed,
-                        pref,
-                        hop,
-                    };
+                Some(old) => {
+                    *old = route(prefix, feed, preference, hop);
                     Reply::Replaced
                 }
             },
@@ -125,7 +115,7 @@ impl Model {
 
     fn listed(&self) -> Vec<Route> {
         let mut routes: Vec<Route> = self.routes.values().copied().collect();
-        routes.sort_by_key(|route| (route.prefix, route.pref, route.feed));
+        routes.sort_by_key(place);
         routes
     }
 }
@@ -165,7 +155,7 @@ fn replies_and_routes_are_the_models() {
         assert_eq!(plain.count().unwrap(), model.routes.len());
         check_parts(&|asked| plain.select(asked), &model, &mut draw);
         check_pages(
-            &|prefix, pref, feed| plain.routes_from(prefix, pref, feed),
+            &|prefix, preference, feed| plain.routes_from(prefix, preference, feed),
             &model,
             &mut draw,
         );
@@ -189,7 +179,7 @@ fn replies_and_routes_are_the_models() {
         for (address, best) in addresses.iter().zip(&wanted).take(20) {
             let mut listed = model.listed();
             listed.retain(|route| route.prefix.contains(Ipv4Addr::from(*address)));
-            listed.sort_by_key(|route| (32 - route.prefix.len(), route.pref, route.feed));
+            listed.sort_by_key(rank);
             let found = plain.look_up_all(Ipv4Addr::from(*address)).unwrap();
             assert_eq!((found.first(), &found), (best.as_ref(), &listed));
         }
@@ -246,12 +236,12 @@ fn check_pages<'a>(
     draw: &mut Draw,
 ) {
     for _ in 0..20 {
-        let place = (draw.prefix(), draw.below(4), draw.below(7));
+        let from = (draw.prefix(), draw.below(4), draw.below(7));
         let mut wanted = model.listed();
-        wanted.retain(|route| (route.prefix, route.pref, route.feed) >= place);
-        let pages = routes_from(place.0, place.1, place.2);
+        wanted.retain(|route| place(route) >= from);
+        let pages = routes_from(from.0, from.1, from.2);
         let found: Vec<Route> = pages.map(Result::unwrap).collect();
-        assert_eq!(found, wanted, "{place:?}");
+        assert_eq!(found, wanted, "{from:?}");
     }
 }
 
@@ -275,8 +265,10 @@ fn a_concurrent_table_answers_as_the_model() {
         for _ in 0..rounds {
             let (feed, command) = (1 + draw.below(5), draw.command());
             let found = match command {
-                Command::Add(prefix, pref, hop) => table.add(feed, prefix, pref, hop),
-                Command::Replace(prefix, pref, hop) => table.replace(feed, prefix, pref, hop),
+                Command::Add(prefix, preference, hop) => table.add(feed, prefix, preference, hop),
+                Command::Replace(prefix, preference, hop) => {
+                    table.replace(feed, prefix, preference, hop)
+                }
                 Command::Withdraw(prefix) => table.withdraw(feed, prefix),
                 other => table.apply(feed, other),
             };
@@ -299,18 +291,18 @@ fn a_concurrent_table_answers_as_the_model() {
                 })
                 .collect();
             assert_eq!(table.apply_each(&asked), Ok(wanted));
-            let (prefix, feed, pref) = (draw.prefix(), 1 + draw.below(5), draw.below(3));
+            let (prefix, feed, preference) = (draw.prefix(), 1 + draw.below(5), draw.below(3));
             let is_there = model.routes.contains_key(&(prefix, feed));
             let made = if is_there {
                 Command::Replace
             } else {
                 Command::Add
             };
-            let wanted = match model.apply(feed, made(prefix, pref, Hop::Discard)) {
+            let wanted = match model.apply(feed, made(prefix, preference, Hop::Discard)) {
                 Reply::Full => Err(Error::Full),
                 other => Ok(other),
             };
-            assert_eq!(table.put(feed, prefix, pref, Hop::Discard), wanted);
+            assert_eq!(table.put(feed, prefix, preference, Hop::Discard), wanted);
         }
         compare_reads(&table, &model, &mut draw);
         let other = ConcurrentTable::new(limit).unwrap();
@@ -330,7 +322,7 @@ fn compare_reads(table: &ConcurrentTable, model: &Model, draw: &mut Draw) {
     assert!(table.memory().unwrap() >= 2 * 62 * model.routes.len().min(1));
     check_parts(&|asked| table.select(asked), model, draw);
     check_pages(
-        &|prefix, pref, feed| table.routes_from(prefix, pref, feed),
+        &|prefix, preference, feed| table.routes_from(prefix, preference, feed),
         model,
         draw,
     );
@@ -344,7 +336,7 @@ fn compare_reads(table: &ConcurrentTable, model: &Model, draw: &mut Draw) {
         assert_eq!(table.look_up_prefix(Prefix::from(*address)).unwrap(), *best);
         let mut listed = model.listed();
         listed.retain(|route| route.prefix.contains(*address));
-        listed.sort_by_key(|route| (32 - route.prefix.len(), route.pref, route.feed));
+        listed.sort_by_key(rank);
         assert_eq!(table.look_up_all(*address).unwrap(), listed);
     }
 }
@@ -366,7 +358,8 @@ fn pages_follow_one_another() {
         }
     }
     let last = table.routes().unwrap()[511];
-    let from = |table: &mut Table, feed| table.routes_from(last.prefix, last.pref, feed).count();
+    let (prefix, preference, _) = place(&last);
+    let from = |table: &mut Table, feed| table.routes_from(prefix, preference, feed).count();
     assert_eq!(from(&mut table, last.feed), 1);
     assert_eq!(from(&mut table, last.feed + 1), 0);
 }
@@ -487,7 +480,7 @@ fn threads_look_up_at_once() {
         found
             .iter()
             .zip(0..)
-            .all(|(route, k)| route.map(|route| route.pref) == Some(k % 256))
+            .all(|(route, k)| route.map(|route| place(&route).1) == Some(k % 256))
     };
     let right = thread::scope(|scope| {
         let threads: Vec<_> = others
@@ -519,7 +512,7 @@ fn threads_look_up_in_one_table() {
                     .look_up(Ipv4Addr::from(((k % 256) << 24) | k))
                     .unwrap();
                 let all = table.look_up_all(Ipv4Addr::from(k << 24)).unwrap();
-                found.map(|route| route.pref) == Some(k % 256) && all.len() == 1
+                found.map(|route| place(&route).1) == Some(k % 256) && all.len() == 1
             }) && table.routes_from(all_addresses(), 0, 0).count() == 256
         };
         thread::scope(|scope| {
@@ -642,15 +635,13 @@ fn lists_at_page_boundaries() {
     for size in [63, 64, 65, 255, 256, 257, 4095, 4096, 4097_u32] {
         let mut table = Table::with_journal(1_000_000).unwrap();
         let routes: Vec<Route> = (0..size)
-            .map(|k| Route {
-                prefix: Prefix::new(Ipv4Addr::from((10 << 24) + 4 * k), 30).unwrap(),
-                feed: 1 + k % 3,
-                pref: k,
-                hop: Hop::Via(Ipv4Addr::from(k)),
+            .map(|k| {
+                let prefix = Prefix::new(Ipv4Addr::from((10 << 24) + 4 * k), 30).unwrap();
+                route(prefix, 1 + k % 3, k, Hop::Via(Ipv4Addr::from(k)))
             })
             .collect();
         for one in &routes {
-            let added = table.add(one.feed, one.prefix, one.pref, one.hop);
+            let added = table.apply(one.feed, adding(one));
             assert_eq!(added, Ok(Reply::Added));
         }
         assert_eq!(table.routes().unwrap(), routes);
@@ -667,8 +658,7 @@ fn lists_at_page_boundaries() {
         let entries = table.journal().unwrap();
         assert_eq!(entries.len(), size as usize);
         for (entry, one) in entries.iter().zip(&routes) {
-            let command = Command::Add(one.prefix, one.pref, one.hop);
-            let wanted = (one.feed, command, Reply::Added);
+            let wanted = (one.feed, adding(one), Reply::Added);
             assert_eq!((entry.feed, entry.command, entry.reply), wanted);
         }
     }
@@ -689,16 +679,10 @@ fn all_matches_at_page_boundaries() {
         )
         .unwrap();
         for feed in 1..=MAX_FEED {
-            let (pref, hop) = (feed % 7, Hop::Discard);
-            table.add(feed, prefix, pref, hop).unwrap();
-            listed.push(Route {
-                prefix,
-                feed,
-                pref,
-                hop,
-            });
+            let (preference, hop) = (feed % 7, Hop::Discard);
+            table.add(feed, prefix, preference, hop).unwrap();
+            listed.push(route(prefix, feed, preference, hop));
             if [63, 64, 65, 127, 128, 255, 256, 257, 576].contains(&listed.len()) {
-                let rank = |one: &Route| (32 - one.prefix.len(), one.pref, one.feed);
                 listed.sort_by_key(rank);
                 assert_eq!(table.look_up_all(address).unwrap(), listed);
                 let found = table.look_up_prefix(Prefix::from(address)).unwrap();
@@ -714,7 +698,8 @@ fn conventions_of_rust() {
     let mut table = Table::new(1).unwrap();
     assert_eq!(table.put(1, ten, 5, Hop::from(router)), Ok(Reply::Added));
     assert_eq!(table.put(1, ten, 6, Hop::Discard), Ok(Reply::Replaced));
-    assert_eq!(table.routes().unwrap()[0].pref, 6);
+    let replaced = route(ten, 1, 6, Hop::Discard);
+    assert_eq!(table.routes().unwrap(), [replaced]);
     assert_eq!(table.add(1, ten, 0, Hop::Discard), Err(Error::Exists));
     let eleven = Prefix::try_from((Ipv4Addr::new(11, 0, 0, 0), 8)).unwrap();
     assert_eq!(table.add(1, eleven, 0, Hop::Discard), Err(Error::Full));
@@ -739,8 +724,7 @@ fn conventions_of_rust() {
     }
     assert!(!ten.contains_prefix(all_addresses()) && ten.contains_prefix(ten));
     let found = table.apply(1, Command::Lookup(ten.base())).unwrap();
-    let shown = "route 10.0.0.0/8 feed 1 pref 6 via discard";
-    assert_eq!(found.to_string(), shown);
+    assert_eq!(found.to_string(), format!("route {}", shown(&replaced)));
     assert_eq!(
         (Hop::Discard.to_string(), Hop::Via(router).to_string()),
         ("discard".to_string(), "192.0.2.1".to_string())
@@ -794,12 +778,7 @@ fn files_hold_every_route() {
         for feed in 1..=6 {
             let (mut wanted, mut count) = (String::from("version 2\n"), 0);
             for one in model.listed().iter().filter(|one| one.feed == feed) {
-                let hop = match one.hop {
-                    Hop::Via(router) => router.to_string(),
-                    Hop::Discard => "discard".to_string(),
-                };
-                let (base, len) = (one.prefix.base(), one.prefix.len());
-                writeln!(wanted, "add {base}/{len} {} {hop}", one.pref).unwrap();
+                wanted += &line(one);
                 count += 1;
             }
             let mut text = Vec::new();
@@ -923,16 +902,18 @@ fn a_source_is_one_feed() {
             let is_put = draw.below(2) == 1;
             let found = match command {
                 _ if feed != 2 => table.apply(feed, command),
-                Command::Add(prefix, pref, hop)
+                Command::Add(prefix, preference, hop)
                     if is_put && model.routes.contains_key(&(prefix, 2)) =>
                 {
-                    let wanted = model.apply(2, Command::Replace(prefix, pref, hop));
-                    assert_eq!(source.put(&mut table, prefix, pref, hop), Ok(wanted));
+                    let wanted = model.apply(2, Command::Replace(prefix, preference, hop));
+                    assert_eq!(source.put(&mut table, prefix, preference, hop), Ok(wanted));
                     continue;
                 }
-                Command::Add(prefix, pref, hop) => source.add(&mut table, prefix, pref, hop),
-                Command::Replace(prefix, pref, hop) => {
-                    source.replace(&mut table, prefix, pref, hop)
+                Command::Add(prefix, preference, hop) => {
+                    source.add(&mut table, prefix, preference, hop)
+                }
+                Command::Replace(prefix, preference, hop) => {
+                    source.replace(&mut table, prefix, preference, hop)
                 }
                 Command::Withdraw(prefix) => source.withdraw(&mut table, prefix),
                 Command::Purge => source.purge(&mut table).map(Reply::Purged),
