@@ -209,7 +209,8 @@ has this line and `add 10.1.0.0/16 100 192.0.2.2`:
 );
 
 /// The notes of `replay --help`: a step's line, its words and marks, and the exit status.
-pub(crate) const REPLAY_NOTES: &str = "\
+pub(crate) const REPLAY_NOTES: &str = limits!(text
+    "\
 The lock is a binary tree of L levels. Its 2^L leaves are the places, numbered
 from 0; each place has one process. Each step has one line:
   NUMBER pPLACE WORD := VALUE [MARK]   the process of PLACE stored VALUE in WORD
@@ -233,7 +234,7 @@ The last line is `inside pN`, where N is the place that is inside, or
 Exit status:
   0 done   5 out of memory (`yarib: fault P3`)   6 output not written
   3 invalid command line, a pick that isn't a place (`yarib: fault P1`), or
-    levels that aren't 1 to 6 (`yarib: fault P2`)
+    levels that aren't 1 to " most_levels " (`yarib: fault P2`)
 
 Example:
   $ yarib replay --levels 1 0 0 0 0
@@ -242,4 +243,5 @@ Example:
   3 p0 P1.0 := 0
   4 p0 C1.0.1 = 0 inside
   inside p0
-";
+"
+);

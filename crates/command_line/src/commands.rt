@@ -301,7 +301,7 @@ fn replay() -> Subcommand {
 const REPLAY: &[Parameter] = &[
     Parameter {
         name: "levels",
-        help: "Number of levels of the tree, 1 to 6",
+        help: limits!(text "Number of levels of the tree, 1 to " most_levels),
         value_names: &["L"],
         parser: ValueParser::Unsigned(0, 255),
         required: true,

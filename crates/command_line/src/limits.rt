@@ -21,6 +21,9 @@ macro_rules! limits {
     (@ $kind:ident [$($before:literal)*] most_files $($behind:tt)*) => {
         limits!(@ $kind [$($before)* 64] $($behind)*)
     };
+    (@ $kind:ident [$($before:literal)*] most_levels $($behind:tt)*) => {
+        limits!(@ $kind [$($before)* 6] $($behind)*)
+    };
     (@ $kind:ident [$($before:literal)*] $text:literal $($behind:tt)*) => {
         limits!(@ $kind [$($before)* $text] $($behind)*)
     };
