@@ -16,7 +16,8 @@ use std::marker::Model;
 /// the trie that holds its routes, and the number of entries that the journal still has room for.
 ///
 /// The journal is lawful: each reply is the sequential table's, in the set of routes that the entries before it leave,
-/// and each entry is of a feed from 1 to 64. The trie is lawful too, and holds the set that the whole journal leaves.
+/// and each entry is of a feed from 1 to [`MAX_FEEDS`](crate::MAX_FEEDS). The trie is lawful too, and holds the set that
+/// the whole journal leaves.
 #[derive(Drop)]
 pub struct Book<A: Allocator + Copy> {
     table: Table<A>,

@@ -12,9 +12,9 @@
 //! A contract sees a book as four things: the maximum number of routes of a feed, the journal of every answered
 //! command, the trie of the routes, and the number of entries that the journal still has room for. An invariant keeps
 //! the journal lawful. Each reply is the sequential table's (`specs/Sequential.antt`) in the set of routes that the
-//! entries before it leave, and each entry is of a feed from 1 to 64. The trie is lawful and holds exactly the routes
-//! that the journal leaves ([`Book::holds`]); [`Book::routes`] returns them in dump order. [`laws`] has theorems about
-//! all sets of routes and journals.
+//! entries before it leave, and each entry is of a feed from 1 to [`MAX_FEEDS`]. The trie is lawful and holds exactly the
+//! routes that the journal leaves ([`Book::holds`]); [`Book::routes`] returns them in dump order. [`laws`] has theorems
+//! about all sets of routes and journals.
 //!
 //! The routes are stored in a trie: each prefix has its offers, the best first (`src/map.rt`, `src/offers.rt`). So a
 //! look-up descends once and reads one offer. Besides the journal, for which [`Book::reserve`] reserves room, only an

@@ -4,9 +4,9 @@ use crate::routes::{YaribRoute, numbers_of};
 use rt_cidr::{Addr, Prefix};
 use rt_rib::{Cmd, Entry, Hop, Reply};
 
-/// A command of a feed, 1 to 64. `operation` is 1 for an add, 2 replace, 3 withdraw, 4 look-up, 5 dump and 6 purge. `base` is
-/// the prefix's, or the address of a look-up, and `hop` is 1 for a router, whose address is `via`, and 2 if packets are to
-/// be discarded. Members that an operation doesn't use aren't read.
+/// A command of a feed, 1 to [`MAX_FEEDS`](rt_rib::MAX_FEEDS). `operation` is 1 for an add, 2 replace, 3 withdraw, 4 look-up,
+/// 5 dump and 6 purge. `base` is the prefix's, or the address of a look-up, and `hop` is 1 for a router, whose address is
+/// `via`, and 2 if packets are to be discarded. Members that an operation doesn't use aren't read.
 #[repr(C)]
 #[derive(Clone, Copy, PartialEq, Eq, Debug)]
 pub struct YaribCommand {
