@@ -1,6 +1,7 @@
 -- Examples of the arbitration tree and of its words in one flat row.
-use Rattle.std.proofs.Common.{◌≡◌, true, false, List, [], ◌∷◌}
+use Rattle.std.proofs.Common.{◌≡◌, ◌+◌, true, false, List, [], ◌∷◌}
 use Rattle.std.proofs.Common.{map, refl, arith}
+use Rattle.ya_core.specs.declared.limits.TheConstants.{MAX_LEVELS}
 use Rattle.ya_core.specs.declared.word.Word.{Word}
 use Rattle.ya_core.specs.declared.word.Word.TheVariants.{C, T, P}
 use Rattle.ya_core.specs.declared.process.Process.TheVariants.{Inside}
@@ -113,14 +114,14 @@ it_has_no_others = refl
 one_level_is_a_tree : HasShape 1
 one_level_is_a_tree = (omega arith, omega arith)
 
-six_are_the_most : HasShape 6
-six_are_the_most = (omega arith, omega arith)
+the_most_levels_are_a_tree : HasShape MAX_LEVELS
+the_most_levels_are_a_tree = (omega arith, omega arith)
 
 no_level_is_none : ¬ HasShape 0
 no_level_is_none h = omega (arith, h.0)
 
-seven_are_too_many : ¬ HasShape 7
-seven_are_too_many h = omega (arith, h.1)
+one_level_more_is_none : ¬ HasShape (MAX_LEVELS + 1)
+one_level_more_is_none h = omega (arith, h.1)
 
 -- Rivals
 on_two_sides_of_one_node : Rivals (node_of 1) (side_of 1) 4 5

@@ -1,6 +1,7 @@
 -- Examples of tables and books as contracts see them.
-use Rattle.std.proofs.Common.{◌≡◌, true, false, List, [], ◌∷◌, refl, sym, arith}
+use Rattle.std.proofs.Common.{◌≡◌, ◌+◌, true, false, List, [], ◌∷◌, refl, sym, arith}
 use Rattle.table_examples.proofs.Cidr.{ten_8}
+use Rattle.rt_rib.specs.declared.limits.TheConstants.{MAX_FEEDS}
 use Rattle.rt_rib.specs.declared.routes.Hop.TheVariants.{Discard}
 use Rattle.rt_rib.specs.declared.commands.Cmd.TheVariants.{Add, Dump}
 use Rattle.rt_rib.specs.declared.commands.Reply.TheVariants.{Added, Dumped}
@@ -109,10 +110,10 @@ holds_no_route journal none = record {
 }
 
 -- IsFeed
-the_first_and_the_last : IsFeed 1 × IsFeed 64
+the_first_and_the_last : IsFeed 1 × IsFeed MAX_FEEDS
 the_first_and_the_last = ((omega arith, omega arith), (omega arith, omega arith))
 
-none_before_and_none_behind : (¬ IsFeed 0) × (¬ IsFeed 65)
+none_before_and_none_behind : (¬ IsFeed 0) × (¬ IsFeed (MAX_FEEDS + 1))
 none_before_and_none_behind = (λ h. omega (arith, h.0), λ h. omega (arith, h.1))
 
 -- a table of one route, as contracts see it
