@@ -15,6 +15,7 @@ import re
 import shutil
 import signal
 import subprocess
+import sys
 import tempfile
 import time
 
@@ -93,14 +94,15 @@ class Copy:
         (self.top / "docs").mkdir()
         shutil.copy(TOP / "docs/CLI.md", self.top / "docs")
 
-    def names(self, path="with"):
+    def names(self, path="with:without"):
         """The environment of a call."""
         none = dict.fromkeys(("FAILS", "CHANGES", "HANGS", "DIES", "SILENT", "LINKER_FAILS"), "")
-        return none | {"PATH": str(self.tools / path), "NOTES": self.notes, "STARTED": self.tools / "started",
-                       "ARCHIVE": self.tools / "kit/c/stub.a", "TOP": self.top, "VERSION": "1",
-                       "KIT": self.tools / "kit", "LOGIC": LOGIC, "TMPDIR": self.folder}
+        return none | {"PATH": ":".join(f"{self.tools}/{one}" for one in path.split(":")), "NOTES": self.notes,
+                       "STARTED": self.tools / "started", "ARCHIVE": self.tools / "kit/c/stub.a", "TOP": self.top,
+                       "VERSION": "1", "KIT": self.tools / "kit", "LOGIC": LOGIC, "TMPDIR": self.folder,
+                       "CFLAGS": "-O0"}
 
-    def start(self, *words, path="with", by=None, **more):
+    def start(self, *words, path="with:without", by=None, **more):
         """How a call ends: its status, what the started program prints, and standard error."""
         how = {"env": self.names(path) | more.pop("names", {}), "stdin": subprocess.DEVNULL, "cwd": self.top} | more
         status, out, err = run([by or self.top / "yarib", *words], **how)
@@ -357,7 +359,7 @@ def what_is_missing(copy):
     expect("a toolchain of another logic: its line", (status, out, len(err.splitlines()), LOGIC in err), (127, "", 1, True))
     (copy.tools / "bare").mkdir()
     for name in ("bash", "dirname", "readlink", "rt"):
-        (copy.tools / "bare" / name).symlink_to(copy.tools / "with" / name)
+        (copy.tools / "bare" / name).symlink_to(copy.tools / ("with" if name == "rt" else "without") / name)
     status, out, err = copy.start("run", path="bare")
     expect("python3 missing: its line", (status, out, len(err.splitlines()), "python3" in err), (127, "", 1, True))
     (copy.top / "out").write_text("no folder\n")
@@ -573,16 +575,17 @@ def completions(copy):
 
 
 def put_tools(folder):
-    """Two directories, one with all commands on PATH except the toolchain's and one that also has the stub; and the
-    program that the stub builds."""
-    for name in ("without", "with"):
-        (folder / name).mkdir(parents=True)
+    """Two directories, one with all commands on PATH except the toolchain's and one with the stub; and the program that
+    the stub builds."""
+    (folder / "without").mkdir(parents=True)
     for path in filter(None, os.get_exec_path()):
         for command in pathlib.Path(path).glob("*") if pathlib.Path(path).is_dir() else ():
-            for name in ("without", "with"):
-                if command.name != "rt" and not os.path.lexists(folder / name / command.name):
-                    (folder / name / command.name).symlink_to(command)
-    for name, text in (("with/rt", RT), ("kit/bin/rattle", PROVER), ("kit/bin/rattle-link", LINKER)):
+            if command.name not in ("rt", "python3") and not os.path.lexists(folder / "without" / command.name):
+                (folder / "without" / command.name).symlink_to(command)
+    # Python without installed packages: to look for these takes longer than what the scripts do.
+    python = f'#!/bin/sh\nexec {sys.executable} -S "$@"\n'
+    for name, text in (("without/python3", python), ("with/rt", RT), ("kit/bin/rattle", PROVER),
+                       ("kit/bin/rattle-link", LINKER)):
         (folder / name).parent.mkdir(parents=True, exist_ok=True)
         (folder / name).write_text(text)
         (folder / name).chmod(0o755)
