@@ -1,15 +1,16 @@
 """Shared by the tests: how a converter is run."""
+import functools
 import importlib
 import ipaddress
 import os
 import pathlib
 import re
-import runpy
 import subprocess
 import sys
 import tempfile
 # what converters load, so that copies of this process have it
 import argparse, codecs, gc, json, shlex, shutil, signal, socket, typing
+import unittest.mock
 
 from rows import row_text
 
@@ -29,9 +30,10 @@ class Failed(Exception):
 
 
 def words(command, constants=""):
-    """The command of a converter's call, which may change constants of feeds.py."""
+    """The command of a converter's call, which may change constants of feeds.py. Python without installed packages starts
+    in a third of the time."""
     name, *options = command.split()
-    return [*([sys.executable, HERE / "with_constants.py", constants] if constants else []), HERE / name, *options]
+    return [sys.executable, "-S", *([HERE / "with_constants.py", constants] if constants else []), HERE / name, *options]
 
 
 def run(command, data, *more, constants="", **settings):
@@ -44,6 +46,7 @@ def run_here(command, data, folder, constants=""):
     """The status and the messages of a converter, as with `run`; it is run in a copy of this process, which starts
     faster."""
     name, *options = command.split()
+    code(str(HERE / name))
     with tempfile.TemporaryFile() as given, tempfile.TemporaryFile() as said:
         given.write(data)
         given.seek(0)
@@ -57,13 +60,25 @@ def run_here(command, data, folder, constants=""):
         return os.waitstatus_to_exitcode(status), said.read().decode()
 
 
+@functools.cache
+def code(converter):
+    """The code of a converter. What it loads before it begins is loaded here, so that copies of this process have it."""
+    made = compile(pathlib.Path(converter).read_bytes(), converter, "exec")
+    with unittest.mock.patch("feeds.run"):
+        exec(made, {"__name__": "loaded"})
+    return made
+
+
 def run_in_child(words, constants):
     status = 0
     sys.argv = words
     try:
         if constants:
+            # Others took what it changes from feeds.py when they were loaded.
+            for path in HERE.glob("*.py"):
+                sys.modules.pop(path.stem, None)
             exec(constants, vars(importlib.import_module("feeds")))
-        runpy.run_path(words[0], run_name="__main__")
+        exec(code(words[0]), {"__name__": "__main__"})
     except SystemExit as ended:
         if isinstance(ended.code, str):
             print(ended.code, file=sys.stderr)
