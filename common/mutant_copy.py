@@ -149,6 +149,23 @@ def goals_named(crate, path, text):
     return f"use {goals} as goal\n{text}", "goal"
 
 
+def rules_imported(text):
+    """Returns the text of a file of answers with the rules for the tactic `search` in scope."""
+    library = "use Rattle.std.proofs.Common.{"
+    if library not in text:
+        return f"{library}rules}}\n{text}"
+    words = re.search(rf"^{re.escape(library)}([^}}]*)", text, re.M)[1]
+    return text if "rules" in words.replace(",", " ").split() else text.replace(library, f"{library}rules, ", 1)
+
+
+def searched(crate, path, text, goal):
+    """Returns the text of a file of answers with an answer to this goal, which the prover is to search, unless it has one."""
+    if re.search(rf"^pub {re.escape(goal)} :", text, re.M):
+        return text
+    text, named = goals_named(crate, path, rules_imported(text))
+    return f"{text}\npub {goal} : {named}.{goal}\n{goal} = search rules steps {STEPS_OF_SEARCH}\n"
+
+
 def answers_file(proofs, path):
     """Returns the path of the file of a function's answers, and the function's path below `proofs/`."""
     *module, name = path
@@ -169,8 +186,9 @@ def ask_no_offers(crate, folder, function):
     file.write_text(f"{text}\npub {UNKNOWN} : {named}.{UNKNOWN}\n{UNKNOWN} c = ?\n")
 
 
-# The most steps that a tactic takes in an answer. One that finds no proof takes up to 10,000,000 without a limit.
-STEPS = 200_000
+# The most steps that a tactic takes in an answer, and in the search for an answer. One that finds no proof takes up to
+# 10,000,000 without a limit.
+STEPS, STEPS_OF_SEARCH = 200_000, 1_000_000
 ANSWER = re.compile(r"^pub (\S+) : \w+\.\1$", re.M)
 TACTIC = re.compile(r"(?<![\w.'-])(?:search|grind)(?![\w'-])")
 LIST = re.compile(r" (?!(?:depth|fits|parts|steps|in)\b)[\w.'-]*[\w']")
@@ -203,30 +221,32 @@ def without_answer(part, name):
     return "\n".join([first, f"{name} = ?", "", *lines[rest:]]) + "\n"
 
 
-def answers_only(proofs, path, goal):
+def answers_only(crate, proofs, path, goal):
     """Makes holes of the answers of this function to other goals than this one or, without one, than those at its end, if
-    it has any. Returns the goals whose answers stay, with limited tactics."""
-    file, _ = answers_file(proofs, path)
-    head, *parts = re.split(r"^(?=pub )", file.read_text() if file.exists() else "", flags=re.M)
+    it has any. A given goal without an answer is searched. Returns the goals whose answers stay, with limited tactics."""
+    file, own = answers_file(proofs, path)
+    text = file.read_text() if file.exists() else ""
+    head, *parts = re.split(r"^(?=pub )", searched(crate, own, text, goal) if goal else text, flags=re.M)
     names = [found[1] if (found := ANSWER.match(part)) else None for part in parts]
     answered = {name for name in names if name and (name == goal or not goal)}
     asked = {name for name in answered if name.startswith("returns")} or answered
     if asked:
         parts = [limited(part) if name in asked or not name else without_answer(part, name)
                  for name, part in zip(names, parts)]
+        file.parent.mkdir(parents=True, exist_ok=True)
         file.write_text("".join([head, *parts]))
     return asked
 
 
-def ask_answered(folder, goals):
-    """Has the prover look in each of these functions only for goals that have an answer: its given goal or, without one, those
-    at its end or, if none of these has, the others. Returns these goals of each function that has any."""
+def ask_answered(crate, folder, goals):
+    """Has the prover look in each of these functions only for its given goal or, without one, for goals that have an answer:
+    those at its end or, if none of these has, the others. Returns these goals of each function that has any."""
     found = {}
     for file, its in functions(folder / "src").items():
         lines = file.read_text().split("\n")
         for path, item in sorted(its, key=lambda one: -one[1].start):
             name = "::".join(path)
-            asked = answers_only(folder / "proofs", path, goals[name]) if name in goals else set()
+            asked = answers_only(crate, folder / "proofs", path, goals[name]) if name in goals else set()
             if asked:
                 found[name], above = asked, [line for line in item.above() if not line.startswith("#[tactic(")]
                 lines[item.start - len(item.above()):item.start] = [" " * item.margin + line

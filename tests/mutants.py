@@ -1,7 +1,7 @@
 #!/usr/bin/env python3
 """Runs tools/mutants on mutants of a small crate, and checks its verdict on each.
 
-tests/mutants.py, with the toolchain on PATH. Among the mutants are an equivalent one, in a function with an answer, one
+tests/mutants.py, with the toolchain on PATH. Among the mutants are equivalent ones, by an answer and by a named goal, one
 that can't be read and is in a round with another, and one whose function calls another that is refused in the same
 round. The kept verdict on a refused mutant has to be forgotten if a text changes that the verdict can depend on, and
 only then.
@@ -51,10 +51,12 @@ returns c = search rules
 # the output.
 BODIES = {
     "answers-the-number": ("{⏎    n + n⏎}", "{⏎    n⏎}", "twice", "refused, as it must be: "),
+    "answers-the-number-by-its-goal": ("{⏎    n + n⏎}", "{⏎    n⏎}", "twice: returns", "refused, as it must be: "),
     "changes-another-function": ("twice(twice(n))", "twice(n)", "twice",
                                  "BAD BODY: it changes more than the text of twice"),
     "four-times-given-up": ("twice(twice(n))", "twice(n)", "four_times", "refused, as it must be: "),
     "right": ("twice(twice(n))", "twice(n) + twice(n)", "four_times", "NOT REFUSED in four_times"),
+    "right-by-its-goal": ("{⏎    n + n⏎}", "{⏎    let other = n; n + other⏎}", "twice: returns", "NOT REFUSED in twice"),
     "standing-twice": ("n + n", "n", "twice", "BAD BODY: an 'old:' text is in src/lib.rt 4 times"),
     "unreadable": ("    n + n", "    n +", "twice", "BAD BODY: the prover gave no verdict"),
 }
