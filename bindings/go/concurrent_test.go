@@ -86,7 +86,7 @@ func TestASourceOfAConcurrentTable(t *testing.T) {
 }
 
 const (
-	published = 300 // tables
+	published = 100 // tables
 	prefixes  = 64
 )
 

@@ -140,7 +140,7 @@ func isSame(one, other []Route) bool {
 }
 
 func TestRepliesAndRoutesAreTheModels(t *testing.T) {
-	for seed := int64(0); seed < 20; seed++ {
+	for seed := int64(0); seed < 8; seed++ {
 		draw := rand.New(rand.NewSource(seed))
 		limit := []uint32{3, 1000000}[seed%2]
 		m := model{int(limit), map[place]Route{}}

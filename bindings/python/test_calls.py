@@ -156,7 +156,7 @@ class Drawn(random.Random):
 
 
 class Limited(unittest.TestCase):
-    """A test that takes over 20 seconds of processor time fails: a call that never ends is a failure, too."""
+    """A test that takes over 10 seconds of processor time fails: a call that never ends is a failure, too."""
 
     def setUp(self):
         def ended(*_):
@@ -164,7 +164,7 @@ class Limited(unittest.TestCase):
 
         self.addCleanup(signal.signal, signal.SIGVTALRM, signal.signal(signal.SIGVTALRM, ended))
         self.addCleanup(signal.setitimer, signal.ITIMER_VIRTUAL, 0)
-        signal.setitimer(signal.ITIMER_VIRTUAL, 20)
+        signal.setitimer(signal.ITIMER_VIRTUAL, 10)
 
     def assert_same(self, found, wanted):
         """Compares types, too: 0 is not False, and a route is not a tuple of its fields."""

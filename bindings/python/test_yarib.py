@@ -264,7 +264,7 @@ class Forwarding(unittest.TestCase):
 
 class Threads(unittest.TestCase):
     """Four threads that look up and one that changes, on one table. The next hop to 10.0.0.0/8 goes up with each change."""
-    CHANGES = 300
+    CHANGES = 100
 
     def meet(self, table):
         asked, faults, ended = array.array("I", [0x0A010203, 0x0B000001, 0xC0000200] * 40), [], threading.Event()
@@ -378,6 +378,7 @@ class Threads(unittest.TestCase):
         self.assertIs(table.is_followed(), False)
         table.follow()
         self.assertIs(table.is_followed(), True)
+        self.assertGreaterEqual(table.memory(), 2 << 26)
         readers = [threading.Thread(target=read) for _ in range(4)]
         for thread in readers:
             thread.start()
@@ -388,7 +389,6 @@ class Threads(unittest.TestCase):
         for thread in readers:
             thread.join()
         self.assertEqual((faults, table.look_up("9.0.0.1").via), ([], self.CHANGES))
-        self.assertGreaterEqual(table.memory(), 2 << 26)
         table.close()
         self.assertRaises(yarib.Refused, len, table)
 

@@ -12,7 +12,7 @@ use yarib::{
 };
 
 const PREFIXES: u32 = 64;
-const CHANGES: u32 = 300;
+const CHANGES: u32 = 100;
 
 fn prefix(k: u32, len: u8) -> Prefix {
     Prefix::new(Ipv4Addr::from(k << 24), len).unwrap()
