@@ -1,5 +1,5 @@
-/* The library's heap by itself: random calls of several threads, beside what each block must hold; what it gives back; what the next
- * allocation of the program takes; what a refusal and a fork leave. */
+/* Tests of the library's heap by itself: random calls of several threads, with the contents of each block; the memory that it gives back;
+ * the time of the program's next allocation; and the state after a refusal and after a fork. */
 #define _DEFAULT_SOURCE
 #include "check.h"
 
@@ -136,29 +136,45 @@ static void fork_meanwhile(void)
     }
 }
 
-/* Returns the size of the address space, or of what of it is in memory. */
-static size_t taken_bytes(bool is_resident)
-{
-    size_t all = 0, pages = 0;
-    FILE *file = fopen("/proc/self/statm", "r");
-    CHECK(file && fscanf(file, "%zu %zu", &all, &pages) == 2);
-    fclose(file);
-    return (is_resident ? pages : all) * 4096;
-}
-
-/* Returns the number of this process's bytes in huge pages. */
-static size_t huge_bytes(void)
+/* Returns the number of the process's bytes that a field of smaps gives. The kernel counts these bytes for each call. The counters of
+ * statm can be wrong by 128 KiB for each processor. */
+static size_t mapped_bytes(const char *field)
 {
     char line[256];
-    size_t one, all = 0;
-    FILE *file = fopen("/proc/self/smaps", "r");
+    size_t length = strlen(field), kilobytes;
+    bool is_found = false;
+    FILE *file = fopen("/proc/self/smaps_rollup", "r");
     CHECK(file);
-    while (fgets(line, sizeof line, file)) if (sscanf(line, "AnonHugePages: %zu", &one) == 1) all += one * 1024;
+    while (!is_found && fgets(line, sizeof line, file))
+        is_found = strncmp(line, field, length) == 0 && sscanf(line + length, ": %zu", &kilobytes) == 1;
     fclose(file);
-    return all;
+    CHECK(is_found);
+    return kilobytes * 1024;
 }
 
-/* Returns true if the kernel has huge pages for memory for which it is advised to use them. */
+/* Returns the size of the memory in use, without the pages of mapped files. */
+static size_t resident_bytes(void)
+{
+    return mapped_bytes("Anonymous");
+}
+
+/* Returns the size of the part of it that is in huge pages. */
+static size_t huge_bytes(void)
+{
+    return mapped_bytes("AnonHugePages");
+}
+
+/* Returns the size of the address space. */
+static size_t space_bytes(void)
+{
+    size_t pages = 0;
+    FILE *file = fopen("/proc/self/statm", "r");
+    CHECK(file && fscanf(file, "%zu", &pages) == 1);
+    fclose(file);
+    return pages * 4096;
+}
+
+/* Returns true if the kernel gives huge pages to a process that asks for them by madvise. */
 static bool has_huge_pages(void)
 {
     char line[256] = "";
@@ -185,7 +201,7 @@ static void give_back_many(bool is_kept)
 {
     uint64_t last = 5;
     for (size_t k = 0; k < MANY; k++) many[k] = NULL;
-    size_t before = taken_bytes(true);
+    size_t before = resident_bytes();
     for (size_t k = 0; k < MANY; k++) {
         struct tried made = rattle_alloc(40, 8);
         CHECK(made.ok);
@@ -197,7 +213,7 @@ static void give_back_many(bool is_kept)
         many[k] = many[other];
         many[other] = one;
     }
-    size_t full = taken_bytes(true);
+    size_t full = resident_bytes();
     if (has_huge_pages()) CHECK(huge_bytes() >= 32 << 20);
     if (is_kept) begin_frees();
     for (size_t k = 0; k < MANY; k++) {
@@ -205,7 +221,7 @@ static void give_back_many(bool is_kept)
         rattle_dealloc(many[k]);
     }
     if (is_kept) end_frees();
-    size_t after = taken_bytes(true);
+    size_t after = resident_bytes();
     double start = seconds();
     for (size_t size = 1024; size <= 1 << 20; size *= 2) {
         void *volatile block = malloc(size); /* so that the compiler keeps the call */
@@ -223,13 +239,13 @@ static void give_back_many(bool is_kept)
 /* A few small blocks take a few small pages. */
 static void take_few(void)
 {
-    size_t before = taken_bytes(true);
+    size_t before = resident_bytes();
     for (size_t k = 0; k < 1000; k++) {
         struct tried made = rattle_alloc(40, 8);
         CHECK(made.ok);
         memset(many[k] = made.block, 1, 40);
     }
-    CHECK(taken_bytes(true) <= before + (1 << 18));
+    CHECK(resident_bytes() <= before + (1 << 18));
     for (size_t k = 0; k < 1000; k++) rattle_dealloc(many[k]);
 }
 
@@ -255,7 +271,7 @@ static void give_back_together(void)
 /* Allocates until 150 MB more are in use. Refusals leave what is held, and after a free there is memory again. */
 static void refuse(void)
 {
-    size_t size = 0, bytes = 0, most = taken_bytes(false) + (150u << 20);
+    size_t size = 0, bytes = 0, most = space_bytes() + (150u << 20);
     struct rlimit limit = {.rlim_cur = most, .rlim_max = most};
     CHECK(setrlimit(RLIMIT_AS, &limit) == 0);
     struct tried made;
@@ -272,7 +288,7 @@ static void refuse(void)
     for (size_t k = 0; k < kept / 2; k++) CHECK(rattle_alloc(1 + k % 128, 1).ok);
 }
 
-/* Sizes in steps of 1 MiB, around the size from which a block has its own mapping. A resized block keeps its beginning. */
+/* Sizes in MiB, smaller and larger than the smallest block with its own mapping. A resized block keeps its beginning. */
 static const unsigned char sizes[] = {3, 4, 5, 64, 5, 200, 66, 4, 3, 1, 9, 8, 130, 2, 40};
 
 static void write_ends(unsigned char *block, size_t size, unsigned char k)
@@ -311,28 +327,28 @@ static void *resize_two(void *unused)
 static void resize_large(void)
 {
     pthread_t threads[THREADS];
-    size_t before = taken_bytes(true);
+    size_t before = resident_bytes();
     for (int k = 0; k < THREADS; k++) CHECK(pthread_create(&threads[k], NULL, resize_two, NULL) == 0);
     for (int k = 0; k < THREADS; k++) CHECK(pthread_join(threads[k], NULL) == 0);
     /* malloc keeps some of the smaller blocks for each thread. */
-    if (!is_watched) CHECK(taken_bytes(true) <= before + THREADS * (8 << 20));
+    if (!is_watched) CHECK(resident_bytes() <= before + THREADS * (8 << 20));
 }
 
 /* Large blocks are in huge pages if there are any, keep what they hold, and are given back at once. */
 static void map_large(void)
 {
-    size_t before = taken_bytes(true), space = taken_bytes(false), huge = huge_bytes();
+    size_t before = resident_bytes(), space = space_bytes(), huge = huge_bytes();
     CHECK(!rattle_alloc((size_t)1 << 62, 8).ok && !rattle_alloc((size_t)1 << 48, 8).ok);
     struct tried large = rattle_alloc(64 << 20, 8);
     CHECK(large.ok);
     write_ends(large.block, 64 << 20, 7);
-    CHECK(taken_bytes(false) <= space + (65 << 20) && taken_bytes(true) <= before + (65 << 20));
+    CHECK(space_bytes() <= space + (65 << 20) && resident_bytes() <= before + (65 << 20));
     printf("%zu of 64 MiB in huge pages\n", (huge_bytes() - huge) >> 20);
     if (has_huge_pages()) CHECK(huge_bytes() >= huge + (32 << 20));
     CHECK(!rattle_realloc(large.block, 64 << 20, (size_t)1 << 62, 8).ok && !rattle_realloc(large.block, 64 << 20, (size_t)1 << 48, 8).ok);
     check_ends(large.block, 64 << 20, 7);
     rattle_dealloc(large.block);
-    CHECK(taken_bytes(true) <= before + (1 << 20));
+    CHECK(resident_bytes() <= before + (1 << 20));
 }
 
 /* Returns true if the kernel can find memory before it is written. */
@@ -347,19 +363,19 @@ static bool fills(void)
 /* Only between begin_filling and end_filling are large blocks in memory before they are written, also what a resized one gets more. */
 static void fill_large(void)
 {
-    size_t before = taken_bytes(true);
+    size_t before = resident_bytes();
     begin_filling();
     struct tried filled = rattle_alloc(16 << 20, 8);
-    if (fills()) CHECK(taken_bytes(true) >= before + (16 << 20));
+    if (fills()) CHECK(resident_bytes() >= before + (16 << 20));
     filled = rattle_realloc(filled.block, 16 << 20, 48 << 20, 8);
-    if (fills()) CHECK(taken_bytes(true) >= before + (48 << 20));
+    if (fills()) CHECK(resident_bytes() >= before + (48 << 20));
     filled = rattle_realloc(filled.block, 8 << 20, 8 << 20, 8);
     end_filling();
-    CHECK(filled.ok && taken_bytes(true) <= before + (9 << 20));
+    CHECK(filled.ok && resident_bytes() <= before + (9 << 20));
     struct tried later = rattle_alloc(16 << 20, 8);
-    CHECK(later.ok && taken_bytes(true) <= before + (11 << 20));
+    CHECK(later.ok && resident_bytes() <= before + (11 << 20));
     filled = rattle_realloc(filled.block, 8 << 20, 24 << 20, 8);
-    CHECK(filled.ok && taken_bytes(true) <= before + (13 << 20));
+    CHECK(filled.ok && resident_bytes() <= before + (13 << 20));
     write_ends(later.block, 16 << 20, 5);
     write_ends(filled.block, 24 << 20, 6);
     check_ends(later.block, 16 << 20, 5);
@@ -378,7 +394,7 @@ static void map_refused(void)
     write_ends(large.block, 30 << 20, 3);
     CHECK(huge_bytes() == huge && getrlimit(RLIMIT_AS, &whole) == 0);
     limit = whole;
-    limit.rlim_cur = taken_bytes(false) + (60 << 20);
+    limit.rlim_cur = space_bytes() + (60 << 20);
     CHECK(setrlimit(RLIMIT_AS, &limit) == 0);
     struct tried other = rattle_alloc(8 << 20, 8);
     CHECK(large.ok && other.ok && !rattle_alloc(90 << 20, 8).ok);
