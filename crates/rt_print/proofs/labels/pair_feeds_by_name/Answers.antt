@@ -1,5 +1,4 @@
-use Rattle.std.proofs.Common.{[], arith, rules, map, sym, ◌∙◌}
-use Rattle.std.proofs.lemmas.List.{map-id}
+use Rattle.std.proofs.Common.{[], arith, rules, map, map-id, sym, ◌∙◌}
 use Rattle.rt_print.specs.Labels.{paired_number}
 use Rattle.rt_print.proofs.FeedLabels.{labels_more}
 use Rattle.rt_print.proofs.labels.pair_feeds_by_name.Goals as goal

@@ -1,5 +1,4 @@
-use Rattle.std.proofs.Common.{◌≡◌, ◌++◌, take}
-use Rattle.std.specs.List.{flat_map}
+use Rattle.std.proofs.Common.{◌≡◌, ◌++◌, take, flat_map}
 use Rattle.rt_print.specs.Routes.{escaped}
 use Rattle.rt_print.proofs.labels.push_escaped.Given as goal
 

@@ -1,13 +1,14 @@
-use Rattle.std.proofs.Common.{◌≡◌, [], ◌∷◌, rules}
+use Rattle.std.proofs.Common.{◌≡◌, ◌∷◌, rules}
+use Rattle.std.proofs.lemmas.List.{nil_from_length}
 use Rattle.rt_print.specs.Styles.{label_of}
-use Rattle.rt_print.proofs.LineParts.{none_in, no_others_parts, others_parts}
+use Rattle.rt_print.proofs.LineParts.{no_others_parts, others_parts}
 use Rattle.rt_print.proofs.lookups.write_all_matches.Goals as goal
 
 pub returns-in_default : goal.returns-in_default
 returns-in_default g c =
     let style = c.args.style.now in
-    let none : c.args.found.now ≡ [] = none_in c.args.found.now c.in_default.ensures.cases in
-    rw (none, ← no_others_parts style.json (label_of style.labels) c.args.addr) (rw c.is_json-json.ensures at c.put_none.ensures)
+    rw (nil_from_length c.args.found.now c.in_default.ensures.cases, ← no_others_parts style.json (label_of style.labels) c.args.addr)
+    (rw c.is_json-json.ensures at c.put_none.ensures)
 
 pub returns : goal.returns
 returns g c =

@@ -1,5 +1,4 @@
-use Rattle.std.proofs.Common.{◌≡◌, ℕ, ◌<◌, false, map}
-use Rattle.std.specs.Prelude.{bytes_eq}
+use Rattle.std.proofs.Common.{◌≡◌, ℕ, ◌<◌, false, map, bytes_eq}
 use Rattle.rt_print.specs.FeedNames.{name_at}
 use Rattle.rt_print.proofs.names.index_of_name.Given as goal
 

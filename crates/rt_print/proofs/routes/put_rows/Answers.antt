@@ -1,5 +1,4 @@
-use Rattle.std.proofs.Common.{refl}
-use Rattle.std.specs.List.{flat_map}
+use Rattle.std.proofs.Common.{refl, flat_map}
 use Rattle.rt_print.specs.Styles.{label_of, row_as}
 use Rattle.rt_print.specs.inside.Parts.{label_pairs}
 use Rattle.rt_print.proofs.LineParts.{row_parts}
@@ -10,12 +9,12 @@ pub returns-in_err-put_route : goal.returns-in_err-put_route
 returns-in_err-put_route g c =
     let label = label_of (label_pairs c.args.labels.now) in
     let row = row_as c.args.json label in
-    let begun = rw (c.either-end.ensures, row_parts c.args.json label c.route-item.result) at c.in_err-put_route.ensures.err in
-    stops_all (λ n. row) (λ n. flat_map row) (λ n. refl) (λ n x xs. refl) _ _ _ c.loop-route-test.true c.route-item.is _ _ _ c.loop-route.invariant _ c.from_residual.ensures.0 begun
+    stops_all (λ n. row) (λ n. flat_map row) (λ n. refl) (λ n x xs. refl) _ _ _ c.loop-route-test.true c.route-item.is _ _ _ c.loop-route.invariant
+    _ c.from_residual.ensures.0 (rw (c.either-end.ensures, row_parts c.args.json label c.route-item.result) at c.in_err-put_route.ensures.err)
 
 pub loop-route-preserved : goal.loop-route-preserved
 loop-route-preserved g c =
     let label = label_of (label_pairs c.args.labels.now) in
     let row = row_as c.args.json label in
-    let written = rw (c.either-end.ensures, row_parts c.args.json label c.route-item.result) at c.in_ok-put_route.ensures.ok in
-    appends_next (λ n. row) (λ n. flat_map row) (λ n. refl) (λ n x xs. refl) _ _ _ c.loop-route-test.true c.route-item.is _ _ _ c.loop-route.invariant written
+    appends_next (λ n. row) (λ n. flat_map row) (λ n. refl) (λ n x xs. refl) _ _ _ c.loop-route-test.true c.route-item.is _ _ _ c.loop-route.invariant
+    (rw (c.either-end.ensures, row_parts c.args.json label c.route-item.result) at c.in_ok-put_route.ensures.ok)

@@ -1,5 +1,4 @@
-use Rattle.std.proofs.Common.{take}
-use Rattle.std.specs.List.{flat_map}
+use Rattle.std.proofs.Common.{take, flat_map}
 use Rattle.std.specs.Io.KnownBytes.{Appends}
 use Rattle.rt_print.specs.Styles.{label_of, row_as}
 use Rattle.rt_print.specs.inside.Parts.{label_pairs}
