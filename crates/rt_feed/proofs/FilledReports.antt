@@ -1,10 +1,9 @@
 -- Lines of a report that are given outcomes, one after another.
-use Rattle.std.proofs.Common.{◌≡◌, ℕ, ◌+◌, ◌<◌, inl, inr, true, false, List, [], ◌∷◌, ◌++◌, length, map, take, drop, get_or, set, refl, sym, ap, ◌∙◌}
+use Rattle.std.proofs.Common.{◌≡◌, ℕ, ◌+◌, ◌<◌, true, false, List, [], ◌∷◌, ◌++◌, length, map, take, drop, get_or, set, refl, sym, ap, ◌∙◌}
 use Rattle.std.proofs.Common.{arith, append_assoc, add-one, drop-cons}
 use Rattle.std.proofs.Math.ListN.{get_or-map}
 use Rattle.std.proofs.lemmas.List.{map-append, length-map, take-append-drop, drop-set-lt}
 use Rattle.std.proofs.lemmas.Grind.{take-set_at}
-use Rattle.std.proofs.lemmas.Bool.{cases_Bool}
 use Rattle.rt_shared.specs.declared.outcome.Outcome.{Outcome}
 use Rattle.rt_feed.specs.declared.report.Line.{Line}
 use Rattle.rt_feed.specs.Reports.{is_fault, NumbersRise}
@@ -19,8 +18,7 @@ filled-none (line ∷ lines) = refl
 -- a fault is passed over
 pub filled-fault : (line : Line) (lines : List Line) (outcomes : List Outcome) → is_fault line.answer ≡ true
     → filled (line ∷ lines) outcomes ≡ line ∷ filled lines outcomes
-filled-fault line lines [] is = ap (λ ls. line ∷ ls) (sym (filled-none lines))
-filled-fault line lines (outcome ∷ outcomes) is = rw is refl
+filled-fault line lines outcomes is = grind (arith, filled-none)
 
 -- another line is given the first outcome
 pub filled-given : (line : Line) (lines : List Line) (outcome : Outcome) (outcomes : List Outcome) → is_fault line.answer ≡ false
@@ -48,25 +46,17 @@ numbers lines = map (λ (line : Line). line.number) lines
 numbers-filled : (lines : List Line) (outcomes : List Outcome) → numbers (filled lines outcomes) ≡ numbers lines
 numbers-filled [] outcomes = refl
 numbers-filled (line ∷ lines) [] = refl
-numbers-filled (line ∷ lines) (outcome ∷ outcomes) = elim (cases_Bool (is_fault line.answer)) [
-  | inl fault ↦ rw (filled-fault line lines (outcome ∷ outcomes) fault) (ap (λ ns. line.number ∷ ns) (numbers-filled lines (outcome ∷ outcomes)))
-  | inr other ↦ rw (filled-given line lines outcome outcomes other) (ap (λ ns. line.number ∷ ns) (numbers-filled lines outcomes))
-]
+numbers-filled (line ∷ lines) (outcome ∷ outcomes) = grind (arith, numbers-filled lines (outcome ∷ outcomes), numbers-filled lines outcomes)
 
 module _ (first : ℕ) (lines : List Line) (outcomes : List Outcome) where
   -- the lines, after those from an index on were given outcomes
-  refilled : List Line
+  abbrev refilled : List Line
   refilled = take first lines ++ filled (drop first lines) outcomes
 
   numbers-refilled : numbers refilled ≡ numbers lines
-  unfolding refilled
-  numbers-refilled =
-      map-append (λ (line : Line). line.number) (take first lines) (filled (drop first lines) outcomes)
-      ∙ (ap (λ ns. numbers (take first lines) ++ ns) (numbers-filled (drop first lines) outcomes)
-      ∙ (sym (map-append (λ (line : Line). line.number) (take first lines) (drop first lines)) ∙ ap numbers (take-append-drop first lines)))
+  numbers-refilled = rw (map-append, numbers-filled, ← map-append, take-append-drop) refl
 
   pub length-refilled : length (take first lines ++ filled (drop first lines) outcomes) ≡ length lines
-  unfolding refilled
   length-refilled =
       sym (length-map refilled (λ (line : Line). line.number)) ∙ (ap length numbers-refilled ∙ length-map lines (λ (line : Line). line.number))
 
@@ -77,6 +67,5 @@ module _ (first : ℕ) (lines : List Line) (outcomes : List Outcome) where
 
   -- so the numbers still rise
   pub numbers_rise-refilled : (lines' : List Line) → NumbersRise lines → lines' ≡ take first lines ++ filled (drop first lines) outcomes → NumbersRise lines'
-  unfolding refilled
   numbers_rise-refilled lines' rising is = rw is (λ i j d less here.
       omega (arith, rising i j d less (let same = length-refilled in omega (arith, here, same)), number-refilled i d, number-refilled j d))

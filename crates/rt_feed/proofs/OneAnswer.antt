@@ -13,10 +13,9 @@ use Rattle.rt_rib.specs.declared.commands.Cmd.{Cmd}
 use Rattle.rt_rib.specs.declared.commands.Cmd.TheVariants.{Add, Replace, Withdraw, Lookup, Dump, Purge}
 use Rattle.rt_feed.specs.declared.parse.LineFault.{LineFault}
 use Rattle.rt_feed.specs.declared.versions.Version.{Version}
-use Rattle.rt_feed.specs.declared.versions.Version.TheVariants.{Two}
 use Rattle.rt_feed.specs.CommandText.{words, route_words, HasHop, HasCommand}
 use Rattle.rt_print.specs.Routes.{hop_text}
-use Rattle.rt_feed.specs.Grammar.{Kind, prefix, preference, hop, address, IsFaultOf, IsFirstFault, IsFaultAfter, IsFaultOfFields, prefix_fault, kinds_after, fields}
+use Rattle.rt_feed.specs.Grammar.{Kind, prefix, address, IsOfKind, IsFaultOf, IsFirstFault, IsFaultAfter, IsFaultOfFields, prefix_fault, kinds_after, fields}
 use Rattle.rt_feed.specs.Grammar.{AnswersLine}
 use Rattle.rt_feed.specs.inside.Fields.{route_kinds, IsFaultAmong}
 use Rattle.rt_feed.specs.Addresses.{AnswersAddressLine}
@@ -60,15 +59,9 @@ one_hop texts version Discard Discard fits others same = refl
 -- two commands with the same words are equal
 one_command : Texts → (version : Version) (cmd other : Cmd) → HasCommand version cmd → HasCommand version other → words cmd ≡ words other → cmd ≡ other
 one_command texts version (Add p pref next) (Add q pref' next') fits fits' same =
-    let head : prefix_text p.base p.len ≡ prefix_text q.base q.len = cc in
-    let equal = one_prefix texts p q head in
-    let number = decimal_injective pref pref' (omega (arith, fits.0)) (omega (arith, fits'.0)) (cc) in
-    let same_next = one_hop texts version next next' fits.1 fits'.1 (cc) in cc
+    grind (arith, one_prefix texts p q, decimal_injective pref pref', one_hop texts version next next')
 one_command texts version (Replace p pref next) (Replace q pref' next') fits fits' same =
-    let head : prefix_text p.base p.len ≡ prefix_text q.base q.len = cc in
-    let equal = one_prefix texts p q head in
-    let number = decimal_injective pref pref' (omega (arith, fits.0)) (omega (arith, fits'.0)) (cc) in
-    let same_next = one_hop texts version next next' fits.1 fits'.1 (cc) in cc
+    grind (arith, one_prefix texts p q, decimal_injective pref pref', one_hop texts version next next')
 one_command texts version (Withdraw p) (Withdraw q) fits fits' same = let equal = one_prefix texts p q (cc) in cc
 one_command texts version (Lookup a) (Lookup b) fits fits' same = let equal = one_address texts a b fits fits' (cc) in cc
 one_command texts version Dump Dump fits fits' same = refl
@@ -80,26 +73,17 @@ one_fault : Texts → (kind : Kind) (field : List ℕ) (one two : LineFault) →
 one_fault texts prefix field one two (reason, read, is) (other, again, also) =
     let equal = texts.prefix_once field (Err reason) (Err other) read again in
     let same : reason ≡ other = cc in is ∙ (ap prefix_fault same ∙ sym also)
-one_fault texts preference field one two is other = is ∙ sym other
-one_fault texts (hop version) field one two is other = is ∙ sym other
-one_fault texts address field one two is other = is ∙ sym other
+one_fault texts kind field one two is other = is ∙ sym other
 
 -- the first fault is unique
 one_first : Texts → (kinds : List Kind) (rest : List (List ℕ)) (one two : LineFault) → IsFirstFault kinds rest one → IsFirstFault kinds rest two → one ≡ two
-one_first texts [] rest one two is other = absurd is
-one_first texts (kind ∷ kinds) [] one two is other = absurd is
-one_first texts (kind ∷ kinds) (field ∷ rest) one two (inl is) (inl other) = one_fault texts kind field one two is.1 other.1
-one_first texts (kind ∷ kinds) (field ∷ rest) one two (inl is) (inr other) = absurd (is.0 other.0)
-one_first texts (kind ∷ kinds) (field ∷ rest) one two (inr is) (inl other) = absurd (other.0 is.0)
-one_first texts (kind ∷ kinds) (field ∷ rest) one two (inr is) (inr other) = one_first texts kinds rest one two is.1 other.1
+one_first texts (kind ∷ kinds) (field ∷ rest) one two is other = grind (arith, one_fault texts kind field one two, one_first texts kinds rest one two)
+one_first texts kinds rest one two is other = absurd is
 
 one_after : Texts → (kinds : Option (List Kind)) (rest : List (List ℕ)) (one two : LineFault) → IsFaultAfter kinds rest one → IsFaultAfter kinds rest two
     → one ≡ two
 one_after texts None rest one two is other = is ∙ sym other
-one_after texts (Some kinds) rest one two (inl is) (inl other) = is.1 ∙ sym other.1
-one_after texts (Some kinds) rest one two (inl is) (inr other) = absurd (is.0 other.0)
-one_after texts (Some kinds) rest one two (inr is) (inl other) = absurd (other.0 is.0)
-one_after texts (Some kinds) rest one two (inr is) (inr other) = one_first texts kinds rest one two is.1 other.1
+one_after texts (Some kinds) rest one two is other = grind (arith, one_first texts kinds rest one two)
 
 one_of_fields : Texts → (version : Version) (line : List (List ℕ)) (one two : LineFault) → IsFaultOfFields version line one → IsFaultOfFields version line two
     → one ≡ two
@@ -115,23 +99,13 @@ sound-route version p pref next fits has answer (inr (same, inr (some, inl (none
 sound-route version p pref next fits has answer (inr (same, inr (some, inr (more, inl (none, is))))) = none (next, has, refl)
 sound-route version p pref next fits has answer (inr (same, inr (some, inr (more, inr (last, is))))) = is
 
-sound-purge : (answer : LineFault) → ¬ IsFaultOfFields Two (words Purge) answer
-sound-purge answer (inl (not, is)) = not refl
-sound-purge answer (inr (same, is)) = is
-
 -- nor do a command's
 sound-words : (version : Version) (cmd : Cmd) → HasCommand version cmd → (answer : LineFault) → ¬ IsFaultOfFields version (words cmd) answer
 sound-words version (Add p pref a) fits answer is = sound-route version p pref a fits.0 fits.1 answer is
 sound-words version (Replace p pref a) fits answer is = sound-route version p pref a fits.0 fits.1 answer is
-sound-words version (Withdraw p) fits answer (inl (not, is)) = not refl
-sound-words version (Withdraw p) fits answer (inr (same, inl (none, is))) = none (p, refl)
-sound-words version (Withdraw p) fits answer (inr (same, inr (some, is))) = is
-sound-words version (Lookup a) fits answer (inl (not, is)) = not refl
-sound-words version (Lookup a) fits answer (inr (same, inl (none, is))) = none (a, fits, refl)
-sound-words version (Lookup a) fits answer (inr (same, inr (some, is))) = is
-sound-words version Dump fits answer (inl (not, is)) = not refl
-sound-words version Dump fits answer (inr (same, is)) = is
-sound-words version Purge fits answer fault = sound-purge answer (rw fits at fault)
+sound-words version (Withdraw p) fits answer fault = let is : IsOfKind prefix (prefix_text p.base p.len) = (p, refl) in grind (arith, is)
+sound-words version (Lookup a) fits answer fault = let is : IsOfKind address (address_text a.0) = (a, fits, refl) in grind (arith, is)
+sound-words version cmd fits answer fault = grind arith
 
 -- a command's text is neither skipped nor faulty
 never_skipped : (version : Version) (line : List ℕ) (cmd : Cmd) → AnswersLine version line (Ok (Some cmd)) → ¬ AnswersLine version line (Ok None)
@@ -145,49 +119,36 @@ never_faulty version line cmd answer is (inr (short, not, fault)) =
     sound-words version cmd is.0 answer (rw parts at fault)
 
 never_both : (version : Version) (line : List ℕ) (answer : LineFault) → AnswersLine version line (Ok None) → ¬ AnswersLine version line (Err answer)
-never_both version line answer is (inl (long, told)) = omega (arith, long, is.0)
-never_both version line answer is (inr (short, not, fault)) = let clash = sym is.1 ∙ not in cc
+never_both version line answer is fault = grind arith
+
+ruleset apart = (never_skipped, never_faulty, never_both)
 
 pub line_once : Texts → LineHasOneAnswer
 line_once texts version line (Ok (Some cmd)) (Ok (Some other)) is also =
     let same = sym (fields-command_text version cmd is.0) ∙ (ap fields (sym is.1 ∙ also.1) ∙ fields-command_text version other also.0) in
     ap (λ c. Ok (Some c)) (one_command texts version cmd other is.0 also.0 same)
-line_once texts version line (Ok (Some cmd)) (Ok None) is also = absurd (never_skipped version line cmd is also)
-line_once texts version line (Ok (Some cmd)) (Err fault) is also = absurd (never_faulty version line cmd fault is also)
-line_once texts version line (Ok None) (Ok (Some cmd)) is also = absurd (never_skipped version line cmd also is)
 line_once texts version line (Ok None) (Ok None) is also = refl
-line_once texts version line (Ok None) (Err fault) is also = absurd (never_both version line fault is also)
-line_once texts version line (Err fault) (Ok (Some cmd)) is also = absurd (never_faulty version line cmd fault also is)
 line_once texts version line (Err fault) (Ok None) is also = absurd (never_both version line fault also is)
-line_once texts version line (Err one) (Err two) (inl is) (inl also) = ap Err (is.1 ∙ sym also.1)
-line_once texts version line (Err one) (Err two) (inl (long, told)) (inr (short, not, fault)) = absurd (omega (arith, long, short))
-line_once texts version line (Err one) (Err two) (inr (short, not, fault)) (inl (long, told)) = absurd (omega (arith, long, short))
-line_once texts version line (Err one) (Err two) (inr is) (inr also) = ap Err (one_of_fields texts version (fields line) one two is.2 also.2)
+line_once texts version line (Err one) (Err two) is also = grind (arith, one_of_fields texts)
+line_once texts version line one two is also = absurd (search apart)
 
 -- an address's text is neither skipped nor faulty
 address_never_skipped : (line : List ℕ) (addr : Addr) → AnswersAddressLine line (Ok (Some addr)) → ¬ AnswersAddressLine line (Ok None)
 address_never_skipped line addr is skipped = let clash = sym (not_skipped-address_text addr.0 is.0) ∙ (rw is.1 at skipped.1) in cc
 
 address_never_faulty : (line : List ℕ) (addr : Addr) (answer : LineFault) → AnswersAddressLine line (Ok (Some addr)) → ¬ AnswersAddressLine line (Err answer)
-address_never_faulty line addr answer is (inl (long, told)) = omega (arith, long, ap length is.1, length-address_text addr.0)
-address_never_faulty line addr answer is (inr (short, not, none, told)) = none (addr, is.0, is.1)
+address_never_faulty line addr answer is fault = grind (arith, length-address_text)
 
 -- a skipped line is not faulty
 address_never_both : (line : List ℕ) (answer : LineFault) → AnswersAddressLine line (Ok None) → ¬ AnswersAddressLine line (Err answer)
-address_never_both line answer is (inl (long, told)) = omega (arith, long, is.0)
-address_never_both line answer is (inr (short, not, none, told)) = let clash = sym is.1 ∙ not in cc
+address_never_both line answer is fault = grind arith
+
+ruleset apart_addresses = (address_never_skipped, address_never_faulty, address_never_both)
 
 pub address_line_once : Texts → AddressLineHasOneAnswer
 address_line_once texts line (Ok (Some addr)) (Ok (Some other)) is also =
     ap (λ a. Ok (Some a)) (one_address texts addr other is.0 also.0 (sym is.1 ∙ also.1))
-address_line_once texts line (Ok (Some addr)) (Ok None) is also = absurd (address_never_skipped line addr is also)
-address_line_once texts line (Ok (Some addr)) (Err fault) is also = absurd (address_never_faulty line addr fault is also)
-address_line_once texts line (Ok None) (Ok (Some addr)) is also = absurd (address_never_skipped line addr also is)
 address_line_once texts line (Ok None) (Ok None) is also = refl
-address_line_once texts line (Ok None) (Err fault) is also = absurd (address_never_both line fault is also)
-address_line_once texts line (Err fault) (Ok (Some addr)) is also = absurd (address_never_faulty line addr fault also is)
 address_line_once texts line (Err fault) (Ok None) is also = absurd (address_never_both line fault also is)
-address_line_once texts line (Err one) (Err two) (inl is) (inl also) = ap Err (is.1 ∙ sym also.1)
-address_line_once texts line (Err one) (Err two) (inl (long, told)) (inr (short, not, none, also)) = absurd (omega (arith, long, short))
-address_line_once texts line (Err one) (Err two) (inr (short, not, none, is)) (inl (long, told)) = absurd (omega (arith, long, short))
-address_line_once texts line (Err one) (Err two) (inr (short, not, none, is)) (inr (short', not', none', also)) = ap Err (is ∙ sym also)
+address_line_once texts line (Err one) (Err two) is also = grind arith
+address_line_once texts line one two is also = absurd (search apart_addresses)

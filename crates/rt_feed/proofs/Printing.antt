@@ -2,10 +2,9 @@
 use Rattle.std.proofs.Common.{ℕ, ◌≤◌, length, arith, length-append}
 use Rattle.rt_cidr.proofs.Promised.{length-decimal}
 use Rattle.rt_rib.specs.declared.commands.Reply.{Reply}
-use Rattle.rt_rib.specs.declared.commands.Reply.TheVariants.{Added, Exists, Full, Replaced, Withdrawn, Missing, Found, NoRoute, Dumped, Purged}
+use Rattle.rt_rib.specs.declared.commands.Reply.TheVariants.{Found, Dumped, Purged}
 use Rattle.rt_print.proofs.Promised.{route_fits}
 use Rattle.rt_feed.specs.declared.parse.LineFault.{LineFault}
-use Rattle.rt_feed.specs.declared.parse.LineFault.TheVariants as fault
 use Rattle.rt_feed.specs.declared.report.Line.{Line}
 use Rattle.rt_feed.specs.declared.report.Answer.{Answer}
 use Rattle.rt_feed.specs.declared.report.Answer.TheVariants.{Did, Refused, Fault}
@@ -13,27 +12,14 @@ use Rattle.rt_feed.specs.Printed.{reply_text, fault_text, answer_text, line_text
 
 reply_fits : (reply : Reply) → length (reply_text reply) ≤ 260
 unfolding reply_text
-reply_fits Added = omega arith
-reply_fits Exists = omega arith
-reply_fits Full = omega arith
-reply_fits Replaced = omega arith
-reply_fits Withdrawn = omega arith
-reply_fits Missing = omega arith
 reply_fits (Found route) = let found = route_fits route in simp length-append (omega arith)
-reply_fits NoRoute = omega arith
 reply_fits (Dumped count) = let digits = length-decimal count in simp length-append (omega arith)
 reply_fits (Purged count) = let digits = length-decimal count in simp length-append (omega arith)
+reply_fits reply = omega arith
 
 fault_fits : (fault : LineFault) → length (fault_text fault) ≤ 8
 unfolding fault_text
-fault_fits fault.Command = omega arith
-fault_fits fault.FieldCount = omega arith
-fault_fits fault.Text = omega arith
-fault_fits fault.PrefixLength = omega arith
-fault_fits fault.PrefixBits = omega arith
-fault_fits fault.Preference = omega arith
-fault_fits fault.Hop = omega arith
-fault_fits fault.LineLength = omega arith
+fault_fits fault = grind arith
 
 answer_fits : (answer : Answer) → length (answer_text answer) ≤ 260
 unfolding answer_text

@@ -1,5 +1,5 @@
 -- A text of addresses, read line by line, and the uniqueness of its list of addresses.
-use Rattle.std.proofs.Common.{◌≡◌, ℕ, suc, ◌+◌, ◌<◌, ◌≤◌, List, [], ◌∷◌, ◌++◌, length, Option, Some, None, Result, Ok, Err, refl, sym, ap, ◌∙◌, arith}
+use Rattle.std.proofs.Common.{◌≡◌, ℕ, ◌+◌, ◌<◌, ◌≤◌, List, [], ◌∷◌, ◌++◌, length, Option, Result, Ok, Err, refl, sym, ap, ◌∙◌, arith}
 use Rattle.std.proofs.Common.{add-zero, length-append}
 use Rattle.std.proofs.lemmas.List.{map-id}
 use Rattle.rt_cidr.specs.declared.address.Addr.{Addr}
@@ -9,7 +9,7 @@ use Rattle.rt_feed.specs.Lines.{CutsLine}
 use Rattle.rt_feed.specs.Laws.{AddressLineHasOneAnswer, AddressTextHasOneReading}
 use Rattle.rt_feed.specs.Addresses.{AnswersAddressLine, addresses_said, faults_said, faulty_lines}
 use Rattle.rt_feed.specs.inside.ReadAddresses.{AreSaid, AreRead, PutsLine}
-use Rattle.rt_feed.proofs.LinesYield.{say-append, length-said}
+use Rattle.rt_feed.proofs.LinesYield.{say-append, length-said, next_number}
 use Rattle.rt_feed.proofs.OneCut.{say_alike}
 
 -- the answer for a line
@@ -19,32 +19,23 @@ Says = Result (Option Addr) LineFault
 -- the addresses of more lines after some
 addresses_said-append : (says more : List Says) → addresses_said (says ++ more) ≡ addresses_said says ++ addresses_said more
 addresses_said-append [] more = refl
-addresses_said-append (Ok (Some addr) ∷ says) more = ap (λ (l : List Addr). addr ∷ l) (addresses_said-append says more)
-addresses_said-append (Ok None ∷ says) more = addresses_said-append says more
-addresses_said-append (Err fault ∷ says) more = addresses_said-append says more
+addresses_said-append (one ∷ says) more = grind (arith, addresses_said-append says more)
 
 -- and their faulty lines
 faults_said-append : (number : ℕ) (says more : List Says)
     → faults_said number (says ++ more) ≡ faults_said number says ++ faults_said (number + length says) more
 faults_said-append number [] more = rw add-zero refl
-faults_said-append number (Ok addr ∷ says) more =
-    let next : number + 1 + length says ≡ number + suc (length says) = omega arith in
-    faults_said-append (number + 1) says more ∙ ap (λ n. faults_said (number + 1) says ++ faults_said n more) next
-faults_said-append number (Err fault ∷ says) more =
-    let next : number + 1 + length says ≡ number + suc (length says) = omega arith in
-    ap (λ (l : List (ℕ × LineFault)). (number, fault) ∷ l)
-    (faults_said-append (number + 1) says more ∙ ap (λ n. faults_said (number + 1) says ++ faults_said n more) next)
+faults_said-append number (Ok addr ∷ says) more = rw (faults_said-append (number + 1) says more, next_number) refl
+faults_said-append number (Err fault ∷ says) more = rw (faults_said-append (number + 1) says more, next_number) refl
 
 -- no more lines are faulty than there are
 faults-few : (number : ℕ) (says : List Says) → length (faults_said number says) ≤ length says
 faults-few number [] = omega arith
-faults-few number (Ok addr ∷ says) = omega (arith, faults-few (number + 1) says)
-faults-few number (Err fault ∷ says) = omega (arith, faults-few (number + 1) says)
+faults-few number (one ∷ says) = grind (arith, faults-few (number + 1) says)
 
 -- their count is their number
 count-lines : (faults : List (ℕ × LineFault)) → (faulty_lines faults).count ≡ length faults
-count-lines [] = refl
-count-lines (one ∷ others) = refl
+count-lines faults = grind arith
 
 pub counted-below : (text rest : List ℕ) (number : ℕ) (addresses : List Addr) (faulty : FaultyLines) → AreRead text rest number addresses faulty
     → faulty.count < number + 1

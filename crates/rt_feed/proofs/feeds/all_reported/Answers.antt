@@ -1,11 +1,9 @@
-use Rattle.std.proofs.Common.{◌≡◌, false, Option, Some, None, refl, sym}
+use Rattle.std.proofs.Common.{◌≡◌, false, Option, None, refl, sym, arith}
 use Rattle.std.specs.Option.{is_some}
-use Rattle.std.proofs.lemmas.Bool.{false≢true}
 use Rattle.rt_feed.proofs.feeds.all_reported.Goals as goal
 
 is_none : {A : Type 0} (o : Option A) → is_some o ≡ false → o ≡ None
-is_none None is = refl
-is_none (Some a) is = absurd (false≢true (sym is))
+is_none o is = grind arith
 
 pub returns-then-is_none-clause-err : goal.returns-then-is_none-clause-err
 returns-then-is_none-clause-err g c =

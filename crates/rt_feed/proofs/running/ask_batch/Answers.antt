@@ -3,11 +3,7 @@ use Rattle.rt_feed.proofs.running.ask_batch.Goals as goal
 
 pub returns-in-Ok-clause-waiting : goal.returns-in-Ok-clause-waiting
 returns-in-Ok-clause-waiting g c =
-    answers_waiting g.G.Gate.holds c.args.gate.now c.apply_batch.new.self c.args.cmds.now c.args.first c.args.report.now c.fill.new.self
-    c.apply_batch.new.out.items c.requires.some
-    (rw c.clear.ensures.items at (c.in-Ok.ensures {u = tt}).ok) (rw (← c.as_slice.ensures.value) c.fill.ensures)
+    answers_waiting c.requires.some (rw c.clear.ensures.items at (c.in-Ok.ensures {u = tt}).ok) (rw (← c.as_slice.ensures.value) c.fill.ensures)
 
 pub returns-in_default-clause-waiting : goal.returns-in_default-clause-waiting
-returns-in_default-clause-waiting g c =
-    refuses_waiting g.G.Gate.holds c.args.gate.now c.apply_batch.new.self c.args.cmds.now c.args.first c.args.report.now c.requires.some
-    (c.in_default.ensures {u = tt}).err.1
+returns-in_default-clause-waiting g c = refuses_waiting c.requires.some (c.in_default.ensures {u = tt}).err.1

@@ -1,9 +1,9 @@
-use Rattle.std.proofs.Common.{◌≡◌, ◌≤◌, ◌<◌, ◌++◌, ℕ, ◌+◌, ◌-◌, length, refl, sym, ap, ◌∙◌, arith, All, subst}
+use Rattle.std.proofs.Common.{◌≡◌, ◌≤◌, ◌<◌, ◌++◌, ◌+◌, ◌-◌, length, refl, sym, ap, ◌∙◌, arith, All, subst}
 use Rattle.std.proofs.lemmas.Result.{err_from_is_err_and}
 use Rattle.rt_feed.specs.declared.report.Line.{Line}
 use Rattle.rt_feed.specs.Lines.{heading, IsBody}
 use Rattle.rt_feed.specs.FeedRuns.{RunsFeed}
-use Rattle.rt_feed.specs.inside.FeedRuns.{RunSoFar, HasRead}
+use Rattle.rt_feed.specs.inside.FeedRuns.{RunSoFar}
 use Rattle.rt_feed.proofs.LinesYield.{length-cut, length-outcomes, report_lines-below}
 use Rattle.rt_feed.proofs.RunSteps.{nothing_read, all_asked, stopped}
 use Rattle.rt_feed.proofs.running.run_feed.Goals as goal
@@ -17,10 +17,7 @@ loop-line-init g c =
     record {
       named = refl;
       read = (
-        subst (λ (n : ℕ). HasRead g.G.Gate.holds c.args.batch c.args.text.now c.text_body-version.result.1.now n c.args.gate.now c.args.gate.now run)
-            (sym count)
-            (nothing_read g.G.Gate.holds c.args.batch c.args.text.now c.args.gate.now run c.new-run.ensures.report c.new-run.ensures.first
-            c.new-run.ensures.gathered c.text_body-version.result.1.now body),
+        nothing_read c.new-run.ensures.report c.new-run.ensures.first c.new-run.ensures.gathered body count,
         omega (arith, c.requires, ap length c.new-run.ensures.gathered),
       );
     }
@@ -51,9 +48,7 @@ returns-in_err-read-clause-err g c =
     let read = c.loop-line.invariant.read in
     let stops = (c.in_err-read.ensures {u = tt}).err in
     rw (fault.1, stops.0)
-    (stopped g.G.Gate.holds c.args.batch c.args.text.now c.loop-line.rest.now c.in-Some.line.now c.in-Some.next.now c.loop-line.number c.args.gate.now
-    c.loop-line.gate c.loop-line.run
-    read.0 read.1 (c.in-Some.ensures {u = tt}) stops.1)
+    (stopped read.0 (c.in-Some.ensures {u = tt}) read.1 stops.1)
 
 pub returns-in_err-read-clause-nothing : goal.returns-in_err-read-clause-nothing
 returns-in_err-read-clause-nothing g c empty =
@@ -66,8 +61,7 @@ returns-clause-ok g c =
     let read = c.loop-line.invariant.read in
     let none = c.in_default.ensures {u = tt} in
     subst (λ (run : RunSoFar). RunsFeed g.G.Gate.holds c.args.batch c.args.text.now c.args.gate.now c.ask.new.gate run.report) (sym c.run-2.view_is)
-    (all_asked g.G.Gate.holds c.args.batch c.args.text.now c.loop-line.number c.args.gate.now c.loop-line.gate c.ask.new.gate c.loop-line.run
-    c.ask.new.self.report (rw none at read.0) read.1 c.ask.ensures.waiting)
+    (all_asked (rw none at read.0) read.1 c.ask.ensures.waiting)
 
 pub loop-line-preserved : goal.loop-line-preserved
 loop-line-preserved g c = record {

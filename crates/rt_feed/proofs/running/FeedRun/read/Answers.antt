@@ -9,9 +9,8 @@ pub returns-in_ok-push-in-Err-clause-ok : goal.returns-in_ok-push-in-Err-clause-
 returns-in_ok-push-in-Err-clause-ok g c =
     rw (← c.self.view_is)
     (λ text rest next earlier start one_more so_far cut. (
-      line_read g.G.Gate.holds c.args.batch text rest c.args.line.now next earlier c.args.number start c.args.gate.now _ _ (faulty c.in-Err.fault) []
-          so_far.0 one_more cut
-          (c.in-Err.ensures {u = tt}) refl (c.in_ok-push-in-Err.ensures {u = tt}).ok refl (sym (append-nil _)) refl,
+      line_read so_far.0 cut _ (faulty c.in-Err.fault) [] one_more (c.in-Err.ensures {u = tt}) refl (c.in_ok-push-in-Err.ensures {u = tt}).ok refl
+          (sym (append-nil _)) refl,
       so_far.1,
     ))
 
@@ -19,9 +18,7 @@ pub returns-in-None-clause-ok : goal.returns-in-None-clause-ok
 returns-in-None-clause-ok g c =
     rw (← c.self.view_is)
     (λ text rest next earlier start one_more so_far cut. (
-      line_read g.G.Gate.holds c.args.batch text rest c.args.line.now next earlier c.args.number start c.args.gate.now _ _ skipped []
-          so_far.0 one_more cut
-          (rw c.in-None.is at (c.in-Ok.ensures {u = tt})) refl (sym (append-nil _)) refl (sym (append-nil _)) refl,
+      line_read so_far.0 cut _ skipped [] one_more (rw c.in-None.is at (c.in-Ok.ensures {u = tt})) refl (sym (append-nil _)) refl (sym (append-nil _)) refl,
       so_far.1,
     ))
 
