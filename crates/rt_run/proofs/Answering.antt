@@ -1,10 +1,9 @@
 -- The answers of look-ups, written piece by piece: those of the addresses so far, and then those of the rest. Also all
 -- covering routes of each address, collected one by one.
-use Rattle.std.proofs.Common.{◌≡◌, ℕ, ◌+◌, ◌<◌, List, [], ◌∷◌, ◌++◌, Option, Result, length, map, take, get_or, append_assoc, add-one, refl, sym, ap, subst, ◌∙◌}
+use Rattle.std.proofs.Common.{◌≡◌, ℕ, ◌+◌, ◌<◌, List, [], ◌∷◌, ◌++◌, Option, Result, length, map, take, get_or, append_assoc, refl, ap, subst, ◌∙◌}
 use Rattle.std.specs.Prelude.{IsErr}
 use Rattle.std.specs.List.{flat_map}
-use Rattle.std.proofs.Math.Seq.{take-suc}
-use Rattle.std.proofs.lemmas.List.{get_or-map, get_or_default}
+use Rattle.std.proofs.lemmas.List.{get_or-map, get_or_default, take_more}
 use Rattle.std.proofs.lemmas.Grind.{flat_map-append}
 use Rattle.std.specs.Io.KnownBytes.{Appends}
 use Rattle.rt_cidr.specs.declared.address.Addr.{Addr}
@@ -23,9 +22,7 @@ module _ (style : StyleContents) (table : List Route) (all rest piece behind : L
   -- the answers of a piece follow the text so far
   pub answers_grow : (text ++ answers_text style piece table) ++ answers_text style behind table ≡ answers_text style all table
   answers_grow =
-      append_assoc text (answers_text style piece table) (answers_text style behind table)
-      ∙ (ap (λ t. text ++ t)
-      (sym (ap (λ addresses. answers_text style addresses table) cut ∙ flat_map-append (λ addr. found_as style.json (label_of style.labels) addr (look_up addr table)) piece behind)) ∙ whole)
+      rw (append_assoc, ← (flat_map-append (λ addr. found_as style.json (label_of style.labels) addr (look_up addr table)) piece behind), ← cut) whole
 
   -- a fault within them leaves a beginning of all answers
   pub answers_begin : (a b c : Option (List ℕ)) → Appends a b text
@@ -59,7 +56,5 @@ matches_more style table addresses k none all all' one here pushed of_it found s
     let answer : Addr → List ℕ = λ a. all_found_as style.json (label_of style.labels) a (look_up_all a table) in
     let addr = get_or addresses k none in
     let same : text one ≡ answer addr = ap (λ a. all_found_as style.json (label_of style.labels) a one.routes.items) of_it ∙ ap (all_found_as style.json (label_of style.labels) addr) found in
-    let next : take (k + 1) addresses ≡ take k addresses ++ addr ∷ [] = ap (λ n. take n addresses) (add-one k) ∙ take-suc addresses k none here in
-    ap (matches_text style) pushed ∙ (flat_map-append text all (one ∷ [])
-    ∙ (ap (λ t. t ++ (text one ++ [])) so_far ∙ (ap (λ t. all_answers_text style (take k addresses) table ++ (t ++ [])) same
-    ∙ (sym (flat_map-append answer (take k addresses) (addr ∷ [])) ∙ ap (λ xs. all_answers_text style xs table) (sym next)))))
+    let after = flat_map-append answer (take k addresses) (addr ∷ []) in
+    rw (pushed, take_more addresses k none here, flat_map-append text all (one ∷ []), after, so_far, same)

@@ -1,7 +1,7 @@
 -- The output of a comparison: the lines of the differences so far, and then the lines of the rest.
 use Rattle.std.proofs.Common.{◌≡◌, Bool, true, false, not, is_some, ℕ, ◌+◌, ◌<◌, max}
-use Rattle.std.proofs.Common.{List, [], ◌∷◌, ◌++◌, Option, Some, None, length, append_assoc, append-nil, length-append, refl, sym, ap, subst, ◌∙◌, arith}
-use Rattle.std.proofs.lemmas.Grind.{flat_map-append}
+use Rattle.std.proofs.Common.{List, [], ◌∷◌, ◌++◌, Option, Some, None, length, append_assoc, append-nil, refl, sym, ap, subst, ◌∙◌, arith}
+use Rattle.std.proofs.lemmas.Grind.{common_steps, flat_map-append}
 use Rattle.std.specs.Io.KnownBytes.{Appends}
 use Rattle.rt_cidr.specs.Output.{AppendsBeginning}
 use Rattle.rt_cidr.proofs.Promised.{begins_after, begins_longer}
@@ -19,14 +19,12 @@ use Rattle.rt_run.specs.inside.Outputs.{IsEmpty, IsFirstFrom, IsFirstOf, lines_o
 
 -- an absent difference is `None`
 pub none_left : (next : Option Difference) → ((d : Difference) → next ≡ Some d → ⊥) → next ≡ None
-none_left None h = refl
-none_left (Some d) h = absurd (h d refl)
+none_left next h = grind arith
 
 -- the line of a range isn't empty
 range-some : (json : Bool) (d : Difference) (old new rest : List ℕ) → 0 < length (range_as json d old new ++ rest)
 unfolding range_as
-range-some false d old new rest = simp length-append (omega arith)
-range-some true d old new rest = simp length-append (omega arith)
+range-some json d old new rest = grind (arith, common_steps)
 
 module _ (asked : DiffContents) (old new : List Route) where
   -- before the first line
@@ -38,14 +36,11 @@ module _ (asked : DiffContents) (old new : List Route) where
       → IsFirstFrom asked old new (at (d.last.0 + 1)) next → IsSoFar asked old new next (text ++ difference_as asked d)
   one_more text d next far is = record {
     done = far.done ++ d ∷ [];
-    printed =
-        ap (λ t. t ++ difference_as asked d) far.printed
-        ∙ (ap (λ t. differences_as asked far.done ++ t) (sym (append-nil (difference_as asked d))) ∙ sym (flat_map-append (difference_as asked) far.done (d ∷ [])));
+    printed = rw (flat_map-append (difference_as asked) far.done (d ∷ []), append-nil (difference_as asked d), far.printed);
     from = at (d.last.0 + 1);
     first = is;
     whole = λ rest are.
-        subst (AreDifferences asked.by (own_numbers old) (renumbered_new asked new)) (sym (append_assoc far.done (d ∷ []) rest))
-        (far.whole (d ∷ rest) (rest_next asked.by (own_numbers old) (renumbered_new asked new) far.from d rest far.first are));
+        rw append_assoc (far.whole (d ∷ rest) (rest_next asked.by (own_numbers old) (renumbered_new asked new) far.from d rest far.first are));
   }
 
   -- if no difference is left, these are all lines
@@ -67,10 +62,7 @@ module _ (asked : DiffContents) (old new : List Route) where
   text_so_far text d far =
       let (rest, is) = list_so_far text d far in (
         differences_as asked rest,
-        ap (differences_as asked) is
-            ∙ (flat_map-append (difference_as asked) far.done (d ∷ rest)
-            ∙ (ap (λ t. t ++ (difference_as asked d ++ differences_as asked rest)) (sym far.printed)
-            ∙ sym (append_assoc text (difference_as asked d) (differences_as asked rest)))),
+        rw (is, flat_map-append (difference_as asked) far.done (d ∷ rest), ← far.printed, append_assoc),
       )
 
   -- hence a fault within it leaves a beginning of all lines
@@ -83,11 +75,10 @@ module _ (asked : DiffContents) (old new : List Route) where
   -- there is a line if and only if there is a first difference
   pub lines-empty : (first : Option Difference) (empty : Bool) → is_some first ≡ not empty → IsFirstOf asked old new first → IsEmpty empty (lines_of asked old new)
   lines-empty None true e is = sym (all_so_far [] (none_so_far None is))
-  lines-empty None false e is = absurd cc
-  lines-empty (Some d) true e is = absurd cc
   lines-empty (Some d) false e is =
       let (rest, same) = text_so_far [] d (none_so_far (Some d) is) in
       subst (λ (t : List ℕ). 0 < length t) (sym same) (range-some asked.old.json d _ _ rest)
+  lines-empty first empty e is = absurd cc
 
   -- the status from the first difference is the status from the list
   pub status_by_first : (first : Option Difference) (m n : ℕ) → IsFirstOf asked old new first

@@ -1,10 +1,8 @@
 -- Texts executed one after another, line by line and text by text: some history of them leaves the same table.
-use Rattle.std.proofs.Common.{◌≡◌, ◌≢◌, ◌⊎◌, inl, inr, ℕ, zero, suc, ◌+◌, ◌<◌, ◌≤◌, Option, List, [], ◌∷◌, ◌++◌, length, map, take, drop}
-use Rattle.std.proofs.Common.{get_or, refl, sym, ap, subst, ◌∙◌, arith, add-one, append_assoc, append-nil, length-append, length-drop, take-append-drop}
-use Rattle.std.proofs.Math.Seq.{take-suc}
+use Rattle.std.proofs.Common.{◌≡◌, ◌≢◌, inl, inr, ℕ, zero, suc, ◌+◌, ◌<◌, ◌≤◌, Option, List, [], ◌∷◌, ◌++◌, length, map, take, drop}
+use Rattle.std.proofs.Common.{get_or, refl, sym, ap, subst, ◌∙◌, arith, append_assoc, append-nil, length-append, length-drop, take-append-drop}
 use Rattle.std.proofs.lemmas.Bool.{cases_lt}
-use Rattle.std.proofs.lemmas.List as lists
-use Rattle.std.proofs.lemmas.List.{map-append, length-map, length-take-le}
+use Rattle.std.proofs.lemmas.List.{map-append, length-map, length-take-le, map_more as map_next}
 use Rattle.std.proofs.lemmas.List.Elements.{All-nil, All-cons, All-append, All-weaker}
 use Rattle.rt_rib.specs.declared.commands.Cmd.{Cmd}
 use Rattle.rt_rib.specs.declared.commands.Reply.{Reply}
@@ -14,13 +12,13 @@ use Rattle.rt_rib.specs.Sequential.{reply_of, table_after, table_of_journal, IsA
 use Rattle.rt_rib.proofs.Promised.{table_of_journal-push, IsLawfulJournal-nil, IsLawfulJournal-push}
 use Rattle.rt_shared.specs.declared.outcome.Outcome.{Outcome}
 use Rattle.rt_shared.specs.declared.outcome.Outcome.TheVariants.{Did}
-use Rattle.rt_shared.specs.JournalVisits.{AllBy, NoneBy, IsContiguousIn, AnsweredBatch, reply_to, visit_of, entries}
+use Rattle.rt_shared.specs.JournalVisits.{AllBy, NoneBy, IsContiguousIn, AnsweredBatch, visit_of, entries}
 use Rattle.rt_shared.proofs.Promised.{uncut_since}
 use Rattle.rt_feed.specs.declared.versions.Version.{Version}
 use Rattle.rt_feed.specs.declared.versions.Version.TheVariants.{One, Two}
 use Rattle.rt_feed.specs.declared.report.Line.{Line}
 use Rattle.rt_feed.specs.declared.report.Answer.{Answer}
-use Rattle.rt_feed.specs.Lines.{IsBody, CutsLine, LineOutcome, skipped, TextYields, heading, line_answer, numbered, report_lines, command_of, commands_of}
+use Rattle.rt_feed.specs.Lines.{IsBody, CutsLine, LineOutcome, skipped, TextYields, heading, numbered, report_lines, command_of, commands_of}
 use Rattle.rt_feed.specs.Visits.{concatenated, piece_of, IsSplitInto}
 use Rattle.rt_feed.proofs.Promised.{length-cut, report_lines-push, commands_of-append}
 use Rattle.rt_run.specs.declared.tallies.RejectedInput.{RejectedInput}
@@ -28,7 +26,7 @@ use Rattle.rt_run.specs.declared.tallies.RunSummary.{RunSummary}
 use Rattle.rt_run.specs.RunText.{Explains, ExplainsFrom, reports_of}
 use Rattle.rt_run.specs.TableText.{tally_of, tallies_status, LeavesTable}
 use Rattle.rt_run.specs.inside.Runs.{Continues, ExecutesText, ExecutesLine, IsExecuting, LeavesSoFar}
-use Rattle.rt_run.proofs.Lists.{map_more, cut-joined}
+use Rattle.rt_run.proofs.Lists.{map_more, split-joined}
 
 -- a feed's command with its reply as an entry
 abbrev entry_by : ℕ → Cmd × Reply → Entry
@@ -37,8 +35,7 @@ entry_by feed p = record { feed = feed; cmd = p.0; reply = p.1 }
 -- the entries of more commands after some
 visit_of-append : (one two : List (Cmd × Outcome)) → visit_of (one ++ two) ≡ visit_of one ++ visit_of two
 visit_of-append [] two = refl
-visit_of-append (asked ∷ one) two =
-    ap (λ (v : AnsweredBatch). reply_to asked.0 asked.1 ++ v) (visit_of-append one two) ∙ sym (append_assoc (reply_to asked.0 asked.1) (visit_of one) (visit_of two))
+visit_of-append (asked ∷ one) two = rw (visit_of-append one two, append_assoc)
 
 pub entries-append : (feed : ℕ) (one two : List (Cmd × Outcome)) → entries feed (visit_of (one ++ two)) ≡ entries feed (visit_of one) ++ entries feed (visit_of two)
 entries-append feed one two = ap (entries feed) (visit_of-append one two) ∙ map-append (entry_by feed) (visit_of one) (visit_of two)
@@ -77,9 +74,7 @@ continues-both feed one two a b c first second = (
   λ journal lawful left.
       let middle = first.1 journal lawful left in
       let front = journal ++ entries feed (visit_of one) in
-      let ended : IsLeftBy b.limit c (front ++ entries feed (visit_of two)) =
-      second.1 front (subst (λ (limit : ℕ). IsLawfulJournal limit front) (sym first.0) middle.0)
-      (subst (λ (limit : ℕ). b.routes ≡ table_of_journal limit front) (sym first.0) middle.1) in
+      let ended : IsLeftBy b.limit c (front ++ entries feed (visit_of two)) = second.1 front (rw first.0 middle.0) (rw first.0 middle.1) in
       let joined : front ++ entries feed (visit_of two) ≡ journal ++ entries feed (visit_of (one ++ two)) =
       append_assoc journal (entries feed (visit_of one)) (entries feed (visit_of two)) ∙ ap (λ (own : List Entry). journal ++ own) (sym (entries-append feed one two)) in
       subst (IsLeftBy a.limit c) joined (subst (λ (limit : ℕ). IsLeftBy limit c (front ++ entries feed (visit_of two))) first.0 ended),
@@ -114,18 +109,16 @@ reads_on version feed text rest line next number old now new tally tally' said s
     let outcome = executed.outcome in
     let next_number : number + 1 ≡ 1 + length so_far.outcomes = omega (arith, so_far.counted) in
     let report : report_lines 1 so_far.outcomes ++ numbered (number + 1) said ≡ report_lines 1 (so_far.outcomes ++ outcome ∷ []) =
-    ap (λ a. report_lines 1 so_far.outcomes ++ numbered (number + 1) a) executed.answered
-    ∙ (ap (λ n. report_lines 1 so_far.outcomes ++ numbered n (line_answer outcome)) next_number ∙ sym (report_lines-push 1 so_far.outcomes outcome)) in
+    cc (executed.answered, next_number, report_lines-push 1 so_far.outcomes outcome) in
     let asked : commands_of so_far.outcomes ++ command_of outcome ≡ commands_of (so_far.outcomes ++ outcome ∷ []) =
     ap (λ own. commands_of so_far.outcomes ++ own) (sym (append-nil (command_of outcome))) ∙ sym (commands_of-append so_far.outcomes (outcome ∷ [])) in
     record {
       outcomes = so_far.outcomes ++ outcome ∷ [];
       onward = λ more is.
-          subst (λ (os : List LineOutcome). TextYields text os []) (sym (append_assoc so_far.outcomes (outcome ∷ []) more))
-          (so_far.onward (outcome ∷ more) (line, next, cut, executed.reads, is));
+          rw append_assoc (so_far.onward (outcome ∷ more) (line, next, cut, executed.reads, is));
       counted = omega (arith, so_far.counted, length-append so_far.outcomes (outcome ∷ []));
       within = omega (arith, so_far.within, length-cut rest line next cut);
-      continued = subst (λ (own : List (Cmd × Outcome)). Continues feed own old new) asked
+      continued = rw asked at
           (continues-both feed (commands_of so_far.outcomes) (command_of outcome) old now new so_far.continued executed.continued);
       tallied = counts (report_lines 1 so_far.outcomes) so_far.tallied ∙ ap tally_of report;
     }
@@ -135,7 +128,7 @@ pub ends : (version : Version) (feed : ℕ) (text rest : List ℕ) (number : ℕ
     → IsExecuting version feed text rest number old now tally → rest ≡ [] → ExecutesText feed text old now tally
 ends version feed text rest number old now tally so_far none = record {
   outcomes = so_far.outcomes;
-  becomes = subst (λ (os : List LineOutcome). TextYields text os []) (append-nil so_far.outcomes) (so_far.onward [] none);
+  becomes = rw append-nil at (so_far.onward [] none);
   continued = so_far.continued;
   tallied = so_far.tallied;
 }
@@ -144,29 +137,25 @@ ends version feed text rest number old now tally so_far none = record {
 abbrev Cut : {X : Type 0} → ℕ → List X → Type 0
 Cut {X} size xs = (pieces : List (List X)) × IsSplitInto size xs pieces
 
-cut_short : {X : Type 0} (size : ℕ) (xs : List X) → length xs < size → Cut size xs
-cut_short size xs fewer =
-    (piece_of xs, record { whole = []; last = xs; full = All-nil _; fewer = fewer; is_joined = refl; is_cut = refl })
-
 cut_front : {X : Type 0} (size : ℕ) (xs : List X) → size ≤ length xs → Cut size (drop size xs) → Cut size xs
-cut_front {X} size xs more rest = (
-  take size xs ∷ rest.0,
+cut_front {X} size xs more (pieces, cut) = (
+  take size xs ∷ pieces,
   record {
-    whole = take size xs ∷ rest.1.whole;
-    last = rest.1.last;
-    full = All-cons (λ (piece : List X). length piece ≡ size) (take size xs) rest.1.whole (length-take-le size xs more) rest.1.full;
-    fewer = rest.1.fewer;
-    is_joined = sym (take-append-drop size xs) ∙ (ap (λ (t : List X). take size xs ++ t) rest.1.is_joined
-        ∙ sym (append_assoc (take size xs) (concatenated rest.1.whole) rest.1.last));
-    is_cut = ap (λ (ps : List (List X)). take size xs ∷ ps) rest.1.is_cut;
+    whole = take size xs ∷ cut.whole;
+    last = cut.last;
+    full = All-cons (λ (piece : List X). length piece ≡ size) (take size xs) cut.whole (length-take-le size xs more) cut.full;
+    fewer = cut.fewer;
+    is_joined = rw (append_assoc, ← cut.is_joined) (sym (take-append-drop size xs));
+    is_cut = ap (λ (ps : List (List X)). take size xs ∷ ps) cut.is_cut;
   },
 )
 
-cut_within : {X : Type 0} (size : ℕ) → 1 ≤ size → (most : ℕ) (xs : List X) → length xs ≤ most → Cut size xs
-cut_within size some zero xs within = cut_short size xs (omega (arith, some, within))
+cut_within : {X : Type 0} (size : ℕ) → 1 ≤ size → (most : ℕ) (xs : List X) → length xs < size + most → Cut size xs
+cut_within size some zero xs within =
+    (piece_of xs, record { whole = []; last = xs; full = All-nil _; fewer = omega arith; is_joined = refl; is_cut = refl })
 cut_within size some (suc most) xs within = elim (cases_lt (length xs) size) [
-  | inl fewer ↦ cut_short size xs fewer
-  | inr more ↦ cut_front size xs more (cut_within size some most (drop size xs) (omega (arith, length-drop size xs, within, some, more)))
+  | inl fewer ↦ cut_within size some most xs (omega arith)
+  | inr more ↦ cut_front size xs more (cut_within size some most (drop size xs) (omega (arith, length-drop size xs)))
 ]
 
 -- if the entries of a feed's commands are in one piece, so is each piece into which the commands are split
@@ -187,12 +176,12 @@ explained_last : (batch feed : ℕ) (journal : List Entry) (text : List ℕ) (li
     → Explains batch feed (journal ++ entries feed (visit_of (commands_of lines))) text lines
 explained_last batch feed journal text lines some none becomes =
     let cut = cut_within batch some (length (commands_of lines)) (commands_of lines) (omega arith) in
-    let joined : concatenated cut.0 ≡ commands_of lines = ap concatenated cut.1.is_cut ∙ (cut-joined cut.1.whole cut.1.last ∙ sym cut.1.is_joined) in
+    let joined = split-joined (commands_of lines) cut.0 cut.1 in
     record {
       becomes = becomes;
       pieces = cut.0;
       cut = cut.1;
-      uncut = subst (λ (asked : List (Cmd × Outcome)). IsContiguousIn feed (map (entries feed) (map visit_of cut.0)) (journal ++ entries feed (visit_of asked))) joined
+      uncut = subst (λ asked. IsContiguousIn feed (map (entries feed) (map visit_of cut.0)) (journal ++ entries feed (visit_of asked))) joined
           (pieces_uncut feed cut.0 journal none);
     }
 
@@ -207,8 +196,6 @@ explains_more : (batch last : ℕ) (journal own : List Entry) (text : List ℕ) 
     → ExplainsFrom batch feed (journal ++ own) (texts ++ text ∷ []) (outcomes ++ lines ∷ [])
 explains_more batch last journal own text lines by explained feed [] [] is so_far =
     let same : last ≡ feed = omega (arith, is) in (subst (λ (n : ℕ). Explains batch n (journal ++ own) text lines) same explained, tt)
-explains_more batch last journal own text lines by explained feed [] (more ∷ outcomes) is so_far = absurd so_far
-explains_more batch last journal own text lines by explained feed (one ∷ texts) [] is so_far = absurd so_far
 explains_more batch last journal own text lines by explained feed (one ∷ texts) (more ∷ outcomes) is (first, others) = (
   record {
     becomes = first.becomes;
@@ -219,6 +206,7 @@ explains_more batch last journal own text lines by explained feed (one ∷ texts
   },
   explains_more batch last journal own text lines by explained (feed + 1) texts outcomes (omega (arith, is)) others,
 )
+explains_more batch last journal own text lines by explained feed texts outcomes is so_far = absurd so_far
 
 -- before the first text
 pub leaves_nothing : (limit batch : ℕ) (table : TableState) → table ≡ record { limit = limit; routes = [] } → LeavesSoFar [] limit batch table []
@@ -240,14 +228,12 @@ leaves_more texts text limit batch feed old new tallies tallies' tally some is s
     let journal = so_far.journal in
     let own = entries feed (visit_of (commands_of executed.outcomes)) in
     let by : AllBy feed own = entries_by feed (visit_of (commands_of executed.outcomes)) in
-    let Fits : Entry → Type 0 = λ e. (1 ≤ e.feed) × (e.feed ≤ length (texts ++ text ∷ [])) in
+    let Fits : List (List ℕ) → Entry → Type 0 = λ ts e. (1 ≤ e.feed) × (e.feed ≤ length ts) in
+    let more = length-append texts (text ∷ []) in
     let others : NoneBy feed journal =
-    All-weaker (λ (e : Entry). (1 ≤ e.feed) × (e.feed ≤ length texts)) (λ (e : Entry). e.feed ≢ feed)
-    (λ e of same. absurd (omega (arith, of.1, same, is))) journal so_far.history.no_other in
-    let at_old : IsLeftBy old.limit old journal =
-    subst (λ (l : ℕ). IsLeftBy l old journal) (sym so_far.limited) (so_far.history.lawful, so_far.left) in
+    All-weaker (Fits texts) (λ (e : Entry). e.feed ≢ feed) (λ e of same. absurd (omega (arith, of.1, same, is))) journal so_far.history.no_other in
     let now : IsLeftBy limit new (journal ++ own) =
-    subst (λ (l : ℕ). IsLeftBy l new (journal ++ own)) so_far.limited (executed.continued.1 journal at_old.0 at_old.1) in
+    rw so_far.limited at (executed.continued.1 journal (rw so_far.limited so_far.history.lawful) (rw so_far.limited so_far.left)) in
     record {
       limited = executed.continued.0 ∙ so_far.limited;
       journal = journal ++ own;
@@ -256,10 +242,9 @@ leaves_more texts text limit batch feed old new tallies tallies' tally some is s
         lawful = now.0;
         explained = explains_more batch feed journal own text executed.outcomes by
             (explained_last batch feed journal text executed.outcomes some others executed.becomes) 1 texts so_far.outcomes (omega (arith, is)) so_far.history.explained;
-        no_other = All-append Fits journal own
-            (All-weaker (λ (e : Entry). (1 ≤ e.feed) × (e.feed ≤ length texts)) Fits (λ e of. (of.0, omega (arith, of.1, length-append texts (text ∷ [])))) journal
-            so_far.history.no_other)
-            (All-weaker (λ (e : Entry). e.feed ≡ feed) Fits (λ e of. (omega (arith, of, is), omega (arith, of, is, length-append texts (text ∷ [])))) own by);
+        no_other = All-append (Fits (texts ++ text ∷ [])) journal own
+            (All-weaker (Fits texts) (Fits (texts ++ text ∷ [])) (λ e of. omega (arith, of, more)) journal so_far.history.no_other)
+            (All-weaker (λ (e : Entry). e.feed ≡ feed) (Fits (texts ++ text ∷ [])) (λ e of. omega (arith, of, is, more)) own by);
       };
       left = now.1;
       tallied = map_more tally_of tallies tallies' (reports_of so_far.outcomes) (report_lines 1 executed.outcomes) tally so_far.tallied pushed executed.tallied
@@ -282,7 +267,7 @@ leaves_all texts limit batch table tallies summary so_far same status = record {
 pub texts_more : {V : Type 0} (items : V → List ℕ) (texts : List V) (i : ℕ) (one : V) (text : List ℕ) → i < length texts → one ≡ get_or texts i one
     → text ≡ items one → map items (take i texts) ++ text ∷ [] ≡ map items (take (i + 1) texts)
 texts_more items texts i one text here is same =
-    ap (λ (t : List ℕ). map items (take i texts) ++ t ∷ []) (same ∙ ap items is) ∙ sym (lists.map_more items texts i one here)
+    ap (λ (t : List ℕ). map items (take i texts) ++ t ∷ []) (same ∙ ap items is) ∙ sym (map_next items texts i one here)
 
 pub texts_count : {V : Type 0} (items : V → List ℕ) (texts : List V) (i : ℕ) → i < length texts → i + 1 ≡ length (map items (take i texts)) + 1
 texts_count items texts i here =

@@ -1,5 +1,5 @@
 -- The texts of a run in which some feeds are left out: as many as all, and one text more.
-use Rattle.std.proofs.Common.{◌≡◌, ℕ, zero, suc, ◌+◌, ◌<◌, Bool, true, false, List, [], ◌∷◌, ◌++◌, length, map, take, get_or, if◌then◌else◌, refl, sym, ap, ◌∙◌, arith}
+use Rattle.std.proofs.Common.{◌≡◌, ℕ, zero, suc, ◌+◌, ◌<◌, Bool, List, [], ◌∷◌, ◌++◌, length, map, take, get_or, if◌then◌else◌, refl, sym, ap, ◌∙◌, arith}
 use Rattle.std.proofs.lemmas.Bool.{cond-true, cond-false}
 use Rattle.std.proofs.lemmas.List.{length-map}
 use Rattle.rt_run.specs.ChosenFeeds.{texts_kept, AreWithout}
@@ -14,13 +14,8 @@ count_kept {V} out items texts n is = is ∙ (sym (length-map texts items) ∙ s
 
 kept_append : (out : ℕ → Bool) (feed : ℕ) (texts : List (List ℕ)) (text : List ℕ)
     → texts_kept out feed (texts ++ text ∷ []) ≡ texts_kept out feed texts ++ (if out (feed + length texts) then [] else text) ∷ []
-kept_append out feed [] text =
-    let last : feed ≡ feed + 0 = omega arith in
-    ap (λ (n : ℕ). (if out n then [] else text) ∷ []) last
-kept_append out feed (one ∷ texts) text =
-    let last : (feed + 1) + length texts ≡ feed + length (one ∷ texts) = omega arith in
-    ap (λ ts. (if out feed then [] else one) ∷ ts)
-    (kept_append out (feed + 1) texts text ∙ ap (λ (n : ℕ). texts_kept out (feed + 1) texts ++ (if out n then [] else text) ∷ []) last)
+kept_append out feed [] text = grind arith
+kept_append out feed (one ∷ texts) text = grind (arith, kept_append out (feed + 1) texts text)
 
 -- the texts so far, and one more
 pub kept_more : {V : Type 0} (out : ℕ → Bool) (items : V → List ℕ) (texts : List V) (i : ℕ) (text kept : List ℕ) → i < length texts
@@ -35,22 +30,13 @@ kept_more {V} out items texts i text kept here whole is =
 pub kept_count : {V : Type 0} (out : ℕ → Bool) (items : V → List ℕ) (texts : List V) (i : ℕ) → i < length texts
     → i + 1 ≡ length (texts_kept out 1 (map items (take i texts))) + 1
 kept_count {V} out items texts i here =
-    let counted = texts_count items texts i here in
-    let same = kept_length out 1 (map items (take i texts)) in
-    omega (arith, counted, same)
+    omega (arith, texts_count items texts i here, kept_length out 1 (map items (take i texts)))
 
 -- the text of each feed, by its place
-either_way : (b : Bool) (text : List ℕ) → text ≡ (if b then text else text)
-either_way true text = refl
-either_way false text = refl
-
 kept_at : (out : ℕ → Bool) (feed : ℕ) (texts : List (List ℕ)) (k : ℕ) → get_or (texts_kept out feed texts) k [] ≡ (if out (k + feed) then [] else get_or texts k [])
-kept_at out feed [] k = either_way (out (k + feed)) []
-kept_at out feed (text ∷ texts) zero =
-    let here : feed ≡ 0 + feed = omega arith in ap (λ (n : ℕ). if out n then [] else text) here
-kept_at out feed (text ∷ texts) (suc k) =
-    let next : k + (feed + 1) ≡ suc k + feed = omega arith in
-    kept_at out (feed + 1) texts k ∙ ap (λ (n : ℕ). if out n then [] else get_or texts k []) next
+kept_at out feed [] k = grind arith
+kept_at out feed (text ∷ texts) zero = grind arith
+kept_at out feed (text ∷ texts) (suc k) = grind (arith, kept_at out (feed + 1) texts k)
 
 pub are_without : (out : ℕ → Bool) (texts : List (List ℕ)) → AreWithout out texts (texts_kept out 1 texts)
 are_without out texts = record {

@@ -1,15 +1,16 @@
 -- The effect of a call on its writer, from its output, and which output is empty.
-use Rattle.std.proofs.Common.{◌≡◌, ◌==◌, ℕ, ◌<◌, max, Bool, true, false, List, [], ◌∷◌, ◌++◌, length, Option, Some, None, Result, Ok, Err, IfErr, refl, sym, ap, subst, ◌∙◌, arith, length-append}
-use Rattle.std.proofs.Common.{eqb-true, zero, suc, ◌≤◌}
+use Rattle.std.proofs.Common.{◌≡◌, ◌==◌, ℕ, ◌<◌, max, Bool, true, false, List, [], ◌∷◌, ◌++◌, length, Option, Result, Ok, Err, IfErr, refl, sym, ap, subst, ◌∙◌, arith, length-append}
+use Rattle.std.proofs.Common.{eqb-true, ◌≤◌}
 use Rattle.std.specs.Prelude.{nat_lt}
 use Rattle.std.specs.List.{flat_map}
+use Rattle.std.proofs.lemmas.Grind.{common_steps}
 use Rattle.rt_cidr.specs.declared.address.Addr.{Addr}
 use Rattle.rt_rib.specs.declared.routes.Route.{Route}
 use Rattle.rt_rib.specs.LookUp.{look_up}
 use Rattle.rt_feed.specs.declared.faulty.FaultyLines.{FaultyLines}
 use Rattle.rt_feed.specs.declared.faults.RunFault.TheVariants as refusal
 use Rattle.rt_print.specs.Routes.{table_text, count_text}
-use Rattle.rt_print.specs.Counts.{prefix_count, totals_as, counts_as}
+use Rattle.rt_print.specs.Counts.{totals_as, counts_as}
 use Rattle.rt_print.specs.Styles.{StyleContents, label_of, row_as, rows_as, address_head, found_as, all_found_as}
 use Rattle.rt_run.specs.declared.faults.AppFault.{AppFault}
 use Rattle.rt_run.specs.declared.faults.AppFault.TheVariants.{Run, Replay, Write}
@@ -75,22 +76,15 @@ texts-empty text some false (x ∷ xs) is = let first = some x in simp length-ap
 -- nor is the text of a look-up, in any style
 row_as-some : (json : Bool) (label : ℕ → List ℕ) (route : Route) → 0 < length (row_as json label route)
 unfolding row_as
-row_as-some false label route = simp length-append (omega arith)
-row_as-some true label route = simp length-append (omega arith)
+row_as-some json label route = grind (arith, common_steps)
 
 found_as-some : (json : Bool) (label : ℕ → List ℕ) (addr : Addr) (found : Option Route) → 0 < length (found_as json label addr found)
 unfolding found_as address_head
-found_as-some false label addr None = simp length-append (omega arith)
-found_as-some false label addr (Some r) = simp length-append (omega arith)
-found_as-some true label addr None = simp length-append (omega arith)
-found_as-some true label addr (Some r) = simp length-append (omega arith)
+found_as-some json label addr found = grind (arith, common_steps)
 
 all_found_as-some : (json : Bool) (label : ℕ → List ℕ) (addr : Addr) (found : List Route) → 0 < length (all_found_as json label addr found)
 unfolding all_found_as address_head
-all_found_as-some false label addr [] = found_as-some false label addr None
-all_found_as-some false label addr (first ∷ others) = let line = found_as-some false label addr (Some first) in simp length-append (omega arith)
-all_found_as-some true label addr [] = simp length-append (omega arith)
-all_found_as-some true label addr (first ∷ others) = simp length-append (omega arith)
+all_found_as-some json label addr found = grind (arith, common_steps, found_as-some)
 
 module _ (style : StyleContents) (empty : Bool) where
   pub rows-empty : (routes : List Route) → empty ≡ (length routes == 0) → IsEmpty empty (rows_as style routes)
@@ -107,19 +101,9 @@ module _ (style : StyleContents) (empty : Bool) where
       (λ one. all_found_as-some style.json (label_of style.labels) one.addr one.routes.items) empty
 
 -- nor is the text of the counts
-totals-some : (json : Bool) (routes prefixes : ℕ) (rest : List ℕ) → 0 < length (totals_as json routes prefixes ++ rest)
-unfolding totals_as
-totals-some false routes prefixes rest = simp length-append (omega arith)
-totals-some true routes prefixes rest = simp length-append (omega arith)
-
 pub counts-some : (style : StyleContents) (routes : List Route) → 0 < length (counts_as style routes)
-unfolding counts_as
-counts-some style routes = totals-some style.json (length routes) (prefix_count routes) _
-
--- a tree of some shape has a level
-some_level : (levels : ℕ) → ((HasShape levels → ⊥) → ⊥) → 1 ≤ levels
-some_level zero shaped = absurd (shaped (λ shape. omega (arith, shape.0)))
-some_level (suc levels) shaped = omega arith
+unfolding counts_as totals_as
+counts-some style routes = grind (arith, common_steps)
 
 -- the text of the steps of a run from the start, and of the place that is inside after them, is its replay text
 pub is_replay_text : (levels : ℕ) (picks : List ℕ) (steps : List Step) (inside : Option ℕ) → ((HasShape levels → ⊥) → ⊥) → Replays levels opening picks steps
@@ -131,6 +115,6 @@ is_replay_text levels picks steps inside shaped run tells =
       last = run.0;
       taken = run.1;
       inside = inside;
-      told = tells levels picks run.0 (some_level levels shaped) run.1;
+      told = tells levels picks run.0 (grind arith) run.1;
       printed = refl;
     }

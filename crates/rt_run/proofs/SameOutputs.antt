@@ -1,19 +1,15 @@
 -- The answers to questions and the output of a comparison don't depend on the interleaving of the feeds' visits.
-use Rattle.std.proofs.Common.{max, false, List, ◌++◌, ap, sym, subst, ◌∙◌, ◌≡◌}
-use Rattle.std.specs.Prelude.{nat_lt}
+use Rattle.std.proofs.Common.{List, ◌++◌, ap, sym, subst, ◌∙◌, ◌≡◌}
 use Rattle.rt_cidr.specs.declared.address.Addr.{Addr}
-use Rattle.rt_feed.specs.declared.faulty.FaultyLines.{FaultyLines}
 use Rattle.rt_feed.specs.Laws.{AddressTextHasOneReading}
-use Rattle.rt_run.specs.RunText.{status_where}
 use Rattle.rt_run.specs.TableText.{question_text, named_in, said_in, IsQueryOutput}
 use Rattle.rt_run.specs.SameTable.{ShowOneTable, AnswerOnce, LeavesUnion, HaveOneUnion, HaveSameTallies, DiffsUnions, DiffOnce}
-use Rattle.rt_rib.specs.declared.routes.Route.{Route}
 use Rattle.rt_diff.specs.Answers.{own_numbers}
 use Rattle.rt_diff.specs.Differences.{AreDifferences}
 use Rattle.rt_diff.specs.Laws.{HaveOneList}
 use Rattle.rt_print.specs.DifferenceText.{differences_as}
-use Rattle.rt_run.specs.DiffText.{renumbered_new, differ_status}
-use Rattle.rt_run.proofs.SameTables.{left_union, union_of_same, say_the_same}
+use Rattle.rt_run.specs.DiffText.{renumbered_new}
+use Rattle.rt_run.proofs.SameTables.{left_union, say_the_same}
 
 pub answers_are_deterministic : ShowOneTable → AddressTextHasOneReading → AnswerOnce
 answers_are_deterministic shows once one one' style question bytes bytes' given given' same is is' not not' =
@@ -22,9 +18,7 @@ answers_are_deterministic shows once one one' style question bytes bytes' given 
     let also = subst (λ (said : List Addr). IsQueryOutput one' (text_of said) bytes' given'.run) (sym read.0) is'.shown in
     let both = shows one one' (text_of is.said) bytes bytes' given.run given'.run same is.shown also not not' in (
       both.0,
-      is.is_status
-          ∙ (ap (λ (faulty : FaultyLines). max (status_where false (nat_lt 0 faulty.count)) given.run.status) read.1
-          ∙ (ap (max (status_where false (nat_lt 0 given'.faulty.count))) both.1.0 ∙ sym is'.is_status)),
+      cc (is.is_status, is'.is_status, read.1, both.1.0),
       read.1,
       both.1,
     )
@@ -43,22 +37,18 @@ diffs_unions leaves asked old new bytes given is old_not new_not = record {
 pub diff_output_is_deterministic : LeavesUnion → HaveOneUnion → HaveOneList → HaveSameTallies → DiffOnce
 diff_output_is_deterministic leaves one one_list tallies asked old old' new new' bytes bytes' given given' same_old same_new is is' old_not new_not old_not' new_not' =
     let old_tables : is'.old_table ≡ is.old_table = one old.texts old.limit is'.old_table is.old_table
-    (union_of_same old old' is'.old_table same_old (left_union leaves old' is'.old_table given'.old is'.old_left old_not'))
+    (rw (same_old.0, same_old.1) (left_union leaves old' is'.old_table given'.old is'.old_left old_not'))
     (left_union leaves old is.old_table given.old is.old_left old_not) in
     let new_tables : is'.new_table ≡ is.new_table = one new.texts new.limit is'.new_table is.new_table
-    (union_of_same new new' is'.new_table same_new (left_union leaves new' is'.new_table given'.new is'.new_left new_not'))
+    (rw (same_new.0, same_new.1) (left_union leaves new' is'.new_table given'.new is'.new_left new_not'))
     (left_union leaves new is.new_table given.new is.new_left new_not) in
     let also : AreDifferences asked.by (own_numbers is.old_table) (renumbered_new asked is.new_table) is'.list =
-    subst (λ (t : List Route). AreDifferences asked.by (own_numbers is.old_table) (renumbered_new asked t) is'.list) new_tables
-    (subst (λ (t : List Route). AreDifferences asked.by (own_numbers t) (renumbered_new asked is'.new_table) is'.list) old_tables is'.differences) in
+    rw (old_tables, new_tables) at is'.differences in
     let same : is.list ≡ is'.list = one_list asked.by (own_numbers is.old_table) (renumbered_new asked is.new_table) is.list is'.list is.differences also in
     let said_old = say_the_same tallies old old' is.old_table is'.old_table given.old given'.old same_old is.old_left is'.old_left old_not old_not' in
     let said_new = say_the_same tallies new new' is.new_table is'.new_table given.new given'.new same_new is.new_left is'.new_left new_not new_not' in (
       is.printed ∙ (ap (differences_as asked) same ∙ sym is'.printed),
-      is.is_status
-          ∙ (ap (λ list. max (differ_status list) (max given.old.status given.new.status)) same
-          ∙ (ap (λ n. max (differ_status is'.list) (max n given.new.status)) said_old.0
-          ∙ (ap (λ n. max (differ_status is'.list) (max given'.old.status n)) said_new.0 ∙ sym is'.is_status))),
+      cc (is.is_status, is'.is_status, same, said_old.0, said_new.0),
       said_old,
       said_new,
     )

@@ -1,21 +1,22 @@
 -- The table of a run, and the replies on a feed's own routes, follow from each feed's commands by themselves.
 use Rattle.std.proofs.Common.{◌≡◌, ◌≢◌, ℕ, zero, suc, ◌+◌, ◌-◌, ◌<◌, ◌≤◌, ◌⊎◌, inl, inr, true, false, Option, Some, None, Ok, Err, List, [], ◌∷◌, ◌++◌, Bool, All, length}
-use Rattle.std.proofs.Common.{map, get_or, refl, sym, ap, subst, ◌∙◌, arith, append_assoc, eqb-true}
-use Rattle.std.specs.Prelude.{fold, nat_lt, ◌||◌}
+use Rattle.std.proofs.Common.{map, refl, sym, ap, subst, ◌∙◌, arith, eqb-true}
+use Rattle.std.specs.Prelude.{fold, nat_lt}
 use Rattle.std.specs.declared.result.Result.{Result}
 use Rattle.std.specs.List.{slice_get, list_any, flat_map, Contains}
 use Rattle.std.proofs.lemmas.Bool.{eq-eqb, false≢true, or_parts}
 use Rattle.std.specs.Bool.{◌==◌}
 use Rattle.std.proofs.lemmas.List.{map-append}
 use Rattle.std.proofs.lemmas.List.Elements.{All-head, All-filter, filter_passes}
-use Rattle.std.proofs.lemmas.Option.{slice_get_within, slice_get-get_or}
+use Rattle.std.proofs.lemmas.List.Folds.{fold-map}
+use Rattle.std.proofs.lemmas.Option.{slice_get_within, same_Some}
 use Rattle.rt_rib.specs.declared.routes.Route.{Route}
 use Rattle.rt_rib.specs.declared.commands.Cmd.{Cmd}
 use Rattle.rt_rib.specs.declared.commands.Cmd.TheVariants.{Dump}
 use Rattle.rt_rib.specs.declared.commands.Reply.{Reply}
 use Rattle.rt_rib.specs.declared.commands.Entry.{Entry}
 use Rattle.rt_rib.specs.Sequential.{reply_of, table_after, IsLawfulJournal, table_of_journal}
-use Rattle.rt_rib.proofs.Sets.{filter-keeps, filter-from}
+use Rattle.rt_rib.proofs.Sets.{Contains-none, filter-keeps, filter-from}
 use Rattle.rt_rib.specs.Laws.{FeedsStandAlone, TableByEntry, OneTableOfSet, is_own, feed_entries, feed_routes}
 use Rattle.rt_shared.specs.declared.outcome.Outcome.{Outcome}
 use Rattle.rt_shared.specs.declared.outcome.Outcome.TheVariants as outcome
@@ -30,11 +31,11 @@ use Rattle.rt_feed.specs.Visits.{concatenated}
 use Rattle.rt_print.specs.Routes.{table_text}
 use Rattle.rt_run.specs.declared.tallies.RejectedInput.{RejectedInput}
 use Rattle.rt_run.specs.declared.tallies.RunSummary.{RunSummary}
-use Rattle.rt_run.specs.RunText.{RunContents, Explains, ExplainsFrom, IsJournalOfRun, reports_of, reports_text, some_refused, status_where, reports_status}
+use Rattle.rt_run.specs.RunText.{RunContents, Explains, ExplainsFrom, reports_of, reports_text, some_refused, status_where, reports_status}
 use Rattle.rt_run.specs.TableText.{tally_of, has_refused, has_rejected, tallies_status, IsSummary, LeavesTable}
-use Rattle.rt_run.specs.SameTable.{table_alone, IsUnion, IsAnsweredAlone, HaveSameInput, HaveSameSummary}
+use Rattle.rt_run.specs.SameTable.{table_alone, IsUnion, HaveSameInput, HaveSameSummary}
 use Rattle.rt_run.specs.SameTable.{LeavesUnion, AnswersAlone, HaveSameTallies, HaveOneUnion, EndsInUnion, EndInOneTable, ShowsUnion, ShowOneTable}
-use Rattle.rt_run.proofs.Lists.{counts_some, cut-joined, map_split, filter_split}
+use Rattle.rt_run.proofs.Lists.{counts_some, split-joined, map_split, filter_split}
 use Rattle.rt_run.proofs.CountedLines.{some_faulty}
 use Rattle.rt_run.proofs.InTurn.{entries-append}
 
@@ -61,17 +62,12 @@ one_asking once text lines others is other =
     commands-reading lines ∙ (ap (flat_map asked_in) (once text lines others is other) ∙ sym (commands-reading others))
 
 -- the set that they leave by themselves depends on only the commands
-alone-commands_from : (limit feed : ℕ) (table : List Route) (all : List (Cmd × Outcome))
-    → fold (λ table one. table_after limit table feed one.0) table all ≡ fold (λ table cmd. table_after limit table feed cmd) table (commands all)
-alone-commands_from limit feed table [] = refl
-alone-commands_from limit feed table (one ∷ all) = alone-commands_from limit feed (table_after limit table feed one.0) all
-
 pub alone-commands : (limit feed : ℕ) (all others : List (Cmd × Outcome))
     → commands all ≡ commands others → table_alone limit feed all ≡ table_alone limit feed others
 unfolding table_alone
 alone-commands limit feed all others same =
-    alone-commands_from limit feed [] all
-    ∙ (ap (λ cmds. fold (λ table cmd. table_after limit table feed cmd) [] cmds) same ∙ sym (alone-commands_from limit feed [] others))
+    let step : List Route → Cmd → List Route = λ table cmd. table_after limit table feed cmd in
+    let by_commands = fold-map step (λ (one : Cmd × Outcome). one.0) [] in sym (by_commands all) ∙ (ap (fold step []) same ∙ by_commands others)
 
 -- the entries of all pieces are the entries of all commands, one after another
 entries-pieces : (feed : ℕ) (pieces : List (List (Cmd × Outcome)))
@@ -80,29 +76,16 @@ entries-pieces feed [] = refl
 entries-pieces feed (piece ∷ pieces) =
     ap (λ es. entries feed (visit_of piece) ++ es) (entries-pieces feed pieces) ∙ sym (entries-append feed piece (concatenated pieces))
 
--- hence the journal's entries of a feed are those of its answered commands
-entries_explained : EntriesOfVisits → (batch feed : ℕ) (journal : List Entry) (text : List ℕ) (lines : List LineOutcome)
-    → Explains batch feed journal text lines
-    → feed_entries feed journal ≡ entries feed (visit_of (commands_of lines))
-entries_explained law batch feed journal text lines explains =
-    let cut = explains.cut in
-    let all : concatenated explains.pieces ≡ commands_of lines = ap concatenated cut.is_cut ∙ (cut-joined cut.whole cut.last ∙ sym cut.is_joined) in
-    law feed _ journal explains.uncut ∙ (entries-pieces feed explains.pieces ∙ ap (λ cmds. entries feed (visit_of cmds)) all)
-
 -- a command that has a reply
 abbrev pub did : Cmd × Reply → Cmd × Outcome
 did p = (p.0, outcome.Did p.1)
 
 -- a feed's entries leave the same set as their commands
-table-entries_from : (limit feed : ℕ) (table : List Route) (visit : AnsweredBatch)
-    → fold (λ table e. table_after limit table e.feed e.cmd) table (entries feed visit)
-    ≡ fold (λ table one. table_after limit table feed one.0) table (map did visit)
-table-entries_from limit feed table [] = refl
-table-entries_from limit feed table (p ∷ visit) = table-entries_from limit feed (table_after limit table feed p.0) visit
-
 pub table-entries : (limit feed : ℕ) (visit : AnsweredBatch) → table_of_journal limit (entries feed visit) ≡ table_alone limit feed (map did visit)
 unfolding table_of_journal table_alone
-table-entries limit feed visit = table-entries_from limit feed [] visit
+table-entries limit feed visit =
+    fold-map (λ table (e : Entry). table_after limit table e.feed e.cmd) (λ (p : Cmd × Reply). record { feed = feed; cmd = p.0; reply = p.1 }) [] visit
+    ∙ sym (fold-map (λ table (one : Cmd × Outcome). table_after limit table feed one.0) did [] visit)
 
 -- if no command was refused, all have a reply
 all_did : (number : ℕ) (lines : List LineOutcome) → has_refusal (report_lines number lines) ≡ false → commands_of lines ≡ map did (visit_of (commands_of lines))
@@ -124,95 +107,65 @@ abbrev pub AreAnsweredFrom : ℕ → ℕ → List (Cmd × Outcome) → Type 0
 AreAnsweredFrom limit feed all =
     (earlier later : List (Cmd × Outcome)) (cmd : Cmd) (is : Outcome) → all ≡ earlier ++ (cmd, is) ∷ later → IsAnsweredFrom limit feed earlier cmd is
 
-pub answered_from : FeedsStandAlone → EntriesOfVisits → (limit batch feed : ℕ) (journal : List Entry) (text : List ℕ) (lines : List LineOutcome)
-    → IsLawfulJournal limit journal
-    → Explains batch feed journal text lines → has_refusal (report_lines 1 lines) ≡ false → AreAnsweredFrom limit feed (commands_of lines)
-answered_from alone law limit batch feed journal text lines lawful explains none earlier later cmd is split =
-    let visit = visit_of (commands_of lines) in
-    let (front, back, p, split', before, had) = map_split did visit earlier later (cmd, is) (sym (all_did 1 lines none) ∙ split) in
-    let entry : Cmd × Reply → Entry = λ q. record { feed = feed; cmd = q.0; reply = q.1 } in
-    let parts : feed_entries feed journal ≡ entries feed front ++ entry p ∷ entries feed back =
-    entries_explained law batch feed journal text lines explains ∙ (ap (entries feed) split' ∙ map-append entry front (p ∷ back)) in
-    let (ahead, behind, split'', same) = filter_split (λ e. e.feed == feed) journal (entries feed front) (entries feed back) (entry p) parts in
-    let command : p.0 ≡ cmd = ap (λ (one : Cmd × Outcome). one.0) (sym had) in
-    let same_table : table_of_journal limit (feed_entries feed ahead) ≡ table_alone limit feed earlier =
-    ap (table_of_journal limit) same ∙ (table-entries limit feed front ∙ ap (table_alone limit feed) (sym before)) in
-    record {
-      table = table_of_journal limit ahead;
-      reply = ap (λ (one : Cmd × Outcome). one.1) had
-          ∙ ap outcome.Did (lawful.answered ahead (entry p) behind split'' ∙ ap (λ c. reply_of limit (table_of_journal limit ahead) feed c) command);
-      alone = λ own. (alone limit feed ahead cmd).1 own ∙ ap (λ table. reply_of limit table feed cmd) same_table;
-    }
+module _ (alone : FeedsStandAlone) (law : EntriesOfVisits) (limit batch feed : ℕ) (journal : List Entry) (text : List ℕ) (lines : List LineOutcome)
+    (explains : Explains batch feed journal text lines) (none : has_refusal (report_lines 1 lines) ≡ false) where
+  -- the journal's entries of the feed are those of its answered commands
+  entries_explained : feed_entries feed journal ≡ entries feed (visit_of (commands_of lines))
+  entries_explained =
+      law feed _ journal explains.uncut
+      ∙ (entries-pieces feed explains.pieces ∙ ap (λ cmds. entries feed (visit_of cmds)) (split-joined (commands_of lines) explains.pieces explains.cut))
 
--- a reply on a feed's own routes follows from the feed's earlier commands by themselves
-answered_alone : FeedsStandAlone → EntriesOfVisits → (limit batch feed : ℕ) (journal : List Entry) (text : List ℕ) (lines : List LineOutcome)
-    → IsLawfulJournal limit journal
-    → Explains batch feed journal text lines → has_refusal (report_lines 1 lines) ≡ false → IsAnsweredAlone limit feed (commands_of lines)
-answered_alone alone law limit batch feed journal text lines lawful explains none earlier later cmd is split own =
-    let from = answered_from alone law limit batch feed journal text lines lawful explains none earlier later cmd is split in
-    from.reply ∙ ap outcome.Did (from.alone own)
+  pub answered_from : IsLawfulJournal limit journal → AreAnsweredFrom limit feed (commands_of lines)
+  answered_from lawful earlier later cmd is split =
+      let visit = visit_of (commands_of lines) in
+      let (front, back, p, split', before, had) = map_split did visit earlier later (cmd, is) (sym (all_did 1 lines none) ∙ split) in
+      let entry : Cmd × Reply → Entry = λ q. record { feed = feed; cmd = q.0; reply = q.1 } in
+      let parts : feed_entries feed journal ≡ entries feed front ++ entry p ∷ entries feed back =
+      entries_explained ∙ (ap (entries feed) split' ∙ map-append entry front (p ∷ back)) in
+      let (ahead, behind, split'', same) = filter_split (λ e. e.feed == feed) journal (entries feed front) (entries feed back) (entry p) parts in
+      let command : p.0 ≡ cmd = ap (λ (one : Cmd × Outcome). one.0) (sym had) in
+      let same_table : table_of_journal limit (feed_entries feed ahead) ≡ table_alone limit feed earlier =
+      ap (table_of_journal limit) same ∙ (table-entries limit feed front ∙ ap (table_alone limit feed) (sym before)) in
+      record {
+        table = table_of_journal limit ahead;
+        reply = ap (λ (one : Cmd × Outcome). one.1) had
+            ∙ ap outcome.Did (lawful.answered ahead (entry p) behind split'' ∙ ap (λ c. reply_of limit (table_of_journal limit ahead) feed c) command);
+        alone = λ own. (alone limit feed ahead cmd).1 own ∙ ap (λ table. reply_of limit table feed cmd) same_table;
+      }
 
--- a feed's routes in the table are those that its commands leave by themselves
-routes_alone : FeedsStandAlone → EntriesOfVisits → (limit batch feed : ℕ) (journal : List Entry) (text : List ℕ) (lines : List LineOutcome) (cmd : Cmd)
-    → Explains batch feed journal text lines → has_refusal (report_lines 1 lines) ≡ false
-    → feed_routes feed (table_of_journal limit journal) ≡ table_alone limit feed (commands_of lines)
-routes_alone alone law limit batch feed journal text lines cmd explains none =
-    (alone limit feed journal cmd).0 ∙ (ap (table_of_journal limit) (entries_explained law batch feed journal text lines explains)
-    ∙ (table-entries limit feed (visit_of (commands_of lines)) ∙ ap (table_alone limit feed) (sym (all_did 1 lines none))))
+  -- a feed's routes in the table are those that its commands leave by themselves
+  routes_alone : feed_routes feed (table_of_journal limit journal) ≡ table_alone limit feed (commands_of lines)
+  routes_alone =
+      (alone limit feed journal Dump).0 ∙ (ap (table_of_journal limit) entries_explained
+      ∙ (table-entries limit feed (visit_of (commands_of lines)) ∙ ap (table_alone limit feed) (sym (all_did 1 lines none))))
 
--- the outcomes of the k-th text's lines, which the journal explains as this feed's
-record IsOfFeed (batch feed k : ℕ) (journal : List Entry) (outcomes : List (List LineOutcome)) (text : List ℕ) : Type 0 where
-  lines : List LineOutcome
-  stands : slice_get outcomes k ≡ Some lines
-  explains : Explains batch feed journal text lines
+-- the k-th text and the outcomes of its lines, which the journal explains as this feed's, and none of which was refused
+abbrev IsOfFeed : ℕ → ℕ → ℕ → List Entry → List (List ℕ) → List (List LineOutcome) → Type 0
+IsOfFeed batch feed k journal texts outcomes =
+    (text : List ℕ) × (lines : List LineOutcome) × (slice_get texts k ≡ Some text) × (slice_get outcomes k ≡ Some lines)
+    × Explains batch feed journal text lines × (has_refusal (report_lines 1 lines) ≡ false)
 
-of_text : (batch first k feed : ℕ) (journal : List Entry) (texts : List (List ℕ)) (outcomes : List (List LineOutcome)) (text : List ℕ)
-    → feed ≡ first + k → ExplainsFrom batch first journal texts outcomes
-    → slice_get texts k ≡ Some text → IsOfFeed batch feed k journal outcomes text
-of_text batch first k feed journal [] outcomes text number all is = absurd (cc)
-of_text batch first k feed journal (head ∷ texts) [] text number all is = absurd all
-of_text batch first zero feed journal (head ∷ texts) (lines ∷ outcomes) text number all is =
-    let same : head ≡ text = cc in
+of_feed : (batch first k feed : ℕ) (journal : List Entry) (texts : List (List ℕ)) (outcomes : List (List LineOutcome))
+    → feed ≡ first + k → ExplainsFrom batch first journal texts outcomes → some_refused outcomes ≡ false → (k < length texts) ⊎ (k < length outcomes)
+    → IsOfFeed batch feed k journal texts outcomes
+of_feed batch first k feed journal [] [] number all none here = absurd (omega arith)
+of_feed batch first zero feed journal (text ∷ texts) (lines ∷ outcomes) number all none here =
     let this : first ≡ feed = omega arith in
-    record {
-      lines = lines;
-      stands = refl;
-      explains = subst (λ n. Explains batch n journal text lines) this
-          (subst (λ t. Explains batch first journal t lines) same all.0);
-    }
-of_text batch first (suc k) feed journal (head ∷ texts) (lines ∷ outcomes) text number all is =
-    let rest = of_text batch (first + 1) k feed journal texts outcomes text (omega arith) all.1 is in
-    record { lines = rest.lines; stands = rest.stands; explains = rest.explains }
-
--- the number of texts is the number of lists of lines
-as_many : (batch feed : ℕ) (journal : List Entry) (texts : List (List ℕ)) (outcomes : List (List LineOutcome))
-    → ExplainsFrom batch feed journal texts outcomes → length texts ≡ length outcomes
-as_many batch feed journal [] [] all = refl
-as_many batch feed journal [] (lines ∷ outcomes) all = absurd all
-as_many batch feed journal (text ∷ texts) [] all = absurd all
-as_many batch feed journal (text ∷ texts) (lines ∷ outcomes) all = omega (arith, as_many batch (feed + 1) journal texts outcomes all.1)
-
--- if no command was refused, no command of one feed was
-none_of_one : (outcomes : List (List LineOutcome)) (k : ℕ) (lines : List LineOutcome)
-    → some_refused outcomes ≡ false → slice_get outcomes k ≡ Some lines → has_refusal (report_lines 1 lines) ≡ false
-none_of_one [] k lines none is = absurd (cc)
-none_of_one (first ∷ outcomes) zero lines none is =
-    let same : first ≡ lines = cc in
-    ap (λ ls. has_refusal (report_lines 1 ls)) (sym same) ∙ (or_parts (has_refusal (report_lines 1 first)) (some_refused outcomes) none).0
-none_of_one (first ∷ outcomes) (suc k) lines none is =
-    none_of_one outcomes k lines ((or_parts (has_refusal (report_lines 1 first)) (some_refused outcomes) none).1) is
+    (text, lines, refl, refl, subst (λ n. Explains batch n journal text lines) this all.0, (or_parts _ (some_refused outcomes) none).0)
+of_feed batch first (suc k) feed journal (text ∷ texts) (lines ∷ outcomes) number all none here =
+    of_feed batch (first + 1) k feed journal texts outcomes (omega arith) all.1 (or_parts _ (some_refused outcomes) none).1
+    (elim here [ inl of_texts ↦ inl (omega arith) | inr of_lines ↦ inr (omega arith) ])
+of_feed batch first k feed journal texts outcomes number all none here = absurd all
 
 -- if the status isn't 5, no command was refused
 by_status : (refused left_out : Bool) (status : ℕ) → status ≡ status_where refused left_out → status ≢ 5 → refused ≡ false
-by_status true left_out status e not = absurd (not e)
-by_status false left_out status e not = refl
+by_status refused left_out status e not = grind arith
 
 -- a tally counts the refused commands and rejected input of its report
 module _ (tells : List Line → Bool) (counts : RejectedInput → Bool) (same : (report : List Line) → tells report ≡ counts (tally_of report)) where
   some-tallies : (reports : List (List Line)) → list_any tells reports ≡ list_any counts (map tally_of reports)
   some-tallies [] = refl
-  some-tallies (report ∷ reports) =
-      ap (λ b. b || list_any tells reports) (same report) ∙ ap (λ b. counts (tally_of report) || b) (some-tallies reports)
+  some-tallies (report ∷ reports) = rw (same report, some-tallies reports)
 
 refused-tallies : (reports : List (List Line)) → list_any has_refusal reports ≡ list_any has_refused (map tally_of reports)
 refused-tallies = some-tallies has_refusal has_refused (λ report. sym (counts_some (λ (line : Line). is_refusal line.answer) report))
@@ -220,22 +173,19 @@ refused-tallies = some-tallies has_refusal has_refused (λ report. sym (counts_s
 abbrev has_faulty : RejectedInput → Bool
 has_faulty tally = nat_lt 0 tally.faulty.count
 
-faulty-tallies : (reports : List (List Line)) → list_any has_fault reports ≡ list_any has_faulty (map tally_of reports)
-faulty-tallies = some-tallies has_fault has_faulty some_faulty
-
 -- hence the status of reports follows from their tallies
-status-tallies : (reports : List (List Line))
-    → reports_status reports ≡ status_where (list_any has_refused (map tally_of reports)) (list_any has_faulty (map tally_of reports))
-status-tallies reports = rw (refused-tallies reports, faulty-tallies reports) refl
+abbrev by_tallies : List RejectedInput → ℕ
+by_tallies tallies = status_where (list_any has_refused tallies) (list_any has_faulty tallies)
+
+status-tallies : (reports : List (List Line)) → reports_status reports ≡ by_tallies (map tally_of reports)
+status-tallies reports = rw (refused-tallies reports, some-tallies has_fault has_faulty some_faulty reports) refl
 
 -- if a summary's status isn't 5, no command was refused
 none_refused : (outcomes : List (List LineOutcome)) (summary : RunSummary) → IsSummary (reports_of outcomes) summary → summary.status ≢ 5
     → some_refused outcomes ≡ false
 none_refused outcomes summary is not =
-    let tallies = summary.tallies.items in
-    refused-tallies (reports_of outcomes)
-    ∙ (ap (list_any has_refused) (sym is.tallied)
-    ∙ by_status (list_any has_refused tallies) (list_any has_rejected tallies) summary.status is.is_status not)
+    refused-tallies (reports_of outcomes) ∙ (ap (list_any has_refused) (sym is.tallied)
+    ∙ by_status _ (list_any has_rejected summary.tallies.items) summary.status is.is_status not)
 
 -- a feed that has an entry has a text
 has_text : (journal : List Entry) (n feed : ℕ) → All (λ e. (1 ≤ e.feed) × (e.feed ≤ n)) journal → (own : List Entry) → feed_entries feed journal ≡ own
@@ -248,18 +198,12 @@ has_text journal n feed all (e ∷ own) is =
     let within = All-head Within e own (subst (All Within) is (All-filter (λ x. x.feed == feed) Within journal all)) in
     inr (subst (λ f. (1 ≤ f) × (f ≤ n)) (eqb-true e.feed feed mine) within)
 
--- the empty list contains nothing
-pub nothing : (r : Route) → Contains [] r → ⊥
-nothing r c = let within = c.1 in omega arith
-
 -- a journal leaves the union of the sets that each text leaves by itself
 pub leaves_union : FeedsStandAlone → TableByEntry → EntriesOfVisits → TextHasOneReading → LeavesUnion
 leaves_union alone by_entry law once texts limit batch journal outcomes history none =
     let table = table_of_journal limit journal in
-    let of_feed = λ (k : ℕ) (text : List ℕ) (is : slice_get texts k ≡ Some text). of_text batch 1 k
-    (k + 1) journal texts outcomes text (omega arith) history.explained is in
-    let routes = λ (k : ℕ) (text : List ℕ) (here : IsOfFeed batch (k + 1) k journal outcomes text).
-    routes_alone alone law limit batch (k + 1) journal text here.lines Dump here.explains (none_of_one outcomes k here.lines none here.stands) in
+    let text_at = λ (k : ℕ) (within : k < length texts). of_feed batch 1 k (k + 1) journal texts outcomes (omega arith) history.explained none (inl within) in
+    let routes = λ (k : ℕ). routes_alone alone law limit batch (k + 1) journal in
     record {
       table = by_entry.table limit journal;
       contains = λ r. (
@@ -267,43 +211,29 @@ leaves_union alone by_entry law once texts limit batch journal outcomes history 
             let own : Contains (feed_routes r.feed table) r = filter-keeps (λ s. s.feed == r.feed) table r c (eq-eqb r.feed r.feed refl) in
             elim (has_text journal (length texts) r.feed history.no_other (feed_entries r.feed journal) refl) [
               | inl empty ↦
-                  absurd (nothing r
+                  absurd (Contains-none r
                   (subst (λ l. Contains l r) ((alone limit r.feed journal Dump).0 ∙ (ap (table_of_journal limit) empty ∙ by_entry.empty limit)) own))
               | inr within ↦
                   let k = r.feed - 1 in
                   let number : r.feed ≡ k + 1 = omega arith in
-                  let text = get_or texts k [] in
-                  let there = slice_get-get_or texts k [] (omega arith) in
-                  let here = of_feed k text there in (
-                    k,
-                    (
-                      text,
-                      here.lines,
-                      there,
-                      here.explains.becomes,
-                      subst (λ l. Contains l r) (ap (λ f. feed_routes f table) number ∙ routes k text here) own,
-                    ),
-                  )
+                  let (text, lines, is, stands, explains, kept) = text_at k (omega arith) in
+                  let has : Contains (table_alone limit (k + 1) (commands_of lines)) r =
+                  subst (λ l. Contains l r) (ap (λ f. feed_routes f table) number ∙ routes k text lines explains kept) own in
+                  (k, (text, lines, is, explains.becomes, has))
             ]),
-        (λ some.
-            let k = some.0 in
-            let text = some.1.0 in
-            let here = of_feed k text some.1.2 in
-            let same = one_asking once text some.1.1 here.lines some.1.3 here.explains.becomes in
-            let own = subst (λ l. Contains l r)
-            (alone-commands limit (k + 1) (commands_of some.1.1) (commands_of here.lines) same ∙ sym (routes k text here)) some.1.4 in
-            (filter-from (λ s. s.feed == (k + 1)) table r own).0),
+        (λ (k, (text, lines, is, becomes, has)).
+            let here = text_at k (slice_get_within texts k text is) in
+            let whole : here.0 ≡ text = same_Some _ _ (sym here.2 ∙ is) in
+            let same = one_asking once text lines here.1 becomes (rw whole at here.4.becomes) in
+            let left = alone-commands limit (k + 1) (commands_of lines) (commands_of here.1) same ∙ sym (routes k here.0 here.1 here.4 here.5) in
+            (filter-from (λ s. s.feed == (k + 1)) table r (subst (λ l. Contains l r) left has)).0),
       );
     }
-
--- a run that ended without a refusal
-run_refused_none : (outcomes : List (List LineOutcome)) (status : ℕ) → status ≡ reports_status (reports_of outcomes) → status ≢ 5 → some_refused outcomes ≡ false
-run_refused_none outcomes status = by_status (some_refused outcomes) (list_any has_fault (reports_of outcomes)) status
 
 pub ends_in_union : LeavesUnion → EndsInUnion
 ends_in_union leaves texts limit batch bytes status run not = (
   table_of_journal limit run.journal,
-  leaves texts limit batch run.journal run.outcomes run.history (run_refused_none run.outcomes status run.is_status not),
+  leaves texts limit batch run.journal run.outcomes run.history (by_status _ _ status run.is_status not),
   run.printed,
 )
 
@@ -317,12 +247,12 @@ one_union one_table texts limit one other here there =
 
 pub own_replies_are_independent : FeedsStandAlone → EntriesOfVisits → AnswersAlone
 own_replies_are_independent alone law texts limit batch journal outcomes history none k lines is =
-    let within : k < length texts = omega (arith, slice_get_within outcomes k lines is, as_many batch 1 journal texts outcomes history.explained) in
-    let text = get_or texts k [] in
-    let here = of_text batch 1 k (k + 1) journal texts outcomes text (omega arith) history.explained (slice_get-get_or texts k [] within) in
-    let same : here.lines ≡ lines = (let a = here.stands in cc) in
-    subst (λ l. IsAnsweredAlone limit (k + 1) (commands_of l)) same
-    (answered_alone alone law limit batch (k + 1) journal text here.lines history.lawful here.explains (none_of_one outcomes k here.lines none here.stands))
+    let within = inr (slice_get_within outcomes k lines is) in
+    let here = of_feed batch 1 k (k + 1) journal texts outcomes (omega arith) history.explained none within in
+    let same : here.1 ≡ lines = same_Some _ _ (sym here.3 ∙ is) in
+    let from = answered_from alone law limit batch (k + 1) journal here.0 here.1 here.4 here.5 history.lawful in
+    λ earlier later cmd was split own.
+    let one = from earlier later cmd was (ap commands_of same ∙ split) in one.reply ∙ ap outcome.Did (one.alone own)
 
 pub final_table_is_deterministic : EndsInUnion → HaveOneUnion → HaveSameTallies → EndInOneTable
 final_table_is_deterministic ends one tallies texts limit batch batch' bytes bytes' status status' run run' not not' =
@@ -330,11 +260,8 @@ final_table_is_deterministic ends one tallies texts limit batch batch' bytes byt
     let there = ends texts limit batch' bytes' status' run' not' in
     let same : there.0 ≡ here.0 = one texts limit there.0 here.0 there.1 here.1 in
     let tallied = tallies texts limit batch batch' run.journal run'.journal run.outcomes run'.outcomes run.history run'.history
-    (run_refused_none run.outcomes status run.is_status not) (run_refused_none run'.outcomes status' run'.is_status not') in
-    let by_tallies : List RejectedInput → ℕ = λ ts. status_where (list_any has_refused ts) (list_any has_faulty ts) in (
-      run.is_status
-          ∙ (status-tallies (reports_of run.outcomes)
-          ∙ (ap by_tallies tallied ∙ (sym (status-tallies (reports_of run'.outcomes)) ∙ sym run'.is_status))),
+    (by_status _ _ status run.is_status not) (by_status _ _ status' run'.is_status not') in (
+      cc (run.is_status, run'.is_status, status-tallies (reports_of run.outcomes), status-tallies (reports_of run'.outcomes), tallied),
       here.0,
       here.2,
       there.2 ∙ ap (λ t. reports_text 1 (reports_of run'.outcomes) ++ table_text t) same,
@@ -347,26 +274,14 @@ left_union leaves one table summary left not =
     subst (IsUnion one.texts one.limit) (sym left.left)
     (leaves one.texts one.limit one.batch left.journal left.outcomes left.history (none_refused left.outcomes summary left.summed not))
 
--- a run of the same input has the same texts and limit
-pub union_of_same : (one one' : RunContents) (union : List Route) → HaveSameInput one one' → IsUnion one'.texts one'.limit union
-    → IsUnion one.texts one.limit union
-union_of_same one one' union (texts, limit) is =
-    subst (λ ts. IsUnion ts one.limit union) (sym texts) (subst (λ l. IsUnion one'.texts l union) (sym limit) is)
-
-history_of_same : (one one' : RunContents) (journal : List Entry) (outcomes : List (List LineOutcome)) → HaveSameInput one one'
-    → IsJournalOfRun one'.texts one'.limit one'.batch journal outcomes → IsJournalOfRun one.texts one.limit one'.batch journal outcomes
-history_of_same one one' journal outcomes (texts, limit) is =
-    subst (λ ts. IsJournalOfRun ts one.limit one'.batch journal outcomes) (sym texts)
-    (subst (λ l. IsJournalOfRun one'.texts l one'.batch journal outcomes) (sym limit) is)
-
--- hence both summaries are the same
+-- two runs of the same input that ended without a refusal have the same summary
 pub say_the_same : HaveSameTallies → (one one' : RunContents) (table table' : List Route) (summary summary' : RunSummary) → HaveSameInput one one'
     → LeavesTable one table summary → LeavesTable one' table' summary' → summary.status ≢ 5 → summary'.status ≢ 5 → HaveSameSummary summary summary'
 say_the_same tallies one one' table table' summary summary' same left left' not not' =
     let tallied : summary.tallies.items ≡ summary'.tallies.items =
     left.summed.tallied
     ∙ (tallies one.texts one.limit one.batch one'.batch left.journal left'.journal left.outcomes left'.outcomes left.history
-    (history_of_same one one' left'.journal left'.outcomes same left'.history)
+    (rw (same.0, same.1) left'.history)
     (none_refused left.outcomes summary left.summed not) (none_refused left'.outcomes summary' left'.summed not') ∙ sym left'.summed.tallied) in
     (left.summed.is_status ∙ (ap tallies_status tallied ∙ sym left'.summed.is_status), tallied)
 
@@ -377,7 +292,7 @@ pub query_output_is_deterministic : ShowsUnion → HaveOneUnion → HaveSameTall
 query_output_is_deterministic shows only tallies one one' text_of bytes bytes' summary summary' same is is' not not' =
     let here = shows one text_of bytes summary is not in
     let there = shows one' text_of bytes' summary' is' not' in
-    let union = only one.texts one.limit here.0 there.0 here.1 (union_of_same one one' there.0 same there.1) in (
+    let union = only one.texts one.limit here.0 there.0 here.1 (rw (same.0, same.1) there.1) in (
       here.2 ∙ (ap text_of union ∙ sym there.2),
       say_the_same tallies one one' is.table is'.table summary summary' same is.leaves is'.leaves not not',
     )

@@ -1,20 +1,16 @@
 -- Two runs of the same texts and limit have the same tallies: a tally depends on only the feed's own commands.
-use Rattle.std.proofs.Common.{◌≡◌, ℕ, ◌+◌, false, inl, inr, Option, Some, None, List, [], ◌∷◌, ◌++◌, Bool, map, refl, sym, ap, subst, ◌∙◌, append_assoc}
-use Rattle.std.specs.Prelude.{count_by, cond}
-use Rattle.std.specs.Option.{option_map_or}
+use Rattle.std.proofs.Common.{◌≡◌, ℕ, ◌+◌, false, inl, inr, List, [], ◌∷◌, ◌++◌, Bool, map, refl, sym, ap, subst, ◌∙◌, arith, append_assoc}
+use Rattle.std.specs.Prelude.{cond}
 use Rattle.std.proofs.lemmas.Bool.{cases_Bool, or_parts}
-use Rattle.std.proofs.lemmas.List.{map-append}
+use Rattle.std.proofs.lemmas.List.{map_push}
 use Rattle.std.proofs.lemmas.List.Sums.{sum_by-cons}
 use Rattle.rt_rib.specs.declared.routes.Route.{Route}
 use Rattle.rt_rib.specs.declared.commands.Cmd.{Cmd}
-use Rattle.rt_rib.specs.declared.commands.Cmd.TheVariants.{Lookup, Dump}
-use Rattle.rt_rib.specs.declared.commands.Reply.TheVariants.{Found, NoRoute}
+use Rattle.rt_rib.specs.declared.commands.Reply.TheVariants.{NoRoute}
 use Rattle.rt_rib.specs.declared.commands.Entry.{Entry}
-use Rattle.rt_rib.specs.LookUp.{look_up}
 use Rattle.rt_rib.specs.Sequential.{reply_of, IsLawfulJournal}
 use Rattle.rt_rib.specs.Laws.{FeedsStandAlone, is_own}
 use Rattle.rt_shared.specs.declared.outcome.Outcome.{Outcome}
-use Rattle.rt_shared.specs.declared.outcome.Outcome.TheVariants as outcome
 use Rattle.rt_shared.specs.Laws.{EntriesOfVisits}
 use Rattle.rt_feed.specs.declared.report.Line.{Line}
 use Rattle.rt_feed.specs.declared.report.Answer.{Answer}
@@ -39,29 +35,17 @@ with_line number answer tally = record {
   refused = cond (is_refusal answer) 1 0 + tally.refused;
 }
 
-module _ (number : ℕ) (answer : Answer) (report : List Line) where
-  count-line : (test : Answer → Bool) → count_by (λ (line : Line). test line.answer) (record { number = number; answer = answer } ∷ report)
-      ≡ cond (test answer) 1 0 + count_by (λ (line : Line). test line.answer) report
-  count-line test = sum_by-cons (λ (line : Line). cond (test line.answer) 1 0) (record { number = number; answer = answer }) report
-
 tally-line : (number : ℕ) (answer : Answer) (report : List Line)
     → tally_of (record { number = number; answer = answer } ∷ report) ≡ with_line number answer (tally_of report)
 tally-line number answer report =
-    let count = count-line number answer report in
+    let count = λ (test : Answer → Bool). sum_by-cons (λ (line : Line). cond (test line.answer) 1 0) (record { number = number; answer = answer }) report in
     rw (faults-line number answer report, count was_full, count was_existing, count was_missing, count is_refusal) refl
 
 -- the results of `lookup` and `dump` aren't counted
-found_or_not : (number : ℕ) (tally : RejectedInput) (found : Option Route)
-    → with_line number (Did (option_map_or Found found NoRoute)) tally ≡ with_line number (Did NoRoute) tally
-found_or_not number tally None = refl
-found_or_not number tally (Some route) = refl
-
 uncounted : (limit feed number : ℕ) (tally : RejectedInput) (table : List Route) (cmd : Cmd) → is_own cmd ≡ false
     → with_line number (Did (reply_of limit table feed cmd)) tally ≡ with_line number (Did NoRoute) tally
 unfolding reply_of
-uncounted limit feed number tally table (Lookup addr) other = found_or_not number tally (look_up addr table)
-uncounted limit feed number tally table Dump other = refl
-uncounted limit feed number tally table cmd other = absurd (cc)
+uncounted limit feed number tally table cmd other = grind arith
 
 -- a command counts the same whenever the feed's earlier commands are the same
 counts_alike : (limit feed number : ℕ) (tally : RejectedInput) (before before' : List (Cmd × Outcome)) (cmd : Cmd) (is is' : Outcome)
@@ -71,22 +55,17 @@ counts_alike limit feed number tally before before' cmd is is' same from from' =
     let counted : Outcome → RejectedInput = λ o. with_line number (command_answer o) tally in
     elim (cases_Bool (is_own cmd)) [
       | inl own ↦
-          let tables = alone-commands limit feed before before' same in
-          let replies = from.alone own ∙ (ap (λ table. reply_of limit table feed cmd) tables ∙ sym (from'.alone own)) in
-          ap counted (from.reply ∙ (ap outcome.Did replies ∙ sym from'.reply))
+          let outcomes : is ≡ is' = cc (from.reply, from'.reply, from.alone own, from'.alone own, alone-commands limit feed before before' same) in
+          ap counted outcomes
       | inr other ↦
-          ap counted from.reply
-          ∙ (uncounted limit feed number tally from.table cmd other
-          ∙ (sym (uncounted limit feed number tally from'.table cmd other) ∙ ap counted (sym from'.reply)))
+          let uncounted_from = λ (table : List Route). uncounted limit feed number tally table cmd other in
+          ap counted from.reply ∙ (uncounted_from from.table ∙ (sym (uncounted_from from'.table) ∙ ap counted (sym from'.reply)))
     ]
 
 -- one command more
 commands-more : (before before' : List (Cmd × Outcome)) (cmd cmd' : Cmd) (is is' : Outcome) → commands before ≡ commands before' → cmd ≡ cmd'
     → commands (before ++ (cmd, is) ∷ []) ≡ commands (before' ++ (cmd', is') ∷ [])
-commands-more before before' cmd cmd' is is' same one =
-    map-append (λ (p : Cmd × Outcome). p.0) before ((cmd, is) ∷ [])
-    ∙ (ap (λ cmds. cmds ++ cmd ∷ []) same
-    ∙ (ap (λ c. commands before' ++ c ∷ []) one ∙ sym (map-append (λ (p : Cmd × Outcome). p.0) before' ((cmd', is') ∷ []))))
+commands-more before before' cmd cmd' is is' same one = simp (map_push, same, one)
 
 -- the rest of a text's lines, in two runs
 module _ (limit feed : ℕ) (all all' : List (Cmd × Outcome)) (from : AreAnsweredFrom limit feed all) (from' : AreAnsweredFrom limit feed all') where
@@ -100,10 +79,8 @@ module _ (limit feed : ℕ) (all all' : List (Cmd × Outcome)) (from : AreAnswer
   same_tally number before before' (faulty fault ∷ lines) (faulty other ∷ lines') is is' same read =
       let rest : map reading lines ≡ map reading lines' = cc in
       let one : fault ≡ other = cc in
-      tally-line number (Fault fault) (report_lines (number + 1) lines)
-      ∙ (ap (with_line number (Fault fault)) (same_tally (number + 1) before before' lines lines' is is' same rest)
-      ∙ (ap (λ f. with_line number (Fault f) (tally_of (report_lines (number + 1) lines'))) one
-      ∙ sym (tally-line number (Fault other) (report_lines (number + 1) lines'))))
+      let later = same_tally (number + 1) before before' lines lines' is is' same rest in
+      cc (tally-line number (Fault fault) (report_lines (number + 1) lines), tally-line number (Fault other) (report_lines (number + 1) lines'), later, one)
   same_tally number before before' (asked cmd o ∷ lines) (asked cmd' o' ∷ lines') is is' same read =
       let rest : map reading lines ≡ map reading lines' = cc in
       let one : cmd ≡ cmd' = cc in
@@ -125,19 +102,15 @@ module _ (alone : FeedsStandAlone) (law : EntriesOfVisits) (once : TextHasOneRea
       → ExplainsFrom batch feed journal texts outcomes → ExplainsFrom batch' feed journal' texts outcomes'
       → some_refused outcomes ≡ false → some_refused outcomes' ≡ false → map tally_of (reports_of outcomes) ≡ map tally_of (reports_of outcomes')
   all_same feed [] [] [] is is' none none' = refl
-  all_same feed [] (lines ∷ outcomes) outcomes' is is' none none' = absurd is
-  all_same feed [] [] (lines' ∷ outcomes') is is' none none' = absurd is'
-  all_same feed (text ∷ texts) [] outcomes' is is' none none' = absurd is
-  all_same feed (text ∷ texts) (lines ∷ outcomes) [] is is' none none' = absurd is'
   all_same feed (text ∷ texts) (lines ∷ outcomes) (lines' ∷ outcomes') is is' none none' =
       let parts = or_parts (has_refusal (report_lines 1 lines)) (some_refused outcomes) none in
       let parts' = or_parts (has_refusal (report_lines 1 lines')) (some_refused outcomes') none' in
       let first : tally_of (report_lines 1 lines) ≡ tally_of (report_lines 1 lines') =
-      same_tally limit feed (commands_of lines) (commands_of lines') (answered_from alone law limit batch feed journal text lines lawful is.0 parts.0)
-      (answered_from alone law limit batch' feed journal' text lines' lawful' is'.0 parts'.0) 1 [] [] lines lines' refl refl refl
+      same_tally limit feed (commands_of lines) (commands_of lines') (answered_from alone law limit batch feed journal text lines is.0 parts.0 lawful)
+      (answered_from alone law limit batch' feed journal' text lines' is'.0 parts'.0 lawful') 1 [] [] lines lines' refl refl refl
       (once text lines lines' is.0.becomes is'.0.becomes) in
-      ap (λ tally. tally ∷ map tally_of (reports_of outcomes)) first
-      ∙ ap (λ tallies. tally_of (report_lines 1 lines') ∷ tallies) (all_same (feed + 1) texts outcomes outcomes' is.1 is'.1 parts.1 parts'.1)
+      cc (first, all_same (feed + 1) texts outcomes outcomes' is.1 is'.1 parts.1 parts'.1)
+  all_same feed texts outcomes outcomes' is is' none none' = search
 
 pub same_tallies : FeedsStandAlone → EntriesOfVisits → TextHasOneReading → HaveSameTallies
 same_tallies alone law once texts limit batch batch' journal journal' outcomes outcomes' history history' =

@@ -1,5 +1,5 @@
 -- Several feeds over one table: the journal to which the table settles explains their reports.
-use Rattle.std.proofs.Common.{◌≡◌, ◌≢◌, ℕ, zero, suc, ◌+◌, ◌-◌, ◌<◌, ◌≤◌, ◌⊎◌, inl, inr, Option, Some, None, List, [], ◌∷◌, ◌++◌, All, length, map, take, drop, get_or, refl}
+use Rattle.std.proofs.Common.{◌≡◌, ℕ, suc, ◌+◌, ◌-◌, ◌<◌, ◌≤◌, inl, inr, Option, Some, None, List, [], ◌∷◌, ◌++◌, All, length, map, take, drop, get_or, refl}
 use Rattle.std.proofs.Common.{sym, ap, subst, ◌∙◌, arith, length-append, length-drop}
 use Rattle.std.specs.Prelude.{MatchOption}
 use Rattle.std.proofs.lemmas.Bool.{cases_lt}
@@ -9,7 +9,7 @@ use Rattle.std.proofs.lemmas.Option.{slice_get-get_or, slice_get_within, same_So
 use Rattle.rt_rib.specs.declared.commands.Entry.{Entry}
 use Rattle.rt_rib.specs.Book.{BookContents, table_of}
 use Rattle.rt_shared.specs.SharedTable.{SharedId, HeldPass, ArePassesOf, Settles}
-use Rattle.rt_shared.specs.JournalVisits.{Since, IsContiguousIn, AnsweredBatch, visit_of, entries}
+use Rattle.rt_shared.specs.JournalVisits.{NoneBy, Since, IsContiguousIn, AnsweredBatch, visit_of, entries}
 use Rattle.rt_feed.specs.declared.report.Line.{Line}
 use Rattle.rt_feed.specs.declared.feeds.Feed.{Feed}
 use Rattle.rt_feed.specs.Lines.{LineOutcome, report_lines}
@@ -38,10 +38,8 @@ explained : (batch feed : ℕ) (journal : List Entry) (text : List ℕ) (old new
     → Since feed new.seen journal → IsExplained batch feed journal text report
 explained batch feed journal text old new report runs fresh same since =
     let pieces = runs.asks.pieces in
-    let none : holds old [] = subst (λ (seen : List Entry). IsContiguousIn old.feed [] seen) (sym fresh) (All-nil _) in
-    let held : IsContiguousIn new.feed (map (entries new.feed) (map visit_of pieces)) new.seen = runs.asks.gained [] none in
-    let mine : IsContiguousIn feed (map (entries feed) (map visit_of pieces)) new.seen =
-    subst (λ (n : ℕ). IsContiguousIn n (map (entries n) (map visit_of pieces)) new.seen) same held in
+    let held : holds new (map visit_of pieces) = runs.asks.gained [] (rw fresh (All-nil _)) in
+    let mine : IsContiguousIn feed (map (entries feed) (map visit_of pieces)) new.seen = rw same at held in
     record {
       lines = runs.outcomes;
       explains = record {
@@ -64,8 +62,6 @@ all_explained : {V : Type 0} (items : V → List ℕ) (batch feed : ℕ) (journa
     → ((i m : ℕ) (t : V) (r : List Line) → i < length texts → m ≡ feed + i → IsExplained batch m journal (items (get_or texts i t)) (get_or reports i r))
     → AreExplained batch feed journal (map items texts) reports
 all_explained items batch feed journal [] [] same each = record { outcomes = []; explained = tt; reported = refl }
-all_explained items batch feed journal [] (report ∷ reports) same each = absurd (omega (arith, same))
-all_explained items batch feed journal (text ∷ texts) [] same each = absurd (omega (arith, same))
 all_explained items batch feed journal (text ∷ texts) (report ∷ reports) same each =
     let head = each 0 feed text report (omega arith) (omega arith) in
     let rest = all_explained items batch (feed + 1) journal texts reports
@@ -73,30 +69,9 @@ all_explained items batch feed journal (text ∷ texts) (report ∷ reports) sam
     record {
       outcomes = head.lines ∷ rest.outcomes;
       explained = (head.explains, rest.explained);
-      reported = ap (λ (r : List Line). r ∷ reports) head.reported ∙ ap (λ rs. report_lines 1 head.lines ∷ rs) rest.reported;
+      reported = cc (head.reported, rest.reported);
     }
-
--- facts on positions in lists; a tactic sees nothing else here
-below_more : (i m n : ℕ) → i < m → m ≤ n → i < n
-below_more i m n here more = omega (arith, here, more)
-
-with_rest : (m n : ℕ) → m ≤ n → m + (n - m) ≡ n
-with_rest m n within = omega (arith, within)
-
-before_next : (n : ℕ) → 1 ≤ n → (n - 1) + 1 ≡ n
-before_next n positive = omega (arith, positive)
-
-before_below : (n m : ℕ) → 1 ≤ n → n ≤ m → n - 1 < m
-before_below n m positive within = omega (arith, positive, within)
-
-before_past : (m n : ℕ) → m < n → m ≤ n - 1
-before_past m n past = omega (arith, past)
-
-one_more : (i : ℕ) → 1 + i ≡ i + 1
-one_more i = omega arith
-
-as_below : (i m n : ℕ) → n ≡ m → i < m → i < n
-as_below i m n same here = subst (λ (k : ℕ). i < k) (sym same) here
+all_explained items batch feed journal texts reports same each = absurd (omega (arith, same))
 
 -- there is a text at each position below the number of texts
 some_text : {V : Type 0} (texts : List V) (i : ℕ) → i < length texts → V
@@ -110,54 +85,46 @@ module _ {V : Type 0} (items : V → List ℕ) (texts : List V) (table : SharedI
     (ran : (i : ℕ) (t : V) (d : Feed HeldPass) → i < length texts
     → RunsOne name holds batch (items (get_or texts i t)) (get_or feeds i d).gate (get_or feeds' i d).gate (get_or feeds' i d).report) where
   -- a pass and a feed for positions outside of the lists
-  no_pass : HeldPass
+  abbrev no_pass : HeldPass
   no_pass = record { table = table; feed = 0; seen = [] }
 
-  no_feed : Feed HeldPass
-  no_feed = record { gate = record { table = table; feed = 0; seen = [] }; report = None }
-
-  open_feed : HeldPass → Feed HeldPass
+  abbrev open_feed : HeldPass → Feed HeldPass
   open_feed p = record { gate = p; report = None }
 
+  abbrev no_feed : Feed HeldPass
+  no_feed = open_feed no_pass
+
   n_feeds : length feeds' ≡ length texts
-  n_feeds = as_many
-      ∙ (ap length opened ∙ (length-map (take (length texts) passes) (λ p. record { gate = p; report = None }) ∙ length-take-le (length texts) passes few))
+  n_feeds = as_many ∙ (ap length opened ∙ (length-map (take (length texts) passes) open_feed ∙ length-take-le (length texts) passes few))
 
   -- the gate of a feed before the run is its pass
   gate_before : (i : ℕ) → i < length texts → (get_or feeds i no_feed).gate ≡ get_or passes i no_pass
-  unfolding no_pass no_feed open_feed
   gate_before i here =
-      let within : i < length (take (length texts) passes) = as_below i _ _ (length-take-le (length texts) passes few) here in
+      let within : i < length (take (length texts) passes) = omega (arith, length-take-le (length texts) passes few, here) in
       ap (λ (fs : List (Feed HeldPass)). (get_or fs i no_feed).gate) opened
       ∙ (ap (λ (f : Feed HeldPass). f.gate) (get_or-map open_feed (take (length texts) passes) i no_pass no_feed within)
       ∙ get_or-take (length texts) passes i no_pass here)
 
   -- the passes after the run: those of the gates, and those that were idle
-  back : List HeldPass
+  abbrev back : List HeldPass
   back = map (λ (f : Feed HeldPass). f.gate) feeds' ++ drop (length texts) passes
 
   n_gates : length (map (λ (f : Feed HeldPass). f.gate) feeds') ≡ length texts
   n_gates = length-map feeds' (λ (f : Feed HeldPass). f.gate) ∙ n_feeds
 
   n_back : length back ≡ length passes
-  unfolding back
-  n_back =
-      length-append (map (λ (f : Feed HeldPass). f.gate) feeds') (drop (length texts) passes)
-      ∙ (ap (λ (n : ℕ). n + length (drop (length texts) passes)) n_gates
-      ∙ (ap (λ (n : ℕ). length texts + n) (length-drop (length texts) passes) ∙ with_rest (length texts) (length passes) few))
+  n_back = omega (arith, length-append (map (λ (f : Feed HeldPass). f.gate) feeds') (drop (length texts) passes), n_gates, length-drop (length texts) passes)
 
   -- the first passes are those of the gates
   ran_back : (i : ℕ) → i < length texts → get_or back i no_pass ≡ (get_or feeds' i no_feed).gate
-  unfolding back no_pass no_feed
   ran_back i here =
-      get_or_append_left (map (λ (f : Feed HeldPass). f.gate) feeds') (drop (length texts) passes) no_pass i (as_below i _ _ n_gates here)
-      ∙ get_or-map (λ (f : Feed HeldPass). f.gate) feeds' i no_feed no_pass (as_below i _ _ n_feeds here)
+      get_or_append_left (map (λ (f : Feed HeldPass). f.gate) feeds') (drop (length texts) passes) no_pass i (omega (arith, n_gates, here))
+      ∙ get_or-map (λ (f : Feed HeldPass). f.gate) feeds' i no_feed no_pass (omega (arith, n_feeds, here))
 
   -- the other passes are unchanged
   idle_back : (i : ℕ) → length texts ≤ i → get_or back i no_pass ≡ get_or passes i no_pass
-  unfolding back
   idle_back i idle =
-      let at : length texts + (i - length texts) ≡ i = with_rest (length texts) i idle in
+      let at : length texts + (i - length texts) ≡ i = omega (arith, idle) in
       get_or-append_right (map (λ (f : Feed HeldPass). f.gate) feeds') (drop (length texts) passes) (length texts) i no_pass n_gates idle
       ∙ (get_or-drop (length texts) passes (i - length texts) no_pass ∙ ap (λ (k : ℕ). get_or passes k no_pass) at)
 
@@ -172,25 +139,23 @@ module _ {V : Type 0} (items : V → List ℕ) (texts : List V) (table : SharedI
   feed_back i here = ap (λ (p : SharedId × ℕ). p.1) (named_back i) ∙ dealt.feeds i (get_or passes i no_pass) (slice_get-get_or passes i no_pass here)
 
   -- they are the passes of the table
-  pub are_back : ArePassesOf table (map (λ (f : Feed HeldPass). f.gate) feeds' ++ drop (length texts) passes)
-  unfolding back
+  pub are_back : ArePassesOf table back
   are_back = record {
     count = n_back ∙ dealt.count;
     tables = λ k d here.
-        let within : k < length passes = as_below k _ _ (sym n_back) here in
+        let within : k < length passes = omega (arith, n_back, here) in
         ap (λ (p : HeldPass). p.table) (get_or_default back k d no_pass here) ∙ (ap (λ (p : SharedId × ℕ). p.0) (named_back k) ∙ dealt.tables k no_pass within);
     feeds = λ i p is.
         let here = slice_get_within back i p is in
         let found : p ≡ get_or back i no_pass = same_Some _ _ (sym is ∙ slice_get-get_or back i no_pass here) in
-        ap (λ (q : HeldPass). q.feed) found ∙ feed_back i (as_below i _ _ (sym n_back) here);
+        ap (λ (q : HeldPass). q.feed) found ∙ feed_back i (omega (arith, n_back, here));
   }
 
-  module _ (journal : List Entry) (settled : Settles table (map (λ (f : Feed HeldPass). f.gate) feeds' ++ drop (length texts) passes) journal) where
+  module _ (journal : List Entry) (settled : Settles table back journal) where
     -- an entry that a pass has not seen isn't its feed's
     since_back : (i : ℕ) → i < length passes → Since (i + 1) (get_or back i no_pass).seen journal
-    unfolding back
     since_back i here =
-        subst (λ (feed : ℕ). Since feed (get_or back i no_pass).seen journal) (feed_back i here) (settled.since i no_pass (as_below i _ _ n_back here))
+        subst (λ (feed : ℕ). Since feed (get_or back i no_pass).seen journal) (feed_back i here) (settled.since i no_pass (omega (arith, n_back, here)))
 
     -- hence no entry is of a feed without a text
     pub no_other : All (λ (e : Entry). (1 ≤ e.feed) × (e.feed ≤ length texts)) journal
@@ -201,15 +166,13 @@ module _ {V : Type 0} (items : V → List ℕ) (texts : List V) (table : SharedI
           | inr within ↦ (of.0, within)
           | inl past ↦
               let i = feed - 1 in
-              let next : i + 1 ≡ feed = before_next feed of.0 in
-              let within : i < length passes = as_below i _ _ dealt.count (before_below feed table.feeds of.0 of.1) in
+              let next : i + 1 ≡ feed = omega (arith, of) in
+              let within : i < length passes = omega (arith, dealt.count, of) in
               let since = since_back i within in
               let unseen : (get_or back i no_pass).seen ≡ [] =
-              ap (λ (p : HeldPass). p.seen) (idle_back i (before_past (length texts) feed past)) ∙ fresh i no_pass within in
-              let all : journal ≡ since.others = since.grown ∙ ap (λ (seen : List Entry). seen ++ since.others) unseen in
-              let other : feed ≢ i + 1 =
-              subst (λ (l : List Entry). (get_or l k d).feed ≢ i + 1) (sym all) (since.by_others k d (subst (λ (l : List Entry). k < length l) all here)) in
-              absurd (other (sym next))
+              ap (λ (p : HeldPass). p.seen) (idle_back i (omega (arith, past))) ∙ fresh i no_pass within in
+              let all : since.others ≡ journal = sym (since.grown ∙ ap (λ (seen : List Entry). seen ++ since.others) unseen) in
+              let others : NoneBy (i + 1) journal = rw all at since.by_others in absurd (others k d here (sym next))
         ]
 
     -- each report is explained
@@ -219,13 +182,13 @@ module _ {V : Type 0} (items : V → List ℕ) (texts : List V) (table : SharedI
 
       report_at : (i : ℕ) (r : List Line) → i < length texts → (get_or feeds' i no_feed).report ≡ Some (get_or reports i r)
       report_at i r here =
-          sym (get_or-map (λ (f : Feed HeldPass). f.report) feeds' i no_feed None (as_below i _ _ n_feeds here))
-          ∙ (ap (λ (rs : List (Option (List Line))). get_or rs i None) (sym reported) ∙ get_or-map Some reports i r None (as_below i _ _ n_reports here))
+          sym (get_or-map (λ (f : Feed HeldPass). f.report) feeds' i no_feed None (omega (arith, n_feeds, here)))
+          ∙ (ap (λ (rs : List (Option (List Line))). get_or rs i None) (sym reported) ∙ get_or-map Some reports i r None (omega (arith, n_reports, here)))
 
       explained_at : (i m : ℕ) (t' : V) (r : List Line) → i < length texts
           → m ≡ 1 + i → IsExplained batch m journal (items (get_or texts i t')) (get_or reports i r)
       explained_at i m t' r here is =
-          let within : i < length passes = below_more i _ _ here few in
+          let within : i < length passes = omega (arith, here, few) in
           let run = ran i t' no_feed here in
           let old = (get_or feeds i no_feed).gate in
           let new = (get_or feeds' i no_feed).gate in
@@ -234,11 +197,9 @@ module _ {V : Type 0} (items : V → List ℕ) (texts : List V) (table : SharedI
           subst (λ (o : Option (List Line)). MatchOption o (RunsPrefixOf holds batch (items (get_or texts i t')) old new)
           (λ lines. RunsFeed holds batch (items (get_or texts i t')) old new lines)) (report_at i r here) run.runs in
           let unseen : old.seen ≡ [] = ap (λ (p : HeldPass). p.seen) (gate_before i here) ∙ fresh i no_pass within in
-          let next : m ≡ i + 1 = is ∙ one_more i in
+          let next : m ≡ i + 1 = omega (arith, is) in
           let mine : new.feed ≡ m = ap (λ (p : HeldPass). p.feed) (sym (ran_back i here)) ∙ (feed_back i within ∙ sym next) in
-          let since : Since m new.seen journal =
-          subst (λ (p : HeldPass). Since m p.seen journal) (ran_back i here)
-          (subst (λ (f : ℕ). Since f (get_or back i no_pass).seen journal) (sym next) (since_back i within)) in
+          let since : Since m new.seen journal = rw next (subst (λ (p : HeldPass). Since (i + 1) p.seen journal) (ran_back i here) (since_back i within)) in
           explained batch m journal (items (get_or texts i t')) old new report runs unseen mine since
 
       -- hence the texts were run to their ends

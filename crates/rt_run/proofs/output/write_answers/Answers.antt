@@ -1,5 +1,4 @@
-use Rattle.std.proofs.Common.{◌≡◌, ◌++◌, sym, take-append-drop, arith}
-use Rattle.std.proofs.lemmas.Grind.{common_steps}
+use Rattle.std.proofs.Common.{◌≡◌, ◌++◌, sym, take-append-drop}
 use Rattle.rt_cidr.proofs.Promised.{appends_after}
 use Rattle.rt_print.proofs.Promised.{breaks_off}
 use Rattle.rt_run.specs.TableText.{answers_text}
@@ -26,6 +25,3 @@ loop-rest-preserved g c =
       whole = answers_grow c.args.style.now table c.args.addresses.now c.loop-rest.rest.now
           c.split_at.result.0.now c.split_at.result.1.now c.loop-rest.invariant.text c.loop-rest.invariant.whole cut;
     }
-
-pub returns : goal.returns
-returns g c = record { ok = grind (arith, common_steps); err = tt }

@@ -1,4 +1,4 @@
-use Rattle.std.proofs.Common.{◌≡◌, ◌≤◌, ◌++◌, List, ℕ, length, map, ap, arith, rules}
+use Rattle.std.proofs.Common.{◌≤◌, ◌++◌, List, ℕ, length, map, ap, arith, rules}
 use Rattle.std.proofs.lemmas.List.{length-map}
 use Rattle.rt_rib.specs.declared.limits.TheConstants.{MAX_FEEDS}
 use Rattle.rt_print.specs.Routes.{table_text}

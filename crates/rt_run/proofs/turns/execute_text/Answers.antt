@@ -1,6 +1,5 @@
-use Rattle.std.proofs.Common.{◌≡◌, ◌≤◌, ◌+◌, ◌-◌, length, arith}
+use Rattle.std.proofs.Common.{◌≡◌, ◌-◌, length, arith}
 use Rattle.rt_feed.specs.Lines.{heading}
-use Rattle.rt_feed.proofs.Promised.{length-cut}
 use Rattle.rt_run.proofs.CountedLines.{lines_below}
 use Rattle.rt_run.proofs.InTurn.{begins, reads_on, ends}
 use Rattle.rt_run.proofs.turns.execute_text.Goals as goal
@@ -12,12 +11,6 @@ loop-line-init c =
     let count : c.first_line-number.result - 1 ≡ length (heading version) = omega (arith, first) in
     begins version c.args.feed c.args.text.now c.text_body-version.result.1.now _ _ _ c.text_body-version.ensures count c.new-tally.ensures
 
-pub overflow_add-number : goal.overflow_add-number
-overflow_add-number c =
-    let some = length-cut c.loop-line.rest.now c.in-Some.line.now c.in-Some.next.now (c.in-Some.ensures {u = tt}) in
-    let small : c.loop-line.number + 1 ≤ length c.args.text.now = omega (arith, c.loop-line.invariant.within, some) in
-    omega (arith, small)
-
 pub count-requires : goal.count-requires
 count-requires c =
     lines_below c.loop-line.invariant.outcomes _ c.loop-line.tally c.loop-line.invariant.tallied (omega (arith, c.loop-line.invariant.counted))
@@ -26,9 +19,6 @@ pub loop-line-preserved : goal.loop-line-preserved
 loop-line-preserved c =
     reads_on _ c.args.feed c.args.text.now c.loop-line.rest.now c.in-Some.line.now c.in-Some.next.now c.loop-line.number _ _ _ _ _ _
     c.loop-line.invariant (c.in-Some.ensures {u = tt}) c.execute_line-said.ensures c.count.ensures
-
-pub loop-line-smaller : goal.loop-line-smaller
-loop-line-smaller c = length-cut c.loop-line.rest.now c.in-Some.line.now c.in-Some.next.now (c.in-Some.ensures {u = tt})
 
 pub returns : goal.returns
 returns c = ends _ c.args.feed c.args.text.now c.loop-line.rest.now c.loop-line.number _ _ _ c.loop-line.invariant (c.in_default.ensures {u = tt})
