@@ -8,7 +8,7 @@ use rt_rib::{Cmd, Entry, Hop, Reply};
 /// 5 dump and 6 purge. `base` is the prefix's, or the address of a look-up, and `hop` is 1 for a router, whose address is
 /// `via`, and 2 if packets are to be discarded. Members that an operation doesn't use aren't read.
 #[repr(C)]
-#[derive(Clone, Copy, PartialEq, Eq, Debug)]
+#[derive(Clone, Copy)]
 pub struct YaribCommand {
     pub operation: u32,
     pub feed: u32,
@@ -126,7 +126,7 @@ impl YaribCommand {
 /// A reply: `code` is 1 added, 2 exists, 3 full, 4 replaced, 5 withdrawn, 6 missing, 7 found, with the route, 8 no route, 9
 /// dumped and 10 purged, with the count. Of many commands one that was not answered has the code 0, and as count its status.
 #[repr(C)]
-#[derive(Clone, Copy, PartialEq, Eq, Debug)]
+#[derive(Clone, Copy)]
 pub struct YaribReply {
     pub code: u32,
     pub count: u32,
@@ -169,7 +169,7 @@ impl YaribReply {
 
 /// An entry of the journal.
 #[repr(C)]
-#[derive(Clone, Copy, PartialEq, Eq, Debug)]
+#[derive(Clone, Copy)]
 pub struct YaribEntry {
     pub command: YaribCommand,
     pub reply: YaribReply,

@@ -18,7 +18,7 @@ use std::alloc::Global;
 /// A range of addresses for which two tables give different answers, and the answers. If hops are compared, each answer has only a
 /// hop.
 #[repr(C)]
-#[derive(Clone, Copy, PartialEq, Eq, Debug)]
+#[derive(Clone, Copy)]
 pub struct YaribDifference {
     pub first: u32,
     pub last: u32,

@@ -8,7 +8,7 @@ use rt_rib::{Hop, Route};
 /// A route, or the answer that there is none: `hop` is 0 for no route, 1 for a router, whose address is `via`, and 2 where the
 /// packets are discarded.
 #[repr(C)]
-#[derive(Clone, Copy, PartialEq, Eq, Debug)]
+#[derive(Clone, Copy)]
 pub struct YaribRoute {
     pub base: u32,
     pub pref: u32,

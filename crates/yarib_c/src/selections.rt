@@ -21,7 +21,7 @@ use std::alloc::Global;
 /// and the longer ones in it, 2 that prefix and the shorter ones that contain it, and 3 only that prefix. `feed` is 0 for any feed. If
 /// `only_best` is 1, only the best route of each prefix is selected.
 #[repr(C)]
-#[derive(Clone, Copy, PartialEq, Eq, Debug)]
+#[derive(Clone, Copy)]
 pub struct YaribSelection {
     pub part: u32,
     pub feed: u32,

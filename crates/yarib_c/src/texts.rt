@@ -11,7 +11,7 @@ use rt_cidr::{Addr, Prefix, ShortText, TextFault};
 
 /// A prefix.
 #[repr(C)]
-#[derive(Clone, Copy, PartialEq, Eq, Debug)]
+#[derive(Clone, Copy)]
 pub struct YaribPrefix {
     pub base: u32,
     pub len: u8,
