@@ -651,8 +651,10 @@ def tell_limit(routes, folder):
 
 def end(number, _):
     """Ends the program after removing what it has begun, which a further signal doesn't interrupt."""
+    # Python restores the default handlers before it frees its modules: a signal in that time would still end the process.
+    signal.pthread_sigmask(signal.SIG_BLOCK, ENDING)
     for ending in ENDING:
-        # Python is surprised by one that came before it was ignored
+        # one that came before
         signal.signal(ending, lambda *_: None)
     with contextlib.suppress(OSError):
         os.write(2, f"{NAME}: ended by {signal.Signals(number).name}\n".encode())

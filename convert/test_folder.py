@@ -147,19 +147,24 @@ def check_two(made):
 
 def check_ended(made):
     """A signal leaves nothing next to the directory; what a killed converter leaves is removed by the next one."""
+    # a second signal at once, and in the milliseconds in which the converter clears away and Python ends
+    seconds = [(0, signal.SIGINT), *((delay / 1000, None) for delay in (2, 5, 8, 12, 18))]
     for ending in (signal.SIGTERM, signal.SIGHUP, signal.SIGINT):
-        folder = made / ending.name / "feeds"
-        # what nohup or a shell's `&` has ignored would be so in the converter too
-        before = signal.signal(ending, signal.SIG_DFL)
-        process = started(folder)
-        signal.signal(ending, before)
-        process.send_signal(ending)
-        process.send_signal(signal.SIGINT)
-        said = process.communicate()[1]
-        ended = signal.Signals(process.returncode - 128).name if process.returncode > 128 else process.returncode
-        # of two that come at once either may be the first
-        expect(ending.name, ended in (ending.name, "SIGINT"), True)
-        expect(ending.name, (said, folder.parent.exists()), (f"bgpdump-to-feeds: ended by {ended}\n".encode(), False))
+        for delay, second in seconds:
+            folder = made / ending.name / "feeds"
+            # what nohup or a shell's `&` has ignored would be so in the converter too
+            before = signal.signal(ending, signal.SIG_DFL)
+            process = started(folder)
+            signal.signal(ending, before)
+            process.send_signal(ending)
+            time.sleep(delay)
+            process.send_signal(second or ending)
+            said = process.communicate()[1]
+            ended = signal.Signals(process.returncode - 128).name if process.returncode > 128 else process.returncode
+            # of two that come at once either may be the first
+            if ended not in (ending.name, second and second.name):
+                raise Failed(f"{ending.name}, and a signal {delay} seconds later: {ended}")
+            expect(ending.name, (said, folder.parent.exists()), (f"bgpdump-to-feeds: ended by {ended}\n".encode(), False))
     folder = made / "killed" / "feeds"
     process = started(folder)
     process.kill()
