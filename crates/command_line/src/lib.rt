@@ -38,7 +38,7 @@ pub struct Arguments<'a> {
     matches: ArgMatches<'a>,
 }
 
-/// What the arguments ask for: one variant for each command.
+/// The command that the arguments name, with its options and files: one variant for each command.
 #[derive(Clone, Copy)]
 pub enum Request<'a> {
     /// Run feed files.

@@ -71,7 +71,7 @@ becomes-first text rest version outcomes earlier more is same headed =
 length-body : (text lines : List ℕ) (version : Version) → IsBody text version lines → length (heading version) + length lines ≤ length text
 length-body text lines version body = grind (arith, length-cut)
 
--- so it is for a text
+-- a text has at least one byte for each outcome, besides the rest
 pub length-outcomes : (text rest : List ℕ) (outcomes : List LineOutcome) → TextYields text outcomes rest → length outcomes + length rest ≤ length text
 length-outcomes text rest outcomes is =
     omega (

@@ -36,7 +36,7 @@ put_renewed old new fresh blocks answers since table span some put are = record 
   behind = λ i h. put.behind i (omega (arith, are.size, h, some));
 }
 
--- the first so many entries, once the prefix's are renewed
+-- the first `count` entries, once those of the prefix are renewed
 renewed_upto : (prefix : Prefix) (span : Span) (old new : List ℕ) (blocks more : Places Block) (answers longer : Places (Option Route))
     → (since t count : ℕ) (table next : List Route) → AreEntriesOf prefix span → since ≤ t → t ≤ since + 1 → count ≤ 2 ^ 24
     → Keeps since blocks more → Keeps since answers longer → AreRenewed old new more longer (since + 1) next span → PreservesLookupsOutside prefix table next

@@ -32,7 +32,7 @@ pub record IsBlock (blocks routers : List ℕ) (entry k : ℕ) (answer : Option 
 abbrev pub LeadsToNumber : List ℕ → List ℕ → ℕ → ℕ → Option Route → Type 0
 LeadsToNumber blocks routers entry k answer = IsNumber routers entry answer ⊎ IsBlock blocks routers entry k answer
 
--- the entry of each address's first 24 bits leads to the number of what the table answers the address
+-- the entry of each address's first 24 bits leads to the number of the table's answer to the address
 pub record ViewShows (entries blocks routers : List ℕ) (table : List Route) : Type 0 where
   pub size : length entries ≡ 2 ^ 24
   pub each : (addr : Addr) → addr.0 < 2 ^ 32

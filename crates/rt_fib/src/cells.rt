@@ -26,7 +26,7 @@ pub(crate) struct Block {
 pub(crate) struct Pools<A: Allocator + Copy> {
     pub(crate) blocks: Pool<Block, A>,
     pub(crate) answers: Pool<Option<Route>, A>,
-    /// The counts of what was seen in use in this round. No clause mentions them.
+    /// The counts of blocks and answers that this round has seen in use. No clause mentions them.
     pub(crate) seen: Seen,
     /// The number that an answer got last, by its prefix's length. No clause mentions them.
     pub(crate) kept: [u32; KEPT_LENGTHS],

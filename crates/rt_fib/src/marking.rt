@@ -75,8 +75,8 @@ fn last_marked<A: Allocator + Copy, B: Allocator + Copy>(cells: &Cells<A, B>) ->
     cells.entries[i - 1]
 }
 
-/// Ends a round of marking. Gives back room that is not needed. Sets `is_wasteful` if blocks and answers take so much more than was
-/// seen of them that the cells may take over twice the memory of new ones.
+/// Ends a round of marking. Gives back room that is not needed. Sets `is_wasteful` if so many blocks and answers were not seen in
+/// use that the cells may take over twice the memory of new ones.
 fn end_round<A: Allocator + Copy>(pools: &mut Pools<A>, is_wasteful: &mut bool)
     ensures blocks { pools.new.blocks.values.items ≡ pools.old.blocks.values.items }
     ensures block_stamps { pools.new.blocks.stamps.items ≡ pools.old.blocks.stamps.items }
@@ -118,7 +118,7 @@ fn mark<A: Allocator + Copy, B: Allocator + Copy>(cells: &mut Cells<A, B>, count
     }
 }
 
-/// Marks as many entries as is due for the answers that were filled and the blocks that fell out of use, and always at least some.
+/// Marks some entries, and more for each answer that was filled and each block that fell out of use.
 pub(crate) fn keep_pace<A: Allocator + Copy, B: Allocator + Copy>(cells: &mut Cells<A, B>)
     requires { AreCells cells.old.entries.items (places cells.old.pools.blocks) (places cells.old.pools.answers) cells.old.since
         cells.old.marked cells.old.table.value.routes }

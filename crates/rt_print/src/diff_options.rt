@@ -1,4 +1,4 @@
-//! What is compared of two tables, and how the differences are printed.
+//! Options of a comparison: the compared parts of two tables, and the style of the printed differences.
 ghost use Rattle.std.specs.Prelude.{◌≡◌, ◌≤◌, length, map, IfOk};
 ghost use Rattle.rt_rib.specs.declared.limits.TheConstants.{MAX_FEEDS};
 ghost use Rattle.rt_diff.specs.Answers.{own_numbers};

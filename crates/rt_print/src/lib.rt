@@ -11,7 +11,7 @@
 //! ```
 //!
 //! Each line is built in a short text. A line with a feed's number goes to the writer at once; one with another label in
-//! three parts, since a label may be longer than a short text. The written text is the only text of what is printed or,
+//! three parts, since a label may be longer than a short text. A printer writes the one text that its clause names or,
 //! after an error of the writer, a prefix of it. An [`OutputBuffer`] is a writer over another one: its contents are those
 //! of the other, followed by the bytes it holds. No call of a printer allocates; only `Style::new`, `DiffOptions::new` and
 //! `OutputRoom::new` do.

@@ -1,4 +1,4 @@
-//! Whether feeds can be printed by their names: each needs a valid name of its own.
+//! Checks that feeds can be printed by their names: each needs a valid name of its own.
 ghost use Rattle.std.specs.Prelude.{◌≡◌, ◌<◌, ◌≤◌, ℕ, length, map, true, false, bytes_eq, IfSome, None};
 ghost use Rattle.std.specs.List.{list_any};
 ghost use Rattle.rt_print.specs.FeedNames.{ChecksNames, is_name, is_space_or_control, name_at};
@@ -16,7 +16,7 @@ pub enum NameFault {
 
 /// Checks that the feeds that are read from the files of these paths can be printed by their names: that each has a
 /// valid name (not empty, no space, no control character), which no feed before it has. Otherwise returns the fault of
-/// the first feed of which this isn't true. Doesn't allocate.
+/// the first feed for which this isn't true. Doesn't allocate.
 pub fn check_names(paths: &[&str]) -> Result<(), NameFault>
     ensures { ChecksNames (map (λ path. path.now) paths.now) result }
 {

@@ -6,7 +6,7 @@ ghost use Rattle.rt_cidr.specs.Text.{address_text};
 use rt_cidr::{Addr, ShortText, put};
 use std::io::{self, Write};
 
-/// A text: bytes, a number, an address, or a pair of texts, of which the second follows the first.
+/// A text: bytes, a number, an address, or two texts, one after the other.
 pub(crate) trait Text {
     /// Its bytes.
     ghost text: { Self → List ℕ };

@@ -37,7 +37,7 @@ pub struct Table<A: Allocator + Copy> {
     counts: [u32; MAX_FEEDS],
     /// The routes, as the offers for each prefix.
     map: OfferMap<A>,
-    /// Where each feed may have routes. No clause mentions them.
+    /// The blocks of prefixes in which each feed may have routes. No clause mentions them.
     marks: FeedMarks<A>,
     alloc: A,
 }

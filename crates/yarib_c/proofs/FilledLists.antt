@@ -9,7 +9,7 @@ use Rattle.yarib_c.specs.declared.routes.YaribRoute.{YaribRoute}
 use Rattle.yarib_c.specs.Forms.{route_as}
 use Rattle.yarib_c.specs.Lists.{PutsRoutes}
 
--- the first so many of the routes stand in front of what was in the list
+-- the first `used` elements of the list were replaced by the first routes
 pub record IsFilled (all : List Route) (old new : List YaribRoute) (used : ℕ) : Type 0 where
   pub within : used ≤ length old
   pub short : used ≤ length all

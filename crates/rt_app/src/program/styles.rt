@@ -1,4 +1,4 @@
-//! How routes are printed: with feeds' numbers, with their names, or as JSON.
+//! The style of printed routes: with feeds' numbers, with their names, or as JSON.
 
 use super::ProgramError;
 use super::feed_choice::FeedFiles;

@@ -44,7 +44,7 @@ pub record IsLast (answers : Places (Option Route)) (since : ℕ) (change : Chan
   pub short : last.entry < 2 ^ 31 → last.after < 2 ^ 31
   pub after : last.entry < 2 ^ 31 → IsNumberAfter answers since change last.entry last.after
 
--- the numbers of the first so many answers of a block became those of the answers after the change
+-- the first `count` numbers of a block became those of the answers after the change
 pub record AreNumbersAfter (answers : Places (Option Route)) (since : ℕ) (change : Change) (old new : List ℕ) (count : ℕ) : Type 0 where
   pub size : length new ≡ 256
   pub each : (k : ℕ) → k < count → IsNumberAfter answers since change (get_or old k 0) (get_or new k 0)
@@ -53,13 +53,13 @@ pub record AreNumbersAfter (answers : Places (Option Route)) (since : ℕ) (chan
 pub record KeepsOthers (i : ℕ) (old new : Places Block) : Type 0 where
   pub each : (t n : ℕ) (block : Block) → block.owner ≢ i → Has old t n block → Has new t n block
 
--- wherever the i-th entry led, the next one leads to the answer after the change
+-- for every answer to which the i-th entry led, `next` leads to the answer after the change
 abbrev pub LeadsAfter : Places Block → Places Block → Places (Option Route) → ℕ → Change → ℕ → ℕ → ℕ → Type 0
 LeadsAfter blocks more answers since change i entry next =
     (t k : ℕ) (answer : Option Route) → k < 256 → t ≤ since + 1
     → Leads blocks answers t i entry k answer → Leads more answers t i next k (answer_after change.len change.answer answer)
 
--- of the first so many entries those before this place lead to the new table's answers, and the others to those of the old one
+-- the first `count` entries: those before this place lead to the new table's answers, the others to the old table's
 pub record AreUntil (entries : List ℕ) (blocks : Places Block) (answers : Places (Option Route)) (since : ℕ) (old new : List Route) (place count : ℕ) : Type 0 where
   pub before : (i : ℕ) → i < place → i < count → IsEntry new blocks answers since i (get_or entries i 0)
   pub behind : (i : ℕ) → place ≤ i → i < count → IsEntry old blocks answers since i (get_or entries i 0)

@@ -16,7 +16,7 @@ pub record IsNumberedAt (table : List Route) (answers : Places (Option Route)) (
   pub onward : from ≤ piece.last.0
   pub there : IsNumberedFrom table answers since from piece
 
--- the first so many numbers are those of what the table answers the addresses from this one on
+-- the first `count` numbers are those of the table's answers to the addresses from `first` on
 pub record AreNumbers (table : List Route) (numbers : List ℕ) (answers : Places (Option Route)) (since first count : ℕ) : Type 0 where
   pub size : count ≤ length numbers
   pub each : (k : ℕ) → k < count → Has answers since (get_or numbers k 0) (look_up (at (first + k)) table)

@@ -1,4 +1,4 @@
--- Places that are used again once nothing leads to them any more.
+-- Places that are reused once nothing leads to them.
 use Rattle.std.specs.Prelude.{◌≡◌, ℕ, ◌<◌, ◌≤◌, ◌⊎◌, List, length, get_or}
 use Rattle.rt_fib.specs.declared.pools.Pool.{Pool}
 
@@ -7,7 +7,7 @@ pub record Places (T : Type 0) : Type 0 where
   pub values : List T
   pub stamps : List ℕ
 
--- places, and those of them that were free and were taken by the renewal under way
+-- places, and those that the renewal under way has taken from the free ones
 pub record Filling (T : Type 0) : Type 0 where
   pub places : Places T
   pub taken : List ℕ
@@ -23,7 +23,7 @@ pub record IsCleared (stamps taken : List ℕ) (n : ℕ) : Type 0 where
   pub zero : get_or stamps n 0 ≡ 0
   pub listed : IsListed taken n
 
--- the first so many places of the list have stamp 0, and no other stamp changed
+-- the first `count` places of the list have stamp 0, and no stamp outside the list changed
 pub record AreCleared (old new taken : List ℕ) (count : ℕ) : Type 0 where
   pub size : length new ≡ length old
   pub others : (n : ℕ) → (get_or new n 0 ≡ get_or old n 0) ⊎ IsCleared new taken n

@@ -14,7 +14,7 @@ pub record IsHopOf (routers : List ℕ) (number : ℕ) (answer : Option Route) :
   pub short : number < 2 ^ 31
   pub is : IsAnswerNumber routers number answer
 
--- these are the numbers of the next hops of the first so many answers
+-- these are the numbers of the next hops of the first `count` answers
 pub record AreHopsOf (routers numbers : List ℕ) (answers : List (Option Route)) (count : ℕ) : Type 0 where
   pub size : length numbers ≡ count
   pub each : (n : ℕ) (d : Option Route) → n < count → IsHopOf routers (get_or numbers n 0) (get_or answers n d)
@@ -24,18 +24,18 @@ pub record IsShownEntry (numbers : List ℕ) (entry shown : ℕ) : Type 0 where
   pub short : entry < 2 ^ 31 → shown ≡ get_or numbers entry 0
   pub long : 2 ^ 31 ≤ entry → shown ≡ entry
 
--- so did the first so many entries
+-- this is so for the first `count` entries
 pub record AreShownEntries (numbers entries shown : List ℕ) (count : ℕ) : Type 0 where
   pub size : length shown ≡ length entries
   pub each : (i : ℕ) → i < count → IsShownEntry numbers (get_or entries i 0) (get_or shown i 0)
 
--- the first so many numbers of a block became those of their next hops, from this index on, and what is before the index stayed
+-- the first `count` numbers of a block became those of their next hops, from the index `first` on; nothing before it changed
 pub record IsShownBlock (numbers block old shown : List ℕ) (first count : ℕ) : Type 0 where
   pub size : length shown ≡ length old
   pub each : (k : ℕ) → k < count → get_or shown (first + k) 0 ≡ get_or numbers (get_or block k 0) 0
   pub before : (i : ℕ) → i < first → get_or shown i 0 ≡ get_or old i 0
 
--- so did the numbers of the first so many blocks
+-- all numbers of the first `count` blocks became those of their next hops
 pub record AreShownBlocks (numbers : List ℕ) (blocks : List Block) (old shown : List ℕ) (count : ℕ) : Type 0 where
   pub size : length shown ≡ length old
   pub each : (b k : ℕ) (d : Block) → b < count → k < 256

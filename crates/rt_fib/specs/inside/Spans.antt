@@ -20,7 +20,7 @@ pub record IsWholly (prefix : Prefix) (span : Span) : Type 0 where
   pub first : span.first * 256 ≡ prefix.base
   pub end : span.end * 256 ≡ prefix.base + size_of prefix.len
 
--- so many entries were put from this place on, and the others stayed
+-- `count` fresh entries were put from the entry `first` on, and no other entry changed
 pub record ArePut (old new fresh : List ℕ) (first count : ℕ) : Type 0 where
   pub size : length new ≡ length old
   pub there : (k : ℕ) → k < count → get_or new (first + k) 0 ≡ get_or fresh k 0

@@ -4,7 +4,7 @@ use Rattle.rt_fib.specs.declared.cells.Block.{Block}
 use Rattle.rt_fib.specs.inside.Pools.{places, Has, Keeps}
 use Rattle.rt_fib.proofs.marking.mark_entry.Given as goal
 
--- the block is marked, and so many of its numbers
+-- the block is marked, and so are its numbers up to the loop's place
 abbrev pub invariant-numbers : goal.invariant-numbers
 invariant-numbers g l = record {
   blocks : Keeps l.since (places l.fn.pools.blocks) (places l.pools.blocks);
