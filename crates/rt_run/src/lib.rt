@@ -21,6 +21,7 @@
 //! beginning of the output was written; after any other error nothing was.
 #![tactic(auto)]
 
+mod ahead;
 mod chosen;
 mod comparisons;
 mod faults;

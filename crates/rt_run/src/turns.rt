@@ -7,6 +7,7 @@ ghost use Rattle.rt_run.specs.ChosenFeeds.{is_left_out, texts_kept};
 ghost use Rattle.rt_run.specs.TableText.{LeavesTable};
 ghost use Rattle.rt_run.specs.inside.Runs.{ExecutesText, ExecutesLine, ExecutesCommand};
 
+use crate::ahead::{CommandOrder, read_ahead};
 use crate::chosen::{ChosenTexts, FeedChoice};
 use crate::tallies::{RejectedInput, RunSummary, summary_of};
 use rt_feed::{Answer, RunFault, Version, next_line, parse_line, text_body};
@@ -65,23 +66,27 @@ fn execute_text(table: &mut Table<Global>, feed: u32, text: &[u8]) -> RejectedIn
 {
     let (version, lines) = text_body(text);
     let mut tally = RejectedInput::new();
+    let mut order = CommandOrder::new();
     let mut rest = lines;
     let mut number = version.first_line() - 1;
     while let Some((line, next)) = next_line(rest) {
+        read_ahead(table, number, rest, version, &order);
         number += 1;
-        let said = execute_line(table, feed, line, version);
+        let said = execute_line(table, feed, line, version, &mut order);
         tally.count(number, said);
         rest = next;
     }
     tally
 }
 
-/// Executes the line's command, and returns the answer that a report would have for the line, if it would have one.
+/// Executes the line's command, and returns the answer that a report would have for the line, if it would have one. Adds
+/// the command to the order.
 fn execute_line(
     table: &mut Table<Global>,
     feed: u32,
     line: &[u8],
     version: Version,
+    order: &mut CommandOrder,
 ) -> Option<Answer>
     requires { IsFeed feed }
     ensures { ExecutesLine version feed line.now (table_state table.old) (table_state table.new) result }
@@ -90,7 +95,10 @@ fn execute_line(
         Err(fault) => Some(Answer::Fault(fault)),
         Ok(asked) => match asked {
             None => None,
-            Some(cmd) => Some(execute(table, feed, cmd)),
+            Some(cmd) => {
+                order.add(cmd);
+                Some(execute(table, feed, cmd))
+            }
         },
     }
 }
