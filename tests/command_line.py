@@ -10,6 +10,7 @@ takes turns with the first one observes the number of commands in a batch: its `
 feed ends. Each case's directory contains row.feed, empty.feed and faulty.feed.
 """
 import collections
+import contextlib
 import ipaddress
 import json
 import math
@@ -1022,33 +1023,45 @@ def closed_outputs(yarib):
 ERASED = "\r" + " " * 32 + "\r"
 
 
-def on_terminal(words, told=None, go_on=lambda: None, out_too=False, is_short=False, is_long=False):
+def on_terminal(words, told=None, go_on=lambda: None, out_too=False, is_short=False, is_long=False, is_ticked=False):
     """Returns the status, standard output, and what a terminal as standard error receives besides the progress line;
     the terminal may be standard output too. If the run is held up, the line has to say `told` before `go_on` is called,
     and may also say `OTHERS`. In a short run there may be a line only if the run took over a second, in a long one
-    only before its output."""
+    only before its output. In a ticked run the line's seconds take milliseconds until it says `told`."""
     began = time.monotonic()
     screen, terminal = pty.openpty()
     tty.setraw(terminal)
-    child = subprocess.Popen(words, stdout=terminal if out_too else subprocess.PIPE, stderr=terminal)
+    waits, ticks = os.pipe()
+    ticked = {"env": loaded(TICKS_IN=waits), "pass_fds": [waits]} if is_ticked else {}
+    child = subprocess.Popen(words, stdout=terminal if out_too else subprocess.PIPE, stderr=terminal, **ticked)
     os.close(terminal)
+    os.close(waits)
     sent = b""
-    while told and told.encode() not in sent and (piece := sent_to(screen)):
+    while told and told.encode() not in sent:
+        if is_ticked:
+            time.sleep(0.01)
+            with contextlib.suppress(BrokenPipeError):  # it has ended
+                os.write(ticks, b"t")
+        if not (piece := sent_to(screen)):
+            break
         sent += piece
+    os.close(ticks)
     go_on()
     out = b"" if out_too else child.communicate(timeout=120)[0]
     while piece := sent_to(screen):
         sent += piece
     os.close(screen)
     child.wait(timeout=120)
-    *lines, rest = sent.decode().split(ERASED)
+    *lines, rest = sent.decode().replace(TICK, "").split(ERASED)
     is_told = told in lines if told else not lines or is_long or is_short and time.monotonic() - began > 1
     return child.returncode, out.decode(), rest if is_told and OTHERS.issuperset(lines) else f"{lines}, and then {rest}"
 
 
+# What the library of schedules prints for each wait that it ends.
+TICK = "[1000 ms]"
 OTHERS = {
     "yarib: files read: 0 of 1", "yarib: files read: 1 of 2",
-    *(f"yarib: files read: {read} of {MAX_FEEDS}" for read in range(MAX_FEEDS)),
+    *(f"yarib: files read: {read} of {files}" for files in (MAX_FEEDS // 2, MAX_FEEDS) for read in range(files)),
     *(f"yarib: feeds running: {feeds}" for feeds in (1, 2, MAX_FEEDS)), "yarib: writing",
 }
 
@@ -1117,7 +1130,7 @@ def line_each_second(yarib):
             os.write(ticks, b"t")
             while not sent.endswith(line) and (piece := sent_to(screen)):
                 sent += piece
-            expect(f"second {second}", sent.decode(), f"[1000 ms]{ERASED if second > 1 else ''}{line.decode()}")
+            expect(f"second {second}", sent.decode(), f"{TICK}{ERASED if second > 1 else ''}{line.decode()}")
         os.close(ticks)
         feed.write(ROW)
     expect("a run that printed its progress", child.wait(timeout=120), 0)
@@ -1130,7 +1143,7 @@ def line_each_second(yarib):
 # Catches a progress line on a terminal that has output already: `a long output on a terminal alone`.
 # Catches a progress line that is written again after its final erasure.
 def progress_of_long_runs(yarib):
-    """Runs that work for over a second, or whose output isn't read for so long: that holds them up."""
+    """Runs whose output isn't read for over a second, which holds them up, and runs that work for many ticks."""
     unread = lambda: time.sleep(1.5)
     pathlib.Path("long.feed").write_text(ROW * 100_000)
     added = "1:1 added\n" + "".join(f"1:{number} exists\n" for number in range(2, 100_001)) + table(route(1))
@@ -1148,10 +1161,10 @@ def progress_of_long_runs(yarib):
     pathlib.Path("purges.feed").write_text("version 2\n" + "add 255.0.0.0/8 1 192.0.2.1\npurge\n" * 250)
     running, half = f"yarib: feeds running: {MAX_FEEDS}", MAX_FEEDS // 2
     busy = [yarib, "table", "--feed", "2", "rows.feed", *["purges.feed"] * (MAX_FEEDS - 1)]
-    expect("MAX_FEEDS busy feeds", on_terminal(busy, running), (0, "", ""))
+    expect("MAX_FEEDS busy feeds", on_terminal(busy, running, is_ticked=True), (0, "", ""))
     side = ["rows.feed", *["purges.feed"] * (half - 1)]
     both = [yarib, "diff", *side, "--", *side]
-    expect("busy feeds compared with as many", on_terminal(both, running), (0, "", ""))
+    expect("busy feeds compared with as many", on_terminal(both, running, is_ticked=True), (0, "", ""))
 
 
 CASES = (
