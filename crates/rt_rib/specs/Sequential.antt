@@ -50,6 +50,15 @@ changed_prefix (Replace prefix pref hop) = Some prefix
 changed_prefix (Withdraw prefix) = Some prefix
 changed_prefix cmd = None
 
+-- the lowest address that the command concerns; `dump` and `purge` concern all addresses
+abbrev pub lowest_address : Cmd → ℕ
+lowest_address (Add prefix pref hop) = prefix.base
+lowest_address (Replace prefix pref hop) = prefix.base
+lowest_address (Withdraw prefix) = prefix.base
+lowest_address (Lookup addr) = addr.0
+lowest_address Dump = 0
+lowest_address Purge = 0
+
 -- the set after the journal's commands, starting from the empty set
 unfoldable pub table_of_journal : ℕ → List Entry → List Route
 table_of_journal limit journal = fold (λ table e. table_after limit table e.feed e.cmd) [] journal

@@ -12,19 +12,19 @@ use std::alloc::Allocator;
 /// The number of commands that are read ahead at once: the number of look-ups that the trie does in turn.
 pub const READ_AHEAD_COMMANDS: usize = LANES;
 
-/// A trie with fewer nodes fits in the cache, and there is nothing to wait for.
-const CACHED: usize = 8_192;
+/// A trie with fewer nodes fits in the cache: there is nothing to wait for, and nothing is read ahead.
+pub const READ_AHEAD_NODES: usize = 8_192;
 
 /// Visits what the first few of the commands concern. Changes nothing. Doesn't allocate.
 pub(crate) fn read_ahead<A: Allocator + Copy>(map: &OfferMap<A>, cmds: &[Cmd]) {
-    if map.nodes() < CACHED {
+    if map.nodes() < READ_AHEAD_NODES {
         return;
     }
     let mut addresses = [Addr(0); LANES];
     let mut answers = [None; LANES];
     let count = cmds.len().min(LANES);
     for k in 0..count {
-        addresses[k] = address_of(cmds[k]);
+        addresses[k] = cmds[k].lowest_address();
     }
     map.trie
         .longest_many(&addresses[..count], &mut answers[..count]);
@@ -53,16 +53,5 @@ fn first_feed<A: Allocator + Copy>(answer: Option<(Prefix, &Offers<A>)>) -> usiz
             best.feed as usize
         }
         None => 0,
-    }
-}
-
-/// Returns the address to which the command descends, or address 0 if it doesn't descend.
-fn address_of(cmd: Cmd) -> Addr {
-    match cmd {
-        Cmd::Add { prefix, .. } | Cmd::Replace { prefix, .. } | Cmd::Withdraw { prefix } => {
-            Addr(prefix.base())
-        }
-        Cmd::Lookup { addr } => addr,
-        Cmd::Dump | Cmd::Purge => Addr(0),
     }
 }

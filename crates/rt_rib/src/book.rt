@@ -3,7 +3,6 @@ ghost use Rattle.std.specs.Prelude.{◌≡◌, ◌<◌, [], IfOk, OnOk, OnErr};
 ghost use Rattle.std.specs.List.{All};
 ghost use Rattle.rt_rib.specs.Book.{IsLimit, IsFeed};
 
-use crate::ahead;
 use crate::commands::{Cmd, Entry, Reply};
 use crate::refused::Refused;
 use crate::routes::Route;
@@ -52,7 +51,7 @@ impl<A: Allocator + Copy> fmt::Debug for Book<A> {
     fn fmt<W: fmt::Write>(&self, f: &mut fmt::Formatter<W>) -> fmt::Result {
         f.debug_struct("Book")
             .field("entries", &self.journal.len())
-            .field("nodes", &self.table.map().nodes())
+            .field("nodes", &self.table.nodes())
             .finish_non_exhaustive()
     }
 }
@@ -124,13 +123,6 @@ impl<A: Allocator + Copy> Book<A> {
         ensures trie { result.now.trie ≡ self.now.trie }
     {
         &self.table
-    }
-
-    /// Reads what the first [`READ_AHEAD_COMMANDS`](crate::READ_AHEAD_COMMANDS) of these commands will visit, all at
-    /// once, so that `apply` finds it in the cache. This makes a batch faster if the table doesn't fit in the cache.
-    /// Answers nothing and changes nothing. Doesn't allocate.
-    pub fn read_ahead(&self, cmds: &[Cmd]) {
-        ahead::read_ahead(self.table.map(), cmds);
     }
 
     /// Returns the routes in dump order: by base, then length, then preference, then feed. Allocates the list with the

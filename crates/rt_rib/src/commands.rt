@@ -1,4 +1,7 @@
 //! The commands of a feed, their replies, and entries of both: plain data, as callers see it.
+ghost use Rattle.std.specs.Prelude.{◌≡◌};
+ghost use Rattle.rt_rib.specs.Sequential.{lowest_address};
+
 use crate::routes::{Hop, Route};
 use rt_cidr::{Addr, Prefix};
 
@@ -17,6 +20,22 @@ pub enum Cmd {
     Dump,
     /// Remove all of the feed's routes.
     Purge,
+}
+
+impl Cmd {
+    /// Returns the lowest address that the command concerns: the first one of its prefix, the one to look up, or 0 for
+    /// `Dump` and `Purge`, which concern all addresses.
+    pub fn lowest_address(&self) -> Addr
+        ensures { result.0 ≡ lowest_address self.now }
+    {
+        match self {
+            Cmd::Add { prefix, .. } | Cmd::Replace { prefix, .. } | Cmd::Withdraw { prefix } => {
+                Addr(prefix.base())
+            }
+            Cmd::Lookup { addr } => *addr,
+            Cmd::Dump | Cmd::Purge => Addr(0),
+        }
+    }
 }
 
 /// The reply to a command.

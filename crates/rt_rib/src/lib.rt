@@ -20,7 +20,7 @@
 //! look-up descends once and reads one offer. Besides the journal, for which [`Book::reserve`] reserves room, only an
 //! `Add` makes anything grow. A `Purge` of few routes visits only those parts of a large table where its feed added
 //! routes (`src/marks.rt`). A `Purge` of many visits the map once, up to the last route of its feed (`src/purge.rt`). A
-//! caller with several commands can use [`Book::read_ahead`], with which their waits for memory overlap
+//! caller with several commands can use [`Table::read_ahead`], with which their waits for memory overlap
 //! (`src/ahead.rt`).
 //!
 //! A book is a [`Table`] and its journal: [`Book::table`] lends the table for queries. A program that runs for months
@@ -58,7 +58,7 @@ mod routes;
 mod selection;
 mod table;
 
-pub use ahead::READ_AHEAD_COMMANDS;
+pub use ahead::{READ_AHEAD_COMMANDS, READ_AHEAD_NODES};
 pub use answers::LookupCursor;
 pub use book::Book;
 pub use commands::{Cmd, Entry, Reply};

@@ -92,7 +92,7 @@ impl Lent {
     {
         for (index, cmd) in cmds.iter().enumerate() {
             if index % READ_AHEAD_COMMANDS == 0 {
-                self.book.get().read_ahead(&cmds[index..]);
+                self.book.get().table().read_ahead(&cmds[index..]);
             }
             let outcome = self.serve(feed, *cmd);
             out.push_reserved(outcome);

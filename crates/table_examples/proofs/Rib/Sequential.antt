@@ -5,7 +5,7 @@ use Rattle.rt_rib.specs.declared.routes.Hop.TheVariants.{Discard}
 use Rattle.rt_rib.specs.declared.commands.Cmd.TheVariants.{Add, Replace, Withdraw, Lookup, Dump, Purge}
 use Rattle.rt_rib.specs.declared.commands.Reply.TheVariants.{Added, Exists, Full, Replaced, Withdrawn, Missing, Found, NoRoute, Dumped, Purged}
 use Rattle.rt_rib.specs.LookUp.{look_up}
-use Rattle.rt_rib.specs.Sequential.{reply_of, table_after, table_of_journal, IsAnswered, IsLawfulJournal}
+use Rattle.rt_rib.specs.Sequential.{reply_of, lowest_address, table_after, table_of_journal, IsAnswered, IsLawfulJournal}
 use Rattle.rt_rib.proofs.Journals.{IsLawfulJournal-nil, IsLawfulJournal-push}
 use Rattle.std.specs.Prelude.{map}
 use Rattle.table_examples.proofs.Rib.Values.{ten_1_16, at_10_1_2_3, at_10_2_3_4, at_last, route, nested, entry, two_look_ups, ten_2_16, ten_3_16, at_10_9_0_1, ten_9_16, via_192_0_2, route_via, tutorial}
@@ -55,6 +55,16 @@ dump_counts_all = refl
 purge_counts_its_own : reply_of 9 (route ten_8 2 5 ∷ nested) 2 Purge ≡ Purged 1
 unfolding reply_of
 purge_counts_its_own = refl
+
+-- lowest_address
+the_base_of_its_prefix : map lowest_address (Add ten_1_16 5 Discard ∷ Replace ten_1_16 5 Discard ∷ Withdraw ten_1_16 ∷ []) ≡ 167837696 ∷ 167837696 ∷ 167837696 ∷ []
+the_base_of_its_prefix = refl
+
+the_address_to_look_up : lowest_address (Lookup at_last) ≡ 4294967295
+the_address_to_look_up = refl
+
+zero_of_all : map lowest_address (Dump ∷ Purge ∷ []) ≡ 0 ∷ 0 ∷ []
+zero_of_all = refl
 
 -- table_after
 added : table_after 2 (route ten_8 1 50 ∷ []) 2 (Add ten_8 30 Discard) ≡ route ten_8 2 30 ∷ route ten_8 1 50 ∷ []
