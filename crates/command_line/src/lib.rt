@@ -20,11 +20,12 @@ mod limits;
 ghost use Rattle.std.specs.Prelude.{◌≤◌};
 ghost use Rattle.command_line.specs.declared.limits.TheConstants.{MAX_ROUTES_PER_FEED};
 
+use clap::ArgMatches;
 use clap::error::ErrorKind;
-use clap::{ArgMatches, Error};
 use commands::program;
 pub use limits::{MAX_BATCH, MAX_FEED_FILES, MAX_ROUTES_PER_FEED};
 use std::alloc::{AllocError, Global};
+use thiserror::Error;
 
 /// The value of `--by` for next hops, the default.
 const HOP: &str = "hop";
@@ -176,12 +177,14 @@ pub enum Refusal {
 }
 
 /// The reason why arguments are no request.
-#[derive(Clone, Copy)]
+#[derive(Clone, Copy, Debug, Error)]
 pub enum RequestFault {
     /// More than one of `--within`, `--covering` and `--exact` was given.
+    #[error("only one of --within, --covering and --exact may be given")]
     ConflictingFilters,
     /// `clap` accepted arguments that this crate doesn't expect. This would be a bug of this crate; no such arguments are
     /// known.
+    #[error("cannot parse the command line: see yarib --help")]
     Unknown,
 }
 
@@ -210,7 +213,7 @@ impl<'a> Arguments<'a> {
     }
 }
 
-fn refusal_of(alloc: Global, error: &Error) -> Refusal {
+fn refusal_of(alloc: Global, error: &clap::Error) -> Refusal {
     if let ErrorKind::OutOfMemory = error.kind() {
         return Refusal::Memory;
     }

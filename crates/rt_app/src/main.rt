@@ -9,7 +9,7 @@
 
 mod program;
 
-use program::{ProgramError, run_words, run_words_beside};
+use program::{Program, ProgramError, run_words};
 pub use rt_run::{AppFault, replay_text, run_texts};
 use std::alloc::Global;
 use std::io::{self, IsTerminal, Write};
@@ -57,7 +57,7 @@ where
 {
     thread::scope(thread::scope_env(), rt, |scope| {
         let _ = scope.spawn(move || line.keep(rt, terminal));
-        run_words_beside(rt, rt.alloc(), words, line, out, err)
+        Program::new(rt, rt.alloc(), line, out, err).run(words)
     })
 }
 

@@ -11,7 +11,7 @@ mod warnings;
 ghost use Rattle.std.specs.Prelude.{◌≡◌, ◌≤◌, length, vec_len, IfOk};
 ghost use Rattle.rt_rib.specs.declared.limits.TheConstants.{MAX_FEEDS};
 
-use command_line::{Arguments, Refusal, ReplayRequest, Request, RunRequest};
+use command_line::{Arguments, Refusal, ReplayRequest, Request, RequestFault, RunRequest};
 use feed_choice::FeedFiles;
 use program_error::NO_MEMORY;
 pub(crate) use program_error::ProgramError;
@@ -45,32 +45,12 @@ pub fn run_words<R: Files + Threads + Wait + Sync + AllocGlobal, O: Write, E: Wr
     out: &mut O,
     err: &mut E,
 ) -> u8 {
-    run_words_beside(rt, alloc, words, &ProgressLine::new(false), out, err)
-}
-
-/// Runs the program as `run_words` does, while another thread may write a progress line on `err` (`ProgressLine::keep`).
-pub fn run_words_beside<R, O, E>(
-    rt: &R,
-    alloc: Global,
-    words: &[String],
-    line: &ProgressLine,
-    out: &mut O,
-    err: &mut E,
-) -> u8
-where
-    R: Files + Threads + Wait + Sync + AllocGlobal,
-    O: Write,
-    E: Write,
-{
-    let mut program = Program::new(rt, alloc, line, out, err);
-    let status = program.run(words);
-    program.screen.end();
-    status
+    Program::new(rt, alloc, &ProgressLine::new(false), out, err).run(words)
 }
 
 /// The program's environment: the system, its memory, and both outputs.
 #[derive(Drop)]
-struct Program<'a, R, O, E> {
+pub(crate) struct Program<'a, R, O, E> {
     rt: &'a R,
     alloc: Global,
     out: &'a mut O,
@@ -78,7 +58,8 @@ struct Program<'a, R, O, E> {
 }
 
 impl<'a, R, O, E> Program<'a, R, O, E> {
-    fn new(
+    /// Returns the program with these outputs. Another thread may write the progress line on `err` (`ProgressLine::keep`).
+    pub(crate) fn new(
         rt: &'a R,
         alloc: Global,
         line: &'a ProgressLine,
@@ -96,51 +77,41 @@ impl<'a, R, O, E> Program<'a, R, O, E> {
 }
 
 impl<R: Files + Threads + Wait + Sync + AllocGlobal, O: Write, E: Write> Program<'_, R, O, E> {
-    /// Parses the arguments, does what they ask for, and returns the exit status.
-    fn run(&mut self, words: &[String]) -> u8 {
-        match Arguments::parse(self.alloc, words) {
+    /// Parses the arguments, does what they ask for, and returns the exit status, as `run_words` does.
+    pub(crate) fn run(mut self, words: &[String]) -> u8 {
+        let status = match Arguments::parse(self.alloc, words) {
             Ok(arguments) => self.carry_out(&arguments),
             Err(refusal) => self.refuse(&refusal),
-        }
+        };
+        self.screen.end();
+        status
     }
 
     /// Does what the arguments ask for, and returns the exit status.
     fn carry_out(&mut self, arguments: &Arguments<'_>) -> u8 {
-        let done = match arguments.request() {
-            Ok(request) => self.answer(&request),
-            Err(fault) => Err(ProgramError::from(fault)),
-        };
-        match done {
+        match self.answer(arguments) {
             Ok(status) => status,
             Err(error) => error.end(&mut self.screen),
         }
     }
 
-    fn answer<'w>(&mut self, request: &Request<'w>) -> Result<u8, ProgramError<'w>> {
-        match request {
-            Request::Run(request) => self.run_files(request),
-            Request::Lookup(request) => self.show_answers(request),
-            Request::Table(request) => self.show_routes(request),
-            Request::Diff(request) => self.compare(request),
-            Request::Replay(request) => show_replay(self.alloc, request, self.out),
+    /// Does what the arguments ask for. Returns the exit status, or the reason why the program stops early.
+    fn answer<'w>(&mut self, arguments: &'w Arguments<'_>) -> Result<u8, ProgramError<'w>> {
+        match arguments.request()? {
+            Request::Run(request) => self.run_files(&request),
+            Request::Lookup(request) => self.show_answers(&request),
+            Request::Table(request) => self.show_routes(&request),
+            Request::Diff(request) => self.compare(&request),
+            Request::Replay(request) => self.show_replay(&request),
         }
     }
 
+    /// Writes the replies to the commands of the files and the table, and returns the exit status.
     fn run_files<'w>(&mut self, request: &RunRequest<'w>) -> Result<u8, ProgramError<'w>> {
         let files = FeedFiles::of(request.files)?;
         let texts = self.read_feeds(files, EVERY_FEED)?;
-        self.run_feeds(request, texts.as_slice())
-    }
-
-    fn run_feeds<'w>(
-        &mut self,
-        request: &RunRequest<'_>,
-        texts: &[Vec<u8>],
-    ) -> Result<u8, ProgramError<'w>>
-        requires { length texts.now ≤ MAX_FEEDS }
-    {
+        let (texts, batch) = (texts.as_slice(), request.batch as usize);
         let mut out = self.screen.beside(texts.len(), self.out);
-        let batch = request.batch as usize;
         Ok(run_texts(self.rt, self.alloc, texts, request.limit, batch, &mut out)?)
     }
 }
@@ -170,27 +141,16 @@ impl<R: Files + Wait + AllocGlobal, O: Write, E: Write> Program<'_, R, O, E> {
         ensures { IfOk result (λ texts. vec_len texts ≤ MAX_FEEDS) }
     {
         let mut texts = Vec::new(self.alloc);
-        for name in files.names {
-            self.screen
-                .set(Stage::Reading(texts.len(), files.names.len()));
-            let feed = texts.len() as u32 + 1;
-            texts.push(self.read_feed(feed, name, choice)?)?;
+        for (index, name) in files.names.iter().enumerate() {
+            self.screen.set(Stage::Reading(index, files.names.len()));
+            let text = if choice.leaves_out(index as u32 + 1) {
+                Vec::new(self.alloc)
+            } else {
+                self.read_file(name)?
+            };
+            texts.push(text)?;
         }
         Ok(texts)
-    }
-
-    /// Returns the text of the feed's file, or an empty text if the feed is left out.
-    fn read_feed<'w>(
-        &self,
-        feed: u32,
-        name: &'w str,
-        choice: FeedChoice<'_>,
-    ) -> Result<Vec<u8>, ProgramError<'w>> {
-        if choice.leaves_out(feed) {
-            Ok(Vec::new(self.alloc))
-        } else {
-            self.read_file(name)
-        }
     }
 
     fn read_file<'w>(&self, name: &'w str) -> Result<Vec<u8>, ProgramError<'w>> {
@@ -199,15 +159,12 @@ impl<R: Files + Wait + AllocGlobal, O: Write, E: Write> Program<'_, R, O, E> {
             Err(fault) => Err(ProgramError::of_system(&fault, ProgramError::Unreadable(name))),
         }
     }
-}
 
-fn show_replay<'w, O: Write>(
-    alloc: Global,
-    request: &ReplayRequest<'w>,
-    out: &mut O,
-) -> Result<u8, ProgramError<'w>> {
-    match request.picks(alloc)? {
-        Some(picks) => Ok(replay_text(alloc, request.levels, picks.as_slice(), out)?),
-        None => Err(ProgramError::UnknownArguments),
+    /// Writes the steps of the schedule, and returns the exit status.
+    fn show_replay<'w>(&mut self, request: &ReplayRequest<'w>) -> Result<u8, ProgramError<'w>> {
+        match request.picks(self.alloc)? {
+            Some(picks) => Ok(replay_text(self.alloc, request.levels, picks.as_slice(), self.out)?),
+            None => Err(RequestFault::Unknown.into()),
+        }
     }
 }

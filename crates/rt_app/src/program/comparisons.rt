@@ -1,12 +1,12 @@
 //! `diff`: the addresses for which the tables of two sets of feed files differ, and reports of rejected input.
 
-use super::feed_choice::{FeedFiles, FeedNumbers};
+use super::feed_choice::FeedNumbers;
 use super::queries::asked_of;
 use super::styles::{check_sides, diff_options};
 use super::warnings::report_summary;
 use super::{Program, ProgramError};
 use command_line::DiffRequest;
-use rt_run::{ChosenTexts, diff_texts};
+use rt_run::diff_texts;
 use std::io::Write;
 use std::rt::Files;
 use std::sync::Wait;
@@ -21,35 +21,15 @@ impl<R: Files + Wait + AllocGlobal, O: Write, E: Write> Program<'_, R, O, E> {
         check_sides(request)?;
         let old = FeedNumbers::of(self.alloc, &request.old_feeds, request.run.files)?;
         let new = FeedNumbers::of(self.alloc, &request.new_feeds, request.new_files)?;
-        self.compare_feeds(request, &old, &new)
-    }
-
-    /// Reads the files of these feeds, and does what `compare` does then.
-    fn compare_feeds<'w>(
-        &mut self,
-        request: &DiffRequest<'w>,
-        old: &FeedNumbers<'w>,
-        new: &FeedNumbers<'w>,
-    ) -> Result<u8, ProgramError<'w>> {
         let old_texts = self.read_feeds(old.files, old.choice())?;
         let new_texts = self.read_feeds(new.files, new.choice())?;
+        let options = diff_options(self.alloc, request, old.files, new.files)?;
         let old_asked = asked_of(&request.run, old_texts.as_slice(), old.choice());
         let new_asked = asked_of(&request.run, new_texts.as_slice(), new.choice());
-        self.compare_texts(request, &old_asked, &new_asked, old.files, new.files)
-    }
-
-    /// Runs these texts, and does what `compare` does then.
-    fn compare_texts<'w>(
-        &mut self,
-        request: &DiffRequest<'w>,
-        old: &ChosenTexts<'_>,
-        new: &ChosenTexts<'_>,
-        old_files: FeedFiles<'w>,
-        new_files: FeedFiles<'w>,
-    ) -> Result<u8, ProgramError<'w>> {
-        let options = diff_options(self.alloc, request, old_files, new_files)?;
-        let mut out = self.screen.beside(old.count() + new.count(), self.out);
-        let summary = diff_texts(self.alloc, old, new, &options, &mut out)?;
+        let mut out = self
+            .screen
+            .beside(old_asked.count() + new_asked.count(), self.out);
+        let summary = diff_texts(self.alloc, &old_asked, &new_asked, &options, &mut out)?;
         report_summary(&mut self.screen, request.run.files, &summary.old);
         report_summary(&mut self.screen, request.new_files, &summary.new);
         Ok(summary.status)

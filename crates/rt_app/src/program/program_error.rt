@@ -16,11 +16,9 @@ use ya_core::ReplayFault;
 pub(crate) enum ProgramError<'a> {
     #[error("arguments are not UTF-8")]
     NotUtf8,
-    #[error("only one of --within, --covering and --exact may be given")]
-    ConflictingFilters,
-    /// The arguments are no request, for no known reason.
-    #[error("cannot parse the command line: see yarib --help")]
-    UnknownArguments,
+    /// The arguments are no request.
+    #[error(transparent)]
+    Request(#[from] RequestFault),
     /// There are more files than a run accepts, or than one side of `diff` accepts. No file was read.
     #[error("more than {maximum} files", maximum = MAX_FEED_FILES)]
     TooMany,
@@ -65,15 +63,6 @@ impl From<AllocError> for ProgramError<'_> {
 impl<T: Drop> From<AllocFailed<T>> for ProgramError<'_> {
     fn from(_error: AllocFailed<T>) -> Self {
         NO_MEMORY
-    }
-}
-
-impl From<RequestFault> for ProgramError<'_> {
-    fn from(fault: RequestFault) -> Self {
-        match fault {
-            RequestFault::ConflictingFilters => ProgramError::ConflictingFilters,
-            RequestFault::Unknown => ProgramError::UnknownArguments,
-        }
     }
 }
 

@@ -5,12 +5,12 @@ ghost use Rattle.rt_rib.specs.declared.limits.TheConstants.{MAX_FEEDS};
 
 use super::feed_choice::FeedNumbers;
 use super::prefixes::prefix_of;
-use super::styles::{format_of, style_of};
+use super::styles::style_of;
 use super::warnings::{report_faulty_lines, report_summary};
 use super::{Program, ProgramError};
-use command_line::{LookupRequest, NamedFeeds, PrefixFilterArg, RunRequest, TableRequest};
+use command_line::{LookupRequest, PrefixFilterArg, RunRequest, TableRequest};
 use rt_cidr::Addr;
-use rt_print::{Format, Style};
+use rt_print::Style;
 use rt_rib::{PrefixFilter, Selection};
 use rt_run::{AskedRoutes, ChosenTexts, FeedChoice, LookupAddresses, Question, show};
 use std::alloc::Global;
@@ -25,38 +25,26 @@ impl<R: Files + Wait + AllocGlobal, O: Write, E: Write> Program<'_, R, O, E> {
         &mut self,
         request: &LookupRequest<'w>,
     ) -> Result<u8, ProgramError<'w>> {
+        let RunRequest { files, .. } = request.run;
         let named = named_addresses(self.alloc, request)?;
-        let format = format_of(request.names, request.json);
-        let query = Query::of(self.alloc, format, request.run.files, &request.feeds)?;
-        self.look_up(request, named.as_slice(), &query)
-    }
-
-    /// Reads the files, and does what `show_answers` does then.
-    fn look_up<'w>(
-        &mut self,
-        request: &LookupRequest<'w>,
-        named: &[Addr],
-        query: &Query<'w>,
-    ) -> Result<u8, ProgramError<'w>> {
-        let texts = self.read_feeds(query.feeds.files, query.feeds.choice())?;
-        let text = self.read_further(request.more)?;
-        let asked = asked_of(&request.run, texts.as_slice(), query.feeds.choice());
-        let question = lookup_question(request.all, named, text.as_slice());
-        self.show(
-            &asked,
-            &query.style,
-            &question,
-            request.run.files,
-            request.more,
-        )
-    }
-
-    /// Returns the contents of the file with further addresses, if there is one.
-    fn read_further<'w>(&self, more: Option<&'w str>) -> Result<Vec<u8>, ProgramError<'w>> {
-        match more {
-            Some(name) => self.read_file(name),
-            None => Ok(Vec::new(self.alloc)),
-        }
+        let style = style_of(self.alloc, request.names, request.json, files)?;
+        let feeds = FeedNumbers::of(self.alloc, &request.feeds, files)?;
+        let texts = self.read_feeds(feeds.files, feeds.choice())?;
+        let text = match request.more {
+            Some(name) => self.read_file(name)?,
+            None => Vec::new(self.alloc),
+        };
+        let asked = asked_of(&request.run, texts.as_slice(), feeds.choice());
+        let addresses = LookupAddresses {
+            named: named.as_slice(),
+            text: text.as_slice(),
+        };
+        let question = if request.all {
+            Question::All(addresses)
+        } else {
+            Question::Best(addresses)
+        };
+        self.show(&asked, &style, &question, files, request.more)
     }
 
     /// Writes the selected routes, or their number. Reports rejected input, and returns the exit status.
@@ -64,23 +52,22 @@ impl<R: Files + Wait + AllocGlobal, O: Write, E: Write> Program<'_, R, O, E> {
         &mut self,
         request: &TableRequest<'w>,
     ) -> Result<u8, ProgramError<'w>> {
+        let RunRequest { files, .. } = request.run;
         let selection = selection_of(request)?;
-        let format = format_of(request.names, request.json);
-        let query = Query::of(self.alloc, format, request.run.files, &request.feeds)?;
-        self.select(request, selection, &query)
-    }
-
-    /// Reads the files, and does what `show_routes` does then.
-    fn select<'w>(
-        &mut self,
-        request: &TableRequest<'w>,
-        selection: Selection,
-        query: &Query<'w>,
-    ) -> Result<u8, ProgramError<'w>> {
-        let texts = self.read_feeds(query.feeds.files, query.feeds.choice_of_all())?;
-        let asked = asked_of(&request.run, texts.as_slice(), query.feeds.choice_of_all());
-        let question = routes_question(request.count, selection, query.feeds.only.as_slice());
-        self.show(&asked, &query.style, &question, request.run.files, None)
+        let style = style_of(self.alloc, request.names, request.json, files)?;
+        let feeds = FeedNumbers::of(self.alloc, &request.feeds, files)?;
+        let texts = self.read_feeds(feeds.files, feeds.choice_of_all())?;
+        let asked = asked_of(&request.run, texts.as_slice(), feeds.choice_of_all());
+        let routes = AskedRoutes {
+            selection,
+            feeds: feeds.only.as_slice(),
+        };
+        let question = if request.count {
+            Question::Counts(routes)
+        } else {
+            Question::Routes(routes)
+        };
+        self.show(&asked, &style, &question, files, None)
     }
 
     /// Writes the answer to the question. Reports rejected input of the file with further addresses, if there is one, and of
@@ -100,47 +87,6 @@ impl<R: Files + Wait + AllocGlobal, O: Write, E: Write> Program<'_, R, O, E> {
         }
         report_summary(&mut self.screen, files, &given.run);
         Ok(given.status)
-    }
-}
-
-/// The feeds of a query, and how its answer is printed.
-#[derive(Drop)]
-struct Query<'w> {
-    style: Style,
-    feeds: FeedNumbers<'w>,
-}
-
-impl<'w> Query<'w> {
-    /// Returns the style and the feeds for the files of these names. Stops as `style_of` does, and then as `FeedNumbers::of`.
-    fn of(
-        alloc: Global,
-        format: Format,
-        names: &'w [&'w str],
-        feeds: &NamedFeeds<'w>,
-    ) -> Result<Query<'w>, ProgramError<'w>> {
-        let style = style_of(alloc, format, names)?;
-        let feeds = FeedNumbers::of(alloc, feeds, names)?;
-        Ok(Query { style, feeds })
-    }
-}
-
-/// Returns the question for all routes that cover these addresses, or only for the best.
-fn lookup_question<'a>(all: bool, named: &'a [Addr], text: &'a [u8]) -> Question<'a> {
-    let addresses = LookupAddresses { named, text };
-    if all {
-        Question::All(addresses)
-    } else {
-        Question::Best(addresses)
-    }
-}
-
-/// Returns the question for the selected routes of these feeds, or only for their numbers.
-fn routes_question(count: bool, selection: Selection, feeds: &[u32]) -> Question<'_> {
-    let routes = AskedRoutes { selection, feeds };
-    if count {
-        Question::Counts(routes)
-    } else {
-        Question::Routes(routes)
     }
 }
 

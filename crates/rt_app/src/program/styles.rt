@@ -8,7 +8,7 @@ use rt_print::{DiffOptions, Format, Style};
 use std::alloc::Global;
 
 /// Returns the format of printed routes with these options of the command line.
-pub(super) fn format_of(names: bool, json: bool) -> Format {
+fn format_of(names: bool, json: bool) -> Format {
     match (json, names) {
         (false, false) => Format::Numbers,
         (false, true) => Format::Names,
@@ -17,18 +17,19 @@ pub(super) fn format_of(names: bool, json: bool) -> Format {
     }
 }
 
-/// Returns the style for the feeds of the files of these names. Stops if there are too many files or if, with `--names`, a
+/// Returns the style for the feeds of these files, with these options of the command line. Stops if there are too many files or if, with `--names`, a
 /// file has no valid feed name or two files have the same.
 pub(super) fn style_of<'w>(
     alloc: Global,
-    format: Format,
-    names: &'w [&'w str],
+    names: bool,
+    json: bool,
+    files: &'w [&'w str],
 ) -> Result<Style, ProgramError<'w>> {
-    let files = FeedFiles::of(names)?;
-    if format.has_names() {
+    let files = FeedFiles::of(files)?;
+    if names {
         files.check_names()?;
     }
-    Ok(Style::new(alloc, format, files.names)?)
+    Ok(Style::new(alloc, format_of(names, json), files.names)?)
 }
 
 /// Returns what `diff` compares, and how it prints.
