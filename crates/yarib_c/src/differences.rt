@@ -1,18 +1,20 @@
 //! The addresses for which two tables give different answers.
-ghost use Rattle.std.specs.Prelude.{◌≡◌, ◌≢◌, ◌≤◌, ◌⊎◌, None, [], ◌∷◌};
+ghost use Rattle.std.specs.Prelude.{◌≡◌, ◌≢◌, ◌≤◌, ◌⊎◌, None, [], ◌∷◌, MatchOption};
+ghost use Rattle.rt_diff.specs.Answers.{own_numbers};
+ghost use Rattle.rt_diff.specs.Differences.{IsFirstDifference};
 ghost use Rattle.yarib_c.specs.Kinds.{routes_in, IsForwarding};
-ghost use Rattle.yarib_c.specs.Calls.{held_in, HandleHolds};
-ghost use Rattle.yarib_c.specs.Differences.{TellsDifference, IsAlikeFrom};
+ghost use Rattle.yarib_c.specs.Calls.{held_in, HandleHolds, addr};
+ghost use Rattle.yarib_c.specs.Differences.{by_number, TellsDifference, IsAlikeFrom};
 ghost use Rattle.yarib_c.specs.Statuses.{IsOneOf};
 ghost use Rattle.yarib_c.specs.declared.status.TheConstants.{DONE, NOTHING, BAD_NUMBER, NONE_LEFT, WRONG_KIND};
 
 use crate::handle::{Yarib, with_held};
-use crate::held::Held;
 use crate::lists::FormOf;
 use crate::routes::YaribRoute;
 use crate::status::{BAD_NUMBER, DONE, NONE_LEFT, WRONG_KIND};
 use rt_cidr::Addr;
-use rt_diff::{CompareBy, Comparison, TableAnswer};
+use rt_diff::{CompareBy, Comparison, Difference, TableAnswer};
+use rt_rib::Table;
 use std::alloc::Global;
 
 /// A range of addresses for which two tables give different answers, and the answers. If hops are compared, each answer has only a
@@ -24,6 +26,21 @@ pub struct YaribDifference {
     pub last: u32,
     pub before: YaribRoute,
     pub after: YaribRoute,
+}
+
+impl YaribDifference {
+    ghost use Rattle.yarib_c.specs.Differences.{told_difference};
+
+    fn of(found: Difference) -> YaribDifference
+        ensures { result ≡ told_difference found }
+    {
+        YaribDifference {
+            first: found.first.0,
+            last: found.last.0,
+            before: YaribRoute::told(found.old),
+            after: YaribRoute::told(found.new),
+        }
+    }
 }
 
 impl YaribRoute {
@@ -61,37 +78,40 @@ pub extern "C" fn yarib_first_difference(
     ensures new { held_in new.new ≡ held_in new.old }
     ensures known { IsOneOf (DONE ∷ NOTHING ∷ BAD_NUMBER ∷ NONE_LEFT ∷ WRONG_KIND ∷ []) result }
 {
-    with_held!(old, alloc, old_held => with_held!(new, alloc, new_held => {
-        compare(&old_held, &new_held, by, from, difference)
+    with_held!(old, alloc, old_held => with_held!(new, alloc, new_held => match compared_by(by) {
+        None => BAD_NUMBER,
+        Some(by) => match (old_held.table(), new_held.table()) {
+            (Some(before), Some(after)) => match first_difference(before, after, by, from) {
+                None => NONE_LEFT,
+                Some(found) => {
+                    *difference = YaribDifference::of(found);
+                    DONE
+                }
+            },
+            _ => WRONG_KIND,
+        },
     }))
 }
 
-fn compare(old: &Held, new: &Held, by: u32, from: u32, difference: &mut YaribDifference) -> u32
-    ensures done { result ≡ DONE → TellsDifference by (routes_in old.now) (routes_in new.now) from difference.new }
-    ensures alike { result ≡ NONE_LEFT → IsAlikeFrom by (routes_in old.now) (routes_in new.now) from }
-    ensures number { result ≡ BAD_NUMBER → 2 ≤ by }
-    ensures kind { result ≡ WRONG_KIND → IsForwarding old.now ⊎ IsForwarding new.now }
-    ensures silent { result ≢ DONE → difference.new ≡ difference.old }
-    ensures known { IsOneOf (DONE ∷ BAD_NUMBER ∷ NONE_LEFT ∷ WRONG_KIND ∷ []) result }
+/// Returns the part of an answer that is compared, if the number denotes one.
+fn compared_by(by: u32) -> Option<CompareBy>
+    ensures { MatchOption result (2 ≤ by) (λ way. by_number way ≡ by) }
 {
-    let by = match by {
-        0 => CompareBy::Hop,
-        1 => CompareBy::Route,
-        _ => return BAD_NUMBER,
-    };
-    let (Some(old), Some(new)) = (old.table(), new.table()) else {
-        return WRONG_KIND;
-    };
-    match Comparison::new(old, new, by).first_difference(Addr(from)) {
-        None => NONE_LEFT,
-        Some(found) => {
-            *difference = YaribDifference {
-                first: found.first.0,
-                last: found.last.0,
-                before: YaribRoute::told(found.old),
-                after: YaribRoute::told(found.new),
-            };
-            DONE
-        }
+    match by {
+        0 => Some(CompareBy::Hop),
+        1 => Some(CompareBy::Route),
+        _ => None,
     }
+}
+
+/// Returns the first range from the address on for which the tables give different answers.
+fn first_difference(
+    old: &Table<Global>,
+    new: &Table<Global>,
+    by: CompareBy,
+    from: u32,
+) -> Option<Difference>
+    ensures { IsFirstDifference by (own_numbers old.now.routes) (own_numbers new.now.routes) (addr from) result }
+{
+    Comparison::new(old, new, by).first_difference(Addr(from))
 }

@@ -1,6 +1,6 @@
 //! Forwarding tables. One is made from a table, is queried like a table, and is held by a handle for each thread that queries it.
 //! Another kind belongs to a table and follows the table's commands.
-ghost use Rattle.std.specs.Prelude.{◌≡◌, ◌≢◌, None, [], ◌∷◌};
+ghost use Rattle.std.specs.Prelude.{◌≡◌, ◌≢◌, None, [], ◌∷◌, IfSome};
 ghost use Rattle.yarib_c.specs.Kinds.{routes_in, IsForwarding, IsFollowed, SaysFollowed, IsPlain, IsSame};
 ghost use Rattle.yarib_c.specs.Sizes.{TakesBytes};
 ghost use Rattle.yarib_c.specs.Calls.{held_in, HandleHolds, IsFibWithRoutes, IsKept};
@@ -11,6 +11,7 @@ use crate::handle::{Yarib, with_held};
 use crate::held::Held;
 use crate::status::{DONE, NO_MEMORY, WRONG_KIND};
 use rt_fib::Fib;
+use rt_rib::Table;
 use std::alloc::Global;
 use std::sync::Arc;
 
@@ -25,29 +26,25 @@ pub extern "C" fn yarib_forward(alloc: Global, table: &mut Yarib, forwarding: &m
     ensures kind { result ≡ WRONG_KIND → HandleHolds table.old IsForwarding }
     ensures known { IsOneOf (DONE ∷ NOTHING ∷ NO_MEMORY ∷ WRONG_KIND ∷ []) result }
 {
-    with_held!(table, alloc, held => forward(alloc, &held, forwarding))
+    with_held!(table, alloc, held => match held.table() {
+        None => WRONG_KIND,
+        Some(table) => match forwarded(alloc, table) {
+            None => NO_MEMORY,
+            Some(made) => {
+                *forwarding = Yarib::of(made);
+                DONE
+            }
+        },
+    })
 }
 
-fn forward(alloc: Global, held: &Held, forwarding: &mut Yarib) -> u32
-    ensures done { result ≡ DONE → HandleHolds forwarding.new (IsFibWithRoutes (routes_in held.now)) }
-    ensures kept { result ≢ DONE → held_in forwarding.new ≡ held_in forwarding.old }
-    ensures kind { result ≡ WRONG_KIND → IsForwarding held.now }
-    ensures known { IsOneOf (DONE ∷ NO_MEMORY ∷ WRONG_KIND ∷ []) result }
+/// Returns a forwarding table with the answers of the table, unless memory runs out.
+fn forwarded(alloc: Global, table: &Table<Global>) -> Option<Box<Held>>
+    ensures { IfSome result (λ made. IsFibWithRoutes table.now.routes made.value) }
 {
-    let Some(table) = held.table() else {
-        return WRONG_KIND;
-    };
-    let Ok(fib) = Fib::new(alloc, table) else {
-        return NO_MEMORY;
-    };
-    let Ok(fib) = Arc::new(alloc, fib) else {
-        return NO_MEMORY;
-    };
-    let Ok(made) = Box::new(alloc, Held::Forwarding(fib)) else {
-        return NO_MEMORY;
-    };
-    *forwarding = Yarib::of(made);
-    DONE
+    let fib = Fib::new(alloc, table).ok()?;
+    let fib = Arc::new(alloc, fib).ok()?;
+    Box::new(alloc, Held::Forwarding(fib)).ok()
 }
 
 /// Makes another handle on the same forwarding table, for another thread. What that handle held before is freed, unless the call
@@ -61,26 +58,24 @@ pub extern "C" fn yarib_share(alloc: Global, forwarding: &mut Yarib, other: &mut
     ensures kind { result ≡ WRONG_KIND → HandleHolds forwarding.old (λ held. ¬ IsForwarding held) }
     ensures known { IsOneOf (DONE ∷ NOTHING ∷ NO_MEMORY ∷ WRONG_KIND ∷ []) result }
 {
-    with_held!(forwarding, alloc, held => share(alloc, &held, other))
+    with_held!(forwarding, alloc, held => match &*held {
+        Held::Forwarding(fib) => match shared(alloc, fib) {
+            None => NO_MEMORY,
+            Some(made) => {
+                *other = Yarib::of(made);
+                DONE
+            }
+        },
+        Held::Plain(_) | Held::Journaled(_) => WRONG_KIND,
+    })
 }
 
-fn share(alloc: Global, held: &Held, other: &mut Yarib) -> u32
-    ensures done { result ≡ DONE → HandleHolds other.new (IsFibWithRoutes (routes_in held.now)) }
-    ensures kept { result ≢ DONE → held_in other.new ≡ held_in other.old }
-    ensures kind { result ≡ WRONG_KIND → ¬ IsForwarding held.now }
-    ensures known { IsOneOf (DONE ∷ NO_MEMORY ∷ WRONG_KIND ∷ []) result }
+/// Returns another holder of the forwarding table, unless memory runs out.
+fn shared(alloc: Global, fib: &Arc<Fib<Global>>) -> Option<Box<Held>>
+    ensures { IfSome result (λ made. IsFibWithRoutes fib.now.value made.value) }
 {
-    let Held::Forwarding(fib) = held else {
-        return WRONG_KIND;
-    };
-    let Ok(fib) = Arc::try_clone(fib) else {
-        return NO_MEMORY;
-    };
-    let Ok(made) = Box::new(alloc, Held::Forwarding(fib)) else {
-        return NO_MEMORY;
-    };
-    *other = Yarib::of(made);
-    DONE
+    let fib = Arc::try_clone(fib).ok()?;
+    Box::new(alloc, Held::Forwarding(fib)).ok()
 }
 
 /// Makes a forwarding table for a table that keeps no journal, if the table doesn't have one yet. It follows each command from then

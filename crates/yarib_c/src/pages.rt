@@ -8,7 +8,6 @@ ghost use Rattle.yarib_c.specs.Statuses.{IsOneOf};
 ghost use Rattle.yarib_c.specs.declared.status.TheConstants.{DONE, NOTHING, BAD_LENGTH, BAD_BITS, WRONG_KIND};
 
 use crate::handle::{Yarib, with_held};
-use crate::held::Held;
 use crate::lists::FormOf;
 use crate::routes::YaribRoute;
 use crate::status::{BAD_BITS, BAD_LENGTH, DONE, WRONG_KIND};
@@ -35,33 +34,23 @@ pub extern "C" fn yarib_routes_from(
     ensures silent { result ≢ DONE → (routes.new ≡ routes.old) × (used.new ≡ used.old) }
     ensures known { IsOneOf (DONE ∷ NOTHING ∷ BAD_LENGTH ∷ BAD_BITS ∷ WRONG_KIND ∷ []) result }
 {
-    with_held!(table, alloc, held => show_from(&held, from, routes, used))
-}
-
-fn show_from(held: &Held, from: &YaribRoute, routes: &mut [YaribRoute], used: &mut usize) -> u32
-    ensures done { result ≡ DONE → ShowsFrom from.now (routes_in held.now) routes.old routes.new used.new }
-    ensures length { result ≡ BAD_LENGTH → 32 < from.now.len }
-    ensures bits { result ≡ BAD_BITS → (from.now.len ≤ 32) × ¬ IsPrefix from.now.base from.now.len }
-    ensures kind { result ≡ WRONG_KIND → IsForwarding held.now }
-    ensures silent { result ≢ DONE → (routes.new ≡ routes.old) × (used.new ≡ used.old) }
-    ensures known { IsOneOf (DONE ∷ BAD_LENGTH ∷ BAD_BITS ∷ WRONG_KIND ∷ []) result }
-{
-    let prefix = match Prefix::new(from.base, from.len) {
-        Ok(prefix) => prefix,
-        Err(TextFault::Bits) => return BAD_BITS,
-        Err(_) => return BAD_LENGTH,
-    };
-    let Some(table) = held.table() else {
-        return WRONG_KIND;
-    };
-    let place = Route {
-        prefix,
-        feed: from.feed,
-        pref: from.pref,
-        hop: Hop::Discard,
-    };
-    *used = put_page(table.routes_from(&place), routes);
-    DONE
+    with_held!(table, alloc, held => match Prefix::new(from.base, from.len) {
+        Err(TextFault::Bits) => BAD_BITS,
+        Err(_) => BAD_LENGTH,
+        Ok(prefix) => match held.table() {
+            None => WRONG_KIND,
+            Some(table) => {
+                let place = Route {
+                    prefix,
+                    feed: from.feed,
+                    pref: from.pref,
+                    hop: Hop::Discard,
+                };
+                *used = put_page(table.routes_from(&place), routes);
+                DONE
+            }
+        },
+    })
 }
 
 /// Puts as many of the routes as there is room for, and answers how many these are.

@@ -107,30 +107,16 @@ pub extern "C" fn yarib_look_up_all(
     ensures silent { result ≢ DONE → (routes.new ≡ routes.old) × (total.new ≡ total.old) }
     ensures known { IsOneOf (DONE ∷ NOTHING ∷ NO_MEMORY ∷ WRONG_KIND ∷ []) result }
 {
-    with_held!(table, alloc, held => show_covering(alloc, &held, address, skip, routes, total))
-}
-
-fn show_covering(
-    alloc: Global,
-    held: &Held,
-    address: u32,
-    skip: usize,
-    routes: &mut [YaribRoute],
-    total: &mut usize,
-) -> u32
-    ensures done { result ≡ DONE → ShowsRoutes (look_up_all (addr address) (routes_in held.now)) skip routes.new total.new }
-    ensures kind { result ≡ WRONG_KIND → IsForwarding held.now }
-    ensures silent { result ≢ DONE → (routes.new ≡ routes.old) × (total.new ≡ total.old) }
-    ensures known { IsOneOf (DONE ∷ NO_MEMORY ∷ WRONG_KIND ∷ []) result }
-{
-    let Some(table) = held.table() else {
-        return WRONG_KIND;
-    };
-    let Ok(found) = table.look_up_all(alloc, Addr(address)) else {
-        return NO_MEMORY;
-    };
-    *total = put(found.as_slice(), skip, routes);
-    DONE
+    with_held!(table, alloc, held => match held.table() {
+        None => WRONG_KIND,
+        Some(table) => match table.look_up_all(alloc, Addr(address)) {
+            Err(_) => NO_MEMORY,
+            Ok(found) => {
+                *total = put(found.as_slice(), skip, routes);
+                DONE
+            }
+        },
+    })
 }
 
 /// Writes the routes in dump order, from the index `skip` on, and their total number.
@@ -149,29 +135,16 @@ pub extern "C" fn yarib_routes(
     ensures silent { result ≢ DONE → (routes.new ≡ routes.old) × (total.new ≡ total.old) }
     ensures known { IsOneOf (DONE ∷ NOTHING ∷ NO_MEMORY ∷ WRONG_KIND ∷ []) result }
 {
-    with_held!(table, alloc, held => show_routes(alloc, &held, skip, routes, total))
-}
-
-fn show_routes(
-    alloc: Global,
-    held: &Held,
-    skip: usize,
-    routes: &mut [YaribRoute],
-    total: &mut usize,
-) -> u32
-    ensures done { result ≡ DONE → ShowsRoutes (routes_in held.now) skip routes.new total.new }
-    ensures kind { result ≡ WRONG_KIND → IsForwarding held.now }
-    ensures silent { result ≢ DONE → (routes.new ≡ routes.old) × (total.new ≡ total.old) }
-    ensures known { IsOneOf (DONE ∷ NO_MEMORY ∷ WRONG_KIND ∷ []) result }
-{
-    let Some(table) = held.table() else {
-        return WRONG_KIND;
-    };
-    let Ok(all) = table.routes(alloc) else {
-        return NO_MEMORY;
-    };
-    *total = put(all.as_slice(), skip, routes);
-    DONE
+    with_held!(table, alloc, held => match held.table() {
+        None => WRONG_KIND,
+        Some(table) => match table.routes(alloc) {
+            Err(_) => NO_MEMORY,
+            Ok(all) => {
+                *total = put(all.as_slice(), skip, routes);
+                DONE
+            }
+        },
+    })
 }
 
 /// Writes the number of routes.

@@ -1,15 +1,14 @@
 //! Parts of a table: the selected routes.
-ghost use Rattle.std.specs.Prelude.{◌≡◌, ◌≢◌, ◌<◌, ◌≤◌, ◌↔◌, IsTrue, None, [], ◌∷◌};
+ghost use Rattle.std.specs.Prelude.{◌≡◌, ◌≢◌, ◌<◌, ◌≤◌, ◌↔◌, IsTrue, None, [], ◌∷◌, MatchResult};
 ghost use Rattle.rt_cidr.specs.Cidr.{IsPrefix};
 ghost use Rattle.yarib_c.specs.Kinds.{routes_in, IsForwarding};
 ghost use Rattle.yarib_c.specs.Calls.{held_in, HandleHolds};
-ghost use Rattle.yarib_c.specs.Selections.{IsOutOfRange, ShowsSelected};
-ghost use Rattle.yarib_c.specs.inside.Parts.{PartReading};
+ghost use Rattle.yarib_c.specs.Selections.{IsOutOfRange, IsSelection, ShowsSelected};
+ghost use Rattle.yarib_c.specs.inside.Parts.{PartReading, IsRefused};
 ghost use Rattle.yarib_c.specs.Statuses.{IsOneOf};
 ghost use Rattle.yarib_c.specs.declared.status.TheConstants.{DONE, NOTHING, BAD_NUMBER, NO_MEMORY, BAD_LENGTH, BAD_BITS, WRONG_KIND};
 
 use crate::handle::{Yarib, with_held};
-use crate::held::Held;
 use crate::lists::put;
 use crate::routes::YaribRoute;
 use crate::status::{BAD_BITS, BAD_LENGTH, BAD_NUMBER, DONE, NO_MEMORY, WRONG_KIND};
@@ -36,6 +35,29 @@ impl YaribSelection {
         ensures { IsTrue result ↔ IsOutOfRange self.now }
     {
         self.part > 3 || (self.feed != 0 && !feed_ok(self.feed)) || self.only_best > 1
+    }
+
+    /// Returns the selection that the numbers denote, or the status of the first that is invalid.
+    fn read(&self) -> Result<Selection, u32>
+        ensures { MatchResult result (λ selection. IsSelection self.now selection) (λ status. IsRefused self.now status) }
+    {
+        if self.is_out_of_range() {
+            return Err(BAD_NUMBER);
+        }
+        let part = match self.read_part() {
+            Ok(part) => part,
+            Err(TextFault::Bits) => return Err(BAD_BITS),
+            Err(_) => return Err(BAD_LENGTH),
+        };
+        Ok(Selection {
+            part,
+            only_best: self.only_best == 1,
+            feed: if self.feed == 0 {
+                None
+            } else {
+                Some(self.feed)
+            },
+        })
     }
 
     /// Returns the filter of prefixes that the numbers denote.
@@ -76,48 +98,17 @@ pub extern "C" fn yarib_select(
     ensures silent { result ≢ DONE → (routes.new ≡ routes.old) × (total.new ≡ total.old) }
     ensures known { IsOneOf (DONE ∷ NOTHING ∷ BAD_NUMBER ∷ NO_MEMORY ∷ BAD_LENGTH ∷ BAD_BITS ∷ WRONG_KIND ∷ []) result }
 {
-    with_held!(table, alloc, held => show_selected(alloc, &held, asked, skip, routes, total))
-}
-
-fn show_selected(
-    alloc: Global,
-    held: &Held,
-    asked: &YaribSelection,
-    skip: usize,
-    routes: &mut [YaribRoute],
-    total: &mut usize,
-) -> u32
-    ensures done { result ≡ DONE → ShowsSelected asked.now (routes_in held.now) skip routes.new total.new }
-    ensures number { result ≡ BAD_NUMBER → IsOutOfRange asked.now }
-    ensures length { result ≡ BAD_LENGTH → 32 < asked.now.len }
-    ensures bits { result ≡ BAD_BITS → (asked.now.len ≤ 32) × ¬ IsPrefix asked.now.base asked.now.len }
-    ensures kind { result ≡ WRONG_KIND → IsForwarding held.now }
-    ensures silent { result ≢ DONE → (routes.new ≡ routes.old) × (total.new ≡ total.old) }
-    ensures known { IsOneOf (DONE ∷ BAD_NUMBER ∷ NO_MEMORY ∷ BAD_LENGTH ∷ BAD_BITS ∷ WRONG_KIND ∷ []) result }
-{
-    if asked.is_out_of_range() {
-        return BAD_NUMBER;
-    }
-    let part = match asked.read_part() {
-        Ok(part) => part,
-        Err(TextFault::Bits) => return BAD_BITS,
-        Err(_) => return BAD_LENGTH,
-    };
-    let Some(table) = held.table() else {
-        return WRONG_KIND;
-    };
-    let wanted = Selection {
-        part,
-        only_best: asked.only_best == 1,
-        feed: if asked.feed == 0 {
-            None
-        } else {
-            Some(asked.feed)
+    with_held!(table, alloc, held => match asked.read() {
+        Err(status) => status,
+        Ok(selection) => match held.table() {
+            None => WRONG_KIND,
+            Some(table) => match table.select(alloc, &selection) {
+                Err(_) => NO_MEMORY,
+                Ok(found) => {
+                    *total = put(found.as_slice(), skip, routes);
+                    DONE
+                }
+            },
         },
-    };
-    let Ok(found) = table.select(alloc, &wanted) else {
-        return NO_MEMORY;
-    };
-    *total = put(found.as_slice(), skip, routes);
-    DONE
+    })
 }

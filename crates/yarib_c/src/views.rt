@@ -10,7 +10,6 @@ ghost use Rattle.yarib_c.specs.Statuses.{IsOneOf};
 ghost use Rattle.yarib_c.specs.declared.status.TheConstants.{DONE, NOTHING, NO_MEMORY, BAD_SIZE, WRONG_KIND};
 
 use crate::handle::{Yarib, with_held};
-use crate::held::Held;
 use crate::status::{BAD_SIZE, DONE, NO_MEMORY, WRONG_KIND};
 use std::alloc::Global;
 
@@ -72,31 +71,14 @@ pub extern "C" fn yarib_view_write(
     ensures silent_routers { result ≢ DONE → (routers.new ≡ routers.old) × (used.new ≡ used.old) }
     ensures known { IsOneOf (DONE ∷ NOTHING ∷ NO_MEMORY ∷ BAD_SIZE ∷ WRONG_KIND ∷ []) result }
 {
-    with_held!(table, alloc, held => write_view(&held, entries, blocks, routers, used))
-}
-
-fn write_view(
-    held: &Held,
-    entries: &mut [u32],
-    blocks: &mut [u32],
-    routers: &mut [u32],
-    used: &mut usize,
-) -> u32
-    ensures done { result ≡ DONE → ViewShows entries.new blocks.new (take used.new routers.new) (routes_in held.now) }
-    ensures within { result ≡ DONE → used.new ≤ length routers.new }
-    ensures kind { result ≡ WRONG_KIND → ¬ HasFib held.now }
-    ensures silent { result ≢ DONE → (entries.new ≡ entries.old) × (blocks.new ≡ blocks.old) }
-    ensures silent_routers { result ≢ DONE → (routers.new ≡ routers.old) × (used.new ≡ used.old) }
-    ensures known { IsOneOf (DONE ∷ NO_MEMORY ∷ BAD_SIZE ∷ WRONG_KIND ∷ []) result }
-{
-    let Some(fib) = held.forwarding() else {
-        return WRONG_KIND;
-    };
-    match fib.write_view(entries, blocks, routers, used) {
-        Ok(true) => DONE,
-        Ok(false) => BAD_SIZE,
-        Err(_) => NO_MEMORY,
-    }
+    with_held!(table, alloc, held => match held.forwarding() {
+        None => WRONG_KIND,
+        Some(fib) => match fib.write_view(entries, blocks, routers, used) {
+            Ok(true) => DONE,
+            Ok(false) => BAD_SIZE,
+            Err(_) => NO_MEMORY,
+        },
+    })
 }
 
 /// Returns the number of the address's next hop. If the arrays are no view's, it returns some number, but reads nothing beyond them.

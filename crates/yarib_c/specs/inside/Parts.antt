@@ -1,11 +1,13 @@
 -- Reading the numbers of a selection.
-use Rattle.std.specs.Prelude.{◌<◌, ◌≤◌, Result, Ok, Err}
+use Rattle.std.specs.Prelude.{ℕ, ◌≡◌, ◌<◌, ◌≤◌, Result, Ok, Err, [], ◌∷◌}
 use Rattle.rt_cidr.specs.declared.prefixes.TextFault.{TextFault}
 use Rattle.rt_cidr.specs.declared.prefixes.TextFault.TheVariants.{Text, Length, Bits}
 use Rattle.rt_cidr.specs.Cidr.{IsPrefix}
 use Rattle.rt_rib.specs.declared.selection.PrefixFilter.{PrefixFilter}
 use Rattle.yarib_c.specs.declared.selections.YaribSelection.{YaribSelection}
-use Rattle.yarib_c.specs.Selections.{IsPart}
+use Rattle.yarib_c.specs.Selections.{IsOutOfRange, IsPart}
+use Rattle.yarib_c.specs.Statuses.{IsOneOf}
+use Rattle.yarib_c.specs.declared.status.TheConstants.{BAD_NUMBER, BAD_LENGTH, BAD_BITS}
 
 -- what reading the numbers gives: the part that they denote, or why they denote none
 abbrev pub PartReading : YaribSelection → Result PrefixFilter TextFault → Type 0
@@ -13,3 +15,10 @@ PartReading c (Ok part) = IsPart c part
 PartReading c (Err Text) = ⊥
 PartReading c (Err Length) = 32 < c.len
 PartReading c (Err Bits) = (c.len ≤ 32) × ¬ IsPrefix c.base c.len
+
+-- why the numbers denote no selection, as a status
+pub record IsRefused (c : YaribSelection) (status : ℕ) : Type 0 where
+  pub known : IsOneOf (BAD_NUMBER ∷ BAD_LENGTH ∷ BAD_BITS ∷ []) status
+  pub number : status ≡ BAD_NUMBER → IsOutOfRange c
+  pub length : status ≡ BAD_LENGTH → 32 < c.len
+  pub bits : status ≡ BAD_BITS → (c.len ≤ 32) × ¬ IsPrefix c.base c.len
