@@ -21,7 +21,7 @@ use Rattle.rt_print.specs.Routes.{hop_text, route_text, row_text, count_text, ro
 use Rattle.rt_print.specs.Routes.{escaped, json_string, hop_members, route_object}
 use Rattle.rt_print.specs.declared.names.NameFault.TheVariants.{Invalid, Duplicate}
 use Rattle.rt_print.specs.FeedNames.{is_space_or_control, is_name, name_at, HasOwnName, ChecksNames}
-use Rattle.rt_print.specs.Labels.{is_json, has_names, base_name, without_feed, feed_name, label_by, labelled, number_in, paired_number, labels_by}
+use Rattle.rt_print.specs.Labels.{is_json, has_names, base_name, without_feed, feed_name, label_by, labelled, paired_number, labels_by}
 use Rattle.rt_print.specs.Styles.{StyleContents, label_of, row_as, address_head, found_as, reason_text, also_line, all_found_as}
 use Rattle.rt_print.specs.DifferenceText.{way_text, DiffContents, diff_of, answered_as, range_as, difference_as, differences_as}
 use Rattle.rt_print.specs.Counts.{prefix_count, length_count, totals_as, count_as, each_below, counts_as}
@@ -234,19 +234,13 @@ a_feed_by_each_label = (refl, refl, refl, refl)
 each_path_by_its_number : (tell : ℕ → List ℕ → List ℕ) (one two : List ℕ) → labelled tell 1 (one ∷ two ∷ []) ≡ tell 1 one ∷ tell 2 two ∷ []
 each_path_by_its_number tell one two = refl
 
--- number_in
-the_first_of_the_name_or_another :
-    (number_in 3 (codes "a.feed" ∷ codes "x/b.feed" ∷ codes "b" ∷ []) (codes "b") 9 ≡ 4) × (number_in 3 (codes "a.feed" ∷ []) (codes "b") 9 ≡ 9)
-    × (number_in 3 [] (codes "b") 9 ≡ 9)
-unfolding feed_name
-the_first_of_the_name_or_another = (refl, refl, refl)
-
 -- paired_number
 its_partners_or_behind_them_all :
     (paired_number (codes "a.feed" ∷ codes "b.feed" ∷ []) 1 (codes "new/b.feed") ≡ 2)
-    × (paired_number (codes "a.feed" ∷ codes "b.feed" ∷ []) 3 (codes "c.feed") ≡ 5)
+    × (paired_number (codes "x/b.feed" ∷ codes "b" ∷ []) 1 (codes "b") ≡ 1)
+    × (paired_number (codes "a.feed" ∷ codes "b.feed" ∷ []) 3 (codes "c.feed") ≡ 5) × (paired_number [] 9 (codes "b") ≡ 9)
 unfolding feed_name
-its_partners_or_behind_them_all = (refl, refl)
+its_partners_or_behind_them_all = (refl, refl, refl, refl)
 
 -- labels_by
 each_label_with_its_number :

@@ -1,6 +1,7 @@
 -- The label of a feed: its number, its name, or its members in JSON.
-use Rattle.std.specs.Prelude.{ℕ, suc, ◌+◌, ◌-◌, ◌==◌, Bool, true, false, if◌then◌else◌, List, [], ◌∷◌, ◌++◌, length, take, drop, codes, decimal, bytes_eq}
+use Rattle.std.specs.Prelude.{ℕ, suc, ◌+◌, ◌-◌, ◌==◌, Bool, true, false, if◌then◌else◌, List, [], ◌∷◌, ◌++◌, length, take, drop, codes, decimal, position, bytes_eq}
 use Rattle.std.specs.List.{list_any}
+use Rattle.std.specs.Option.{option_map_or}
 use Rattle.rt_cidr.specs.Text.{slash}
 use Rattle.rt_print.specs.declared.format.Format.{Format}
 use Rattle.rt_print.specs.declared.format.Format.TheVariants.{Numbers, Names, Json, JsonWithNames}
@@ -46,16 +47,11 @@ abbrev pub labelled : {X : Type 0} → (ℕ → List ℕ → X) → ℕ → List
 labelled tell feed [] = []
 labelled tell feed (path ∷ paths) = tell feed path ∷ labelled tell (suc feed) paths
 
--- the number of the first of these paths whose feed has the name, if they are numbered from this one on; or else
--- another number
-abbrev pub number_in : ℕ → List (List ℕ) → List ℕ → ℕ → ℕ
-number_in number [] name other = other
-number_in number (path ∷ paths) name other = if bytes_eq (feed_name path) name then number else number_in (suc number) paths name other
-
--- the number of a feed of a second set of files, given its own number and path. It is the number of the feed of its name
--- in the first set. If none has this name, it is a number above all of these
+-- the number of a feed of a second set of files, given its own number and path. It is the number of the first feed of its
+-- name in the first set. If none has this name, it is a number above all of these
 abbrev pub paired_number : List (List ℕ) → ℕ → List ℕ → ℕ
-paired_number paths feed path = number_in 1 paths (feed_name path) (length paths + feed)
+paired_number paths feed path =
+    option_map_or (λ index. index + 1) (position (λ first. bytes_eq (feed_name first) (feed_name path)) paths) (length paths + feed)
 
 -- the label of each feed of these paths, with the number that identifies the feed in relation to the first paths; if
 -- there are no first paths, that is its own number. Feeds that are printed by their numbers need no labels

@@ -1,16 +1,18 @@
 //! The label of a feed: its number, its name, or its members in JSON. Feeds of two sets of files are paired by their names.
-ghost use Rattle.std.specs.Prelude.{◌≡◌, ℕ, List, ◌<◌, ◌≤◌, ◌++◌, length, map, decimal, None, IfOk, IfSome, OnOk};
-ghost use Rattle.std.specs.Char.{digit_char};
+ghost use Rattle.std.specs.Prelude.{◌≡◌, ℕ, List, ◌≤◌, length, map, decimal, position, bytes_eq, None, IfOk, IfSome};
 ghost use Rattle.std.specs.List.{flat_map};
+ghost use Rattle.rt_cidr.specs.Output.{WritesText};
 ghost use Rattle.rt_rib.specs.declared.limits.TheConstants.{MAX_FEEDS};
-ghost use Rattle.rt_print.specs.Routes.{escaped, json_string};
+ghost use Rattle.rt_print.specs.Routes.{escaped};
 ghost use Rattle.rt_print.specs.Styles.{label_of};
 ghost use Rattle.rt_print.specs.inside.Parts.{label_pairs};
-ghost use Rattle.rt_print.specs.Labels.{base_name, feed_name, label_by, labelled, labels_by, paired_number};
+ghost use Rattle.rt_print.specs.Labels.{feed_name, label_by, labelled, labels_by, paired_number};
 
 use crate::format::Format;
-use rt_cidr::ShortText;
+use crate::text::Text;
+use rt_cidr::put;
 use std::alloc::{AllocError, Global};
+use std::io::{self, Write};
 
 /// The label of a feed, and the number that identifies the feed.
 #[derive(Debug, Drop)]
@@ -39,7 +41,7 @@ pub(crate) fn labels_by(
         let feed = index as u32 + 1;
         let number = paired_number(first, feed, path.as_bytes());
         let mut text = Vec::new(alloc);
-        push_label(&mut text, format, u64::from(feed), path.as_bytes())?;
+        put_label(&mut text, format, u64::from(feed), path.as_bytes()).map_err(|_| AllocError)?;
         labels.push_reserved(FeedLabel { number, text });
     }
     Ok(labels)
@@ -50,14 +52,8 @@ pub(crate) fn label_in(labels: &[FeedLabel], feed: u32) -> Option<&[u8]>
     ensures some { IfSome result (λ label. label.now ≡ label_of (label_pairs labels.now) feed) }
     ensures none { result ≡ None → label_of (label_pairs labels.now) feed ≡ decimal feed }
 {
-    let mut rest = labels;
-    while let [label, behind @ ..] = rest {
-        if label.number == feed {
-            return Some(label.text.as_slice());
-        }
-        rest = behind;
-    }
-    None
+    let label = labels.iter().find(|label| label.number == feed)?;
+    Some(label.text.as_slice())
 }
 
 /// Returns the numbers of the feeds of a second set of files in relation to a first set, whose k-th file is feed k. A
@@ -80,41 +76,23 @@ pub(crate) fn pair_feeds_by_name(
 }
 
 /// Returns the number of the feed of this number and path in relation to the files of these paths.
-pub(crate) fn paired_number(paths: &[&str], feed: u32, path: &[u8]) -> u32
+fn paired_number(paths: &[&str], feed: u32, path: &[u8]) -> u32
     requires few { (length paths.now ≤ MAX_FEEDS) × (feed ≤ MAX_FEEDS) }
     ensures { result ≡ paired_number (map (λ path. path.now) paths.now) feed path.now }
 {
-    let name = feed_name(path);
-    let mut rest = paths;
-    let mut number = 1;
-    while let [first, behind @ ..] = rest {
-        if feed_name(first.as_bytes()) == name {
-            return number;
-        }
-        number += 1;
-        rest = behind;
+    match index_of_name(paths, feed_name(path)) {
+        Some(index) => index as u32 + 1,
+        None => paths.len() as u32 + feed,
     }
-    paths.len() as u32 + feed
 }
 
-/// Appends the label of the feed of this number and path.
-#[tactic(auto, using(std::proofs::Common::append_assoc), unfolding(crate::specs::Labels::label_by))]
-fn push_label(text: &mut Vec<u8>, format: Format, feed: u64, path: &[u8]) -> Result<(), AllocError>
-    ensures { OnOk result (text.new.items ≡ text.old.items ++ label_by format feed path.now) }
+/// Returns the index of the first path whose feed has this name.
+pub(crate) fn index_of_name(paths: &[&str], name: &[u8]) -> Option<usize>
+    ensures { result ≡ position (λ path. bytes_eq (feed_name path) name.now) (map (λ path. path.now) paths.now) }
 {
-    match format {
-        Format::Numbers => push_number(text, feed),
-        Format::Names => text.extend_from_slice(feed_name(path)),
-        Format::Json => {
-            push_number(text, feed)?;
-            push_member(text, b",\"file\":", path)
-        }
-        Format::JsonWithNames => {
-            push_number(text, feed)?;
-            push_member(text, b",\"name\":", feed_name(path))?;
-            push_member(text, b",\"file\":", path)
-        }
-    }
+    paths
+        .iter()
+        .position(|path| feed_name(path.as_bytes()) == name)
 }
 
 /// Returns the name of the feed that is read from the file of this path: the part after the last slash, without `.feed`
@@ -123,82 +101,60 @@ fn push_label(text: &mut Vec<u8>, format: Format, feed: u64, path: &[u8]) -> Res
 pub fn feed_name(path: &[u8]) -> &[u8]
     ensures { result.now ≡ feed_name path.now }
 {
-    let name = base_name(path);
-    match name.strip_suffix(b".feed") {
-        Some(stem) => stem,
-        None => name,
-    }
+    let name = match path.iter().rposition(|byte| *byte == b'/') {
+        Some(slash) => &path[slash + 1..],
+        None => path,
+    };
+    name.strip_suffix(b".feed").unwrap_or(name)
 }
 
-/// Returns the part of a path after its last slash.
-#[tactic(auto, using(crate::proofs::FeedLabels::starts))]
-fn base_name(path: &[u8]) -> &[u8]
-    ensures { result.now ≡ base_name path.now }
+/// Writes the label of the feed of this number and path.
+#[tactic(auto, unfolding(crate::specs::Labels::label_by, crate::specs::Routes::json_string))]
+fn put_label<W: Write>(w: &mut W, format: Format, feed: u64, path: &[u8]) -> io::Result<()>
+    ensures { WritesText (W.contents w.old) (W.contents w.new) (label_by format feed path.now) result }
 {
-    let mut name = path;
-    let mut rest = path;
-    while let [first, behind @ ..] = rest {
-        if *first == b'/' {
-            name = behind;
+    let name = feed_name(path);
+    let file = (",\"file\":\"", (Escaped(path), "\""));
+    match format {
+        Format::Numbers => feed.put_to(w),
+        Format::Names => name.put_to(w),
+        Format::Json => (feed, file).put_to(w),
+        Format::JsonWithNames => {
+            (feed, (",\"name\":\"", (Escaped(name), ("\"", file)))).put_to(w)
         }
-        rest = behind;
     }
-    name
 }
 
-/// Appends the number's decimal.
-#[tactic(auto, using(crate::proofs::Counting::number_fits))]
-fn push_number(text: &mut Vec<u8>, number: u64) -> Result<(), AllocError>
-    ensures { OnOk result (text.new.items ≡ text.old.items ++ decimal number) }
-{
-    let mut digits = ShortText::new();
-    digits.prepend_decimal(number);
-    text.extend_from_slice(digits.as_bytes())
-}
+/// Bytes that are escaped for a JSON string.
+#[derive(Clone, Copy)]
+struct Escaped<'a>(&'a [u8]);
 
-/// Appends a member of a JSON object: its comma, name and colon, and its value, the string of these bytes.
-#[tactic(auto, using(std::proofs::Common::append_assoc), unfolding(crate::specs::Routes::json_string))]
-fn push_member(text: &mut Vec<u8>, name: &[u8], value: &[u8]) -> Result<(), AllocError>
-    ensures { OnOk result (text.new.items ≡ text.old.items ++ (name.now ++ json_string value.now)) }
-{
-    text.extend_from_slice(name)?;
-    text.extend_from_slice(b"\"")?;
-    push_escaped(text, value)?;
-    text.extend_from_slice(b"\"")
-}
+impl Text for Escaped<'_> {
+    ghost text = { λ bytes. flat_map escaped bytes.0.now };
 
-/// Appends these bytes, escaped for a JSON string.
-fn push_escaped(text: &mut Vec<u8>, bytes: &[u8]) -> Result<(), AllocError>
-    ensures { OnOk result (text.new.items ≡ text.old.items ++ flat_map escaped bytes.now) }
-{
-    for byte in bytes {
-        push_byte(text, *byte)?;
+    fn put_to<W: Write>(&self, w: &mut W) -> io::Result<()> {
+        for byte in self.0 {
+            put_escaped(w, *byte)?;
+        }
+        Ok(())
     }
-    Ok(())
 }
 
-/// Appends this byte, escaped for a JSON string.
-fn push_byte(text: &mut Vec<u8>, byte: u8) -> Result<(), AllocError>
-    ensures { OnOk result (text.new.items ≡ text.old.items ++ escaped byte) }
+/// Writes this byte, escaped for a JSON string.
+fn put_escaped<W: Write>(w: &mut W, byte: u8) -> io::Result<()>
+    ensures { WritesText (W.contents w.old) (W.contents w.new) (escaped byte) result }
 {
     match byte {
-        b'"' | b'\\' => text.extend_from_slice(&[b'\\', byte]),
+        b'"' | b'\\' => put(w, &[b'\\', byte]),
         0..32 => {
-            let (high, low) = (hex_digit(byte / 16), hex_digit(byte % 16));
-            text.extend_from_slice(&[b'\\', b'u', b'0', b'0', high, low])
+            let (high, low) = (b'0' + byte / 16, byte % 16);
+            let low = if low < 10 {
+                b'0' + low
+            } else {
+                b'a' + (low - 10)
+            };
+            put(w, &[b'\\', b'u', b'0', b'0', high, low])
         }
-        _ => text.extend_from_slice(&[byte]),
-    }
-}
-
-/// Returns the hexadecimal digit of this value.
-fn hex_digit(value: u8) -> u8
-    requires { value < 16 }
-    ensures { result ≡ digit_char value }
-{
-    if value < 10 {
-        b'0' + value
-    } else {
-        b'a' + (value - 10)
+        _ => put(w, &[byte]),
     }
 }

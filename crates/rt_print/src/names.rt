@@ -1,9 +1,9 @@
 //! Checks that feeds can be printed by their names: each needs a valid name of its own.
-ghost use Rattle.std.specs.Prelude.{◌≡◌, ◌<◌, ◌≤◌, ℕ, length, map, true, false, bytes_eq, IfSome, None};
+ghost use Rattle.std.specs.Prelude.{◌≡◌, map};
 ghost use Rattle.std.specs.List.{list_any};
-ghost use Rattle.rt_print.specs.FeedNames.{ChecksNames, is_name, is_space_or_control, name_at};
+ghost use Rattle.rt_print.specs.FeedNames.{ChecksNames, is_space_or_control};
 
-use crate::labels::feed_name;
+use crate::labels::{feed_name, index_of_name};
 
 /// The reason why feeds can't be printed by their names. Files are identified by the indices of their paths.
 #[derive(Clone, Copy, PartialEq, Eq, Debug)]
@@ -22,35 +22,14 @@ pub fn check_names(paths: &[&str]) -> Result<(), NameFault>
 {
     for (index, path) in paths.iter().enumerate() {
         let name = feed_name(path.as_bytes());
-        if !is_name(name) {
+        if name.is_empty() || has_space_or_control(name) {
             return Err(NameFault::Invalid(index));
         }
-        if let Some(earlier) = index_of_name(paths, index, name) {
+        if let Some(earlier) = index_of_name(&paths[..index], name) {
             return Err(NameFault::Duplicate(earlier, index));
         }
     }
     Ok(())
-}
-
-/// Returns the first of `count` paths whose feed has this name.
-fn index_of_name(paths: &[&str], count: usize, name: &[u8]) -> Option<usize>
-    requires { count ≤ length paths.now }
-    ensures some { IfSome result (λ index. (index < count) × (bytes_eq (name_at (map (λ path. path.now) paths.now) index) name.now ≡ true)) }
-    ensures none { result ≡ None → (index : ℕ) → index < count → bytes_eq (name_at (map (λ path. path.now) paths.now) index) name.now ≡ false }
-{
-    for index in 0..count {
-        if feed_name(paths[index].as_bytes()) == name {
-            return Some(index);
-        }
-    }
-    None
-}
-
-/// Returns true if the feed name is valid: it isn't empty and contains no space and no control character.
-fn is_name(name: &[u8]) -> bool
-    ensures { result ≡ is_name name.now }
-{
-    !name.is_empty() && !has_space_or_control(name)
 }
 
 /// Returns true if a byte is a space or a control character.
