@@ -7,9 +7,9 @@ use Rattle.rt_cidr.proofs.Promised.{length-decimal, length-address_text, length-
 use Rattle.rt_rib.specs.declared.routes.Hop.{Hop}
 use Rattle.rt_rib.specs.declared.routes.Route.{Route}
 use Rattle.rt_rib.specs.declared.routes.Reason.{Reason}
-use Rattle.rt_print.specs.Routes.{hop_text, route_text, count_text, route_line, route_object}
+use Rattle.rt_print.specs.Routes.{hop_text, hop_members, route_text, route_line, route_object}
 use Rattle.rt_print.specs.Styles.{reason_text, also_object, address_head, row_as, found_as, all_found_as}
-use Rattle.rt_print.specs.inside.Parts.{either, hop_as, route_front, route_back, route_open, asked_head, reason_end, comma, other_as, others_as}
+use Rattle.rt_print.specs.inside.Parts.{either, route_front, route_back, route_open, asked_head, reason_end, comma, other_as, others_as}
 
 pub hop_fits : (hop : Hop) → length (hop_text hop) ≤ 15
 hop_fits hop = grind (arith, length-address_text)
@@ -18,18 +18,14 @@ pub route_fits : (route : Route) → length (route_text route) ≤ 250
 unfolding route_text
 route_fits route = simp length-append (omega (arith, length-prefix_text, length-decimal, hop_fits))
 
-pub count_fits : (count : ℕ) → length (count_text count) ≤ 400
-unfolding count_text
-count_fits count = simp length-append (omega (arith, length-decimal))
-
 reason_fits : (why : Reason) → length (reason_text why) ≤ 10
 unfolding reason_text
 reason_fits why = grind arith
 
--- a route with its feed's number, as a line
-pub line_open : (r : Route) → route_open false (decimal r.feed) r ≡ route_text r
-unfolding route_open route_front route_back route_text
-line_open r = simp append_assoc
+-- a route with its feed's number, by its parts
+pub route_parts : (r : Route) → route_text r ≡ route_front false r ++ (decimal r.feed ++ route_back false r)
+unfolding route_front route_back route_text
+route_parts r = simp append_assoc
 
 -- a row, by its parts
 pub row_parts : (json : Bool) (label : ℕ → List ℕ) (r : Route)
@@ -108,7 +104,7 @@ pub route_front_fits : (json : Bool) (r : Route) → length (route_front json r)
 unfolding route_front
 route_front_fits json r = simp length-append (omega (arith, length-prefix_text, either_fits))
 
-hop_as_fits : (json : Bool) (hop : Hop) → length (hop_as json hop) ≤ 30
+hop_as_fits : (json : Bool) (hop : Hop) → length (either json (hop_text hop) (hop_members hop)) ≤ 30
 hop_as_fits json hop = grind (arith, length-append, length-address_text)
 
 pub route_back_fits : (json : Bool) (r : Route) → length (route_back json r) ≤ 120
@@ -132,4 +128,4 @@ pub either_short : (json : Bool) (line object : List ℕ) → length line ≤ 10
 either_short json line object short other = grind arith
 
 -- each part has room in a short text: the lengths of parts add up, and of two short texts either is short
-pub ruleset fits = (length-append, route_fits, count_fits, route_front_fits, route_back_fits, route_open_fits, asked_head_fits, reason_end_fits, either_short)
+pub ruleset fits = (length-append, length-decimal, route_fits, route_front_fits, route_back_fits, route_open_fits, asked_head_fits, reason_end_fits, either_short)

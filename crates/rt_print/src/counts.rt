@@ -1,5 +1,5 @@
 //! The numbers of routes: in all, of each feed, and to prefixes of each length.
-ghost use Rattle.std.specs.Prelude.{◌≡◌, ℕ, ◌+◌, ◌≤◌, List, length, get_or, codes};
+ghost use Rattle.std.specs.Prelude.{◌≡◌, ℕ, ◌+◌, ◌<◌, ◌≤◌, List, length, get_or};
 ghost use Rattle.rt_rib.specs.declared.limits.TheConstants.{MAX_FEEDS};
 ghost use Rattle.rt_print.specs.declared.counts.TheConstants.{MAX_BITS};
 ghost use Rattle.rt_cidr.specs.Output.{WritesText};
@@ -11,6 +11,7 @@ ghost use Rattle.rt_print.specs.inside.Parts.{label_pairs};
 use crate::labels::{FeedLabel, label_in};
 use crate::style::Style;
 use crate::text::Text;
+use rt_cidr::ShortText;
 use rt_rib::{MAX_FEEDS, Route};
 use std::io::{self, Write};
 
@@ -47,7 +48,22 @@ pub fn write_counts<W: Write>(w: &mut W, style: &Style, routes: &[Route]) -> io:
         counts: &counts.lengths,
         bound: MAX_BITS as u32 + 1,
     };
-    (Totals { json, routes }, (feeds, lengths)).put_to(w)
+    put_totals(w, json, routes)?;
+    (feeds, lengths).put_to(w)
+}
+
+/// Writes the number of routes, and of their prefixes.
+#[tactic(auto, unfolding(crate::specs::Counts::totals_as))]
+fn put_totals<W: Write>(w: &mut W, json: bool, routes: &[Route]) -> io::Result<()>
+    ensures { WritesText (W.contents w.old) (W.contents w.new) (totals_as json (length routes.now) (prefix_count routes.now)) result }
+{
+    let (routes, prefixes) = (routes.len() as u64, prefix_count(routes) as u64);
+    if json {
+        let prefixes = (",\"prefixes\":", (prefixes, "}\n"));
+        ("{\"routes\":", (routes, prefixes)).put_to(w)
+    } else {
+        ("routes ", (routes, (" prefixes ", (prefixes, "\n")))).put_to(w)
+    }
 }
 
 /// Counts the routes of each feed, and those to prefixes of each length.
@@ -66,28 +82,6 @@ fn counts_of(routes: &[Route]) -> Counts
     Counts { feeds, lengths }
 }
 
-/// The number of routes, and of their prefixes.
-#[derive(Clone, Copy)]
-struct Totals<'a> {
-    json: bool,
-    routes: &'a [Route],
-}
-
-impl Text for Totals<'_> {
-    ghost text = { λ t. totals_as t.json (length t.routes.now) (prefix_count t.routes.now) };
-
-    #[tactic(auto, unfolding(crate::specs::Counts::totals_as))]
-    fn put_to<W: Write>(&self, w: &mut W) -> io::Result<()> {
-        let (routes, prefixes) = (self.routes.len() as u64, prefix_count(self.routes) as u64);
-        if self.json {
-            let prefixes = (",\"prefixes\":", (prefixes, "}\n"));
-            ("{\"routes\":", (routes, prefixes)).put_to(w)
-        } else {
-            ("routes ", (routes, (" prefixes ", (prefixes, "\n")))).put_to(w)
-        }
-    }
-}
-
 /// The numbers of routes of a kind below a bound, each with the label of its position; those that are 0 are left out.
 #[derive(Clone, Copy)]
 struct Numbers<'a> {
@@ -104,44 +98,33 @@ impl Text for Numbers<'_> {
 
     fn put_to<W: Write>(&self, w: &mut W) -> io::Result<()> {
         for number in 0..self.bound {
-            self.put_number(w, number, self.counts[number as usize])?;
+            self.put_number(w, number)?;
         }
         Ok(())
     }
 }
 
 impl Numbers<'_> {
-    /// Writes this number of routes with the label of its position.
-    fn put_number<W: Write>(&self, w: &mut W, number: u32, count: usize) -> io::Result<()>
+    /// Writes this number of routes with the label of its position, unless it is 0.
+    #[tactic(auto, using(crate::proofs::Counting::number_fits), unfolding(crate::specs::Counts::count_as))]
+    fn put_number<W: Write>(&self, w: &mut W, number: u32) -> io::Result<()>
+        requires below { number < self.now.bound }
         ensures { WritesText (W.contents w.old) (W.contents w.new)
-            (count_as self.now.json self.now.kind.now (label_of (label_pairs self.now.labels.now) number) count) result }
+            (count_as self.now.json self.now.kind.now (label_of (label_pairs self.now.labels.now) number) (get_or self.now.counts.now number 0)) result }
     {
-        match label_in(self.labels, number) {
-            Some(label) => put_count(w, self.json, self.kind, label, count),
-            None => put_count(w, self.json, self.kind, u64::from(number), count),
+        let count = self.counts[number as usize] as u64;
+        if count == 0 {
+            return Ok(());
         }
-    }
-}
-
-/// Writes the number of routes of this kind and name, unless it is 0.
-#[tactic(auto, unfolding(crate::specs::Counts::count_as))]
-fn put_count<W: Write, N: Text + Copy>(
-    w: &mut W,
-    json: bool,
-    kind: &str,
-    name: N,
-    count: usize,
-) -> io::Result<()>
-    ensures { WritesText (W.contents w.old) (W.contents w.new) (count_as json kind.now (N.text name) count) result }
-{
-    let number = count as u64;
-    if count == 0 {
-        Ok(())
-    } else if json {
-        let routes = (name, (",\"routes\":", (number, "}\n")));
-        ("{\"", (kind, ("\":", routes))).put_to(w)
-    } else {
-        (kind, (" ", (name, (" routes ", (number, "\n"))))).put_to(w)
+        let mut digits = ShortText::new();
+        digits.prepend_decimal(u64::from(number));
+        let label = label_in(self.labels, number).unwrap_or(digits.as_bytes());
+        if self.json {
+            let routes = (label, (",\"routes\":", (count, "}\n")));
+            ("{\"", (self.kind, ("\":", routes))).put_to(w)
+        } else {
+            (self.kind, (" ", (label, (" routes ", (count, "\n"))))).put_to(w)
+        }
     }
 }
 

@@ -4,8 +4,7 @@ ghost use Rattle.rt_cidr.specs.Output.{WritesText};
 ghost use Rattle.ya_core.specs.Steps.{State, opening};
 ghost use Rattle.ya_core.specs.Machines.{ReplaysTo};
 ghost use Rattle.ya_core.specs.Worlds.{ReportsInside};
-ghost use Rattle.rt_print.specs.ReplayText.{word_text, mark_text, sign_text, step_text, inside_text, replay_text_of};
-ghost use Rattle.rt_print.specs.inside.Parts.{inside_next};
+ghost use Rattle.rt_print.specs.ReplayText.{word_text, step_text, inside_text, replay_text_of};
 
 use crate::text::Text;
 use std::io::{self, Write};
@@ -29,19 +28,12 @@ pub fn inside_place(steps: &[Step]) -> Option<usize>
 {
     let mut inside = None;
     for step in steps {
-        inside = inside_next(inside, step);
+        inside = match step.mark {
+            Mark::Inside => Some(step.place),
+            Mark::Plain | Mark::Out => inside.filter(|place| *place != step.place),
+        };
     }
     inside
-}
-
-/// Returns the place that is inside after one more step.
-fn inside_next(inside: Option<usize>, step: &Step) -> Option<usize>
-    ensures { result ≡ inside_next inside step.now }
-{
-    match step.mark {
-        Mark::Inside => Some(step.place),
-        Mark::Plain | Mark::Out => inside.filter(|place| *place != step.place),
-    }
 }
 
 /// Writes the last line: the place that is inside.
@@ -56,11 +48,16 @@ fn put_inside<W: Write>(w: &mut W, inside: Option<usize>) -> io::Result<()>
 }
 
 /// Writes the step's line.
-#[tactic(auto, unfolding(crate::specs::ReplayText::step_text))]
+#[tactic(auto, unfolding(crate::specs::ReplayText::step_text, crate::specs::ReplayText::sign_text, crate::specs::ReplayText::mark_text))]
 fn put_step<W: Write>(w: &mut W, number: u64, step: &Step) -> io::Result<()>
     ensures { WritesText (W.contents w.old) (W.contents w.new) (step_text number step.now) result }
 {
-    let (sign, mark) = (sign_word(step.store), mark_word(step.mark));
+    let sign = if step.store { " := " } else { " = " };
+    let mark = match step.mark {
+        Mark::Plain => "\n",
+        Mark::Inside => " inside\n",
+        Mark::Out => " out\n",
+    };
     let access = (" ", (step.word, (sign, (step.value, mark))));
     (number, (" p", (step.place as u64, access))).put_to(w)
 }
@@ -80,22 +77,4 @@ impl Text for Word {
             Word::P(level, place) => ("P", (u64::from(*level), (".", *place as u64))).put_to(w),
         }
     }
-}
-
-#[tactic(auto, unfolding(crate::specs::ReplayText::mark_text))]
-fn mark_word(mark: Mark) -> &'static str
-    ensures { result.now ≡ mark_text mark }
-{
-    match mark {
-        Mark::Plain => "\n",
-        Mark::Inside => " inside\n",
-        Mark::Out => " out\n",
-    }
-}
-
-#[tactic(auto, unfolding(crate::specs::ReplayText::sign_text))]
-fn sign_word(store: bool) -> &'static str
-    ensures { result.now ≡ sign_text store }
-{
-    if store { " := " } else { " = " }
 }

@@ -1,11 +1,11 @@
 //! Routes, and the whole table.
-ghost use Rattle.std.specs.Prelude.{◌≡◌, ◌≤◌, ◌++◌, length, decimal};
+ghost use Rattle.std.specs.Prelude.{◌≡◌, ◌≤◌, ◌++◌, length};
 ghost use Rattle.rt_cidr.specs.Output.{WritesText};
 ghost use Rattle.rt_cidr.specs.ShortText.{FitsInShortText};
 ghost use Rattle.std.specs.List.{flat_map};
-ghost use Rattle.rt_print.specs.Routes.{route_text, count_text, table_text};
+ghost use Rattle.rt_print.specs.Routes.{hop_text, hop_members, route_text, table_text};
 ghost use Rattle.rt_print.specs.Styles.{label_of, row_as, rows_as};
-ghost use Rattle.rt_print.specs.inside.Parts.{label_pairs, hop_as, route_front, route_back, route_open};
+ghost use Rattle.rt_print.specs.inside.Parts.{either, label_pairs, route_front, route_back, route_open};
 
 use crate::labels::{FeedLabel, label_in};
 use crate::style::{Style, either};
@@ -17,12 +17,14 @@ use std::io::{self, Write};
 /// Writes the table: `table COUNT` and LF, and then each route of the list and LF. Errors are the writer's, as `put`
 /// returns them; a prefix of the table was then written. Doesn't allocate. Makes one `write` for each line, more if the
 /// writer accepts only a part, and no other call; wrap a writer with expensive calls in an `OutputBuffer`.
-#[tactic(auto, using(crate::proofs::LineParts::fits))]
+#[tactic(auto, using(rt_cidr::proofs::Promised::prepending, crate::proofs::LineParts::fits))]
 pub fn write_table<W: Write>(w: &mut W, routes: &[Route]) -> io::Result<()>
     ensures { WritesText (W.contents w.old) (W.contents w.new) (table_text routes.now) result }
 {
     let mut text = ShortText::new();
-    prepend_count(&mut text, routes.len());
+    text.prepend(b"\n");
+    text.prepend_decimal(routes.len() as u64);
+    text.prepend(b"table ");
     put(w, text.as_bytes())?;
     put_rows(w, false, &[], routes)
 }
@@ -75,54 +77,30 @@ pub(crate) fn put_route<W: Write>(
 {
     text.clear();
     text.prepend(tail);
-    let Some(label) = label_in(labels, route.feed) else {
-        prepend_open(text, json, route);
-        text.prepend(head);
-        return put(w, text.as_bytes());
-    };
     prepend_back(text, json, route);
-    if label.len() <= SHORT_LABEL_BYTES {
-        text.prepend(label);
-        prepend_front(text, json, route);
-        text.prepend(head);
-        return put(w, text.as_bytes());
+    match label_in(labels, route.feed) {
+        None => text.prepend_decimal(u64::from(route.feed)),
+        Some(label) if label.len() <= SHORT_LABEL_BYTES => text.prepend(label),
+        Some(label) => {
+            let mut front = ShortText::new();
+            prepend_front(&mut front, json, route);
+            return (head, (front.as_bytes(), (label, text.as_bytes()))).put_to(w);
+        }
     }
-    let mut front = ShortText::new();
-    prepend_front(&mut front, json, route);
-    (head, (front.as_bytes(), (label, text.as_bytes()))).put_to(w)
-}
-
-// Each function below prepends its text.
-
-/// Prepends the table's first line, with its LF.
-#[tactic(auto, using(rt_cidr::proofs::Promised::prepending), unfolding(crate::specs::Routes::count_text))]
-fn prepend_count(text: &mut ShortText, count: usize)
-    requires room { FitsInShortText (count_text count) text.old }
-    ensures { text.new ≡ count_text count ++ text.old }
-{
-    text.prepend(b"\n");
-    text.prepend_decimal(count as u64);
-    text.prepend(b"table ");
+    prepend_front(text, json, route);
+    text.prepend(head);
+    put(w, text.as_bytes())
 }
 
 /// Prepends the route as a line without its LF, `PREFIX feed F pref P via HOP`.
-#[tactic(auto, using(crate::proofs::LineParts::line_open))]
+#[tactic(auto, using(rt_cidr::proofs::Promised::prepending, crate::proofs::LineParts::route_parts))]
 pub fn prepend_route(text: &mut ShortText, route: &Route)
     requires room { FitsInShortText (route_text route.now) text.old }
     ensures { text.new ≡ route_text route.now ++ text.old }
 {
-    prepend_open(text, false, route);
-}
-
-/// Prepends the route with the number of its feed, without an object's end.
-#[tactic(auto, using(rt_cidr::proofs::Promised::prepending), unfolding(crate::specs::inside::Parts::route_open))]
-fn prepend_open(text: &mut ShortText, json: bool, route: &Route)
-    requires room { FitsInShortText (route_open json (decimal route.now.feed) route.now) text.old }
-    ensures { text.new ≡ route_open json (decimal route.now.feed) route.now ++ text.old }
-{
-    prepend_back(text, json, route);
+    prepend_back(text, false, route);
     text.prepend_decimal(u64::from(route.feed));
-    prepend_front(text, json, route);
+    prepend_front(text, false, route);
 }
 
 /// Prepends `PREFIX feed `, or `{"prefix":"PREFIX","feed":`.
@@ -151,8 +129,8 @@ fn prepend_back(text: &mut ShortText, json: bool, route: &Route)
 /// Prepends the next hop's address or `discard`, or the next hop as members of an object.
 #[tactic(auto, using(rt_cidr::proofs::Promised::prepending))]
 fn prepend_hop(text: &mut ShortText, json: bool, hop: Hop)
-    requires room { FitsInShortText (hop_as json hop) text.old }
-    ensures { text.new ≡ hop_as json hop ++ text.old }
+    requires room { FitsInShortText (either json (hop_text hop) (hop_members hop)) text.old }
+    ensures { text.new ≡ either json (hop_text hop) (hop_members hop) ++ text.old }
 {
     match hop {
         Hop::Via(address) => {

@@ -2,7 +2,6 @@
 use Rattle.std.specs.Prelude.{ℕ, ◌+◌, ◌==◌, Bool, true, false, if◌then◌else◌, List, [], ◌∷◌, ◌++◌, map, codes, decimal, fold, Option, None, Some}
 use Rattle.rt_cidr.specs.declared.address.Addr.{Addr}
 use Rattle.rt_cidr.specs.Text.{address_text, prefix_text}
-use Rattle.rt_rib.specs.declared.routes.Hop.{Hop}
 use Rattle.rt_rib.specs.declared.routes.Route.{Route}
 use Rattle.rt_rib.specs.LookUp.{reason}
 use Rattle.rt_print.specs.declared.labels.FeedLabel.{FeedLabel}
@@ -22,11 +21,6 @@ either true line object = object
 abbrev pub label_pairs : List FeedLabel → List (ℕ × List ℕ)
 label_pairs labels = map (λ label. (label.number, label.text.items)) labels
 
--- a next hop
-abbrev pub hop_as : Bool → Hop → List ℕ
-hop_as false hop = hop_text hop
-hop_as true hop = hop_members hop
-
 -- a route before its feed's label
 unfoldable pub route_front : Bool → Route → List ℕ
 route_front json r =
@@ -35,7 +29,8 @@ route_front json r =
 -- a route after its feed's label, without an object's end
 unfoldable pub route_back : Bool → Route → List ℕ
 route_back json r =
-    either json (codes " pref ") (codes ",\"pref\":") ++ (decimal r.pref ++ (either json (codes " via ") (codes ",") ++ hop_as json r.hop))
+    either json (codes " pref ") (codes ",\"pref\":")
+    ++ (decimal r.pref ++ (either json (codes " via ") (codes ",") ++ either json (hop_text r.hop) (hop_members r.hop)))
 
 -- a route with this label of its feed, without an object's end
 unfoldable pub route_open : Bool → List ℕ → Route → List ℕ
@@ -69,14 +64,11 @@ wins_root Plain = false
 wins_root Inside = true
 wins_root Out = false
 
--- this place is the one that is inside
-abbrev pub is_the_one_inside : Option ℕ → ℕ → Bool
-is_the_one_inside inside place = option_map_or (λ p. p == place) inside false
-
 -- the place that is inside after the step: the step's place, if it won the root; none, if it is a later step of the
 -- place that was inside
 abbrev pub inside_next : Option ℕ → Step → Option ℕ
-inside_next inside step = if wins_root step.mark then Some step.place else if is_the_one_inside inside step.place then None else inside
+inside_next inside step =
+    if wins_root step.mark then Some step.place else if option_map_or (λ p. p == step.place) inside false then None else inside
 
 -- the place that is inside after these steps: the last that won the root, unless it made a later step
 abbrev pub inside_after : List Step → Option ℕ

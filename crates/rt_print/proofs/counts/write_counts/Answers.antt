@@ -4,7 +4,12 @@ use Rattle.rt_print.specs.declared.counts.TheConstants.{MAX_BITS}
 use Rattle.rt_print.specs.Counts.{count_as, counts_as}
 use Rattle.rt_print.specs.Styles.{label_of}
 use Rattle.rt_print.proofs.Counting.{each_same}
+use Rattle.rt_print.proofs.Writing.{stops_within, writes_after}
 use Rattle.rt_print.proofs.counts.write_counts.Goals as goal
+
+pub returns-in_err-put_totals : goal.returns-in_err-put_totals
+unfolding counts_as
+returns-in_err-put_totals g c = stops_within _ _ _ _ _ c.from_residual.ensures.0 (rw c.is_json-json.ensures at c.in_err-put_totals.ensures.err)
 
 pub returns : goal.returns
 unfolding counts_as
@@ -14,4 +19,5 @@ returns g c =
     let labels = label_of style.labels in
     let feeds = each_same _ _ (MAX_FEEDS + 1) (λ k below. ap (count_as style.json (codes "feed") (labels k)) (counts.ensures.feeds k (omega (arith, below)))) in
     let lengths = each_same _ _ (MAX_BITS + 1) (λ k below. ap (count_as style.json (codes "length") (decimal k)) (counts.ensures.lengths k (omega (arith, below)))) in
-    rw (← feeds, ← lengths) (rw (c.is_json-json.ensures, c.labels.ensures) at c.put_to.ensures)
+    rw (← feeds, ← lengths)
+    (writes_after _ _ _ _ _ _ (rw c.is_json-json.ensures at c.in_ok-put_totals.ensures.ok) (rw (c.is_json-json.ensures, c.labels.ensures) at c.put_to.ensures))

@@ -5,9 +5,8 @@ use Rattle.rt_print.proofs.lookups.put_other.Goals as goal
 
 pub returns : goal.returns
 returns g c =
-    let best = c.args.best.now in
-    let style = best.style.now in
+    let style = c.args.style.now in
     let head = rw (c.new-head.ensures, append-nil) at c.prepend_asked.ensures in
     let end = rw (c.new-end.ensures, append-nil) at c.prepend_reason.ensures in
-    rw (← other_parts style.json (label_of style.labels) best.addr best.route c.args.comma.now c.args.route.now)
-    (rw (c.either-front.ensures, c.as_bytes.ensures, head, c.as_bytes-2.ensures, end, c.is_json-json.ensures, c.labels-labels.ensures) at c.put_route.ensures)
+    rw (← other_parts style.json (label_of style.labels) c.args.addr c.args.best.now c.args.comma.now c.args.route.now)
+    (rw (c.either-front.ensures, c.as_bytes.ensures, head, c.as_bytes-2.ensures, end, c.is_json-json.ensures, c.labels.ensures) at c.put_route.ensures)
