@@ -17,14 +17,14 @@ use Rattle.rt_diff.specs.declared.comparison.Difference.{Difference}
 use Rattle.rt_print.specs.declared.format.Format.{Format}
 use Rattle.rt_print.specs.declared.format.Format.TheVariants.{Numbers, Names, Json, JsonWithNames}
 use Rattle.rt_print.specs.Buffer.{buffered}
-use Rattle.rt_print.specs.Routes.{hop_text, route_text, row_text, count_text, rows_text, table_text}
+use Rattle.rt_print.specs.Routes.{hop_text, route_text, row_text, count_text, table_text}
 use Rattle.rt_print.specs.Routes.{escaped, json_string, hop_members, route_object}
 use Rattle.rt_print.specs.declared.names.NameFault.TheVariants.{Invalid, Duplicate}
-use Rattle.rt_print.specs.FeedNames.{is_space_or_control, is_name, name_at, HasOwnName, ChecksNames}
-use Rattle.rt_print.specs.Labels.{is_json, has_names, base_name, without_feed, feed_name, label_by, labelled, paired_number, labels_by}
+use Rattle.rt_print.specs.FeedNames.{is_name, name_at, HasOwnName, ChecksNames}
+use Rattle.rt_print.specs.Labels.{is_json, has_names, without_feed, feed_name, label_by, index_of_name, paired_number, labels_by}
 use Rattle.rt_print.specs.Styles.{StyleContents, label_of, row_as, address_head, found_as, reason_text, also_line, all_found_as}
 use Rattle.rt_print.specs.DifferenceText.{way_text, DiffContents, diff_of, answered_as, range_as, difference_as, differences_as}
-use Rattle.rt_print.specs.Counts.{prefix_count, length_count, totals_as, count_as, each_below, counts_as}
+use Rattle.rt_print.specs.Counts.{prefix_count, length_count, totals_as, count_as, counts_as}
 use Rattle.feed_examples.proofs.Feed.{at_192_0_2_1}
 
 -- hop_text
@@ -53,14 +53,6 @@ the_count_of_four = refl
 -- a route of feed 1 to 192.0.2.1
 abbrev route_10 : Route
 route_10 = record { prefix = ten_8; feed = 1; pref = 100; hop = Via at_192_0_2_1 }
-
--- rows_text
-no_rows : rows_text [] ≡ []
-no_rows = refl
-
-one_row : rows_text (route_10 ∷ []) ≡ codes "10.0.0.0/8 feed 1 pref 100 via 192.0.2.1\n"
-unfolding digits address_text prefix_text row_text route_text
-one_row = refl
 
 -- table_text
 the_empty_table : table_text [] ≡ codes "table 0\n"
@@ -164,10 +156,6 @@ the_totals_in_each_style :
 unfolding totals_as digits
 the_totals_in_each_style = (refl, refl)
 
--- each_below
-from_0_up_to_the_last_below : (tell : ℕ → List ℕ) → each_below tell 3 ≡ (([] ++ tell 0) ++ tell 1) ++ tell 2
-from_0_up_to_the_last_below tell = refl
-
 -- counts_as
 all_counts : counts_as (record { json = false; labels = [] }) counted_routes
     ≡ codes "routes 3 prefixes 2\nfeed 1 routes 2\nfeed 2 routes 1\nlength 8 routes 2\nlength 16 routes 1\n"
@@ -197,12 +185,6 @@ a_route_as_an_object :
 unfolding digits address_text prefix_text route_object
 a_route_as_an_object = refl
 
--- base_name
-parts_behind_slashes :
-    (base_name (codes "a/b/c.feed") ≡ codes "c.feed") × (base_name (codes "c.feed") ≡ codes "c.feed") × (base_name (codes "/c") ≡ codes "c")
-    × (base_name (codes "c/") ≡ []) × (base_name [] ≡ [])
-parts_behind_slashes = (refl, refl, refl, refl, refl)
-
 -- without_feed
 the_ending_is_left_out :
     (without_feed (codes "c.feed") ≡ codes "c") × (without_feed (codes "c.feeds") ≡ codes "c.feeds") × (without_feed (codes ".feed") ≡ [])
@@ -210,9 +192,11 @@ the_ending_is_left_out :
 the_ending_is_left_out = (refl, refl, refl, refl, refl)
 
 -- feed_name
-a_feed_by_its_file : feed_name (codes "feeds/east.feed") ≡ codes "east"
+a_feed_by_its_file :
+    (feed_name (codes "a/b/c.feed") ≡ codes "c") × (feed_name (codes "c.feed") ≡ codes "c") × (feed_name (codes "/c") ≡ codes "c")
+    × (feed_name (codes "c/") ≡ []) × (feed_name [] ≡ [])
 unfolding feed_name
-a_feed_by_its_file = refl
+a_feed_by_its_file = (refl, refl, refl, refl, refl)
 
 -- is_json
 objects_in_two_formats : (is_json Numbers ≡ false) × (is_json Names ≡ false) × (is_json Json ≡ true) × (is_json JsonWithNames ≡ true)
@@ -230,9 +214,11 @@ a_feed_by_each_label :
 unfolding digits json_string feed_name label_by
 a_feed_by_each_label = (refl, refl, refl, refl)
 
--- labelled
-each_path_by_its_number : (tell : ℕ → List ℕ → List ℕ) (one two : List ℕ) → labelled tell 1 (one ∷ two ∷ []) ≡ tell 1 one ∷ tell 2 two ∷ []
-each_path_by_its_number tell one two = refl
+-- index_of_name
+the_first_of_the_name :
+    (index_of_name (codes "a.feed" ∷ codes "x/b.feed" ∷ codes "b" ∷ []) (codes "b") ≡ Some 1) × (index_of_name (codes "a.feed" ∷ []) (codes "b") ≡ None)
+unfolding feed_name
+the_first_of_the_name = (refl, refl)
 
 -- paired_number
 its_partners_or_behind_them_all :
@@ -329,13 +315,10 @@ not_where_less_is_below_than_at_first = refl
 nor_where_the_writer_tells_nothing : (buffered 9 (Some []) None [] ≡ None) × (buffered 9 None (Some []) [] ≡ None) × (buffered 9 None None [] ≡ None)
 nor_where_the_writer_tells_nothing = (refl, refl, refl)
 
--- is_space_or_control
-a_space_a_control_character_and_a_letter : map is_space_or_control (32 ∷ 127 ∷ 97 ∷ []) ≡ true ∷ true ∷ false ∷ []
-a_space_a_control_character_and_a_letter = refl
-
 -- is_name
-which_names_are_valid : (is_name [] ≡ false) × (is_name (codes "a b") ≡ false) × (is_name (codes "east") ≡ true)
-which_names_are_valid = (refl, refl, refl)
+which_names_are_valid :
+    (is_name [] ≡ false) × (is_name (codes "a b") ≡ false) × (is_name (97 ∷ 127 ∷ []) ≡ false) × (is_name (codes "east") ≡ true)
+which_names_are_valid = (refl, refl, refl, refl)
 
 -- name_at
 the_name_of_the_second : name_at (codes "a.feed" ∷ codes "x/b.feed" ∷ []) 1 ≡ codes "b"
@@ -352,17 +335,17 @@ twice_a = codes "x/a.feed" ∷ codes "a" ∷ []
 -- HasOwnName
 the_first_has_its_own : HasOwnName twice_a 0
 unfolding feed_name
-the_first_has_its_own = record { valid = refl; new = λ earlier none. absurd (omega (arith, none)) }
+the_first_has_its_own = record { valid = refl; new = refl }
 
 the_second_has_not : HasOwnName twice_a 1 → ⊥
 unfolding feed_name
-the_second_has_not own = let same : true ≡ false = own.new 0 (omega arith) in absurd cc
+the_second_has_not own = let same : Some 0 ≡ None = own.new in absurd cc
 
 -- ChecksNames
 the_second_has_the_name_of_the_first : ChecksNames twice_a (Err (Duplicate 0 1))
 unfolding feed_name
 the_second_has_the_name_of_the_first =
-    (record { within = omega arith; before = below_one (HasOwnName twice_a) the_first_has_its_own }, refl, omega arith, refl)
+    (record { within = omega arith; before = below_one (HasOwnName twice_a) the_first_has_its_own }, refl, refl)
 
 the_first_has_no_valid_name : ChecksNames (codes "a b.feed" ∷ []) (Err (Invalid 0))
 unfolding feed_name

@@ -1,15 +1,13 @@
 -- Numbers of routes: those that are counted in one pass, by a number of each route; and their texts.
-use Rattle.std.proofs.Common.{◌≡◌, ◌==◌, ℕ, ◌+◌, ◌<◌, ◌≤◌, inl, inr, Option, List, length, get_or, set, take, replicate, count_by, decimal, refl, ◌∙◌, arith, zero, suc}
+use Rattle.std.proofs.Common.{◌≡◌, ◌==◌, ℕ, ◌+◌, ◌<◌, ◌≤◌, inl, inr, List, length, get_or, set, take, replicate, count_by, decimal, refl, ◌∙◌, arith, zero, suc}
 use Rattle.std.proofs.lemmas.Grind.{get_or-set_at}
-use Rattle.std.proofs.lemmas.Bool.{cases_Bool, cases_lt, cases_eq}
+use Rattle.std.proofs.lemmas.Bool.{cases_Bool, cases_eq}
 use Rattle.std.proofs.lemmas.Bool.Decides.{nat_tests}
 use Rattle.std.proofs.lemmas.List.{get_or-set_other, length-set, length-replicate, get_or-replicate}
 use Rattle.std.proofs.lemmas.List.Sums.{count_by_more_yes, count_by_more_no}
 use Rattle.rt_rib.specs.declared.routes.Route.{Route}
-use Rattle.std.specs.Io.KnownBytes.{Appends}
-use Rattle.rt_cidr.specs.Output.{AppendsBeginning}
-use Rattle.rt_cidr.proofs.Promised.{length-decimal, begins_after, begins_longer}
-use Rattle.rt_print.specs.Counts.{each_below}
+use Rattle.std.specs.List.{flat_map, range_with_len}
+use Rattle.rt_cidr.proofs.Promised.{length-decimal}
 
 -- the counts of the routes so far: one for each number up to the maximum, and none of them is above the number of routes
 pub record AreCounts (number : Route → ℕ) (max size i : ℕ) (routes : List Route) (counts : List ℕ) : Type 0 where
@@ -44,16 +42,8 @@ module _ (number : Route → ℕ) (max size i at : ℕ) (routes : List Route) (r
 pub number_fits : (number : ℕ) → length (decimal number) ≤ 100
 number_fits number = omega (arith, length-decimal number)
 
--- an error within the text of a number is one within the texts of all numbers below a higher one
-pub each_begins : (a b c : Option (List ℕ)) (tell : ℕ → List ℕ) (n bound : ℕ) → n < bound → Appends a b (each_below tell n)
-    → AppendsBeginning b c (tell n) → AppendsBeginning a c (each_below tell bound)
-each_begins a b c tell n zero below first second = absurd (omega (arith, below))
-each_begins a b c tell n (suc bound) below first second = elim (cases_lt n bound) [
-  | inl before ↦ begins_longer a c (each_below tell bound) (tell bound) (each_begins a b c tell n bound before first second)
-  | inr there ↦ let same : bound ≡ n = omega (arith, below, there) in rw same (begins_after a b c (each_below tell n) (tell n) first second)
-]
-
 -- texts of the same numbers are the same
-pub each_same : (f g : ℕ → List ℕ) (bound : ℕ) → ((n : ℕ) → n < bound → f n ≡ g n) → each_below f bound ≡ each_below g bound
-each_same f g zero same = refl
-each_same f g (suc n) same = rw (each_same f g n (λ m below. same m (omega (arith, below))), same n (omega arith))
+pub each_same : (f g : ℕ → List ℕ) (from count : ℕ) → ((n : ℕ) → n < from + count → f n ≡ g n)
+    → flat_map f (range_with_len from count) ≡ flat_map g (range_with_len from count)
+each_same f g from zero same = refl
+each_same f g from (suc count) same = rw (same from (omega arith), each_same f g (from + 1) count (λ n below. same n (omega (arith, below))))

@@ -1,6 +1,6 @@
 -- The numbers of routes: in all, of their prefixes, of each feed, and to prefixes of each length.
-use Rattle.std.specs.Prelude.{ℕ, zero, suc, ◌+◌, ◌==◌, Bool, true, false, if◌then◌else◌, List, [], ◌++◌, length, codes, decimal, count_by}
-use Rattle.std.specs.List.{dedup}
+use Rattle.std.specs.Prelude.{ℕ, ◌+◌, ◌==◌, Bool, true, false, if◌then◌else◌, List, [], ◌++◌, length, codes, decimal, count_by}
+use Rattle.std.specs.List.{dedup, flat_map, range_with_len}
 use Rattle.rt_cidr.specs.Prefix.{same_prefix}
 use Rattle.rt_rib.specs.declared.limits.TheConstants.{MAX_FEEDS}
 use Rattle.rt_rib.specs.declared.routes.Route.{Route}
@@ -27,14 +27,9 @@ count_as false kind name count = if count == 0 then [] else kind ++ (codes " " +
 count_as true kind name count =
     if count == 0 then [] else codes "{\"" ++ (kind ++ (codes "\":" ++ (name ++ (codes ",\"routes\":" ++ (decimal count ++ codes "}\n")))))
 
--- the texts of all numbers below this one, from 0 on
-abbrev pub each_below : (ℕ → List ℕ) → ℕ → List ℕ
-each_below tell zero = []
-each_below tell (suc n) = each_below tell n ++ tell n
-
 -- all these numbers of routes
 unfoldable pub counts_as : StyleContents → List Route → List ℕ
 counts_as style routes =
     totals_as style.json (length routes) (prefix_count routes)
-    ++ (each_below (λ feed. count_as style.json (codes "feed") (label_of style.labels feed) (count_of feed routes)) (MAX_FEEDS + 1)
-    ++ each_below (λ len. count_as style.json (codes "length") (decimal len) (length_count len routes)) (MAX_BITS + 1))
+    ++ (flat_map (λ feed. count_as style.json (codes "feed") (label_of style.labels feed) (count_of feed routes)) (range_with_len 0 (MAX_FEEDS + 1))
+    ++ flat_map (λ len. count_as style.json (codes "length") (decimal len) (length_count len routes)) (range_with_len 0 (MAX_BITS + 1)))

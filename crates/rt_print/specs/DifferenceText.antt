@@ -1,6 +1,6 @@
 -- The text of the differences of two tables.
-use Rattle.std.specs.Prelude.{ℕ, Bool, true, false, if◌then◌else◌, List, [], ◌++◌, codes}
-use Rattle.std.specs.List.{flat_map}
+use Rattle.std.specs.Prelude.{ℕ, Bool, true, false, if◌then◌else◌, List, [], ◌++◌, map, codes}
+use Rattle.std.specs.List.{flat_map, enumerate_from}
 use Rattle.rt_cidr.specs.Text.{address_text}
 use Rattle.rt_rib.specs.declared.routes.Hop.{Hop}
 use Rattle.rt_rib.specs.declared.routes.Hop.TheVariants.{Via, Discard}
@@ -9,7 +9,7 @@ use Rattle.rt_diff.specs.declared.table_answers.TableAnswer.{TableAnswer}
 use Rattle.rt_diff.specs.declared.table_answers.TableAnswer.TheVariants as answered
 use Rattle.rt_diff.specs.declared.comparison.Difference.{Difference}
 use Rattle.rt_print.specs.declared.format.Format.{Format}
-use Rattle.rt_print.specs.Labels.{has_names, labelled, paired_number}
+use Rattle.rt_print.specs.Labels.{has_names, paired_number}
 use Rattle.rt_print.specs.Routes.{route_line, hop_members, route_object}
 use Rattle.rt_print.specs.Styles.{StyleContents, style_of, label_of}
 
@@ -26,19 +26,16 @@ pub record DiffContents : Type 0 where
   pub old : StyleContents
   pub new : StyleContents
 
--- with names, a new feed is identified in relation to the old ones; else by its own number
-abbrev pub old_paths_for : Format → List (List ℕ) → List (List ℕ)
-old_paths_for format old = if has_names format then old else []
-
--- the comparison of the tables of two sets of paths in this format. The label of each new feed is the one for the number
--- that identifies it
+-- the comparison of the tables of two sets of paths in this format. With names, a new feed is identified in relation to the
+-- old ones; else by its own number. The label of each new feed is the one for the number that identifies it
 abbrev pub diff_of : CompareBy → Format → List (List ℕ) → List (List ℕ) → DiffContents
-diff_of by format old new = record {
-  by = by;
-  numbers = labelled (paired_number (old_paths_for format old)) 1 new;
-  old = style_of format [] old;
-  new = style_of format (old_paths_for format old) new;
-}
+diff_of by format old new =
+    let first = if has_names format then old else [] in record {
+      by = by;
+      numbers = map (λ feed. paired_number first feed.0 feed.1) (enumerate_from 1 new);
+      old = style_of format [] old;
+      new = style_of format first new;
+    }
 
 -- the answer for an address; `label` gives the label of each feed of its table
 unfoldable pub answered_as : Bool → (ℕ → List ℕ) → TableAnswer → List ℕ

@@ -1,17 +1,13 @@
 -- Which names feeds may have if they are printed by their names.
-use Rattle.std.specs.Prelude.{◌≡◌, ℕ, ◌<◌, ◌==◌, ◌&&◌, Bool, true, false, not, ◌||◌, nat_le, List, [], length, get_or, bytes_eq, Result, Ok, Err}
+use Rattle.std.specs.Prelude.{◌≡◌, ℕ, ◌<◌, ◌==◌, ◌&&◌, Bool, true, false, not, ◌||◌, nat_le, List, [], length, take, get_or, Some, None, Result, Ok, Err}
 use Rattle.std.specs.List.{list_any}
 use Rattle.rt_print.specs.declared.names.NameFault.{NameFault}
 use Rattle.rt_print.specs.declared.names.NameFault.TheVariants.{Invalid, Duplicate}
-use Rattle.rt_print.specs.Labels.{feed_name}
+use Rattle.rt_print.specs.Labels.{feed_name, index_of_name}
 
--- the byte is a space or a control character
-abbrev pub is_space_or_control : ℕ → Bool
-is_space_or_control byte = nat_le byte 32 || byte == 127
-
--- a name is valid: it isn't empty, and contains no such byte
+-- a name is valid: it isn't empty, and contains no space and no control character
 abbrev pub is_name : List ℕ → Bool
-is_name name = not (length name == 0) && not (list_any is_space_or_control name)
+is_name name = not (length name == 0) && not (list_any (λ byte. nat_le byte 32 || byte == 127) name)
 
 -- the name of the feed of the path at this index
 abbrev pub name_at : List (List ℕ) → ℕ → List ℕ
@@ -20,7 +16,7 @@ name_at paths at = feed_name (get_or paths at [])
 -- the feed of the path at this index has a valid name, which no feed before it has
 pub record HasOwnName (paths : List (List ℕ)) (at : ℕ) : Type 0 where
   pub valid : is_name (name_at paths at) ≡ true
-  pub new : (earlier : ℕ) → earlier < at → bytes_eq (name_at paths earlier) (name_at paths at) ≡ false
+  pub new : index_of_name (take at paths) (name_at paths at) ≡ None
 
 -- this is the index of a path, and each feed before it has a name of its own
 pub record IsFirstWithout (paths : List (List ℕ)) (at : ℕ) : Type 0 where
@@ -32,4 +28,4 @@ abbrev pub ChecksNames : List (List ℕ) → Result Unit NameFault → Type 0
 ChecksNames paths (Ok done) = (at : ℕ) → at < length paths → HasOwnName paths at
 ChecksNames paths (Err (Invalid at)) = IsFirstWithout paths at × (is_name (name_at paths at) ≡ false)
 ChecksNames paths (Err (Duplicate earlier at)) =
-    IsFirstWithout paths at × (is_name (name_at paths at) ≡ true) × (earlier < at) × (bytes_eq (name_at paths earlier) (name_at paths at) ≡ true)
+    IsFirstWithout paths at × (is_name (name_at paths at) ≡ true) × (index_of_name (take at paths) (name_at paths at) ≡ Some earlier)

@@ -1,5 +1,6 @@
 -- The text of a replay: one line for each atomic step, and then the place that is inside.
-use Rattle.std.specs.Prelude.{ℕ, ◌+◌, Bool, true, false, List, [], ◌∷◌, ◌++◌, codes, decimal, Option, None, Some}
+use Rattle.std.specs.Prelude.{ℕ, Bool, true, false, List, ◌++◌, codes, decimal, Option, None, Some}
+use Rattle.std.specs.List.{flat_map, enumerate_from}
 use Rattle.ya_core.specs.declared.word.Word.{Word}
 use Rattle.ya_core.specs.declared.word.Word.TheVariants.{C, T, P}
 use Rattle.ya_core.specs.declared.step.Mark.{Mark}
@@ -29,16 +30,11 @@ step_text number step =
     decimal number ++ (codes " p" ++ (decimal step.place ++ (codes " " ++ (word_text step.word
     ++ (sign_text step.store ++ (decimal step.value ++ mark_text step.mark))))))
 
--- the lines of these steps; the first step has this number
-abbrev pub steps_text : ℕ → List Step → List ℕ
-steps_text number [] = []
-steps_text number (step ∷ steps) = step_text number step ++ steps_text (number + 1) steps
-
 -- `inside pPLACE`, or `inside none`
 unfoldable pub inside_text : Option ℕ → List ℕ
 inside_text None = codes "inside none\n"
 inside_text (Some place) = codes "inside p" ++ (decimal place ++ codes "\n")
 
--- the text of a replay with these steps, after which this place is inside
+-- the text of a replay with these steps, numbered from 1, after which this place is inside
 abbrev pub replay_text_of : List Step → Option ℕ → List ℕ
-replay_text_of steps inside = steps_text 1 steps ++ inside_text inside
+replay_text_of steps inside = flat_map (λ step. step_text step.0 step.1) (enumerate_from 1 steps) ++ inside_text inside

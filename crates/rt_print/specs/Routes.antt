@@ -53,10 +53,6 @@ row_text route = route_text route ++ codes "\n"
 unfoldable pub count_text : ℕ → List ℕ
 count_text count = codes "table " ++ (decimal count ++ codes "\n")
 
--- the table's routes in order
-abbrev pub rows_text : List Route → List ℕ
-rows_text routes = flat_map row_text routes
-
 -- the table: `table COUNT`, and then the routes in order
 abbrev pub table_text : List Route → List ℕ
-table_text routes = count_text (length routes) ++ rows_text routes
+table_text routes = count_text (length routes) ++ flat_map row_text routes

@@ -1,10 +1,11 @@
 //! The numbers of routes: in all, of each feed, and to prefixes of each length.
 ghost use Rattle.std.specs.Prelude.{◌≡◌, ℕ, ◌+◌, ◌<◌, ◌≤◌, List, length, get_or};
+ghost use Rattle.std.specs.List.{flat_map, range_with_len};
 ghost use Rattle.rt_rib.specs.declared.limits.TheConstants.{MAX_FEEDS};
 ghost use Rattle.rt_print.specs.declared.counts.TheConstants.{MAX_BITS};
 ghost use Rattle.rt_cidr.specs.Output.{WritesText};
 ghost use Rattle.rt_rib.specs.Table.{count_of};
-ghost use Rattle.rt_print.specs.Counts.{prefix_count, length_count, totals_as, count_as, each_below, counts_as};
+ghost use Rattle.rt_print.specs.Counts.{prefix_count, length_count, totals_as, count_as, counts_as};
 ghost use Rattle.rt_print.specs.Styles.{label_of};
 ghost use Rattle.rt_print.specs.inside.Parts.{label_pairs};
 
@@ -94,7 +95,7 @@ struct Numbers<'a> {
 }
 
 impl Text for Numbers<'_> {
-    ghost text = { λ n. each_below (λ k. count_as n.json n.kind.now (label_of (label_pairs n.labels.now) k) (get_or n.counts.now k 0)) n.bound };
+    ghost text = { λ n. flat_map (λ k. count_as n.json n.kind.now (label_of (label_pairs n.labels.now) k) (get_or n.counts.now k 0)) (range_with_len 0 n.bound) };
 
     fn put_to<W: Write>(&self, w: &mut W) -> io::Result<()> {
         for number in 0..self.bound {

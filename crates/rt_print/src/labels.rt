@@ -1,12 +1,12 @@
 //! The label of a feed: its number, its name, or its members in JSON. Feeds of two sets of files are paired by their names.
-ghost use Rattle.std.specs.Prelude.{◌≡◌, ℕ, List, ◌≤◌, length, map, decimal, position, bytes_eq, None, IfOk, IfSome};
-ghost use Rattle.std.specs.List.{flat_map};
+ghost use Rattle.std.specs.Prelude.{◌≡◌, ℕ, List, ◌≤◌, length, map, decimal, None, IfOk, IfSome};
+ghost use Rattle.std.specs.List.{flat_map, enumerate_from};
 ghost use Rattle.rt_cidr.specs.Output.{WritesText};
 ghost use Rattle.rt_rib.specs.declared.limits.TheConstants.{MAX_FEEDS};
 ghost use Rattle.rt_print.specs.Routes.{escaped};
 ghost use Rattle.rt_print.specs.Styles.{label_of};
 ghost use Rattle.rt_print.specs.inside.Parts.{label_pairs};
-ghost use Rattle.rt_print.specs.Labels.{feed_name, label_by, labelled, labels_by, paired_number};
+ghost use Rattle.rt_print.specs.Labels.{feed_name, index_of_name, label_by, labels_by, paired_number};
 
 use crate::format::Format;
 use crate::text::Text;
@@ -65,7 +65,7 @@ pub(crate) fn pair_feeds_by_name(
     second: &[&str],
 ) -> Result<Vec<u32>, AllocError>
     requires few { (length first.now ≤ MAX_FEEDS) × (length second.now ≤ MAX_FEEDS) }
-    ensures { IfOk result (λ numbers. numbers.items ≡ labelled (paired_number (map (λ path. path.now) first.now)) 1 (map (λ path. path.now) second.now)) }
+    ensures { IfOk result (λ numbers. numbers.items ≡ map (λ feed. paired_number (map (λ path. path.now) first.now) feed.0 feed.1) (enumerate_from 1 (map (λ path. path.now) second.now))) }
 {
     let mut numbers = Vec::with_capacity(alloc, second.len())?;
     for (index, path) in second.iter().enumerate() {
@@ -88,7 +88,7 @@ fn paired_number(paths: &[&str], feed: u32, path: &[u8]) -> u32
 
 /// Returns the index of the first path whose feed has this name.
 pub(crate) fn index_of_name(paths: &[&str], name: &[u8]) -> Option<usize>
-    ensures { result ≡ position (λ path. bytes_eq (feed_name path) name.now) (map (λ path. path.now) paths.now) }
+    ensures { result ≡ index_of_name (map (λ path. path.now) paths.now) name.now }
 {
     paths
         .iter()

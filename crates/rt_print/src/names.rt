@@ -1,7 +1,7 @@
 //! Checks that feeds can be printed by their names: each needs a valid name of its own.
-ghost use Rattle.std.specs.Prelude.{◌≡◌, map};
+ghost use Rattle.std.specs.Prelude.{◌≡◌, ◌==◌, ◌||◌, nat_le, map};
 ghost use Rattle.std.specs.List.{list_any};
-ghost use Rattle.rt_print.specs.FeedNames.{ChecksNames, is_space_or_control};
+ghost use Rattle.rt_print.specs.FeedNames.{ChecksNames};
 
 use crate::labels::{feed_name, index_of_name};
 
@@ -34,7 +34,7 @@ pub fn check_names(paths: &[&str]) -> Result<(), NameFault>
 
 /// Returns true if a byte is a space or a control character.
 fn has_space_or_control(bytes: &[u8]) -> bool
-    ensures { result ≡ list_any is_space_or_control bytes.now }
+    ensures { result ≡ list_any (λ byte. nat_le byte 32 || byte == 127) bytes.now }
 {
     bytes.iter().any(|byte| *byte <= b' ' || *byte == 127)
 }

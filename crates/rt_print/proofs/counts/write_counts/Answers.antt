@@ -17,7 +17,7 @@ returns g c =
     let style = c.args.style.now in
     let counts = c.counts_of-counts in
     let labels = label_of style.labels in
-    let feeds = each_same _ _ (MAX_FEEDS + 1) (λ k below. ap (count_as style.json (codes "feed") (labels k)) (counts.ensures.feeds k (omega (arith, below)))) in
-    let lengths = each_same _ _ (MAX_BITS + 1) (λ k below. ap (count_as style.json (codes "length") (decimal k)) (counts.ensures.lengths k (omega (arith, below)))) in
+    let feeds = each_same _ _ 0 (MAX_FEEDS + 1) (λ k below. ap (count_as style.json (codes "feed") (labels k)) (counts.ensures.feeds k (omega (arith, below)))) in
+    let lengths = each_same _ _ 0 (MAX_BITS + 1) (λ k below. ap (count_as style.json (codes "length") (decimal k)) (counts.ensures.lengths k (omega (arith, below)))) in
     rw (← feeds, ← lengths)
     (writes_after _ _ _ _ _ _ (rw c.is_json-json.ensures at c.in_ok-put_totals.ensures.ok) (rw (c.is_json-json.ensures, c.labels.ensures) at c.put_to.ensures))
