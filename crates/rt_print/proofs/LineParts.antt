@@ -1,5 +1,5 @@
 -- The texts of lines and objects by their parts, and the maximum lengths of these parts.
-use Rattle.std.proofs.Common.{◌≡◌, ◌==◌, ℕ, ◌+◌, ◌<◌, ◌≤◌, Bool, true, false, List, [], ◌∷◌, ◌++◌, length, codes, decimal, Some, None, append_assoc, append-nil, refl, ap, arith, length-append}
+use Rattle.std.proofs.Common.{◌≡◌, ◌==◌, ℕ, ◌+◌, ◌<◌, ◌≤◌, Bool, true, false, if◌then◌else◌, List, [], ◌∷◌, ◌++◌, length, codes, decimal, Some, None, append_assoc, append-nil, refl, ap, arith, length-append}
 use Rattle.std.specs.List.{flat_map, join_by}
 use Rattle.std.proofs.lemmas.Bool.Decides.{nat_tests}
 use Rattle.rt_cidr.specs.declared.address.Addr.{Addr}
@@ -86,15 +86,11 @@ other_parts false label addr best comma r = simp append_assoc
 other_parts true label addr best comma r = simp append_assoc
 
 -- the route in an answer, by its parts
-pub answer_line : (label : List ℕ) (r : Route) → route_open false label r ++ [] ≡ route_line label r
-unfolding route_open route_front route_back
-answer_line label r = simp (append_assoc, append-nil)
-
-pub answer_object : (label : List ℕ) (r : Route) → route_open true label r ++ codes "}" ≡ route_object label r []
+pub answer_parts : (json : Bool) (label : List ℕ) (r : Route)
+    → route_open json label r ++ either json [] (codes "}") ≡ (if json then route_object label r [] else route_line label r)
 unfolding route_open route_front route_back route_object
-answer_object label r = simp append_assoc
-
-pub ruleset answer_parts = (answer_line, answer_object)
+answer_parts false label r = simp (append_assoc, append-nil)
+answer_parts true label r = simp append_assoc
 
 -- either text is at most as long as both together
 pub either_fits : (json : Bool) (line object : List ℕ) → length (either json line object) ≤ length line + length object
@@ -111,10 +107,6 @@ pub route_back_fits : (json : Bool) (r : Route) → length (route_back json r) �
 unfolding route_back
 route_back_fits json r = simp length-append (omega (arith, length-decimal, hop_as_fits, either_fits))
 
-pub route_open_fits : (json : Bool) (r : Route) → length (route_open json (decimal r.feed) r) ≤ 300
-unfolding route_open
-route_open_fits json r = simp length-append (omega (arith, length-decimal, route_front_fits, route_back_fits))
-
 pub asked_head_fits : (json : Bool) (addr : Addr) (word : List ℕ) → length (asked_head json addr word) ≤ 40 + length word
 unfolding asked_head
 asked_head_fits json addr word = simp length-append (omega (arith, length-address_text, either_fits))
@@ -128,4 +120,4 @@ pub either_short : (json : Bool) (line object : List ℕ) → length line ≤ 10
 either_short json line object short other = grind arith
 
 -- each part has room in a short text: the lengths of parts add up, and of two short texts either is short
-pub ruleset fits = (length-append, length-decimal, route_fits, route_front_fits, route_back_fits, route_open_fits, asked_head_fits, reason_end_fits, either_short)
+pub ruleset fits = (length-append, length-decimal, route_fits, route_front_fits, route_back_fits, asked_head_fits, reason_end_fits, either_short)

@@ -41,34 +41,11 @@ impl OutputRoom {
         Ok(OutputRoom { bytes })
     }
 
-    fn as_bytes(&self) -> &[u8]
-        ensures { result.now ≡ self.now }
-    {
-        self.bytes.as_slice()
-    }
-
-    /// Returns the number of bytes that still fit.
-    fn room(&self) -> usize
-        ensures { length self.now + result ≡ OUTPUT_BYTES }
-    {
-        OUTPUT_BYTES - self.bytes.len()
-    }
-
     /// Returns the number of allocated bytes.
     pub fn capacity(&self) -> usize
         ensures { OUTPUT_BYTES ≤ result }
     {
         self.bytes.capacity()
-    }
-
-    /// Appends the text.
-    fn append(&mut self, text: &[u8])
-        requires room { length self.old + length text.now ≤ OUTPUT_BYTES }
-        ensures { self.new ≡ self.old ++ text.now }
-    {
-        let Ok(()) = self.bytes.extend_from_slice(text) else {
-            unreachable!()
-        };
     }
 
     /// Removes the first `count` bytes.
@@ -128,7 +105,7 @@ impl<'w, W: Write> OutputBuffer<'w, W> {
 impl<'w, W> fmt::Debug for OutputBuffer<'w, W> {
     fn fmt<F: fmt::Write>(&self, f: &mut fmt::Formatter<F>) -> fmt::Result {
         f.debug_struct("OutputBuffer")
-            .field("held", &self.held.as_bytes().len())
+            .field("held", &self.held.bytes.len())
             .finish_non_exhaustive()
     }
 }
@@ -139,13 +116,15 @@ impl<'w, W: Write> Write for OutputBuffer<'w, W> {
     /// Accepts all of the text if there is room for it, if necessary after writing the bytes held. If the text is
     /// longer than the whole buffer, accepts what a single `write` of the writer below accepts.
     fn write(&mut self, text: &[u8]) -> io::Result<usize> {
-        if self.held.room() < text.len() {
+        if OUTPUT_BYTES - self.held.bytes.len() < text.len() {
             self.flush()?;
             if OUTPUT_BYTES < text.len() {
                 return self.writer.write(text);
             }
         }
-        self.held.append(text);
+        let Ok(()) = self.held.bytes.extend_from_slice(text) else {
+            unreachable!()
+        };
         Ok(text.len())
     }
 
@@ -158,7 +137,7 @@ impl<'w, W: Write> Write for OutputBuffer<'w, W> {
         ensures ok { OnOk result (self.new.held ≡ []) }
         ensures err { OnErr result (0 < length self.new.held) }
     {
-        let (written, outcome) = put_counted(self.writer, self.held.as_bytes());
+        let (written, outcome) = put_counted(self.writer, self.held.bytes.as_slice());
         self.held.remove_front(written);
         outcome
     }

@@ -1,8 +1,7 @@
 //! The differences of two tables: ranges of addresses with their two answers, each in the style of its table.
 ghost use Rattle.std.specs.Prelude.{◌≡◌};
 ghost use Rattle.rt_cidr.specs.Output.{WritesText};
-ghost use Rattle.rt_diff.specs.declared.table_answers.TableAnswer.TheVariants as answered;
-ghost use Rattle.rt_print.specs.DifferenceText.{answer_as, answered_as, difference_as};
+ghost use Rattle.rt_print.specs.DifferenceText.{answer_as, difference_as};
 
 use crate::diff_options::DiffOptions;
 use crate::routes::put_route;
@@ -59,24 +58,16 @@ impl Text for StyledAnswer<'_> {
         match answer {
             TableAnswer::NoRoute if json => "null".put_to(w),
             TableAnswer::NoRoute => "no route".put_to(w),
-            TableAnswer::Hop(hop) => put_way(w, json, *hop),
+            TableAnswer::Hop(hop) => match *hop {
+                Hop::Via(address) if json => ("{\"via\":\"", (address, "\"}")).put_to(w),
+                Hop::Via(address) => ("via ", address).put_to(w),
+                Hop::Discard if json => "{\"via\":null,\"discard\":true}".put_to(w),
+                Hop::Discard => "discard".put_to(w),
+            },
             TableAnswer::Route(route) => {
                 let (mut text, end) = (ShortText::new(), either(json, b"", b"}"));
                 put_route(w, &mut text, json, style.labels(), b"", route, end)
             }
         }
-    }
-}
-
-/// Writes the next hop of an answer.
-#[tactic(auto, unfolding(crate::specs::DifferenceText::answered_as))]
-fn put_way<W: Write>(w: &mut W, json: bool, hop: Hop) -> io::Result<()>
-    ensures { (label : _) → WritesText (W.contents w.old) (W.contents w.new) (answered_as json label (answered.Hop hop)) result }
-{
-    match hop {
-        Hop::Via(address) if json => ("{\"via\":\"", (address, "\"}")).put_to(w),
-        Hop::Via(address) => ("via ", address).put_to(w),
-        Hop::Discard if json => "{\"via\":null,\"discard\":true}".put_to(w),
-        Hop::Discard => "discard".put_to(w),
     }
 }

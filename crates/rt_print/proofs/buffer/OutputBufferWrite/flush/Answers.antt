@@ -8,11 +8,11 @@ pub returns-clause-ok : goal.returns-clause-ok
 returns-clause-ok g c =
     let wrote = c.put_counted-written in
     on_ok_weaker wrote.result.1
-    (λ all. c.remove_front.ensures ∙ drop_all wrote.result.0 _ (omega (arith, all, ap length c.as_bytes.ensures))) wrote.ensures.all
+    (λ all. c.remove_front.ensures ∙ drop_all wrote.result.0 _ (omega (arith, all, ap length c.as_slice.ensures.value))) wrote.ensures.all
 
 -- if not everything was written, something remains
 pub returns-clause-err : goal.returns-clause-err
 returns-clause-err g c =
     let wrote = c.put_counted-written in
     on_err_weaker wrote.result.1
-    (λ less. omega (arith, less, ap length c.remove_front.ensures, length-drop {A = ℕ}, ap length c.as_bytes.ensures)) wrote.ensures.less
+    (λ less. omega (arith, less, ap length c.remove_front.ensures, length-drop {A = ℕ}, ap length c.as_slice.ensures.value)) wrote.ensures.less
