@@ -6,7 +6,7 @@ use Rattle.ya_core.specs.declared.word.Word.TheVariants.{C, T, P}
 use Rattle.ya_core.specs.declared.step.Mark.TheVariants.{Plain, Inside, Out}
 use Rattle.ya_core.specs.declared.step.Step.{Step}
 use Rattle.rt_print.specs.ReplayText.{word_text, mark_text, sign_text, step_text, inside_text, replay_text_of}
-use Rattle.rt_print.specs.inside.Parts.{wins_root, inside_after}
+use Rattle.rt_print.specs.inside.Parts.{inside_after}
 
 -- word_text
 a_claim_has_a_side : word_text (C 1 0 1) ≡ codes "C1.0.1"
@@ -46,10 +46,6 @@ four_lines = codes "1 p0 C1.0.0 := 1\n2 p0 T1.0 := 1\n3 p0 P1.0 := 0\n4 p0 C1.0.
 a_load_that_wins_the_root : step_text 4 (record { place = 0; word = C 1 0 1; store = false; value = 0; mark = Inside }) ≡ codes "4 p0 C1.0.1 = 0 inside\n"
 unfolding digits step_text word_text sign_text mark_text
 a_load_that_wins_the_root = refl
-
--- wins_root
-who_wins_the_root_does : map wins_root (Plain ∷ Inside ∷ Out ∷ []) ≡ false ∷ true ∷ false ∷ []
-who_wins_the_root_does = refl
 
 -- inside_after
 the_place_that_won : inside_after four_steps ≡ Some 0

@@ -1,11 +1,7 @@
 -- The names of feeds, and their labels one by one.
-use Rattle.std.proofs.Common.{◌≡◌, ◌==◌, ℕ, ◌+◌, ◌<◌, Bool, List, [], ◌∷◌, ◌++◌, length, map, take, get_or, position, decimal, refl, arith, ap, length-take}
-use Rattle.std.specs.List.{find, position_or_len, enumerate_from}
-use Rattle.std.specs.Option.{option_map_or}
+use Rattle.std.proofs.Common.{◌≡◌, ℕ, ◌+◌, ◌<◌, Bool, List, [], ◌∷◌, ◌++◌, length, map, take, get_or, position, refl, arith, ap, length-take}
+use Rattle.std.specs.List.{position_or_len, enumerate_from}
 use Rattle.std.proofs.lemmas.List.{length-map, map_push, map_more}
-use Rattle.rt_print.specs.declared.labels.FeedLabel.{FeedLabel}
-use Rattle.rt_print.specs.Styles.{label_of}
-use Rattle.rt_print.specs.inside.Parts.{label_pairs}
 
 prefix_len-map : {X Y : Type 0} (read : X → Y) (test : Y → Bool) (xs : List X) → position_or_len test (map read xs) ≡ position_or_len (λ x. test (read x)) xs
 prefix_len-map read test [] = refl
@@ -14,12 +10,6 @@ prefix_len-map read test (x ∷ xs) = rw (prefix_len-map read test xs)
 -- the position among values that are read from a list's elements
 pub position-map : {X Y : Type 0} (read : X → Y) (test : Y → Bool) (xs : List X) → position test (map read xs) ≡ position (λ x. test (read x)) xs
 position-map read test xs = rw (length-map xs read, prefix_len-map read test xs)
-
--- the label of a feed is that of the first label with its number
-pub label_found : (labels : List FeedLabel) (feed : ℕ)
-    → label_of (label_pairs labels) feed ≡ option_map_or (λ label. label.text.items) (find (λ label. label.number == feed) labels) (decimal feed)
-label_found [] feed = refl
-label_found (label ∷ labels) feed = grind (arith, label_found labels feed)
 
 -- one more path has its number after the others
 enumerate-more : {X : Type 0} (n : ℕ) (xs : List X) (x : X) → enumerate_from n (xs ++ x ∷ []) ≡ enumerate_from n xs ++ (n + length xs, x) ∷ []

@@ -9,7 +9,7 @@ use Rattle.rt_rib.specs.declared.routes.Route.{Route}
 use Rattle.rt_rib.specs.declared.routes.Reason.{Reason}
 use Rattle.rt_print.specs.Routes.{hop_text, hop_members, route_text, route_line, route_object}
 use Rattle.rt_print.specs.Styles.{reason_text, also_object, address_head, row_as, found_as, all_found_as}
-use Rattle.rt_print.specs.inside.Parts.{either, route_front, route_back, route_open, asked_head, reason_end, comma, other_as, others_as}
+use Rattle.rt_print.specs.inside.Parts.{either, route_front, route_back, route_open, asked_head, reason_end, other_as, others_as}
 
 pub hop_fits : (hop : Hop) → length (hop_text hop) ≤ 15
 hop_fits hop = grind (arith, length-address_text)

@@ -52,8 +52,12 @@ pub(crate) fn label_in(labels: &[FeedLabel], feed: u32) -> Option<&[u8]>
     ensures some { IfSome result (λ label. label.now ≡ label_of (label_pairs labels.now) feed) }
     ensures none { result ≡ None → label_of (label_pairs labels.now) feed ≡ decimal feed }
 {
-    let label = labels.iter().find(|label| label.number == feed)?;
-    Some(label.text.as_slice())
+    for label in labels {
+        if label.number == feed {
+            return Some(label.text.as_slice());
+        }
+    }
+    None
 }
 
 /// Returns the numbers of the feeds of a second set of files in relation to a first set, whose k-th file is feed k. A

@@ -3,7 +3,7 @@ ghost use Rattle.std.specs.Prelude.{◌≡◌, ◌+◌, ◌≤◌, ◌++◌, [],
 ghost use Rattle.rt_cidr.specs.Output.{WritesText};
 ghost use Rattle.rt_cidr.specs.ShortText.{FitsInShortText};
 ghost use Rattle.rt_print.specs.Styles.{label_of, found_as, all_found_as};
-ghost use Rattle.rt_print.specs.inside.Parts.{either, route_open, asked_head, reason_end, comma, other_as};
+ghost use Rattle.rt_print.specs.inside.Parts.{either, route_open, asked_head, reason_end, other_as};
 
 use crate::routes::put_route;
 use crate::style::{Style, either};
@@ -48,8 +48,10 @@ pub fn write_all_matches<W: Write>(
         return put_none(w, json, addr, b"null,\"also\":[]}\n");
     };
     put_best(w, style, addr, best, either(json, b"\n", b"},\"also\":["))?;
-    for (index, route) in others.iter().enumerate() {
-        put_other(w, style, addr, best, comma(index), route)?;
+    let mut comma: &[u8] = b"";
+    for route in others {
+        put_other(w, style, addr, best, comma, route)?;
+        comma = b",";
     }
     put(w, either(json, b"", b"]}\n"))
 }
@@ -114,13 +116,6 @@ fn put_other<W: Write>(
         route,
         end.as_bytes(),
     )
-}
-
-/// Returns the text between an object and the ones before it, if their number is `before`.
-fn comma(before: usize) -> &'static [u8]
-    ensures { result.now ≡ comma (before + 1) }
-{
-    if before == 0 { b"" } else { b"," }
 }
 
 // Each function below prepends its text.

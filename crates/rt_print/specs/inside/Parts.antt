@@ -9,7 +9,7 @@ use Rattle.rt_print.specs.Routes.{hop_text, hop_members}
 use Rattle.rt_print.specs.Styles.{reason_text, also_line, also_object}
 use Rattle.std.specs.Option.{option_map_or}
 use Rattle.ya_core.specs.declared.step.Mark.{Mark}
-use Rattle.ya_core.specs.declared.step.Mark.TheVariants.{Plain, Inside, Out}
+use Rattle.ya_core.specs.declared.step.Mark.TheVariants.{Inside}
 use Rattle.ya_core.specs.declared.step.Step.{Step}
 
 -- the first text for lines, the second for objects
@@ -49,27 +49,18 @@ unfoldable pub other_as : Bool → (ℕ → List ℕ) → Addr → Route → Lis
 other_as false label addr best comma r = also_line label addr best r
 other_as true label addr best comma r = comma ++ also_object label best r
 
--- the text between an object and those before it; the first object has the number 1
-abbrev pub comma : ℕ → List ℕ
-comma number = if number == 1 then [] else codes ","
-
 -- routes that lost to it, objects with commas between them; the first route has this number among all that lost
 abbrev pub others_as : Bool → (ℕ → List ℕ) → Addr → Route → ℕ → List Route → List ℕ
 others_as json label addr best number [] = []
-others_as json label addr best number (r ∷ rs) = other_as json label addr best (comma number) r ++ others_as json label addr best (number + 1) rs
+others_as json label addr best number (r ∷ rs) =
+    other_as json label addr best (if number == 1 then [] else codes ",") r ++ others_as json label addr best (number + 1) rs
 
--- the step won the root
-abbrev pub wins_root : Mark → Bool
-wins_root Plain = false
-wins_root Inside = true
-wins_root Out = false
-
--- the place that is inside after the step: the step's place, if it won the root; none, if it is a later step of the
--- place that was inside
-abbrev pub inside_next : Option ℕ → Step → Option ℕ
-inside_next inside step =
-    if wins_root step.mark then Some step.place else if option_map_or (λ p. p == step.place) inside false then None else inside
+-- the place that is inside after a step of this place with this mark: the step's place, if it won the root; none, if it is
+-- a later step of the place that was inside
+abbrev pub inside_next : Option ℕ → ℕ → Mark → Option ℕ
+inside_next inside place Inside = Some place
+inside_next inside place _ = if option_map_or (λ p. p == place) inside false then None else inside
 
 -- the place that is inside after these steps: the last that won the root, unless it made a later step
 abbrev pub inside_after : List Step → Option ℕ
-inside_after steps = fold inside_next None steps
+inside_after steps = fold (λ inside step. inside_next inside step.place step.mark) None steps

@@ -1,4 +1,5 @@
-use Rattle.std.proofs.Common.{◌≡◌, ◌∷◌, refl, rules}
+use Rattle.std.proofs.Common.{◌≡◌, ◌∷◌, refl, arith, rules}
+use Rattle.std.proofs.lemmas.Bool.Decides.{nat_tests}
 use Rattle.std.proofs.lemmas.List.{nil_from_length, take_all}
 use Rattle.rt_print.specs.Styles.{label_of}
 use Rattle.rt_print.specs.inside.Parts.{others_as}
@@ -27,20 +28,23 @@ returns-in_err-put_other g c =
     let first = rw (c.either.ensures, c.is_json-json.ensures) at c.in_ok-put_best.ensures.ok in
     rw (cut, ← others_parts style.json (label_of style.labels) c.args.addr c.in-Some.best.now c.in-Some.others.now)
     (writes_after _ _ _ _ _ _ first (stops_within _ _ _ _ _ c.from_residual-in_err-put_other.ensures.0
-    (begins_all _ all (λ n. refl) (λ n x xs. refl) c.in-Some.others.now c.loop-index.index _ c.loop-index-test.true c.index-others-index.is _ _ _ c.loop-index.invariant
-    (rw c.comma.ensures at c.in_err-put_other.ensures.err))))
+    (begins_all _ all (λ n. refl) (λ n x xs. refl) c.in-Some.others.now c.loop-route.route-index _ c.loop-route-test.true c.route-item.is _ _ _ c.loop-route.invariant.written
+    (rw c.loop-route.invariant.comma at c.in_err-put_other.ensures.err))))
 
-pub loop-index-preserved : goal.loop-index-preserved
-loop-index-preserved g c =
+pub loop-route-preserved : goal.loop-route-preserved
+loop-route-preserved g c =
     let style = c.args.style.now in
-    appends_next _ (others_as style.json (label_of style.labels) c.args.addr c.in-Some.best.now) (λ n. refl) (λ n x xs. refl) c.in-Some.others.now c.loop-index.index _
-    c.loop-index-test.true c.index-others-index.is _ _ _ c.loop-index.invariant (rw c.comma.ensures at c.in_ok-put_other.ensures.ok)
+    record {
+      comma = grind (arith, nat_tests);
+      written = appends_next _ (others_as style.json (label_of style.labels) c.args.addr c.in-Some.best.now) (λ n. refl) (λ n x xs. refl) c.in-Some.others.now c.loop-route.route-index _
+          c.loop-route-test.true c.route-item.is _ _ _ c.loop-route.invariant.written (rw c.loop-route.invariant.comma at c.in_ok-put_other.ensures.ok);
+    }
 
 pub returns : goal.returns
 returns g c =
     let style = c.args.style.now in
     let cut : c.args.found.now ≡ c.in-Some.best.now ∷ c.in-Some.others.now = search rules in
     let first = rw (c.either.ensures, c.is_json-json.ensures) at c.in_ok-put_best.ensures.ok in
-    let others = rw (take_all c.loop-index.index c.in-Some.others.now c.loop-index-test.false) at c.loop-index.invariant in
+    let others = rw (take_all c.loop-route.route-index c.in-Some.others.now c.loop-route-test.false) at c.loop-route.invariant.written in
     rw (cut, ← others_parts style.json (label_of style.labels) c.args.addr c.in-Some.best.now c.in-Some.others.now)
     (writes_after _ _ _ _ _ _ first (writes_after _ _ _ _ _ _ others (rw (c.either-2.ensures, c.is_json-json.ensures) at c.put.ensures)))
