@@ -10,11 +10,10 @@
 //! write_routes(&mut out, &style, routes.as_slice())?;
 //! ```
 //!
-//! Each line is built in a short text. A line with a feed's number goes to the writer at once; one with another label in
-//! three parts, since a label may be longer than a short text. A printer writes the one text that its clause names or,
-//! after an error of the writer, a prefix of it. An [`OutputBuffer`] is a writer over another one: its contents are those
-//! of the other, followed by the bytes it holds. No call of a printer allocates; only `Style::new`, `DiffOptions::new` and
-//! `OutputRoom::new` do.
+//! Each route's line is built in a short text, and goes to the writer at once unless the label of its feed is too long for
+//! that. A printer writes the one text that its clause names or, after an error of the writer, a prefix of it. An
+//! [`OutputBuffer`] is a writer over another one: its contents are those of the other, followed by the bytes it holds. No
+//! call of a printer allocates; only `Style::new`, `DiffOptions::new` and `OutputRoom::new` do.
 //!
 //! `write_replay` writes the steps that `ya_core::replay` returns, and `inside_place` returns the place that is inside
 //! after them.
