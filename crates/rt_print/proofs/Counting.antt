@@ -1,5 +1,5 @@
 -- Numbers of routes: those that are counted in one pass, by a number of each route; and their texts.
-use Rattle.std.proofs.Common.{◌≡◌, ◌==◌, ℕ, ◌+◌, ◌<◌, ◌≤◌, inl, inr, List, length, get_or, set, take, replicate, count_by, decimal, refl, ◌∙◌, arith, zero, suc}
+use Rattle.std.proofs.Common.{◌≡◌, ◌==◌, ℕ, ◌+◌, ◌<◌, ◌≤◌, inl, inr, List, length, get_or, set, take, replicate, count_by, refl, ◌∙◌, arith, zero, suc}
 use Rattle.std.proofs.lemmas.Grind.{get_or-set_at}
 use Rattle.std.proofs.lemmas.Bool.{cases_Bool, cases_eq}
 use Rattle.std.proofs.lemmas.Bool.Decides.{nat_tests}
@@ -7,7 +7,6 @@ use Rattle.std.proofs.lemmas.List.{get_or-set_other, length-set, length-replicat
 use Rattle.std.proofs.lemmas.List.Sums.{count_by_more_yes, count_by_more_no}
 use Rattle.rt_rib.specs.declared.routes.Route.{Route}
 use Rattle.std.specs.List.{flat_map, range_with_len}
-use Rattle.rt_cidr.proofs.Promised.{length-decimal}
 
 -- the counts of the routes so far: one for each number up to the maximum, and none of them is above the number of routes
 pub record AreCounts (number : Route → ℕ) (max size i : ℕ) (routes : List Route) (counts : List ℕ) : Type 0 where
@@ -38,9 +37,6 @@ module _ (number : Route → ℕ) (max size i at : ℕ) (routes : List Route) (r
     ];
     few = λ k within. grind (arith, cases_eq k at, get_or-set_at, get_or-set_other, so_far.few, so_far.sized);
   }
-
-pub number_fits : (number : ℕ) → length (decimal number) ≤ 100
-number_fits number = omega (arith, length-decimal number)
 
 -- texts of the same numbers are the same
 pub each_same : (f g : ℕ → List ℕ) (from count : ℕ) → ((n : ℕ) → n < from + count → f n ≡ g n)

@@ -107,7 +107,7 @@ impl Text for Numbers<'_> {
 
 impl Numbers<'_> {
     /// Writes this number of routes with the label of its position, unless it is 0.
-    #[tactic(auto, using(crate::proofs::Counting::number_fits), unfolding(crate::specs::Counts::count_as))]
+    #[tactic(auto, using(crate::proofs::LineParts::fits), unfolding(crate::specs::Counts::count_as))]
     fn put_number<W: Write>(&self, w: &mut W, number: u32) -> io::Result<()>
         requires below { number < self.now.bound }
         ensures { WritesText (W.contents w.old) (W.contents w.new)

@@ -36,7 +36,7 @@ impl Text for &str {
 impl Text for u64 {
     ghost text = { λ number. decimal number };
 
-    #[tactic(auto, using(crate::proofs::Counting::number_fits))]
+    #[tactic(auto, using(crate::proofs::LineParts::fits))]
     fn put_to<W: Write>(&self, w: &mut W) -> io::Result<()> {
         let mut digits = ShortText::new();
         digits.prepend_decimal(*self);
