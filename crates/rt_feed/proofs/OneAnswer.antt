@@ -1,5 +1,5 @@
 -- A line has one answer: a command has one text, and a text has one first fault. So has a line of a text of addresses.
-use Rattle.std.proofs.Common.{◌≡◌, ℕ, ◌^◌, ◌<◌, inl, inr, List, [], ◌∷◌, length, slice_index_or, Option, Some, None, Ok, Err, subst, refl, sym, ap, ◌∙◌, arith}
+use Rattle.std.proofs.Common.{◌≡◌, ℕ, ◌^◌, ◌<◌, inl, inr, List, [], ◌∷◌, length, slice_index_or, codes, Option, Some, None, Ok, Err, subst, refl, sym, ap, ◌∙◌, arith}
 use Rattle.std.proofs.lemmas.Fmt.{decimal_injective}
 use Rattle.rt_cidr.specs.declared.address.Addr.{Addr}
 use Rattle.rt_cidr.specs.declared.prefixes.Prefix.{Prefix}
@@ -17,7 +17,6 @@ use Rattle.rt_feed.specs.CommandText.{words, route_words, HasHop, HasCommand}
 use Rattle.rt_print.specs.Routes.{hop_text}
 use Rattle.rt_feed.specs.Grammar.{Kind, prefix, address, IsOfKind, IsFaultOf, IsFirstFault, IsFaultAfter, IsFaultOfFields, prefix_fault, kinds_after, fields}
 use Rattle.rt_feed.specs.Grammar.{AnswersLine}
-use Rattle.rt_feed.specs.inside.Fields.{route_kinds, IsFaultAmong}
 use Rattle.rt_feed.specs.Addresses.{AnswersAddressLine}
 use Rattle.rt_feed.specs.Laws.{LineHasOneAnswer, AddressLineHasOneAnswer}
 use Rattle.rt_feed.proofs.CommandWords.{address-ne-discard, fields-command_text, length-command_text, not_skipped-command_text, not_skipped-address_text}
@@ -92,7 +91,7 @@ one_of_fields texts version (name ∷ rest) one two is other = one_after texts (
 
 -- a route's words have no fault
 sound-route : (version : Version) (p : Prefix) (pref : ℕ) (next : Hop) → pref < 2 ^ 32 → HasHop version next → (answer : LineFault)
-    → ¬ IsFaultAmong (route_kinds version) (route_words p pref next) answer
+    → ¬ IsFaultOfFields version (codes "add" ∷ route_words p pref next) answer
 sound-route version p pref next fits has answer (inl (not, is)) = not refl
 sound-route version p pref next fits has answer (inr (same, inl (none, is))) = none (p, refl)
 sound-route version p pref next fits has answer (inr (same, inr (some, inl (none, is)))) = none (pref, fits, refl)

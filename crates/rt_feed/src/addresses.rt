@@ -5,7 +5,7 @@ ghost use Rattle.rt_feed.specs.inside.ReadAddresses.{PutsLine};
 
 use crate::faulty::FaultyLines;
 use crate::lines::next_line;
-use crate::parse::{LineFault, check_length, is_skipped, parse_address};
+use crate::parse::{LINE_BYTES, LineFault, is_skipped, parse_address};
 use rt_cidr::Addr;
 use std::alloc::{AllocError, Global};
 
@@ -67,7 +67,9 @@ impl AddressText {
 pub fn parse_address_line(line: &[u8]) -> Result<Option<Addr>, LineFault>
     ensures { AnswersAddressLine line.now result }
 {
-    check_length(line)?;
+    if line.len() > LINE_BYTES {
+        return Err(LineFault::LineLength);
+    }
     if is_skipped(line) {
         return Ok(None);
     }

@@ -1,11 +1,10 @@
 //! One line of a feed's text, and its faults.
-ghost use Rattle.std.specs.Prelude.{◌≡◌, ◌≢◌, ◌∷◌, ◌<◌, ◌≤◌, ◌^◌, [], length, codes, decimal, IsTrue, ◌↔◌, None, MatchOption, MatchResult};
+ghost use Rattle.std.specs.Prelude.{◌≡◌, ◌≢◌, ◌∷◌, ◌<◌, ◌^◌, [], length, codes, decimal, None, MatchOption, MatchResult};
 ghost use Rattle.rt_cidr.specs.Text.{address_text, prefix_text};
-ghost use Rattle.rt_feed.specs.declared.parse.TheConstants.{LINE_BYTES};
-ghost use Rattle.rt_feed.specs.CommandText.{HasHop};
+ghost use Rattle.rt_feed.specs.CommandText.{words, route_words, HasHop, HasCommand};
 ghost use Rattle.rt_print.specs.Routes.{hop_text};
-ghost use Rattle.rt_feed.specs.Grammar.{Kind, kinds_after, is_skipped, fields, prefix_fault, AnswersLine};
-ghost use Rattle.rt_feed.specs.inside.Fields.{fields_of_rest, name_text, route_kinds, IsRoute, IsFaulty, IsFaultAmong, AnswersFields};
+ghost use Rattle.rt_feed.specs.Grammar.{Kind, kinds_after, is_skipped, IsFaultOfFields, AnswersLine};
+ghost use Rattle.rt_feed.specs.inside.Fields.{fields_of_rest, name_text, IsFaulty};
 
 use crate::lines::cut_at;
 use crate::versions::Version;
@@ -65,49 +64,27 @@ enum Name {
 /// comment (its first byte is `#`), or the first of its faults. The line is split at every space. `add` and `replace`
 /// have a prefix, a preference and a next hop, `withdraw` a prefix, `lookup` an address, and `dump` no field. Version 2
 /// also has `purge`, without a field, and a next hop may be `discard`. Doesn't allocate.
-#[tactic(auto, using(crate::proofs::CommandWords::line_from_words))]
+#[tactic(auto, using(crate::proofs::CommandWords::line_from_words, crate::proofs::CutBytes::fields_cut))]
 pub fn parse_line(line: &[u8], version: Version) -> Result<Option<Cmd>, LineFault>
     ensures { AnswersLine version line.now result }
-{
-    check_length(line)?;
-    if is_skipped(line) {
-        return Ok(None);
-    }
-    let command = parse_fields(line, version)?;
-    Ok(Some(command))
-}
-
-/// Returns E8 if the line is too long, whatever it says.
-pub(crate) fn check_length(line: &[u8]) -> Result<(), LineFault>
-    ensures { MatchResult result
-        (λ _. length line.now ≤ LINE_BYTES)
-        (λ answer. (LINE_BYTES < length line.now) × (answer ≡ LineFault.LineLength)) }
 {
     if line.len() > LINE_BYTES {
         return Err(LineFault::LineLength);
     }
-    Ok(())
+    if is_skipped(line) {
+        return Ok(None);
+    }
+    let (name, rest) = cut_at(line, b' ');
+    let name = name_of(name).ok_or(LineFault::Command)?;
+    let command = parse_command(name, rest, version)?;
+    Ok(Some(command))
 }
 
 /// Returns true if the line is empty or a comment.
 pub(crate) fn is_skipped(line: &[u8]) -> bool
     ensures { result ≡ is_skipped line.now }
 {
-    match line {
-        [] => true,
-        [first, ..] => *first == b'#',
-    }
-}
-
-/// Parses the line's fields as a command.
-fn parse_fields(line: &[u8], version: Version) -> Result<Cmd, LineFault>
-    ensures { AnswersFields version (fields line.now) result }
-{
-    let (name, rest) = cut_field(line);
-    match name_of(name) {
-        Some(name) => parse_command(name, rest, version),
-        None => Err(LineFault::Command),
-    }
+    matches!(line, [] | [b'#', ..])
 }
 
 /// Returns the command name that the field is, if it is one.
@@ -130,7 +107,9 @@ fn name_of(field: &[u8]) -> Option<Name>
 
 /// Parses the fields that follow this name.
 fn parse_command(name: Name, rest: Option<&[u8]>, version: Version) -> Result<Cmd, LineFault>
-    ensures { AnswersFields version (name_text name ∷ fields_of_rest rest.entry) result }
+    ensures { MatchResult result
+        (λ cmd. HasCommand version cmd × (name_text name ∷ fields_of_rest rest.entry ≡ words cmd))
+        (λ answer. IsFaultOfFields version (name_text name ∷ fields_of_rest rest.entry) answer) }
 {
     match name {
         Name::Add => {
@@ -163,25 +142,15 @@ fn parse_command(name: Name, rest: Option<&[u8]>, version: Version) -> Result<Cm
     }
 }
 
-/// Returns the first field, up to the first space, and the text after that space, if there is one.
+/// Returns the first of the remaining fields, and the text after it and its space; E2 if no field remains.
 #[tactic(auto, using(crate::proofs::CutBytes::fields_cut))]
-fn cut_field(text: &[u8]) -> (&[u8], Option<&[u8]>)
-    ensures { fields text.now ≡ result.0.now ∷ fields_of_rest result.1 }
-{
-    cut_at(text, b' ')
-}
-
-/// Returns E2 if any field remains.
-#[tactic(auto, using(crate::proofs::CutBytes::fields_nonempty))]
-fn no_field(rest: Option<&[u8]>) -> Result<(), LineFault>
+fn next_field(rest: Option<&[u8]>) -> Result<(&[u8], Option<&[u8]>), LineFault>
     ensures { MatchResult result
-        (λ none. fields_of_rest rest.entry ≡ [])
-        (λ answer. IsFaultAmong [] (fields_of_rest rest.entry) answer) }
+        (λ cut. fields_of_rest rest.entry ≡ cut.0.now ∷ fields_of_rest cut.1)
+        (λ answer. (fields_of_rest rest.entry ≡ []) × (answer ≡ LineFault.FieldCount)) }
 {
-    match rest {
-        None => Ok(()),
-        Some(_) => Err(LineFault::FieldCount),
-    }
+    let text = rest.ok_or(LineFault::FieldCount)?;
+    Ok(cut_at(text, b' '))
 }
 
 /// Returns the only remaining field; any other number of fields is E2.
@@ -190,32 +159,33 @@ fn only_field(rest: Option<&[u8]>) -> Result<&[u8], LineFault>
         (λ field. fields_of_rest rest.entry ≡ field.now ∷ [])
         (λ answer. (length (fields_of_rest rest.entry) ≢ 1) × (answer ≡ LineFault.FieldCount)) }
 {
-    let (field, rest) = cut_field(rest.ok_or(LineFault::FieldCount)?);
-    match rest {
-        None => Ok(field),
-        Some(_) => Err(LineFault::FieldCount),
-    }
+    let (field, rest) = next_field(rest)?;
+    no_field(rest)?;
+    Ok(field)
 }
 
-/// Returns the three remaining fields; any other number of fields is E2.
-fn three_fields(rest: Option<&[u8]>) -> Result<(&[u8], &[u8], &[u8]), LineFault>
+/// Returns E2 if any field remains.
+#[tactic(auto, using(crate::proofs::CutBytes::fields_nonempty))]
+fn no_field(rest: Option<&[u8]>) -> Result<(), LineFault>
     ensures { MatchResult result
-        (λ three. fields_of_rest rest.entry ≡ three.0.now ∷ three.1.now ∷ three.2.now ∷ [])
-        (λ answer. (length (fields_of_rest rest.entry) ≢ 3) × (answer ≡ LineFault.FieldCount)) }
+        (λ none. fields_of_rest rest.entry ≡ [])
+        (λ answer. (length (fields_of_rest rest.entry) ≢ 0) × (answer ≡ LineFault.FieldCount)) }
 {
-    let (first, rest) = cut_field(rest.ok_or(LineFault::FieldCount)?);
-    let (second, rest) = cut_field(rest.ok_or(LineFault::FieldCount)?);
-    let third = only_field(rest)?;
-    Ok((first, second, third))
+    match rest {
+        None => Ok(()),
+        Some(_) => Err(LineFault::FieldCount),
+    }
 }
 
 /// Parses the fields of an `add` or a `replace`: a prefix, a preference and a next hop.
 fn parse_route(rest: Option<&[u8]>, version: Version) -> Result<(Prefix, u32, Hop), LineFault>
     ensures { MatchResult result
-        (λ route. IsRoute version (fields_of_rest rest.entry) route.0 route.1 route.2)
-        (λ answer. IsFaultAmong (route_kinds version) (fields_of_rest rest.entry) answer) }
+        (λ route. (fields_of_rest rest.entry ≡ route_words route.0 route.1 route.2) × (route.1 < 2 ^ 32) × HasHop version route.2)
+        (λ answer. IsFaultOfFields version (codes "add" ∷ fields_of_rest rest.entry) answer) }
 {
-    let (prefix, pref, hop) = three_fields(rest)?;
+    let (prefix, rest) = next_field(rest)?;
+    let (pref, rest) = next_field(rest)?;
+    let hop = only_field(rest)?;
     let prefix = parse_prefix(prefix)?;
     let pref = parse_preference(pref)?;
     let hop = parse_hop(hop, version)?;
@@ -231,21 +201,11 @@ fn parse_prefix(field: &[u8]) -> Result<Prefix, LineFault>
     laws::one_text();
     laws::written();
     laws::read_again();
-    match Prefix::parse(field) {
-        Ok(prefix) => Ok(prefix),
-        Err(reason) => Err(prefix_fault(reason)),
-    }
-}
-
-/// Returns the line's fault for a text that isn't a prefix.
-fn prefix_fault(reason: TextFault) -> LineFault
-    ensures { result ≡ prefix_fault reason }
-{
-    match reason {
+    Prefix::parse(field).map_err(|reason| match reason {
         TextFault::Text => LineFault::Text,
         TextFault::Length => LineFault::PrefixLength,
         TextFault::Bits => LineFault::PrefixBits,
-    }
+    })
 }
 
 /// Parses the field as a preference.
@@ -256,10 +216,7 @@ fn parse_preference(field: &[u8]) -> Result<u32, LineFault>
 {
     laws::one_text();
     laws::written();
-    match decimal_u32(field) {
-        Some(pref) => Ok(pref),
-        None => Err(LineFault::Preference),
-    }
+    decimal_u32(field).ok_or(LineFault::Preference)
 }
 
 /// Parses the field as a next hop: an address, or `discard` in version 2.
@@ -270,25 +227,10 @@ fn parse_hop(field: &[u8], version: Version) -> Result<Hop, LineFault>
 {
     laws::one_text();
     laws::written();
-    match Addr::parse(field) {
-        Ok(address) => Ok(Hop::Via(address)),
-        Err(_) => {
-            if is_discard(field, version) {
-                Ok(Hop::Discard)
-            } else {
-                Err(LineFault::Hop)
-            }
-        }
-    }
-}
-
-/// Returns true if the field is `discard` and the version has it (version 2).
-fn is_discard(field: &[u8], version: Version) -> bool
-    ensures { IsTrue result ↔ ((version ≡ Version.Two) × (field.now ≡ codes "discard")) }
-{
-    match version {
-        Version::One => false,
-        Version::Two => field == DISCARD,
+    match (Addr::parse(field), version) {
+        (Ok(address), _) => Ok(Hop::Via(address)),
+        (Err(_), Version::Two) if field == DISCARD => Ok(Hop::Discard),
+        _ => Err(LineFault::Hop),
     }
 }
 
