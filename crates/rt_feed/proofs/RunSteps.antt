@@ -1,5 +1,5 @@
 -- A feed's text through a gate, one line and one batch further.
-use Rattle.std.proofs.Common.{◌≡◌, ◌≢◌, inl, inr, ℕ, ◌+◌, ◌<◌, List, [], ◌∷◌, ◌++◌, All, length, map, take, drop, zip, refl}
+use Rattle.std.proofs.Common.{◌≡◌, ◌≢◌, inl, inr, ℕ, ◌+◌, ◌<◌, ◌≤◌, List, [], ◌∷◌, ◌++◌, All, length, map, take, drop, zip, refl}
 use Rattle.std.proofs.Common.{sym, ap, subst, ◌∙◌, arith, append_assoc, append-nil, length-append}
 use Rattle.std.proofs.Math.Seq.{take-append_seam, drop-append_seam}
 use Rattle.std.proofs.lemmas.List.{map-append, length-map}
@@ -12,12 +12,12 @@ use Rattle.rt_shared.specs.declared.outcome.Outcome.TheVariants.{Refused}
 use Rattle.rt_feed.specs.declared.report.Line.{Line}
 use Rattle.rt_feed.specs.declared.versions.Version.{Version}
 use Rattle.rt_feed.specs.Lines.{IsBody, CutsLine, LineOutcome, asked, reading, LinesYield, TextYields}
-use Rattle.rt_feed.specs.Lines.{heading, line_answer, numbered, report_lines, command_of, commands_of}
+use Rattle.rt_feed.specs.Lines.{heading, report_lines, command_of, commands_of}
 use Rattle.rt_feed.specs.Grammar.{AnswersLine}
 use Rattle.rt_shared.specs.JournalVisits.{AnsweredBatch, visit_of}
 use Rattle.rt_feed.specs.Visits.{Gains, concatenated, piece_of, AnswersBatch}
 use Rattle.rt_feed.specs.FeedRuns.{RunsFeed, RunsPrefixOf, IsTold}
-use Rattle.rt_feed.specs.inside.FeedRuns.{filled, AnswersWaiting, HasRead, RunSoFar}
+use Rattle.rt_feed.specs.inside.FeedRuns.{filled, as_refused, AnswersWaiting, Gathers, HasRead, RunSoFar}
 use Rattle.rt_feed.proofs.LinesYield.{becomes-more, becomes-first, report_lines-append, report_lines-push, commands_of-append}
 use Rattle.rt_feed.proofs.FilledReports.{filled-none}
 
@@ -61,7 +61,7 @@ report_lines-given number (outcome ∷ outcomes) (line ∷ lines) =
     grind (arith, report_lines-given (number + 1) outcomes lines, report_lines-given (number + 1) (outcome ∷ outcomes) lines)
 
 -- their outcomes are the ones given
-commands_of-given : (outcomes : List Outcome) (cmds : List Cmd) (lines : List LineOutcome) → commands_of lines ≡ map (λ cmd. (cmd, Refused)) cmds
+commands_of-given : (outcomes : List Outcome) (cmds : List Cmd) (lines : List LineOutcome) → commands_of lines ≡ as_refused cmds
     → length outcomes ≡ length cmds → commands_of (given outcomes lines) ≡ zip cmds outcomes
 unfolding given
 commands_of-given [] [] lines is each = is
@@ -71,7 +71,7 @@ commands_of-given (outcome ∷ outcomes) (c ∷ cmds) (line ∷ lines) is each =
 commands_of-given outcomes cmds lines is each = absurd (omega (arith, each))
 
 -- if all are refused, the lines stay as they wait
-given-refused : (cmds : List Cmd) (lines : List LineOutcome) → commands_of lines ≡ map (λ cmd. (cmd, Refused)) cmds
+given-refused : (cmds : List Cmd) (lines : List LineOutcome) → commands_of lines ≡ as_refused cmds
     → given (map (λ cmd. Refused) cmds) lines ≡ lines
 unfolding given
 given-refused (c ∷ cmds) (line ∷ lines) is = grind (arith, given-refused cmds lines, given-refused (c ∷ cmds) lines)
@@ -113,6 +113,20 @@ module _ {G : Type 0} {holds : G → List AnsweredBatch → Type 0} {old new : G
     reported = inl (is ∙ ap (λ os. take first report ++ filled (drop first report) os) batch.appended);
   }
 
+-- a line has at most one command
+pub length-gathered : {number : ℕ} {line : List ℕ} (run run' : RunSoFar) → Gathers number line run run' → length run'.gathered ≤ length run.gathered + 1
+length-gathered run run' gathers =
+    let one : length (command_of gathers.outcome) ≤ 1 = grind arith in
+    let refused : Cmd → Cmd × Outcome = λ cmd. (cmd, Refused) in
+    omega (
+      arith,
+      one,
+      ap length gathers.gathered,
+      length-append (as_refused run.gathered) (command_of gathers.outcome),
+      length-map run.gathered refused,
+      length-map run'.gathered refused,
+    )
+
 -- before the first line
 pub nothing_read : {G : Type 0} {holds : G → List AnsweredBatch → Type 0} {batch : ℕ} {text lines : List ℕ} {number : ℕ} {gate : G} {run : RunSoFar}
     → run.report ≡ [] → run.first ≡ 0 → run.gathered ≡ [] → IsBody text run.version lines → number ≡ length (heading run.version)
@@ -136,28 +150,26 @@ nothing_read {holds} {lines} {gate} {run} report first gathered body count = rec
 module _ {G : Type 0} {holds : G → List AnsweredBatch → Type 0} {batch : ℕ} {text rest line next : List ℕ} {number : ℕ} {start gate : G}
     {run : RunSoFar} (read : HasRead holds batch text rest number start gate run) (cut : CutsLine rest line next) where
   -- one more line, whose command waits if it has one
-  pub line_read : (run' : RunSoFar) (outcome : LineOutcome) (more : List Cmd) {number' : ℕ} → number' ≡ number + 1
-      → AnswersLine run.version line (reading outcome)
-      → command_of outcome ≡ map (λ cmd. (cmd, Refused)) more → run'.report ≡ run.report ++ numbered number' (line_answer outcome) → run'.first ≡ run.first
-      → run'.gathered ≡ run.gathered ++ more → run'.version ≡ run.version → HasRead holds batch text next number' start gate run'
-  line_read run' outcome more {number'} one_more reads asks reported first gathered version =
+  pub line_read : (run' : RunSoFar) → Gathers (number + 1) line run run' → HasRead holds batch text next (number + 1) start gate run'
+  line_read run' gathers =
+      let outcome = gathers.outcome in
       let all : read.settled ++ (read.waiting ++ outcome ∷ []) ≡ (read.settled ++ read.waiting) ++ outcome ∷ [] =
       sym (append_assoc read.settled read.waiting (outcome ∷ [])) in
-      let count : number' ≡ 1 + length (read.settled ++ read.waiting) = omega (arith, one_more, read.counted) in
+      let count : number + 1 ≡ 1 + length (read.settled ++ read.waiting) = omega (arith, read.counted) in
       record {
         settled = read.settled;
         waiting = read.waiting ++ outcome ∷ [];
         becomes = becomes-more text rest next (read.settled ++ read.waiting) (outcome ∷ []) _ read.becomes
-            (line, next, cut, subst (λ v. AnswersLine v line (reading outcome)) (sym read.versioned) reads, refl) all;
-        versioned = read.versioned ∙ sym version;
+            (line, next, cut, subst (λ v. AnswersLine v line (reading outcome)) (sym read.versioned) gathers.reads, refl) all;
+        versioned = read.versioned ∙ sym gathers.version;
         earlier = read.earlier;
-        headed = read.headed ∙ ap (λ v. heading v ++ read.earlier) (sym version);
+        headed = read.headed ∙ ap (λ v. heading v ++ read.earlier) (sym gathers.version);
         counted = rw (all, length-append) (omega (arith, count));
         asked = read.asked;
         held = record {
-          reported = rw (reported, read.held.reported, all, report_lines-push, ← count) refl;
-          first = first ∙ read.held.first;
-          gathered = rw (commands_of-append, read.held.gathered, gathered, map-append, append-nil, asks) refl;
+          reported = rw (gathers.reported, read.held.reported, all, report_lines-push, ← count) refl;
+          first = gathers.first ∙ read.held.first;
+          gathered = rw (commands_of-append, read.held.gathered, gathers.gathered, append-nil) refl;
         };
       }
 

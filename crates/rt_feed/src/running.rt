@@ -1,7 +1,6 @@
 //! A run of a feed's text: its lines are read in order, and its commands executed on a gate in batches.
-ghost use Rattle.std.specs.Prelude.{◌≡◌, ◌≢◌, ℕ, ◌<◌, ◌≤◌, List, [], ◌∷◌, length, All, IsOk, IfOk, OnOk, OnErr, Ok, Some};
-ghost use Rattle.rt_feed.specs.Grammar.{AnswersLine};
-ghost use Rattle.rt_feed.specs.inside.FeedRuns.{AnswersWaiting, Gathers, ReadsOneMore};
+ghost use Rattle.std.specs.Prelude.{◌≡◌, ◌≢◌, ◌<◌, ◌≤◌, [], ◌∷◌, length, All, IsOk, IfOk, OnOk, OnErr};
+ghost use Rattle.rt_feed.specs.inside.FeedRuns.{AnswersWaiting, Gathers};
 ghost use Rattle.rt_feed.specs.FeedRuns.{IsTold, RunsFeed, RunsPrefixOf};
 
 use crate::gates::Gate;
@@ -36,12 +35,21 @@ pub fn run_feed<R: Wait, G: Gate>(
     ensures nothing { text.now ≡ [] → IsOk result }
 {
     let (version, lines) = text_body(text);
-    let mut run = FeedRun::new(alloc, version);
+    let mut run = FeedRun {
+        version,
+        report: Report::new(alloc),
+        first: 0,
+        gathered: Vec::new(alloc),
+        outcomes: Vec::new(alloc),
+    };
     let mut rest = lines;
     let mut number = version.first_line() - 1;
     while let Some((line, next)) = next_line(rest) {
         number += 1;
-        run.read(rt, number, line, batch, gate)?;
+        run.gather(number, line)?;
+        if run.gathered.len() == batch {
+            run.ask(rt, batch, gate);
+        }
         rest = next;
     }
     run.ask(rt, batch, gate);
@@ -80,80 +88,26 @@ impl Model for FeedRun {
 }
 
 impl FeedRun {
-    fn new(alloc: Global, version: Version) -> FeedRun
-        ensures version { result.version ≡ version }
-        ensures report { result.report ≡ [] }
-        ensures first { result.first ≡ 0 }
-        ensures gathered { result.gathered ≡ [] }
-    {
-        FeedRun {
-            version,
-            report: Report::new(alloc),
-            first: 0,
-            gathered: Vec::new(alloc),
-            outcomes: Vec::new(alloc),
-        }
-    }
-
-    /// Reads the line of this number.
-    fn read<R: Wait, G: Gate>(
-        &mut self,
-        rt: &R,
-        number: usize,
-        line: &[u8],
-        batch: usize,
-        gate: &mut G,
-    ) -> Result<(), AllocError>
+    /// Reads the line of this number. A fault is put into the report; a command waits, and is in the report as refused.
+    fn gather(&mut self, number: usize, line: &[u8]) -> Result<(), AllocError>
         requires { All (λ earlier. earlier.number < number) self.old.report }
-        ensures name { G.name gate.new ≡ G.name gate.old }
-        ensures ok { OnOk result (ReadsOneMore G.holds batch number line.now gate.old gate.new self.old self.new) }
-        ensures err { OnErr result ((gate.new ≡ gate.old) × IsTold self.old.version line.now) }
+        ensures ok { OnOk result (Gathers number line.now self.old self.new) }
+        ensures err { OnErr result (IsTold self.old.version line.now) }
     {
         match parse_line(line, self.version) {
             Err(fault) => {
                 let answer = Answer::Fault(fault);
-                self.report.push(Line { number, answer })?;
-                Ok(())
+                self.report.push(Line { number, answer })
             }
             Ok(asked) => match asked {
                 None => Ok(()),
-                Some(cmd) => self.take(rt, number, cmd, batch, gate),
+                Some(cmd) => {
+                    self.gathered.push(cmd)?;
+                    let answer = Answer::Refused;
+                    self.report.push(Line { number, answer })
+                }
             },
         }
-    }
-
-    /// Gathers the line's command, and executes the gathered ones if they make a batch.
-    fn take<R: Wait, G: Gate>(
-        &mut self,
-        rt: &R,
-        number: usize,
-        cmd: Cmd,
-        batch: usize,
-        gate: &mut G,
-    ) -> Result<(), AllocError>
-        requires { All (λ earlier. earlier.number < number) self.old.report }
-        ensures name { G.name gate.new ≡ G.name gate.old }
-        ensures ok { OnOk result ((line : List ℕ) → AnswersLine self.old.version line (Ok (Some cmd))
-            → ReadsOneMore G.holds batch number line gate.old gate.new self.old self.new) }
-        ensures err { OnErr result (gate.new ≡ gate.old) }
-    {
-        self.gather(number, cmd)?;
-        if self.gathered.len() == batch {
-            self.ask(rt, batch, gate);
-        }
-        Ok(())
-    }
-
-    /// Puts the line's command with those that wait.
-    fn gather(&mut self, number: usize, cmd: Cmd) -> Result<(), AllocError>
-        requires { All (λ earlier. earlier.number < number) self.old.report }
-        ensures { OnOk result (Gathers number cmd self.old self.new) }
-    {
-        self.gathered.push(cmd)?;
-        self.report.push(Line {
-            number,
-            answer: Answer::Refused,
-        })
     }
 
     /// Executes the commands that wait, if there are any, and puts their outcomes into the report.

@@ -1,13 +1,13 @@
 -- The progress of a run: the lines read, the commands that wait (in the report as refused), and the gate's gains.
-use Rattle.std.specs.Prelude.{◌≡◌, ◌⊎◌, ℕ, ◌+◌, ◌<◌, if◌then◌else◌, List, [], ◌∷◌, ◌++◌, All, length, map, take, drop, zip}
+use Rattle.std.specs.Prelude.{◌≡◌, ◌⊎◌, ℕ, ◌<◌, if◌then◌else◌, List, [], ◌∷◌, ◌++◌, All, length, map, take, drop, zip}
 use Rattle.rt_rib.specs.declared.commands.Cmd.{Cmd}
 use Rattle.rt_shared.specs.declared.outcome.Outcome.{Outcome}
 use Rattle.rt_shared.specs.declared.outcome.Outcome.TheVariants.{Refused}
 use Rattle.rt_feed.specs.declared.report.Line.{Line}
-use Rattle.rt_feed.specs.declared.report.Answer.TheVariants as answer
 use Rattle.rt_feed.specs.declared.versions.Version.{Version}
 use Rattle.rt_feed.specs.Reports.{is_fault}
-use Rattle.rt_feed.specs.Lines.{CutsLine, LineOutcome, TextYields, heading, command_answer, report_lines, commands_of}
+use Rattle.rt_feed.specs.Grammar.{AnswersLine}
+use Rattle.rt_feed.specs.Lines.{LineOutcome, TextYields, reading, heading, command_answer, line_answer, numbered, report_lines, command_of, commands_of}
 use Rattle.rt_shared.specs.JournalVisits.{AnsweredBatch, visit_of}
 use Rattle.rt_feed.specs.Visits.{Gains, concatenated, piece_of}
 
@@ -18,6 +18,10 @@ filled (line ∷ lines) [] = line ∷ lines
 filled (line ∷ lines) (outcome ∷ outcomes) =
     if is_fault line.answer then line ∷ filled lines (outcome ∷ outcomes)
     else record line { answer = command_answer outcome } ∷ filled lines outcomes
+
+-- the commands, each refused
+abbrev pub as_refused : List Cmd → List (Cmd × Outcome)
+as_refused cmds = map (λ cmd. (cmd, Refused)) cmds
 
 -- the commands that waited were executed, in one visit if there are any, and the report has their outcomes from this
 -- index on
@@ -36,10 +40,12 @@ pub record RunSoFar : Type 0 where
   pub first : ℕ
   pub gathered : List Cmd
 
--- the command of the line of this number waits, and is in the report as refused
-pub record Gathers (number : ℕ) (cmd : Cmd) (run run' : RunSoFar) : Type 0 where
-  pub reported : run'.report ≡ run.report ++ record { number = number; answer = answer.Refused } ∷ []
-  pub gathered : run'.gathered ≡ run.gathered ++ cmd ∷ []
+-- the line of this number is read: the report has its answer, and its command waits, in the report as refused
+pub record Gathers (number : ℕ) (line : List ℕ) (run run' : RunSoFar) : Type 0 where
+  pub outcome : LineOutcome
+  pub reads : AnswersLine run.version line (reading outcome)
+  pub reported : run'.report ≡ run.report ++ numbered number (line_answer outcome)
+  pub gathered : as_refused run'.gathered ≡ as_refused run.gathered ++ command_of outcome
   pub first : run'.first ≡ run.first
   pub version : run'.version ≡ run.version
 
@@ -54,7 +60,7 @@ pub record ExecutedWhole {G : Type 0} (holds : G → List AnsweredBatch → Type
 pub record HasGathered (run : RunSoFar) (settled waiting : List LineOutcome) : Type 0 where
   pub reported : run.report ≡ report_lines 1 (settled ++ waiting)
   pub first : run.first ≡ length (report_lines 1 settled)
-  pub gathered : commands_of waiting ≡ map (λ cmd. (cmd, Refused)) run.gathered
+  pub gathered : commands_of waiting ≡ as_refused run.gathered
 
 -- the run has read `number` lines of the text, and this rest is unread. First come lines whose commands were executed,
 -- including the line of the version; the commands of the others wait
@@ -73,10 +79,3 @@ pub record HasRead {G : Type 0} (holds : G → List AnsweredBatch → Type 0) (b
 abbrev pub IsReading : {G : Type 0} → (G → List AnsweredBatch → Type 0) → ℕ → List ℕ → List ℕ → ℕ → G → G → RunSoFar → Type 0
 IsReading {G} holds batch text rest number old now run =
     HasRead holds batch text rest number old now run × (length run.gathered < batch)
-
--- this line is read: if it is the first of the rest of a text whose lines before it were read, then all of them were
--- read, whatever the text is
-abbrev pub ReadsOneMore : {G : Type 0} → (G → List AnsweredBatch → Type 0) → ℕ → ℕ → List ℕ → G → G → RunSoFar → RunSoFar → Type 0
-ReadsOneMore {G} holds batch number line old new run run' =
-    (text rest next : List ℕ) (earlier : ℕ) (start : G) → number ≡ earlier + 1 → IsReading holds batch text rest earlier start old run → CutsLine rest line next
-    → IsReading holds batch text next number start new run'
