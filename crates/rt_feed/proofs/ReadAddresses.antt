@@ -8,7 +8,7 @@ use Rattle.rt_feed.specs.declared.faulty.FaultyLines.{FaultyLines}
 use Rattle.rt_feed.specs.Lines.{CutsLine}
 use Rattle.rt_feed.specs.Laws.{AddressLineHasOneAnswer, AddressTextHasOneReading}
 use Rattle.rt_feed.specs.Addresses.{AnswersAddressLine, addresses_said, faults_said, faulty_lines}
-use Rattle.rt_feed.specs.inside.ReadAddresses.{AreSaid, AreRead, PutsLine}
+use Rattle.rt_feed.specs.inside.ReadAddresses.{AreRead}
 use Rattle.rt_feed.proofs.LinesYield.{say-append, length-said, next_number}
 use Rattle.rt_feed.proofs.OneCut.{say_alike}
 
@@ -40,28 +40,20 @@ count-lines faults = grind arith
 pub counted-below : (text rest : List ℕ) (number : ℕ) (addresses : List Addr) (faulty : FaultyLines) → AreRead text rest number addresses faulty
     → faulty.count < number + 1
 counted-below text rest number addresses faulty read =
-    omega (arith, read.counted, faults-few 1 read.says, count-lines (faults_said 1 read.says), ap (λ (f : FaultyLines). f.count) read.are_said.faults)
+    omega (arith, read.counted, faults-few 1 read.says, count-lines (faults_said 1 read.says), ap (λ (f : FaultyLines). f.count) read.faults)
 
--- one more line, whatever its answer
-pub said_more : (says : List Says) (one : Says) (old new : List Addr) (faulty faulty' : FaultyLines) → AreSaid says old faulty
-    → new ≡ old ++ addresses_said (one ∷ []) → faulty' ≡ faulty_lines (faults_said 1 says ++ faults_said (1 + length says) (one ∷ []))
-    → AreSaid (says ++ one ∷ []) new faulty'
-said_more says one old new faulty faulty' are pushed put = record {
-  said = pushed ∙ (ap (λ (l : List Addr). l ++ addresses_said (one ∷ [])) are.said ∙ sym (addresses_said-append says (one ∷ [])));
-  faults = put ∙ ap faulty_lines (sym (faults_said-append 1 says (one ∷ [])));
-}
-
--- the line after those that were read is read
-pub read_more : (text rest line next : List ℕ) (number : ℕ) (old new : List Addr) (faulty faulty' : FaultyLines) → AreRead text rest number old faulty
-    → CutsLine rest line next → PutsLine (number + 1) line old faulty new faulty'
-    → AreRead text next (number + 1) new faulty'
-read_more text rest line next number old new faulty faulty' read cut put =
-    let more = put read.says (omega (arith, read.counted)) read.are_said in
+-- the line after those that were read is read, whatever its answer
+pub read_more : {text rest line next : List ℕ} {number : ℕ} {old new : List Addr} {faulty faulty' : FaultyLines} (read : AreRead text rest number old faulty)
+    (one : Says) → CutsLine rest line next → AnswersAddressLine line one → new ≡ old ++ addresses_said (one ∷ [])
+    → faulty' ≡ faulty_lines (faults_said 1 read.says ++ faults_said (number + 1) (one ∷ [])) → AreRead text next (number + 1) new faulty'
+read_more {text} {rest} {line} {next} {number} read one cut answers pushed put =
+    let here : number + 1 ≡ 1 + length read.says = omega (arith, read.counted) in
     record {
-      says = read.says ++ more.0 ∷ [];
-      lines = say-append AnswersAddressLine text rest next read.says (more.0 ∷ []) read.lines (line, next, cut, more.1, refl);
-      counted = omega (arith, read.counted, length-append read.says (more.0 ∷ []));
-      are_said = more.2;
+      says = read.says ++ one ∷ [];
+      lines = say-append AnswersAddressLine text rest next read.says (one ∷ []) read.lines (line, next, cut, answers, refl);
+      counted = omega (arith, read.counted, length-append read.says (one ∷ []));
+      said = pushed ∙ (ap (λ (l : List Addr). l ++ addresses_said (one ∷ [])) read.said ∙ sym (addresses_said-append read.says (one ∷ [])));
+      faults = rw (faults_said-append, ← here) put;
     }
 
 -- the number of lines read is at most the number of the text's bytes

@@ -1,7 +1,6 @@
 //! A text of addresses, one a line.
-ghost use Rattle.std.specs.Prelude.{◌<◌, IfOk, OnOk};
+ghost use Rattle.std.specs.Prelude.{IfOk};
 ghost use Rattle.rt_feed.specs.Addresses.{AnswersAddressLine, SaysAddresses};
-ghost use Rattle.rt_feed.specs.inside.ReadAddresses.{PutsLine};
 
 use crate::faulty::FaultyLines;
 use crate::lines::next_line;
@@ -32,32 +31,16 @@ pub fn read_addresses(alloc: Global, text: &[u8]) -> Result<AddressText, AllocEr
     let mut number = 0;
     while let Some((line, behind)) = next_line(rest) {
         number += 1;
-        read.put_line(number, line)?;
         rest = behind;
-    }
-    Ok(read)
-}
-
-impl AddressText {
-    /// Reads the line of this number.
-    fn put_line(&mut self, number: usize, line: &[u8]) -> Result<(), AllocError>
-        requires { self.old.faulty.count < number }
-        ensures { OnOk result (PutsLine number line.now self.old.addresses.items self.old.faulty self.new.addresses.items self.new.faulty) }
-    {
         match parse_address_line(line) {
-            Err(fault) => {
-                self.faulty.put(number, fault);
-                Ok(())
-            }
+            Err(fault) => read.faulty.put(number, fault),
             Ok(said) => match said {
-                None => Ok(()),
-                Some(address) => {
-                    self.addresses.push(address)?;
-                    Ok(())
-                }
+                None => {}
+                Some(address) => read.addresses.push(address)?,
             },
         }
     }
+    Ok(read)
 }
 
 /// Parses a line of a text of addresses, without its LF. Returns its address, or `None` if it is empty or a comment

@@ -1,5 +1,5 @@
 -- The progress of reading a text of addresses.
-use Rattle.std.specs.Prelude.{◌≡◌, ℕ, ◌+◌, List, [], ◌∷◌, ◌++◌, Option, length}
+use Rattle.std.specs.Prelude.{◌≡◌, ℕ, List, Option, length}
 use Rattle.std.specs.declared.result.Result.{Result}
 use Rattle.rt_cidr.specs.declared.address.Addr.{Addr}
 use Rattle.rt_feed.specs.declared.parse.LineFault.{LineFault}
@@ -7,20 +7,10 @@ use Rattle.rt_feed.specs.declared.faulty.FaultyLines.{FaultyLines}
 use Rattle.rt_feed.specs.Lines.{LinesParseAs}
 use Rattle.rt_feed.specs.Addresses.{AnswersAddressLine, addresses_said, faults_said, faulty_lines}
 
--- lines with these answers have these addresses and these faults
-pub record AreSaid (says : List (Result (Option Addr) LineFault)) (addresses : List Addr) (faulty : FaultyLines) : Type 0 where
-  pub said : addresses ≡ addresses_said says
-  pub faults : faulty ≡ faulty_lines (faults_said 1 says)
-
 -- `number` lines of the text were read, this rest is unread, and these are their addresses and faulty lines
 pub record AreRead (text rest : List ℕ) (number : ℕ) (addresses : List Addr) (faulty : FaultyLines) : Type 0 where
   pub says : List (Result (Option Addr) LineFault)
   pub lines : LinesParseAs AnswersAddressLine text says rest
   pub counted : number ≡ length says
-  pub are_said : AreSaid says addresses faulty
-
--- the line of this number is read: whatever the answers for the lines before it, one answer is added
-abbrev pub PutsLine : ℕ → List ℕ → List Addr → FaultyLines → List Addr → FaultyLines → Type 0
-PutsLine number line old faulty new faulty' =
-    (says : List (Result (Option Addr) LineFault)) → number ≡ length says + 1 → AreSaid says old faulty
-    → (one : Result (Option Addr) LineFault) × AnswersAddressLine line one × AreSaid (says ++ one ∷ []) new faulty'
+  pub said : addresses ≡ addresses_said says
+  pub faults : faulty ≡ faulty_lines (faults_said 1 says)

@@ -1,4 +1,5 @@
-use Rattle.std.proofs.Common.{◌+◌, ◌≤◌, length, arith}
+use Rattle.std.proofs.Common.{◌+◌, ◌≤◌, length, Some, None, Ok, Err, sym, ap, ◌∙◌, append-nil, arith}
+use Rattle.rt_feed.specs.Addresses.{faults_said, faulty_lines}
 use Rattle.rt_feed.proofs.LinesYield.{length-cut}
 use Rattle.rt_feed.proofs.ReadAddresses.{counted-below, read_more, numbered-within}
 use Rattle.rt_feed.proofs.addresses.read_addresses.Goals as goal
@@ -10,10 +11,24 @@ overflow_add-number c =
     let small : c.loop-line.number + 1 ≤ length c.args.text.now = omega (arith, within, some) in
     omega (arith, small)
 
-pub put_line-requires : goal.put_line-requires
-put_line-requires c = counted-below c.args.text.now c.loop-line.rest.now c.loop-line.number _ _ c.loop-line.invariant
+pub put-requires : goal.put-requires
+put-requires c = counted-below c.args.text.now c.loop-line.rest.now c.loop-line.number _ _ c.loop-line.invariant
+
+pub loop-line-preserved-in-Err : goal.loop-line-preserved-in-Err
+loop-line-preserved-in-Err c =
+    let read = c.loop-line.invariant in
+    read_more read (Err c.in-Err.fault) (c.in-Some.ensures {u = tt}) (c.in-Err.ensures {u = tt}) (sym (append-nil _))
+    (c.put.ensures (faults_said 1 read.says) read.faults)
+
+pub loop-line-preserved-in-None : goal.loop-line-preserved-in-None
+loop-line-preserved-in-None c =
+    let read = c.loop-line.invariant in
+    read_more read (Ok None) (c.in-Some.ensures {u = tt}) (rw c.in-None.is at (c.in-Ok.ensures {u = tt})) (sym (append-nil _))
+    (read.faults ∙ ap faulty_lines (sym (append-nil _)))
 
 pub loop-line-preserved : goal.loop-line-preserved
 loop-line-preserved c =
-    read_more c.args.text.now c.loop-line.rest.now c.in-Some.line.now c.in-Some.behind.now c.loop-line.number _ _ _ _ c.loop-line.invariant
-    (c.in-Some.ensures {u = tt}) (c.in_ok-put_line.ensures {u = tt})
+    let read = c.loop-line.invariant in
+    let address = c.in-Some-said.address in
+    read_more read (Ok (Some address)) (c.in-Some.ensures {u = tt}) (rw c.in-Some-said.is at (c.in-Ok.ensures {u = tt}))
+    (c.in_ok-push-in-Some-said.ensures {u = tt}).items (read.faults ∙ ap faulty_lines (sym (append-nil _)))
