@@ -1,5 +1,5 @@
 -- Lines of a text one after another: their outcomes, the report's lines for them and their commands.
-use Rattle.std.proofs.Common.{◌≡◌, ℕ, ◌+◌, ◌<◌, ◌≤◌, List, [], ◌∷◌, ◌++◌, suc, add-zero, length, All, Option, Some, None, sym, ◌∙◌}
+use Rattle.std.proofs.Common.{◌≡◌, ℕ, ◌+◌, ◌<◌, ◌≤◌, List, [], ◌∷◌, ◌++◌, suc, add-zero, length, All, Option, Some, None, ◌∙◌}
 use Rattle.std.proofs.Common.{ap, refl, arith, append_assoc, length-append}
 use Rattle.std.proofs.lemmas.List.{append-nil, nil_from_length}
 use Rattle.std.proofs.lemmas.List.Elements.{All-nil, All-cons, All-append, All-weaker}
@@ -19,13 +19,6 @@ say-append says lines middle rest [] more first second = rw first second
 say-append says lines middle rest (one ∷ others) more (line, next, cut, said, first) second =
     (line, next, cut, said, say-append says next middle rest others more first second)
 
--- the first of some lines have their values, and so do the others
-pub say-first : {X : Type 0} (says : List ℕ → X → Type 0) (lines rest : List ℕ) (some more : List X) → LinesParseAs says lines (some ++ more) rest
-    → (middle : List ℕ) × LinesParseAs says lines some middle × LinesParseAs says middle more rest
-say-first says lines rest [] more is = (lines, refl, is)
-say-first says lines rest (one ∷ others) more (line, next, cut, said, is) =
-    let first = say-first says next rest others more is in (first.0, (line, next, cut, said, first.1), first.2)
-
 -- a line takes at least one byte
 pub length-cut : (text line rest : List ℕ) → CutsLine text line rest → length rest < length text
 length-cut text line rest cut = grind (arith, length-append, nil_from_length)
@@ -38,35 +31,20 @@ length-said says lines rest (one ∷ others) (line, next, cut, said, is) =
     omega (arith, length-cut lines line next cut, length-said says next rest others is)
 
 -- the meaning of a line with this outcome
-abbrev says : Version → List ℕ → LineOutcome → Type 0
+abbrev pub says : Version → List ℕ → LineOutcome → Type 0
 says version line outcome = AnswersLine version line (reading outcome)
 
 -- more lines of a text
-abbrev pub becomes-more : (text middle rest : List ℕ) (outcomes more whole : List LineOutcome) → (is : TextYields text outcomes middle)
-    → LinesYield is.version middle more rest → whole ≡ outcomes ++ more → TextYields text whole rest
-becomes-more text middle rest outcomes more whole is become same = record {
+abbrev pub becomes-more : (text middle rest : List ℕ) (outcomes more : List LineOutcome) → (is : TextYields text outcomes middle)
+    → LinesYield is.version middle more rest → TextYields text (outcomes ++ more) rest
+becomes-more text middle rest outcomes more is become = record {
   version = is.version;
   lines = is.lines;
   read = is.read ++ more;
   body = is.body;
   become = say-append (says is.version) is.lines middle rest is.read more is.become become;
-  joined = same ∙ (ap (λ os. os ++ more) is.joined ∙ append_assoc (heading is.version) is.read more);
+  joined = ap (λ os. os ++ more) is.joined ∙ append_assoc (heading is.version) is.read more;
 }
-
--- the outcomes after the heading
-pub behind_heading : (version : Version) (earlier more read : List LineOutcome) → (heading version ++ earlier) ++ more ≡ heading version ++ read
-    → read ≡ earlier ++ more
-behind_heading version earlier more read is = grind arith
-
--- the first lines of a text, and the lines after them
-abbrev pub becomes-first : (text rest : List ℕ) (version : Version) (outcomes earlier more : List LineOutcome) → (is : TextYields text (outcomes ++ more) rest)
-    → is.version ≡ version → outcomes ≡ heading version ++ earlier
-    → (middle : List ℕ) × (begun : TextYields text outcomes middle) × LinesYield begun.version middle more rest
-becomes-first text rest version outcomes earlier more is same headed =
-    let begins : outcomes ≡ heading is.version ++ earlier = rw same headed in
-    let parts : is.read ≡ earlier ++ more = behind_heading is.version earlier more is.read (ap (λ os. os ++ more) (sym begins) ∙ is.joined) in
-    let first = say-first (says is.version) is.lines rest earlier more (rw parts at is.become) in
-    (first.0, record { version = is.version; lines = is.lines; read = earlier; body = is.body; become = first.1; joined = begins }, first.2)
 
 length-body : (text lines : List ℕ) (version : Version) → IsBody text version lines → length (heading version) + length lines ≤ length text
 length-body text lines version body = grind (arith, length-cut)

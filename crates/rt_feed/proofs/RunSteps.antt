@@ -1,6 +1,6 @@
 -- A feed's text through a gate, one line and one batch further.
 use Rattle.std.proofs.Common.{◌≡◌, ◌≢◌, inl, inr, ℕ, ◌+◌, ◌<◌, ◌≤◌, List, [], ◌∷◌, ◌++◌, All, length, map, take, drop, zip, refl}
-use Rattle.std.proofs.Common.{sym, ap, subst, ◌∙◌, arith, append_assoc, append-nil, length-append}
+use Rattle.std.proofs.Common.{sym, ap, ◌∙◌, arith, append_assoc, append-nil, length-append}
 use Rattle.std.proofs.Math.Seq.{take-append_seam, drop-append_seam}
 use Rattle.std.proofs.lemmas.List.{map-append, length-map}
 use Rattle.std.proofs.lemmas.Grind.{flat_map-append}
@@ -11,14 +11,13 @@ use Rattle.rt_shared.specs.declared.outcome.Outcome.{Outcome}
 use Rattle.rt_shared.specs.declared.outcome.Outcome.TheVariants.{Refused}
 use Rattle.rt_feed.specs.declared.report.Line.{Line}
 use Rattle.rt_feed.specs.declared.versions.Version.{Version}
-use Rattle.rt_feed.specs.Lines.{IsBody, CutsLine, LineOutcome, asked, reading, LinesYield, TextYields}
+use Rattle.rt_feed.specs.Lines.{IsBody, CutsLine, LineOutcome, asked, LinesYield, TextYields}
 use Rattle.rt_feed.specs.Lines.{heading, report_lines, command_of, commands_of}
-use Rattle.rt_feed.specs.Grammar.{AnswersLine}
 use Rattle.rt_shared.specs.JournalVisits.{AnsweredBatch, visit_of}
 use Rattle.rt_feed.specs.Visits.{Gains, concatenated, piece_of, AnswersBatch}
 use Rattle.rt_feed.specs.FeedRuns.{RunsFeed, RunsPrefixOf, IsTold}
 use Rattle.rt_feed.specs.inside.FeedRuns.{filled, as_refused, AnswersWaiting, Gathers, HasRead, RunSoFar}
-use Rattle.rt_feed.proofs.LinesYield.{becomes-more, becomes-first, report_lines-append, report_lines-push, commands_of-append}
+use Rattle.rt_feed.proofs.LinesYield.{says, say-append, length-said, becomes-more, length-outcomes, report_lines-append, report_lines-push, commands_of-append}
 use Rattle.rt_feed.proofs.FilledReports.{filled-none}
 
 -- a single piece, joined, is itself
@@ -129,23 +128,38 @@ length-gathered run run' gathers =
 
 -- before the first line
 pub nothing_read : {G : Type 0} {holds : G → List AnsweredBatch → Type 0} {batch : ℕ} {text lines : List ℕ} {number : ℕ} {gate : G} {run : RunSoFar}
-    → run.report ≡ [] → run.first ≡ 0 → run.gathered ≡ [] → IsBody text run.version lines → number ≡ length (heading run.version)
+    → 0 < batch → run.report ≡ [] → run.first ≡ 0 → run.gathered ≡ [] → IsBody text run.version lines → number ≡ length (heading run.version)
     → HasRead holds batch text lines number gate gate run
-nothing_read {holds} {lines} {gate} {run} report first gathered body count = record {
+nothing_read {holds} {lines} {gate} {run} some report first gathered body count = record {
   settled = heading run.version;
-  waiting = [];
-  becomes = record { version = run.version; lines = lines; read = []; body = body; become = refl; joined = append-nil _ ∙ sym (append-nil _) };
-  versioned = refl;
-  earlier = [];
-  headed = sym (append-nil (heading run.version));
-  counted = rw append-nil count;
-  asked = record { pieces = []; full = All-nil _; is_joined = (no_lines run.version).1; gained = λ visits held. rw (append-nil visits) held };
-  held = record {
-    reported = rw (append-nil, report, (no_lines run.version).0) refl;
-    first = rw (first, (no_lines run.version).0) refl;
-    gathered = rw gathered refl;
+  unasked = lines;
+  asks = record {
+    becomes = record { version = run.version; lines = lines; read = []; body = body; become = refl; joined = sym (append-nil _) };
+    pieces = [];
+    cut = record { whole = []; last = []; full = All-nil _; fewer = some; is_joined = (no_lines run.version).1; is_cut = refl };
+    gained = λ visits held. rw (append-nil visits) held;
   };
+  full = refl;
+  versioned = refl;
+  waiting = [];
+  become = refl;
+  counted = rw append-nil count;
+  reported = rw (append-nil, report, (no_lines run.version).0) refl;
+  first = rw (first, (no_lines run.version).0) refl;
+  gathered = rw gathered refl;
 }
+
+-- the text has at least one byte for each line that was read, besides the rest
+pub length-read : {G : Type 0} {holds : G → List AnsweredBatch → Type 0} {batch : ℕ} {text rest : List ℕ} {number : ℕ} {start gate : G} {run : RunSoFar}
+    → HasRead holds batch text rest number start gate run → number + length rest ≤ length text
+length-read {text} {rest} {run} read =
+    omega (
+      arith,
+      read.counted,
+      length-append read.settled read.waiting,
+      length-outcomes text read.unasked read.settled read.asks.becomes,
+      length-said (says run.version) read.unasked rest read.waiting read.become,
+    )
 
 module _ {G : Type 0} {holds : G → List AnsweredBatch → Type 0} {batch : ℕ} {text rest line next : List ℕ} {number : ℕ} {start gate : G}
     {run : RunSoFar} (read : HasRead holds batch text rest number start gate run) (cut : CutsLine rest line next) where
@@ -158,49 +172,33 @@ module _ {G : Type 0} {holds : G → List AnsweredBatch → Type 0} {batch : ℕ
       let count : number + 1 ≡ 1 + length (read.settled ++ read.waiting) = omega (arith, read.counted) in
       record {
         settled = read.settled;
-        waiting = read.waiting ++ outcome ∷ [];
-        becomes = becomes-more text rest next (read.settled ++ read.waiting) (outcome ∷ []) _ read.becomes
-            (line, next, cut, subst (λ v. AnswersLine v line (reading outcome)) (sym read.versioned) gathers.reads, refl) all;
+        unasked = read.unasked;
+        asks = read.asks;
+        full = read.full;
         versioned = read.versioned ∙ sym gathers.version;
-        earlier = read.earlier;
-        headed = read.headed ∙ ap (λ v. heading v ++ read.earlier) (sym gathers.version);
+        waiting = read.waiting ++ outcome ∷ [];
+        become = rw gathers.version
+            (say-append (says run.version) read.unasked rest next read.waiting (outcome ∷ []) read.become (line, next, cut, gathers.reads, refl));
         counted = rw (all, length-append) (omega (arith, count));
-        asked = read.asked;
-        held = record {
-          reported = rw (gathers.reported, read.held.reported, all, report_lines-push, ← count) refl;
-          first = gathers.first ∙ read.held.first;
-          gathered = rw (commands_of-append, read.held.gathered, gathers.gathered, append-nil) refl;
-        };
+        reported = rw (gathers.reported, read.reported, all, report_lines-push, ← count) refl;
+        first = gathers.first ∙ read.first;
+        gathered = rw (commands_of-append, read.gathered, gathers.gathered, append-nil) refl;
       }
 
   -- the text was read up to this line, and no more is executed
-  pub stopped : length run.gathered < batch → IsTold run.version line → RunsPrefixOf holds batch text start gate
-  stopped few told =
-      let first = becomes-first text rest run.version read.settled read.earlier read.waiting read.becomes read.versioned read.headed in
-      record {
-        outcomes = read.settled;
-        unasked = first.0;
-        asks = record {
-          becomes = first.1;
-          pieces = read.asked.pieces;
-          cut = record {
-            whole = read.asked.pieces;
-            last = [];
-            full = read.asked.full;
-            fewer = omega (arith, few);
-            is_joined = read.asked.is_joined ∙ sym (append-nil (concatenated read.asked.pieces));
-            is_cut = sym (append-nil read.asked.pieces);
-          };
-          gained = read.asked.gained;
-        };
-        more = read.waiting;
-        rest = rest;
-        become = first.2;
-        line = line;
-        next = next;
-        cut = cut;
-        told = subst (λ v. IsTold v line) (sym read.versioned) told;
-      }
+  pub stopped : IsTold run.version line → RunsPrefixOf holds batch text start gate
+  stopped told = record {
+    outcomes = read.settled;
+    unasked = read.unasked;
+    asks = read.asks;
+    more = read.waiting;
+    rest = rest;
+    become = rw read.versioned read.become;
+    line = line;
+    next = next;
+    cut = cut;
+    told = rw read.versioned told;
+  }
 
 module _ {G : Type 0} {holds : G → List AnsweredBatch → Type 0} {batch : ℕ} {text rest : List ℕ} {number : ℕ} {start gate new : G}
     {run : RunSoFar} {report : List Line} (read : HasRead holds batch text rest number start gate run)
@@ -215,46 +213,63 @@ module _ {G : Type 0} {holds : G → List AnsweredBatch → Type 0} {batch : ℕ
   length-executed : length executed ≡ length run.gathered
   length-executed = omega (arith, length-zip run.gathered answers.outcomes, answers.each)
 
-  abbrev becomes-answered : (whole : List LineOutcome) → whole ≡ read.settled ++ answered → TextYields text whole rest
-  becomes-answered whole same =
-      let first = becomes-first text rest run.version read.settled read.earlier read.waiting read.becomes read.versioned read.headed in
-      becomes-more text first.0 rest read.settled answered whole first.1 (yields-given _ first.0 rest answers.outcomes read.waiting first.2) same
+  abbrev becomes-answered : TextYields text (read.settled ++ answered) rest
+  becomes-answered =
+      becomes-more text read.unasked rest read.settled answered read.asks.becomes
+      (yields-given _ read.unasked rest answers.outcomes read.waiting (rw read.versioned read.become))
 
   report-answered : report ≡ report_lines 1 (read.settled ++ answered)
   report-answered =
       let parts : run.report ≡ report_lines 1 read.settled ++ report_lines (1 + length read.settled) read.waiting =
-      read.held.reported ∙ report_lines-append 1 read.settled read.waiting in
+      read.reported ∙ report_lines-append 1 read.settled read.waiting in
       elim answers.reported [
-        | inl is ↦ rw (is, parts, read.held.first, take-append_seam, drop-append_seam, report_lines-append, report_lines-given) refl
-        | inr same ↦ rw (same.0, read.held.reported, same.1, given-refused run.gathered read.waiting read.held.gathered) refl
+        | inl is ↦ rw (is, parts, read.first, take-append_seam, drop-append_seam, report_lines-append, report_lines-given) refl
+        | inr same ↦ rw (same.0, read.reported, same.1, given-refused run.gathered read.waiting read.gathered) refl
       ]
 
-  joined-answered : commands_of (read.settled ++ answered) ≡ concatenated read.asked.pieces ++ executed
-  joined-answered =
-      rw (commands_of-append, read.asked.is_joined, commands_of-given answers.outcomes run.gathered read.waiting read.held.gathered answers.each) refl
+  -- the pieces that were executed before
+  abbrev before : List (List (Cmd × Outcome))
+  before = read.asks.cut.whole
 
-  gained-answered : Gains holds start new (map visit_of (read.asked.pieces ++ piece_of executed))
-  gained-answered visits held = rw (map-append, ← append_assoc) (answers.gained (visits ++ map visit_of read.asked.pieces) (read.asked.gained visits held))
+  joined-answered : commands_of (read.settled ++ answered) ≡ concatenated before ++ executed
+  joined-answered =
+      let joined : commands_of read.settled ≡ concatenated before =
+      read.asks.cut.is_joined ∙ (ap (λ last. concatenated before ++ last) read.full ∙ append-nil (concatenated before)) in
+      rw (commands_of-append, joined, commands_of-given answers.outcomes run.gathered read.waiting read.gathered answers.each) refl
+
+  gained-answered : Gains holds start new (map visit_of (before ++ piece_of executed))
+  gained-answered visits held =
+      let gained = rw (read.asks.cut.is_cut, read.full, append-nil) at read.asks.gained visits held in
+      rw (map-append, ← append_assoc) (answers.gained (visits ++ map visit_of before) gained)
 
   -- after a batch was executed, none of the lines read waits
   pub batch_asked : (run' : RunSoFar) → length run.gathered ≡ batch → run'.report ≡ report → run'.gathered ≡ [] → run'.first ≡ length run'.report
       → run'.version ≡ run.version → HasRead holds batch text rest number start new run'
   batch_asked run' whole same emptied first version = record {
     settled = read.settled ++ answered;
-    waiting = [];
-    becomes = becomes-answered ((read.settled ++ answered) ++ []) (append-nil _);
-    versioned = read.versioned ∙ sym version;
-    earlier = read.earlier ++ answered;
-    headed = rw (← append_assoc, version, ← read.headed) refl;
-    counted = rw (append-nil, length-append, length-given, ← length-append) read.counted;
-    asked = record {
-      pieces = read.asked.pieces ++ piece_of executed;
-      full = All-append (λ piece. length piece ≡ batch) read.asked.pieces (piece_of executed) read.asked.full
-          (full_piece batch executed (length-executed ∙ whole));
-      is_joined = rw (flat_map-append (λ (xs : List (Cmd × Outcome)). xs), concatenated-piece executed) joined-answered;
+    unasked = rest;
+    asks = record {
+      becomes = becomes-answered;
+      pieces = before ++ piece_of executed;
+      cut = record {
+        whole = before ++ piece_of executed;
+        last = [];
+        full = All-append (λ piece. length piece ≡ batch) before (piece_of executed) read.asks.cut.full
+            (full_piece batch executed (length-executed ∙ whole));
+        fewer = omega (arith, read.asks.cut.fewer);
+        is_joined = rw (flat_map-append (λ (xs : List (Cmd × Outcome)). xs), concatenated-piece executed, append-nil) joined-answered;
+        is_cut = sym (append-nil (before ++ piece_of executed));
+      };
       gained = gained-answered;
     };
-    held = record { reported = rw append-nil (same ∙ report-answered); first = rw (first, same) (ap length report-answered); gathered = rw emptied refl };
+    full = refl;
+    versioned = read.versioned ∙ sym version;
+    waiting = [];
+    become = refl;
+    counted = rw (append-nil, length-append, length-given, ← length-append) read.counted;
+    reported = rw append-nil (same ∙ report-answered);
+    first = rw (first, same) (ap length report-answered);
+    gathered = rw emptied refl;
   }
 
 -- after the whole text was read, the last commands were executed
@@ -265,12 +280,12 @@ pub all_asked : {G : Type 0} {holds : G → List AnsweredBatch → Type 0} {batc
 all_asked read few answers = record {
   outcomes = read.settled ++ answered read answers;
   asks = record {
-    becomes = becomes-answered read answers _ refl;
-    pieces = read.asked.pieces ++ piece_of (executed read answers);
+    becomes = becomes-answered read answers;
+    pieces = before read answers ++ piece_of (executed read answers);
     cut = record {
-      whole = read.asked.pieces;
+      whole = before read answers;
       last = executed read answers;
-      full = read.asked.full;
+      full = read.asks.cut.full;
       fewer = omega (arith, few, length-executed read answers);
       is_joined = joined-answered read answers;
       is_cut = refl;

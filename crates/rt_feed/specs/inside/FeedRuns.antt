@@ -1,5 +1,5 @@
 -- The progress of a run: the lines read, the commands that wait (in the report as refused), and the gate's gains.
-use Rattle.std.specs.Prelude.{◌≡◌, ◌⊎◌, ℕ, ◌<◌, if◌then◌else◌, List, [], ◌∷◌, ◌++◌, All, length, map, take, drop, zip}
+use Rattle.std.specs.Prelude.{◌≡◌, ◌⊎◌, ℕ, if◌then◌else◌, List, [], ◌∷◌, ◌++◌, length, map, take, drop, zip}
 use Rattle.rt_rib.specs.declared.commands.Cmd.{Cmd}
 use Rattle.rt_shared.specs.declared.outcome.Outcome.{Outcome}
 use Rattle.rt_shared.specs.declared.outcome.Outcome.TheVariants.{Refused}
@@ -7,9 +7,10 @@ use Rattle.rt_feed.specs.declared.report.Line.{Line}
 use Rattle.rt_feed.specs.declared.versions.Version.{Version}
 use Rattle.rt_feed.specs.Reports.{is_fault}
 use Rattle.rt_feed.specs.Grammar.{AnswersLine}
-use Rattle.rt_feed.specs.Lines.{LineOutcome, TextYields, reading, heading, command_answer, line_answer, numbered, report_lines, command_of, commands_of}
+use Rattle.rt_feed.specs.Lines.{LineOutcome, LinesYield, reading, command_answer, line_answer, numbered, report_lines, command_of, commands_of}
 use Rattle.rt_shared.specs.JournalVisits.{AnsweredBatch, visit_of}
-use Rattle.rt_feed.specs.Visits.{Gains, concatenated, piece_of}
+use Rattle.rt_feed.specs.Visits.{Gains, piece_of}
+use Rattle.rt_feed.specs.FeedRuns.{AsksLines}
 
 -- the lines, after those that aren't faults were given these outcomes, in order
 abbrev pub filled : List Line → List Outcome → List Line
@@ -49,33 +50,18 @@ pub record Gathers (number : ℕ) (line : List ℕ) (run run' : RunSoFar) : Type
   pub first : run'.first ≡ run.first
   pub version : run'.version ≡ run.version
 
--- the commands of these lines were executed in pieces of `batch` each, with a visit for each piece
-pub record ExecutedWhole {G : Type 0} (holds : G → List AnsweredBatch → Type 0) (batch : ℕ) (lines : List LineOutcome) (old now : G) : Type 0 where
-  pub pieces : List (List (Cmd × Outcome))
-  pub full : All (λ piece. length piece ≡ batch) pieces
-  pub is_joined : commands_of lines ≡ concatenated pieces
-  pub gained : Gains holds old now (map visit_of pieces)
-
--- the run reports the lines of both lists, and the commands of the second are gathered and are in its report as refused
-pub record HasGathered (run : RunSoFar) (settled waiting : List LineOutcome) : Type 0 where
+-- the run has read `number` lines of the text, and this rest is unread. The commands of the first lines, which include
+-- the line of the version, were executed, and no piece of them has less than a batch; those of the others are gathered,
+-- and are in the report as refused
+pub record HasRead {G : Type 0} (holds : G → List AnsweredBatch → Type 0) (batch : ℕ) (text rest : List ℕ) (number : ℕ) (old now : G) (run : RunSoFar) : Type 0 where
+  pub settled : List LineOutcome
+  pub unasked : List ℕ
+  pub asks : AsksLines holds batch text settled unasked old now
+  pub full : asks.cut.last ≡ []
+  pub versioned : asks.becomes.version ≡ run.version
+  pub waiting : List LineOutcome
+  pub become : LinesYield run.version unasked waiting rest
+  pub counted : number ≡ length (settled ++ waiting)
   pub reported : run.report ≡ report_lines 1 (settled ++ waiting)
   pub first : run.first ≡ length (report_lines 1 settled)
   pub gathered : commands_of waiting ≡ as_refused run.gathered
-
--- the run has read `number` lines of the text, and this rest is unread. First come lines whose commands were executed,
--- including the line of the version; the commands of the others wait
-pub record HasRead {G : Type 0} (holds : G → List AnsweredBatch → Type 0) (batch : ℕ) (text rest : List ℕ) (number : ℕ) (old now : G) (run : RunSoFar) : Type 0 where
-  pub settled : List LineOutcome
-  pub waiting : List LineOutcome
-  pub becomes : TextYields text (settled ++ waiting) rest
-  pub versioned : becomes.version ≡ run.version
-  pub earlier : List LineOutcome
-  pub headed : settled ≡ heading run.version ++ earlier
-  pub counted : number ≡ length (settled ++ waiting)
-  pub asked : ExecutedWhole holds batch settled old now
-  pub held : HasGathered run settled waiting
-
--- the same, and fewer than a batch wait
-abbrev pub IsReading : {G : Type 0} → (G → List AnsweredBatch → Type 0) → ℕ → List ℕ → List ℕ → ℕ → G → G → RunSoFar → Type 0
-IsReading {G} holds batch text rest number old now run =
-    HasRead holds batch text rest number old now run × (length run.gathered < batch)
