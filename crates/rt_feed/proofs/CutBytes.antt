@@ -21,9 +21,3 @@ fields_cut text first (Some rest) cut =
 -- a text has at least one field
 pub fields_nonempty : (text : List ℕ) → 0 < length (fields text)
 fields_nonempty text = omega (arith, length-slice_split (λ byte. eqb byte space) text)
-
--- a text with a space has more than one field
-pub fields_more : (parts : List (List ℕ)) (first : List ℕ) (rest : Option (Bor (List ℕ))) (more : Bor (List ℕ))
-    → parts ≡ first ∷ fields_of_rest rest → rest ≡ Some more → length parts ≢ 1
-fields_more parts first rest more cut is one =
-    let count = rw (cut, is) at one in let some = fields_nonempty more.now in omega (arith, count, some)

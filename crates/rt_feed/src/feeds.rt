@@ -1,5 +1,5 @@
 //! Several feeds, each through its own gate and on its own thread.
-ghost use Rattle.std.specs.Prelude.{◌≡◌, ◌≢◌, ◌↔◌, ◌⊎◌, ℕ, ◌<◌, ◌≤◌, [], length, All, Any, IsSome, IfErr, OnOk, slice_index_or};
+ghost use Rattle.std.specs.Prelude.{◌≡◌, ◌≢◌, ◌↔◌, ◌⊎◌, ℕ, ◌<◌, ◌≤◌, [], length, All, Any, IsSome, OnOk, slice_index_or};
 ghost use Rattle.rt_feed.specs.FeedRuns.{RunsOne};
 
 use crate::faults::RunFault;
@@ -58,15 +58,7 @@ pub fn run_feeds<R: Threads + Wait + Sync, G: Gate>(
             feed.report = run_feed(rt, alloc, text, batch, &mut feed.gate).ok();
         },
     );
-    all_reported(feeds)
-}
-
-/// Returns F3 (`Memory`) unless every feed has a report.
-fn all_reported<G>(feeds: &[Feed<G>]) -> Result<(), RunFault>
-    ensures ok { OnOk result (All (λ feed. IsSome feed.report) feeds.now) }
-    ensures err { IfErr result (λ fault. (fault ≡ RunFault.Memory) × Any (λ feed. feed.report ≡ None) feeds.now) }
-{
-    for feed in feeds {
+    for feed in feeds.iter() {
         if feed.report.is_none() {
             return Err(RunFault::Memory);
         }
