@@ -45,43 +45,33 @@ fn prepend_line(text: &mut ShortText, feed: u32, line: &Line)
 }
 
 /// Prepends the answer to a line.
-#[tactic(auto, unfolding(crate::specs::Printed::answer_text))]
+#[tactic(auto, using(rt_cidr::proofs::Promised::prepending), unfolding(crate::specs::Printed::answer_text, crate::specs::Printed::reply_text))]
 fn prepend_answer(text: &mut ShortText, answer: &Answer)
     requires room { FitsInShortText (answer_text answer.now) text.old }
     ensures { text.new ≡ answer_text answer.now ++ text.old }
 {
     match answer {
-        Answer::Did(reply) => prepend_reply(text, reply),
-        Answer::Refused => text.prepend(b"refused"),
-        Answer::Fault(fault) => text.prepend(fault_word(*fault)),
-    }
-}
-
-#[tactic(auto, using(rt_cidr::proofs::Promised::prepending), unfolding(crate::specs::Printed::reply_text))]
-fn prepend_reply(text: &mut ShortText, reply: &Reply)
-    requires room { FitsInShortText (reply_text reply.now) text.old }
-    ensures { text.new ≡ reply_text reply.now ++ text.old }
-{
-    match reply {
-        Reply::Added => text.prepend(b"added"),
-        Reply::Exists => text.prepend(b"exists"),
-        Reply::Full => text.prepend(b"full"),
-        Reply::Replaced => text.prepend(b"replaced"),
-        Reply::Withdrawn => text.prepend(b"withdrawn"),
-        Reply::Missing => text.prepend(b"missing"),
-        Reply::Found(route) => {
+        Answer::Did(Reply::Added) => text.prepend(b"added"),
+        Answer::Did(Reply::Exists) => text.prepend(b"exists"),
+        Answer::Did(Reply::Full) => text.prepend(b"full"),
+        Answer::Did(Reply::Replaced) => text.prepend(b"replaced"),
+        Answer::Did(Reply::Withdrawn) => text.prepend(b"withdrawn"),
+        Answer::Did(Reply::Missing) => text.prepend(b"missing"),
+        Answer::Did(Reply::Found(route)) => {
             prepend_route(text, route);
             text.prepend(b"route ");
         }
-        Reply::NoRoute => text.prepend(b"no route"),
-        Reply::Dumped(count) => {
+        Answer::Did(Reply::NoRoute) => text.prepend(b"no route"),
+        Answer::Did(Reply::Dumped(count)) => {
             text.prepend_decimal(u64::from(*count));
             text.prepend(b"dumped ");
         }
-        Reply::Purged(count) => {
+        Answer::Did(Reply::Purged(count)) => {
             text.prepend_decimal(u64::from(*count));
             text.prepend(b"purged ");
         }
+        Answer::Refused => text.prepend(b"refused"),
+        Answer::Fault(fault) => text.prepend(fault_word(*fault)),
     }
 }
 
