@@ -1,43 +1,17 @@
 -- Lines of a report that are given outcomes, one after another.
-use Rattle.std.proofs.Common.{◌≡◌, ℕ, ◌+◌, ◌<◌, true, false, List, [], ◌∷◌, ◌++◌, length, map, take, drop, get_or, set, refl, sym, ap, ◌∙◌}
-use Rattle.std.proofs.Common.{arith, append_assoc, add-one, drop-cons}
+use Rattle.std.proofs.Common.{◌≡◌, ℕ, ◌<◌, ◌≤◌, ◌⊎◌, inl, inr, List, [], ◌∷◌, ◌++◌, length, map, take, drop, get_or, refl, sym, ap, ◌∙◌}
+use Rattle.std.proofs.Common.{arith}
 use Rattle.std.proofs.Math.ListN.{get_or-map}
-use Rattle.std.proofs.lemmas.List.{map-append, length-map, take-append-drop, drop-set-lt}
-use Rattle.std.proofs.lemmas.Grind.{take-set_at}
+use Rattle.std.proofs.lemmas.List.{map-append, length-map, take-append-drop, drop_all, take_all, append-nil, nil_from_length}
 use Rattle.rt_shared.specs.declared.outcome.Outcome.{Outcome}
 use Rattle.rt_feed.specs.declared.report.Line.{Line}
-use Rattle.rt_feed.specs.Reports.{is_fault, NumbersRise}
-use Rattle.rt_feed.specs.Lines.{command_answer}
+use Rattle.rt_feed.specs.Reports.{NumbersRise}
 use Rattle.rt_feed.specs.inside.FeedRuns.{filled}
 
 -- without outcomes the lines stay
 pub filled-none : (lines : List Line) → filled lines [] ≡ lines
 filled-none [] = refl
 filled-none (line ∷ lines) = refl
-
--- a fault is passed over
-pub filled-fault : (line : Line) (lines : List Line) (outcomes : List Outcome) → is_fault line.answer ≡ true
-    → filled (line ∷ lines) outcomes ≡ line ∷ filled lines outcomes
-filled-fault line lines outcomes is = grind (arith, filled-none)
-
--- another line is given the first outcome
-pub filled-given : (line : Line) (lines : List Line) (outcome : Outcome) (outcomes : List Outcome) → is_fault line.answer ≡ false
-    → filled (line ∷ lines) (outcome ∷ outcomes) ≡ record line { answer = command_answer outcome } ∷ filled lines outcomes
-filled-given line lines outcome outcomes is = rw is refl
-
-pub ruleset filling = (filled-none, filled-fault, filled-given)
-
--- the lines up to an index were given their outcomes; if the line there gets what is due to it, so were the lines up to the next
-pub fills_line : (lines lines' : List Line) (index : ℕ) (d line : Line) (outcomes rest : List Outcome) → index < length lines → lines' ≡ set lines index line
-    → ((more : List Line) → filled (get_or lines index d ∷ more) outcomes ≡ line ∷ filled more rest)
-    → take (index + 1) lines' ++ filled (drop (index + 1) lines') rest ≡ take index lines ++ filled (drop index lines) outcomes
-fills_line lines lines' index d line outcomes rest here changed due =
-    let first : take (index + 1) lines' ≡ take index lines ++ line ∷ [] = ap (take (index + 1)) changed ∙ take-set_at lines index (index + 1) line refl here in
-    let behind : drop (index + 1) lines' ≡ drop (index + 1) lines =
-    ap (drop (index + 1)) changed ∙ drop-set-lt (index + 1) lines index line (omega arith) in
-    let whole : drop index lines ≡ get_or lines index d ∷ drop (index + 1) lines =
-    drop-cons lines index d here ∙ ap (λ n. get_or lines index d ∷ drop n lines) (sym (add-one index)) in
-    rw (first, behind, whole, due (drop (index + 1) lines)) (append_assoc (take index lines) (line ∷ []) (filled (drop (index + 1) lines) rest))
 
 -- numbers stay
 abbrev numbers : List Line → List ℕ
@@ -69,3 +43,16 @@ module _ (first : ℕ) (lines : List Line) (outcomes : List Outcome) where
   pub numbers_rise-refilled : (lines' : List Line) → NumbersRise lines → lines' ≡ take first lines ++ filled (drop first lines) outcomes → NumbersRise lines'
   numbers_rise-refilled lines' rising is = rw is (λ i j d less here.
       omega (arith, rising i j d less (let same = length-refilled in omega (arith, here, same)), number-refilled i d, number-refilled j d))
+
+-- once no outcome is left, or no line, the lines have their outcomes, and their numbers still rise
+pub is_filled : (first index : ℕ) (lines lines' : List Line) (outcomes rest : List Outcome)
+    → take index lines' ++ filled (drop index lines') rest ≡ take first lines ++ filled (drop first lines) outcomes
+    → (length rest < 1) ⊎ (length lines ≤ index) → NumbersRise lines
+    → (lines' ≡ take first lines ++ filled (drop first lines) outcomes) × NumbersRise lines'
+is_filled first index lines lines' outcomes rest so_far which rising =
+    let kept : length lines' ≡ length lines = sym (length-refilled index lines' rest) ∙ (ap length so_far ∙ length-refilled first lines outcomes) in
+    let filled : take index lines' ++ filled (drop index lines') rest ≡ lines' = elim which [
+      | inl none ↦ rw (nil_from_length rest (omega (arith, none)), filled-none) (take-append-drop index lines')
+      | inr past ↦ rw (drop_all index lines' (omega (arith, past, kept)), take_all index lines' (omega (arith, past, kept))) (append-nil lines')
+    ] in
+    let is = sym filled ∙ so_far in (is, numbers_rise-refilled first lines outcomes lines' rising is)

@@ -1,7 +1,5 @@
 //! The answers to a feed's text, line by line.
-ghost use Rattle.std.specs.Prelude.{◌≡◌, ◌<◌, ◌≤◌, List, [], ◌∷◌, ◌++◌, All, length, take, drop, OnOk, OnErr};
-ghost use Rattle.rt_feed.specs.Lines.{command_answer};
-ghost use Rattle.rt_feed.specs.inside.FeedRuns.{filled};
+ghost use Rattle.std.specs.Prelude.{◌≡◌, ◌<◌, ◌≤◌, [], ◌∷◌, ◌++◌, All, length, take, drop, OnOk, OnErr};
 
 use crate::parse::LineFault;
 use rt_rib::Reply;
@@ -106,7 +104,20 @@ impl Report {
         requires { first ≤ length self.old }
         ensures { self.new ≡ take first self.old ++ filled (drop first self.old) outcomes.now }
     {
-        fill_lines(&mut self.lines, first, outcomes);
+        let lines = &mut self.lines;
+        let mut rest = outcomes;
+        for index in first..lines.len() {
+            let [outcome, behind @ ..] = rest else {
+                return;
+            };
+            if !lines[index].answer.is_fault() {
+                lines[index].answer = match *outcome {
+                    Outcome::Did(reply) => Answer::Did(reply),
+                    Outcome::Refused => Answer::Refused,
+                };
+                rest = behind;
+            }
+        }
     }
 
     /// Appends a line, whose number is above all others. Fails only if memory runs out; the report is then unchanged.
@@ -117,44 +128,5 @@ impl Report {
     {
         self.lines.push(line)?;
         Ok(())
-    }
-}
-
-/// Gives these outcomes, in order, to the lines from this index on that aren't faults.
-fn fill_lines(lines: &mut [Line], first: usize, outcomes: &[Outcome])
-    requires { first ≤ length lines.old }
-    ensures { lines.new ≡ take first lines.old ++ filled (drop first lines.old) outcomes.now }
-{
-    let mut rest = outcomes;
-    for index in first..lines.len() {
-        let (line, behind) = fill_line(lines[index], rest);
-        lines[index] = line;
-        rest = behind;
-    }
-}
-
-/// Gives the first of these outcomes to the line, unless it is a fault or there is none. Returns the line, and the outcomes
-/// that remain.
-#[tactic(auto, using(crate::proofs::FilledReports::filling))]
-fn fill_line(line: Line, outcomes: &[Outcome]) -> (Line, &[Outcome])
-    ensures { (lines : List Line) → filled (line ∷ lines) outcomes.now ≡ result.0 ∷ filled lines result.1.now }
-{
-    let [outcome, rest @ ..] = outcomes else {
-        return (line, outcomes);
-    };
-    if line.answer.is_fault() {
-        return (line, outcomes);
-    }
-    let answer = command_answer(*outcome);
-    (Line { answer, ..line }, rest)
-}
-
-/// Returns the command's answer in a report.
-fn command_answer(outcome: Outcome) -> Answer
-    ensures { result ≡ command_answer outcome }
-{
-    match outcome {
-        Outcome::Did(reply) => Answer::Did(reply),
-        Outcome::Refused => Answer::Refused,
     }
 }

@@ -1,19 +1,19 @@
-use Rattle.std.proofs.Common.{◌≡◌, ◌++◌, [], take, drop, length, sym, ap, subst, ◌∙◌, arith, append-nil}
-use Rattle.std.proofs.lemmas.List.{drop_all, take_all}
-use Rattle.rt_feed.specs.Reports.{NumbersRise}
-use Rattle.rt_feed.proofs.FilledReports.{numbers_rise-refilled, length-refilled}
+use Rattle.std.proofs.Common.{inl, inr, arith}
+use Rattle.rt_feed.proofs.FilledReports.{is_filled}
 use Rattle.rt_feed.proofs.report.Report.fill.Goals as goal
 
 pub invariant_of-self : goal.invariant_of-self
 invariant_of-self c =
-    let items = c.self.inside.lines.items in
-    let now = c.fill_lines.new.lines in
-    let value : c.deref_mut.result.now ≡ items = c.deref_mut.ensures.value in
-    let kept : length now ≡ length items = ap length c.fill_lines.ensures
-    ∙ (length-refilled c.args.first c.deref_mut.result.now c.args.outcomes.now ∙ ap length value) in
-    let none : drop (length now) items ≡ [] = drop_all (length now) items (omega (arith, kept)) in
-    let all : take c.self.inside.lines.len (now ++ drop (length now) items) ≡ now =
-    rw (none, append-nil, c.self.inside.lines.ok.0, ← kept) (take_all (length now) now (omega arith)) in
-    subst NumbersRise (sym all)
-    (numbers_rise-refilled c.args.first c.deref_mut.result.now c.args.outcomes.now now
-    (subst NumbersRise (sym value) c.self.invariant) c.fill_lines.ensures)
+    (is_filled c.args.first c.loop-index.index c.self.inside.lines.items _ c.args.outcomes.now c.loop-index.rest.now c.loop-index.invariant
+    (inl c.in_default.len_below) c.self.invariant).1
+
+pub returns-in_default : goal.returns-in_default
+returns-in_default c =
+    rw (← c.self.view_is)
+    (is_filled c.args.first c.loop-index.index c.self.inside.lines.items _ c.args.outcomes.now c.loop-index.rest.now c.loop-index.invariant
+    (inl c.in_default.len_below) c.self.invariant).0
+
+pub invariant_of-self-2 : goal.invariant_of-self-2
+invariant_of-self-2 c =
+    (is_filled c.args.first c.loop-index.index c.self.inside.lines.items _ c.args.outcomes.now c.loop-index.rest.now c.loop-index.invariant
+    (inr (omega (arith, c.loop-index-test.false, c.len-index-end.ensures, c.self.inside.lines.ok.0))) c.self.invariant).1
