@@ -16,7 +16,8 @@ use Rattle.rt_feed.specs.Lines.{heading, report_lines, command_of, commands_of}
 use Rattle.rt_shared.specs.JournalVisits.{AnsweredBatch, visit_of}
 use Rattle.rt_feed.specs.Visits.{Gains, concatenated, piece_of, AnswersBatch}
 use Rattle.rt_feed.specs.FeedRuns.{RunsFeed, RunsPrefixOf, IsTold}
-use Rattle.rt_feed.specs.inside.FeedRuns.{filled, as_refused, AnswersWaiting, Gathers, HasRead, RunSoFar}
+use Rattle.rt_feed.specs.inside.FeedRuns.{filled, as_refused, AnswersWaiting, Gathers, HasRead}
+use Rattle.rt_feed.specs.declared.running.FeedRun.{FeedRun}
 use Rattle.rt_feed.proofs.LinesYield.{says, say-append, length-said, becomes-more, length-outcomes, report_lines-append, report_lines-push, commands_of-append}
 use Rattle.rt_feed.proofs.FilledReports.{filled-none}
 
@@ -113,7 +114,7 @@ module _ {G : Type 0} {holds : G → List AnsweredBatch → Type 0} {old new : G
   }
 
 -- a line has at most one command
-pub length-gathered : {number : ℕ} {line : List ℕ} (run run' : RunSoFar) → Gathers number line run run' → length run'.gathered ≤ length run.gathered + 1
+pub length-gathered : {number : ℕ} {line : List ℕ} (run run' : FeedRun) → Gathers number line run run' → length run'.gathered.items ≤ length run.gathered.items + 1
 length-gathered run run' gathers =
     let one : length (command_of gathers.outcome) ≤ 1 = grind arith in
     let refused : Cmd → Cmd × Outcome = λ cmd. (cmd, Refused) in
@@ -121,14 +122,14 @@ length-gathered run run' gathers =
       arith,
       one,
       ap length gathers.gathered,
-      length-append (as_refused run.gathered) (command_of gathers.outcome),
-      length-map run.gathered refused,
-      length-map run'.gathered refused,
+      length-append (as_refused run.gathered.items) (command_of gathers.outcome),
+      length-map run.gathered.items refused,
+      length-map run'.gathered.items refused,
     )
 
 -- before the first line
-pub nothing_read : {G : Type 0} {holds : G → List AnsweredBatch → Type 0} {batch : ℕ} {text lines : List ℕ} {number : ℕ} {gate : G} {run : RunSoFar}
-    → 0 < batch → run.report ≡ [] → run.first ≡ 0 → run.gathered ≡ [] → IsBody text run.version lines → number ≡ length (heading run.version)
+pub nothing_read : {G : Type 0} {holds : G → List AnsweredBatch → Type 0} {batch : ℕ} {text lines : List ℕ} {number : ℕ} {gate : G} {run : FeedRun}
+    → 0 < batch → run.report ≡ [] → run.first ≡ 0 → run.gathered.items ≡ [] → IsBody text run.version lines → number ≡ length (heading run.version)
     → HasRead holds batch text lines number gate gate run
 nothing_read {holds} {lines} {gate} {run} some report first gathered body count = record {
   settled = heading run.version;
@@ -150,7 +151,7 @@ nothing_read {holds} {lines} {gate} {run} some report first gathered body count 
 }
 
 -- the text has at least one byte for each line that was read, besides the rest
-pub length-read : {G : Type 0} {holds : G → List AnsweredBatch → Type 0} {batch : ℕ} {text rest : List ℕ} {number : ℕ} {start gate : G} {run : RunSoFar}
+pub length-read : {G : Type 0} {holds : G → List AnsweredBatch → Type 0} {batch : ℕ} {text rest : List ℕ} {number : ℕ} {start gate : G} {run : FeedRun}
     → HasRead holds batch text rest number start gate run → number + length rest ≤ length text
 length-read {text} {rest} {run} read =
     omega (
@@ -161,10 +162,21 @@ length-read {text} {rest} {run} read =
       length-said (says run.version) read.unasked rest read.waiting read.become,
     )
 
+-- the lines that wait are the last of the report
+pub first-within : {G : Type 0} {holds : G → List AnsweredBatch → Type 0} {batch : ℕ} {text rest : List ℕ} {number : ℕ} {start gate : G} {run : FeedRun}
+    → HasRead holds batch text rest number start gate run → run.first ≤ length run.report
+first-within read =
+    omega (
+      arith,
+      read.first,
+      ap length (read.reported ∙ report_lines-append 1 read.settled read.waiting),
+      length-append (report_lines 1 read.settled) (report_lines (1 + length read.settled) read.waiting),
+    )
+
 module _ {G : Type 0} {holds : G → List AnsweredBatch → Type 0} {batch : ℕ} {text rest line next : List ℕ} {number : ℕ} {start gate : G}
-    {run : RunSoFar} (read : HasRead holds batch text rest number start gate run) (cut : CutsLine rest line next) where
+    {run : FeedRun} (read : HasRead holds batch text rest number start gate run) (cut : CutsLine rest line next) where
   -- one more line, whose command waits if it has one
-  pub line_read : (run' : RunSoFar) → Gathers (number + 1) line run run' → HasRead holds batch text next (number + 1) start gate run'
+  pub line_read : (run' : FeedRun) → Gathers (number + 1) line run run' → HasRead holds batch text next (number + 1) start gate run'
   line_read run' gathers =
       let outcome = gathers.outcome in
       let all : read.settled ++ (read.waiting ++ outcome ∷ []) ≡ (read.settled ++ read.waiting) ++ outcome ∷ [] =
@@ -201,17 +213,17 @@ module _ {G : Type 0} {holds : G → List AnsweredBatch → Type 0} {batch : ℕ
   }
 
 module _ {G : Type 0} {holds : G → List AnsweredBatch → Type 0} {batch : ℕ} {text rest : List ℕ} {number : ℕ} {start gate new : G}
-    {run : RunSoFar} {report : List Line} (read : HasRead holds batch text rest number start gate run)
-    (answers : AnswersWaiting holds gate new run.gathered run.first run.report report) where
+    {run : FeedRun} {report : List Line} (read : HasRead holds batch text rest number start gate run)
+    (answers : AnswersWaiting holds gate new run.gathered.items run.first run.report report) where
   -- the lines that waited, with the outcomes of their commands, which have been executed
   abbrev answered : List LineOutcome
   answered = given answers.outcomes read.waiting
 
   abbrev executed : List (Cmd × Outcome)
-  executed = zip run.gathered answers.outcomes
+  executed = zip run.gathered.items answers.outcomes
 
-  length-executed : length executed ≡ length run.gathered
-  length-executed = omega (arith, length-zip run.gathered answers.outcomes, answers.each)
+  length-executed : length executed ≡ length run.gathered.items
+  length-executed = omega (arith, length-zip run.gathered.items answers.outcomes, answers.each)
 
   abbrev becomes-answered : TextYields text (read.settled ++ answered) rest
   becomes-answered =
@@ -224,7 +236,7 @@ module _ {G : Type 0} {holds : G → List AnsweredBatch → Type 0} {batch : ℕ
       read.reported ∙ report_lines-append 1 read.settled read.waiting in
       elim answers.reported [
         | inl is ↦ rw (is, parts, read.first, take-append_seam, drop-append_seam, report_lines-append, report_lines-given) refl
-        | inr same ↦ rw (same.0, read.reported, same.1, given-refused run.gathered read.waiting read.gathered) refl
+        | inr same ↦ rw (same.0, read.reported, same.1, given-refused run.gathered.items read.waiting read.gathered) refl
       ]
 
   -- the pieces that were executed before
@@ -235,7 +247,7 @@ module _ {G : Type 0} {holds : G → List AnsweredBatch → Type 0} {batch : ℕ
   joined-answered =
       let joined : commands_of read.settled ≡ concatenated before =
       read.asks.cut.is_joined ∙ (ap (λ last. concatenated before ++ last) read.full ∙ append-nil (concatenated before)) in
-      rw (commands_of-append, joined, commands_of-given answers.outcomes run.gathered read.waiting read.gathered answers.each) refl
+      rw (commands_of-append, joined, commands_of-given answers.outcomes run.gathered.items read.waiting read.gathered answers.each) refl
 
   gained-answered : Gains holds start new (map visit_of (before ++ piece_of executed))
   gained-answered visits held =
@@ -243,7 +255,7 @@ module _ {G : Type 0} {holds : G → List AnsweredBatch → Type 0} {batch : ℕ
       rw (map-append, ← append_assoc) (answers.gained (visits ++ map visit_of before) gained)
 
   -- after a batch was executed, none of the lines read waits
-  pub batch_asked : (run' : RunSoFar) → length run.gathered ≡ batch → run'.report ≡ report → run'.gathered ≡ [] → run'.first ≡ length run'.report
+  pub batch_asked : (run' : FeedRun) → length run.gathered.items ≡ batch → run'.report ≡ report → run'.gathered.items ≡ [] → run'.first ≡ length run'.report
       → run'.version ≡ run.version → HasRead holds batch text rest number start new run'
   batch_asked run' whole same emptied first version = record {
     settled = read.settled ++ answered;
@@ -274,9 +286,9 @@ module _ {G : Type 0} {holds : G → List AnsweredBatch → Type 0} {batch : ℕ
 
 -- after the whole text was read, the last commands were executed
 pub all_asked : {G : Type 0} {holds : G → List AnsweredBatch → Type 0} {batch : ℕ} {text : List ℕ} {number : ℕ} {start gate new : G}
-    {run : RunSoFar} {report : List Line}
-    → (read : HasRead holds batch text [] number start gate run) → length run.gathered < batch
-    → (answers : AnswersWaiting holds gate new run.gathered run.first run.report report) → RunsFeed holds batch text start new report
+    {run : FeedRun} {report : List Line}
+    → (read : HasRead holds batch text [] number start gate run) → length run.gathered.items < batch
+    → (answers : AnswersWaiting holds gate new run.gathered.items run.first run.report report) → RunsFeed holds batch text start new report
 all_asked read few answers = record {
   outcomes = read.settled ++ answered read answers;
   asks = record {

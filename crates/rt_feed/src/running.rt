@@ -11,7 +11,6 @@ use crate::versions::{Version, text_body};
 use rt_rib::{Cmd, Refused};
 use rt_shared::Outcome;
 use std::alloc::{AllocError, Global};
-use std::marker::Model;
 use std::sync::Wait;
 
 /// Executes each command of the text on the gate in order, in batches of `batch`, and returns the report. With a batch
@@ -71,22 +70,6 @@ struct FeedRun {
     outcomes: Vec<Outcome>,
 }
 
-impl Model for FeedRun {
-    ghost use Rattle.std.specs.Prelude.{◌≤◌, length};
-    ghost use Rattle.rt_feed.specs.inside.FeedRuns.{RunSoFar};
-
-    ghost Value = { RunSoFar };
-
-    ghost view = { λ run. record {
-      version = run.version;
-      report = run.report;
-      first = run.first;
-      gathered = run.gathered.items;
-    } };
-
-    ghost invariant = { λ run. run.first ≤ length run.report };
-}
-
 impl FeedRun {
     /// Reads the line of this number. A fault is put into the report; a command waits, and is in the report as refused.
     fn gather(&mut self, number: usize, line: &[u8]) -> Result<(), AllocError>
@@ -112,10 +95,11 @@ impl FeedRun {
 
     /// Executes the commands that wait, if there are any, and puts their outcomes into the report.
     fn ask<R: Wait, G: Gate>(&mut self, rt: &R, batch: usize, gate: &mut G)
+        requires { self.old.first ≤ length self.old.report }
         ensures name { G.name gate.new ≡ G.name gate.old }
-        ensures waiting { AnswersWaiting G.holds gate.old gate.new self.old.gathered self.old.first self.old.report self.new.report }
+        ensures waiting { AnswersWaiting G.holds gate.old gate.new self.old.gathered.items self.old.first self.old.report self.new.report }
         ensures version { self.new.version ≡ self.old.version }
-        ensures emptied { self.new.gathered ≡ [] }
+        ensures emptied { self.new.gathered.items ≡ [] }
         ensures none_waits { self.new.first ≡ length self.new.report }
     {
         let FeedRun {

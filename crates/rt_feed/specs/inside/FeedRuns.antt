@@ -4,7 +4,7 @@ use Rattle.rt_rib.specs.declared.commands.Cmd.{Cmd}
 use Rattle.rt_shared.specs.declared.outcome.Outcome.{Outcome}
 use Rattle.rt_shared.specs.declared.outcome.Outcome.TheVariants.{Refused}
 use Rattle.rt_feed.specs.declared.report.Line.{Line}
-use Rattle.rt_feed.specs.declared.versions.Version.{Version}
+use Rattle.rt_feed.specs.declared.running.FeedRun.{FeedRun}
 use Rattle.rt_feed.specs.Reports.{is_fault}
 use Rattle.rt_feed.specs.Grammar.{AnswersLine}
 use Rattle.rt_feed.specs.Lines.{LineOutcome, LinesYield, reading, command_answer, line_answer, numbered, report_lines, command_of, commands_of}
@@ -33,27 +33,19 @@ pub record AnswersWaiting {G : Type 0} (holds : G → List AnsweredBatch → Typ
   pub reported : (report' ≡ take first report ++ filled (drop first report) outcomes)
       ⊎ ((report' ≡ report) × (outcomes ≡ map (λ cmd. Refused) cmds))
 
--- the progress of a run: its version, its report, the report's index of the first line read since the gate was last
--- called, and the commands that wait
-pub record RunSoFar : Type 0 where
-  pub version : Version
-  pub report : List Line
-  pub first : ℕ
-  pub gathered : List Cmd
-
 -- the line of this number is read: the report has its answer, and its command waits, in the report as refused
-pub record Gathers (number : ℕ) (line : List ℕ) (run run' : RunSoFar) : Type 0 where
+pub record Gathers (number : ℕ) (line : List ℕ) (run run' : FeedRun) : Type 0 where
   pub outcome : LineOutcome
   pub reads : AnswersLine run.version line (reading outcome)
   pub reported : run'.report ≡ run.report ++ numbered number (line_answer outcome)
-  pub gathered : as_refused run'.gathered ≡ as_refused run.gathered ++ command_of outcome
+  pub gathered : as_refused run'.gathered.items ≡ as_refused run.gathered.items ++ command_of outcome
   pub first : run'.first ≡ run.first
   pub version : run'.version ≡ run.version
 
 -- the run has read `number` lines of the text, and this rest is unread. The commands of the first lines, which include
 -- the line of the version, were executed, and no piece of them has less than a batch; those of the others are gathered,
 -- and are in the report as refused
-pub record HasRead {G : Type 0} (holds : G → List AnsweredBatch → Type 0) (batch : ℕ) (text rest : List ℕ) (number : ℕ) (old now : G) (run : RunSoFar) : Type 0 where
+pub record HasRead {G : Type 0} (holds : G → List AnsweredBatch → Type 0) (batch : ℕ) (text rest : List ℕ) (number : ℕ) (old now : G) (run : FeedRun) : Type 0 where
   pub settled : List LineOutcome
   pub unasked : List ℕ
   pub asks : AsksLines holds batch text settled unasked old now
@@ -64,4 +56,4 @@ pub record HasRead {G : Type 0} (holds : G → List AnsweredBatch → Type 0) (b
   pub counted : number ≡ length (settled ++ waiting)
   pub reported : run.report ≡ report_lines 1 (settled ++ waiting)
   pub first : run.first ≡ length (report_lines 1 settled)
-  pub gathered : commands_of waiting ≡ as_refused run.gathered
+  pub gathered : commands_of waiting ≡ as_refused run.gathered.items

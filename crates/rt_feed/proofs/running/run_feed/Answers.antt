@@ -1,10 +1,8 @@
 use Rattle.std.proofs.Common.{◌≡◌, ◌≤◌, ◌<◌, ◌++◌, ◌+◌, length, refl, sym, ap, ◌∙◌, arith, All, subst}
 use Rattle.std.proofs.lemmas.Result.{err_from_is_err_and}
 use Rattle.rt_feed.specs.declared.report.Line.{Line}
-use Rattle.rt_feed.specs.FeedRuns.{RunsFeed}
-use Rattle.rt_feed.specs.inside.FeedRuns.{RunSoFar}
 use Rattle.rt_feed.proofs.LinesYield.{length-cut, report_lines-below}
-use Rattle.rt_feed.proofs.RunSteps.{nothing_read, length-read, line_read, length-gathered, batch_asked, all_asked, stopped}
+use Rattle.rt_feed.proofs.RunSteps.{nothing_read, length-read, first-within, line_read, length-gathered, batch_asked, all_asked, stopped}
 use Rattle.rt_feed.proofs.running.run_feed.Goals as goal
 
 pub loop-line-init : goal.loop-line-init
@@ -39,15 +37,14 @@ returns-in_err-gather-clause-nothing g c empty =
 pub returns-clause-ok : goal.returns-clause-ok
 returns-clause-ok g c =
     let none = c.in_default.ensures {u = tt} in
-    subst (λ (run : RunSoFar). RunsFeed g.G.Gate.holds c.args.batch c.args.text.now c.args.gate.now c.ask-2.new.gate run.report) (sym c.run-2.view_is)
-    (all_asked (rw none at c.loop-line.invariant.read) c.loop-line.invariant.few c.ask-2.ensures.waiting)
+    all_asked {new = c.ask-2.new.gate} (rw none at c.loop-line.invariant.read) c.loop-line.invariant.few c.ask-2.ensures.waiting
 
 pub loop-line-preserved-then-len-batch : goal.loop-line-preserved-then-len-batch
 loop-line-preserved-then-len-batch g c =
     let gathers = (c.in_ok-gather.ensures {u = tt}).ok in
     let read = line_read c.loop-line.invariant.read (c.in-Some.ensures {u = tt}) c.gather.new.self gathers in
-    let whole : length c.gather.new.self.gathered ≡ c.args.batch = ap (λ (run : RunSoFar). length run.gathered) (sym c.run.view_is)
-    ∙ (sym c.run.inside.gathered.ok.0 ∙ (sym c.len.ensures ∙ c.if-len-batch.true)) in
+    let whole : length c.gather.new.self.gathered.items ≡ c.args.batch =
+    sym c.gather.new.self.gathered.ok.0 ∙ (sym c.len.ensures ∙ c.if-len-batch.true) in
     record {
       named = c.ask.ensures.name ∙ c.loop-line.invariant.named;
       read = batch_asked read c.ask.ensures.waiting c.ask.new.self whole refl c.ask.ensures.emptied c.ask.ensures.none_waits c.ask.ensures.version;
@@ -57,10 +54,15 @@ loop-line-preserved-then-len-batch g c =
 pub loop-line-preserved : goal.loop-line-preserved
 loop-line-preserved g c =
     let gathers = (c.in_ok-gather.ensures {u = tt}).ok in
-    let count : c.len.result ≡ length c.gather.new.self.gathered = c.len.ensures ∙ c.run.inside.gathered.ok.0
-    ∙ ap (λ (run : RunSoFar). length run.gathered) c.run.view_is in
     record {
       named = c.loop-line.invariant.named;
       read = line_read c.loop-line.invariant.read (c.in-Some.ensures {u = tt}) c.gather.new.self gathers;
-      few = omega (arith, c.loop-line.invariant.few, length-gathered c.loop-line.run c.gather.new.self gathers, count, c.if-len-batch.false);
+      few = omega (arith, c.loop-line.invariant.few, length-gathered c.loop-line.run c.gather.new.self gathers, c.gather.new.self.gathered.ok.0, c.len.ensures, c.if-len-batch.false);
     }
+
+pub ask-requires-after_bounds : goal.ask-requires-after_bounds
+ask-requires-after_bounds g c κs bounds =
+    first-within (line_read c.loop-line.invariant.read (c.in-Some.ensures {u = tt}) c.gather.new.self (c.in_ok-gather.ensures {u = tt}).ok)
+
+pub ask-requires-2-after_bounds : goal.ask-requires-2-after_bounds
+ask-requires-2-after_bounds g c κs bounds = first-within c.loop-line.invariant.read

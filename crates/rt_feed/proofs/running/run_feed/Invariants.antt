@@ -7,7 +7,7 @@ abbrev pub invariant-loop-line : goal.invariant-loop-line
 invariant-loop-line g l = record {
   named : g.G.Gate.name l.gate ≡ g.G.Gate.name l.initial.gate;
   read : HasRead g.G.Gate.holds l.batch l.text l.rest l.number l.initial.gate l.gate l.run;
-  few : length l.run.gathered < l.batch;
+  few : length l.run.gathered.items < l.batch;
 }
 
 abbrev pub decreases-loop-line : goal.decreases-loop-line

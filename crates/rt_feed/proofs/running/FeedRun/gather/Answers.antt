@@ -7,7 +7,6 @@ use Rattle.rt_feed.proofs.running.FeedRun.gather.Goals as goal
 
 pub returns-in-Err-clause-ok : goal.returns-in-Err-clause-ok
 returns-in-Err-clause-ok c =
-    rw (← c.self.view_is)
     (on_ok_weaker c.push.result (λ reported. record {
       outcome = faulty c.in-Err.fault;
       reads = c.in-Err.ensures {u = tt};
@@ -19,11 +18,10 @@ returns-in-Err-clause-ok c =
 
 pub returns-in-Err-clause-err : goal.returns-in-Err-clause-err
 returns-in-Err-clause-err c =
-    rw (← c.self.view_is) (on_err_weaker c.push.result (λ same. (faulty c.in-Err.fault, c.in-Err.ensures {u = tt}, λ none. absurd cc)) c.push.ensures.err)
+    (on_err_weaker c.push.result (λ same. (faulty c.in-Err.fault, c.in-Err.ensures {u = tt}, λ none. absurd cc)) c.push.ensures.err)
 
 pub returns-in_ok-push-in-Some-clause-ok : goal.returns-in_ok-push-in-Some-clause-ok
 returns-in_ok-push-in-Some-clause-ok c =
-    rw (← c.self.view_is)
     (on_ok_weaker c.push-in-Some-2.result (λ reported. record {
       outcome = asked c.in-Some.cmd Refused;
       reads = rw c.in-Some.is at (c.in-Ok.ensures {u = tt});
@@ -35,11 +33,10 @@ returns-in_ok-push-in-Some-clause-ok c =
 
 pub returns-in_ok-push-in-Some-clause-err : goal.returns-in_ok-push-in-Some-clause-err
 returns-in_ok-push-in-Some-clause-err c =
-    rw (← c.self.view_is)
     (on_err_weaker c.push-in-Some-2.result (λ same. (asked c.in-Some.cmd Refused, rw c.in-Some.is at (c.in-Ok.ensures {u = tt}), λ none. absurd cc))
     c.push-in-Some-2.ensures.err)
 
 pub returns-in_err-push-in-Some-clause-err : goal.returns-in_err-push-in-Some-clause-err
 returns-in_err-push-in-Some-clause-err c =
     let fault = err_from_is_err_and c.from_residual.result c.from_residual.ensures.1 in
-    rw (fault.1, ← c.self.view_is) (asked c.in-Some.cmd Refused, rw c.in-Some.is at (c.in-Ok.ensures {u = tt}), λ none. absurd cc)
+    rw fault.1 (asked c.in-Some.cmd Refused, rw c.in-Some.is at (c.in-Ok.ensures {u = tt}), λ none. absurd cc)
