@@ -1,14 +1,15 @@
 -- A feed's text through a gate, one line and one batch further.
 use Rattle.std.proofs.Common.{◌≡◌, ◌≢◌, inl, inr, ℕ, ◌+◌, ◌<◌, ◌≤◌, List, [], ◌∷◌, ◌++◌, All, length, map, take, drop, zip, refl}
-use Rattle.std.proofs.Common.{sym, ap, ◌∙◌, arith, append_assoc, append-nil, length-append}
+use Rattle.std.proofs.Common.{sym, ap, ◌∙◌, arith, append_assoc, append-nil, length-append, slice_index_or}
 use Rattle.std.proofs.Math.Seq.{take-append_seam, drop-append_seam}
 use Rattle.std.proofs.lemmas.List.{map-append, length-map}
 use Rattle.std.proofs.lemmas.Grind.{flat_map-append}
 use Rattle.std.proofs.lemmas.List.Elements.{All-nil, All-cons, All-append}
 use Rattle.std.proofs.lemmas.Slice.Zip.{length-zip}
 use Rattle.rt_rib.specs.declared.commands.Cmd.{Cmd}
+use Rattle.rt_rib.specs.declared.commands.Reply.{Reply}
 use Rattle.rt_shared.specs.declared.outcome.Outcome.{Outcome}
-use Rattle.rt_shared.specs.declared.outcome.Outcome.TheVariants.{Refused}
+use Rattle.rt_shared.specs.declared.outcome.Outcome.TheVariants.{Did, Refused}
 use Rattle.rt_feed.specs.declared.report.Line.{Line}
 use Rattle.rt_feed.specs.declared.versions.Version.{Version}
 use Rattle.rt_feed.specs.Lines.{IsBody, CutsLine, LineOutcome, asked, LinesYield, TextYields}
@@ -112,6 +113,17 @@ module _ {G : Type 0} {holds : G → List AnsweredBatch → Type 0} {old new : G
     gained = rw (piece_asked cmds batch.outcomes batch.each some) batch.gained;
     reported = inl (is ∙ ap (λ os. take first report ++ filled (drop first report) os) batch.appended);
   }
+
+one_command : (cmds : List Cmd) (cmd : Cmd) → length cmds ≡ 1 → cmd ≡ slice_index_or cmds 0 cmd → cmds ≡ cmd ∷ []
+one_command (c ∷ []) cmd one is = ap (λ (x : Cmd). x ∷ []) (sym is)
+one_command cmds cmd one is = absurd (omega (arith, one))
+
+module _ {G : Type 0} {holds : G → List AnsweredBatch → Type 0} {old new : G} {first : ℕ} {report report' : List Line} (cmds : List Cmd) where
+  -- a single command was executed by itself
+  pub answers_one : (cmd : Cmd) (reply : Reply) → length cmds ≡ 1 → cmd ≡ slice_index_or cmds 0 cmd → Gains holds old new (((cmd, reply) ∷ []) ∷ [])
+      → report' ≡ take first report ++ filled (drop first report) (Did reply ∷ []) → AnswersWaiting holds old new cmds first report report'
+  answers_one cmd reply one is gained filled =
+      rw (one_command cmds cmd one is) (record { outcomes = Did reply ∷ []; each = refl; gained = gained; reported = inl filled })
 
 -- a line has at most one command
 pub length-gathered : {number : ℕ} {line : List ℕ} (run run' : FeedRun) → Gathers number line run run' → length run'.gathered.items ≤ length run.gathered.items + 1

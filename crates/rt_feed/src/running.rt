@@ -1,5 +1,5 @@
 //! A run of a feed's text: its lines are read in order, and its commands executed on a gate in batches.
-ghost use Rattle.std.specs.Prelude.{◌≡◌, ◌≢◌, ◌<◌, ◌≤◌, [], ◌∷◌, length, All, IsOk, IfOk, OnOk, OnErr};
+ghost use Rattle.std.specs.Prelude.{◌≡◌, ◌<◌, ◌≤◌, [], length, All, IsOk, IfOk, OnOk, OnErr};
 ghost use Rattle.rt_feed.specs.inside.FeedRuns.{AnswersWaiting, Gathers};
 ghost use Rattle.rt_feed.specs.FeedRuns.{IsTold, RunsFeed, RunsPrefixOf};
 
@@ -93,7 +93,8 @@ impl FeedRun {
         }
     }
 
-    /// Executes the commands that wait, if there are any, and puts their outcomes into the report.
+    /// Executes the commands that wait, if there are any, and puts their outcomes into the report. A batch of 1 is
+    /// executed as one command.
     fn ask<R: Wait, G: Gate>(&mut self, rt: &R, batch: usize, gate: &mut G)
         requires { self.old.first ≤ length self.old.report }
         ensures name { G.name gate.new ≡ G.name gate.old }
@@ -102,51 +103,18 @@ impl FeedRun {
         ensures emptied { self.new.gathered.items ≡ [] }
         ensures none_waits { self.new.first ≡ length self.new.report }
     {
-        let FeedRun {
-            version: _,
-            report,
-            first,
-            gathered,
-            outcomes,
-        } = self;
-        let cmds = gathered.as_slice();
+        let cmds = self.gathered.as_slice();
         if batch == 1 && cmds.len() == 1 {
-            ask_one(rt, cmds[0], gate, report, *first);
+            if let Ok(reply) = gate.apply(rt, cmds[0]) {
+                self.report.fill(self.first, &[Outcome::Did(reply)]);
+            }
         } else if !cmds.is_empty() {
-            ask_batch(rt, cmds, gate, outcomes, report, *first);
+            self.outcomes.clear();
+            if let Ok(()) = gate.apply_batch(rt, cmds, &mut self.outcomes) {
+                self.report.fill(self.first, self.outcomes.as_slice());
+            }
         }
         self.gathered.clear();
         self.first = self.report.lines().len();
-    }
-}
-
-/// Executes one command on the gate, and puts its reply into the report.
-fn ask_one<R: Wait, G: Gate>(rt: &R, cmd: Cmd, gate: &mut G, report: &mut Report, first: usize)
-    requires { first ≤ length report.old }
-    ensures name { G.name gate.new ≡ G.name gate.old }
-    ensures waiting { AnswersWaiting G.holds gate.old gate.new (cmd ∷ []) first report.old report.new }
-{
-    if let Ok(reply) = gate.apply(rt, cmd) {
-        report.fill(first, &[Outcome::Did(reply)]);
-    }
-}
-
-/// Executes the commands on the gate at once, and puts their outcomes into the report.
-fn ask_batch<R: Wait, G: Gate>(
-    rt: &R,
-    cmds: &[Cmd],
-    gate: &mut G,
-    out: &mut Vec<Outcome>,
-    report: &mut Report,
-    first: usize,
-)
-    requires placed { first ≤ length report.old }
-    requires some { cmds.now ≢ [] }
-    ensures name { G.name gate.new ≡ G.name gate.old }
-    ensures waiting { AnswersWaiting G.holds gate.old gate.new cmds.now first report.old report.new }
-{
-    out.clear();
-    if let Ok(()) = gate.apply_batch(rt, cmds, out) {
-        report.fill(first, out.as_slice());
     }
 }
