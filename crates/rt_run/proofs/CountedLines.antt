@@ -1,17 +1,16 @@
 -- A tally that grows line by line: the number of faulty lines and the first of them, the effect of one more line, and a bound
 -- on the counts.
-use Rattle.std.proofs.Common.{◌≡◌, ℕ, ◌+◌, Option, Some, None, List, [], ◌∷◌, length, refl, sym, ap, ◌∙◌, arith, ◌<◌, ◌≤◌, ◌++◌, append-nil}
+use Rattle.std.proofs.Common.{◌≡◌, ℕ, ◌+◌, Bool, Option, Some, None, List, [], ◌∷◌, length, refl, sym, ap, ◌∙◌, arith, ◌<◌, ◌≤◌, ◌++◌}
 use Rattle.std.specs.Prelude.{count_by, cond, nat_lt}
-use Rattle.std.proofs.lemmas.List.Sums.{sum_by-cons, count_by-le-length}
+use Rattle.std.proofs.lemmas.List.Sums.{sum_by-cons, sum_by-append, count_by-le-length}
 use Rattle.std.proofs.lemmas.List.Elements.{filter_map-append}
 use Rattle.rt_feed.specs.declared.parse.LineFault.{LineFault}
 use Rattle.rt_feed.specs.declared.faulty.FaultyLines.{FaultyLines}
 use Rattle.rt_feed.specs.declared.report.Line.{Line}
 use Rattle.rt_feed.specs.declared.report.Answer.{Answer}
-use Rattle.rt_feed.specs.declared.report.Answer.TheVariants.{Fault}
 use Rattle.rt_feed.specs.Addresses.{faulty_lines}
-use Rattle.rt_feed.specs.Reports.{is_fault, has_fault}
-use Rattle.rt_run.specs.TableText.{fault_at, faults_of, tally_of}
+use Rattle.rt_feed.specs.Reports.{is_fault, is_refusal, has_fault}
+use Rattle.rt_run.specs.TableText.{was_full, was_existing, was_missing, fault_at, faults_of, tally_of}
 use Rattle.rt_run.proofs.Lists.{counts_some}
 use Rattle.rt_feed.specs.Lines.{LineOutcome, skipped, report_lines}
 use Rattle.rt_run.specs.declared.tallies.RejectedInput.{RejectedInput}
@@ -45,21 +44,21 @@ counted (line ∷ report) =
 pub some_faulty : (report : List Line) → has_fault report ≡ nat_lt 0 (faulty_lines (faults_of report)).count
 some_faulty report = sym (counts_some (λ (line : Line). is_fault line.answer) report) ∙ ap (λ n. nat_lt 0 n) (counted report)
 
--- a line of a report
-abbrev line_of : ℕ → Answer → Line
-line_of number answer = record { number = number; answer = answer }
-
 -- the faults of later lines come after those of earlier lines
 faults-append : (report more : List Line) → faults_of (report ++ more) ≡ faults_of report ++ faults_of more
 faults-append report more = filter_map-append (λ (line : Line). fault_at line.number line.answer) report more
 
-pub faults-fault : (report : List Line) (number : ℕ) (fault : LineFault)
-    → faults_of (report ++ line_of number (Fault fault) ∷ []) ≡ faults_of report ++ (number, fault) ∷ []
-faults-fault report number fault = faults-append report (line_of number (Fault fault) ∷ [])
-
-pub faults-none : (report : List Line) (number : ℕ) (answer : Answer) → ((fault : LineFault) → answer ≡ Fault fault → ⊥)
-    → faults_of (report ++ line_of number answer ∷ []) ≡ faults_of report
-faults-none report number answer none = grind (arith, faults-append report (line_of number answer ∷ []), append-nil (faults_of report))
+-- the tally of a report with more lines
+pub tally_more : (report more : List Line) → tally_of (report ++ more) ≡ record {
+  faulty = faulty_lines (faults_of report ++ faults_of more);
+  full = (tally_of report).full + (tally_of more).full;
+  existing = (tally_of report).existing + (tally_of more).existing;
+  missing = (tally_of report).missing + (tally_of more).missing;
+  refused = (tally_of report).refused + (tally_of more).refused;
+}
+tally_more report more =
+    let count = λ (test : Answer → Bool). sum_by-append (λ (line : Line). cond (test line.answer) 1 0) report more in
+    rw (faults-append report more, count was_full, count was_existing, count was_missing, count is_refusal) refl
 
 -- a report has at most as many lines as its text
 report-few : (number : ℕ) (outcomes : List LineOutcome) → length (report_lines number outcomes) ≤ length outcomes

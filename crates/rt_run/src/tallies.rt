@@ -1,9 +1,8 @@
 //! Tallies of rejected input, for callers that don't read the reports of a run.
-ghost use Rattle.std.specs.Prelude.{◌≡◌, ◌<◌, List, [], ◌∷◌, ◌++◌};
-ghost use Rattle.std.specs.List.{list_any};
+ghost use Rattle.std.specs.Prelude.{◌≡◌, List, [], ◌++◌};
 ghost use Rattle.rt_feed.specs.declared.report.Line.{Line};
 ghost use Rattle.rt_run.specs.RunText.{status_where};
-ghost use Rattle.rt_run.specs.TableText.{was_full, was_existing, was_missing, has_refused, has_rejected, tallies_status};
+ghost use Rattle.rt_run.specs.TableText.{tallies_status};
 
 use crate::status::Status;
 use rt_feed::{Answer, FaultyLines};
@@ -26,8 +25,7 @@ pub struct RejectedInput {
 
 impl RejectedInput {
     ghost use Rattle.rt_feed.specs.Lines.{numbered};
-    ghost use Rattle.rt_feed.specs.Addresses.{faulty_lines};
-    ghost use Rattle.rt_run.specs.TableText.{tally_of, faults_of};
+    ghost use Rattle.rt_run.specs.TableText.{tally_of};
     ghost use Rattle.rt_run.specs.inside.Runs.{IsBelow};
 
     /// Returns the tally of a report without lines.
@@ -48,40 +46,14 @@ impl RejectedInput {
         requires { IsBelow number self.old }
         ensures { (report : List Line) → self.old ≡ tally_of report → self.new ≡ tally_of (report ++ numbered number said) }
     {
-        let Some(answer) = said else {
-            return;
-        };
-        self.count_fault(number, answer);
-        self.full += usize::from(was_full(answer));
-        self.existing += usize::from(was_existing(answer));
-        self.missing += usize::from(was_missing(answer));
-        self.refused += usize::from(answer.is_refusal());
-    }
-
-    /// Counts the line of this number if it is faulty.
-    fn count_fault(&mut self, number: usize, answer: Answer)
-        requires { self.old.faulty.count < number }
-        ensures faulty { (report : List Line) → self.old.faulty ≡ faulty_lines (faults_of report)
-            → self.new.faulty ≡ faulty_lines (faults_of (report ++ record { number = number; answer = answer } ∷ [])) }
-        ensures others { self.new ≡ record self.old { faulty = self.new.faulty } }
-    {
-        if let Answer::Fault(fault) = answer {
-            self.faulty.put(number, fault);
+        match said {
+            Some(Answer::Fault(fault)) => self.faulty.put(number, fault),
+            Some(Answer::Did(Reply::Full)) => self.full += 1,
+            Some(Answer::Did(Reply::Exists)) => self.existing += 1,
+            Some(Answer::Did(Reply::Missing)) => self.missing += 1,
+            Some(Answer::Refused) => self.refused += 1,
+            Some(Answer::Did(_)) | None => {}
         }
-    }
-
-    /// Returns true if a command ran out of memory.
-    fn has_refused(&self) -> bool
-        ensures { result ≡ has_refused self.now }
-    {
-        self.refused > 0
-    }
-
-    /// Returns true if a line was faulty or an `add` was over the limit.
-    fn has_rejected(&self) -> bool
-        ensures { result ≡ has_rejected self.now }
-    {
-        self.faulty.count > 0 || self.full > 0
     }
 }
 
@@ -100,44 +72,12 @@ pub(crate) fn summary_of(tallies: Vec<RejectedInput>) -> RunSummary
     ensures tallies { result.tallies ≡ tallies }
     ensures is_status { result.status ≡ tallies_status tallies.items }
 {
-    let refused = any_refused(tallies.as_slice());
-    let status = status_where(refused, any_rejected(tallies.as_slice()));
+    let refused = tallies.iter().any(|tally| tally.refused > 0);
+    let rejected = tallies
+        .iter()
+        .any(|tally| tally.faulty.count > 0 || tally.full > 0);
+    let status = status_where(refused, rejected);
     RunSummary { status, tallies }
-}
-
-/// Returns true if some command ran out of memory.
-fn any_refused(tallies: &[RejectedInput]) -> bool
-    ensures { result ≡ list_any has_refused tallies.now }
-{
-    tallies.iter().any(|tally| tally.has_refused())
-}
-
-/// Returns true if some line was faulty or some `add` was over the limit.
-fn any_rejected(tallies: &[RejectedInput]) -> bool
-    ensures { result ≡ list_any has_rejected tallies.now }
-{
-    tallies.iter().any(|tally| tally.has_rejected())
-}
-
-/// Returns true if an `add` was over the limit.
-fn was_full(answer: Answer) -> bool
-    ensures { result ≡ was_full answer }
-{
-    matches!(answer, Answer::Did(Reply::Full))
-}
-
-/// Returns true if the feed of an `add` already had a route to its prefix.
-fn was_existing(answer: Answer) -> bool
-    ensures { result ≡ was_existing answer }
-{
-    matches!(answer, Answer::Did(Reply::Exists))
-}
-
-/// Returns true if the feed of a `replace` or `withdraw` had no route to its prefix.
-fn was_missing(answer: Answer) -> bool
-    ensures { result ≡ was_missing answer }
-{
-    matches!(answer, Answer::Did(Reply::Missing))
 }
 
 /// Returns the status: `refused` means that some command ran out of memory, `left_out` that other input was rejected.
