@@ -17,20 +17,17 @@ const MANY_ROUTES: u32 = 1 << 14;
 /// Making a forwarding table takes as long as about two look-ups per route in the table, so it needs more addresses than that.
 const ADDRESSES_A_ROUTE: usize = 3;
 
-/// Returns true if a forwarding table of `routes` routes is faster than the table for `asked` addresses.
-fn is_faster(routes: u32, asked: usize) -> bool {
-    let enough = asked / ADDRESSES_A_ROUTE >= routes as usize;
-    routes >= MANY_ROUTES && asked >= MANY_ADDRESSES && enough
-}
-
 /// Returns a forwarding table of the table if that is faster for `asked` addresses and there is memory for it.
 pub(crate) fn fib_for(alloc: Global, table: &Table<Global>, asked: usize) -> Option<Fib<Global>>
     ensures { IfSome result (λ fib. fib ≡ table.now.routes) }
 {
-    if !is_faster(table.len(), asked) {
-        return None;
+    let routes = table.len();
+    let enough = asked / ADDRESSES_A_ROUTE >= routes as usize;
+    if routes >= MANY_ROUTES && asked >= MANY_ADDRESSES && enough {
+        Fib::new(alloc, table).ok()
+    } else {
+        None
     }
-    Fib::new(alloc, table).ok()
 }
 
 /// Replaces the elements of `answers` by the results of looking up each address, in order: in the forwarding table if there
