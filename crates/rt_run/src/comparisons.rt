@@ -51,7 +51,9 @@ pub fn diff_texts<W: Write>(
     }
     let (old_table, old) = run_in_turn(alloc, old_asked)?;
     let (new_table, new) = run_in_turn(alloc, new_asked)?;
-    let first = first_difference(&old_table, &new_table, options);
+    let first = options
+        .comparison(&old_table, &new_table)
+        .first_difference(Addr(0));
     let room = OutputRoom::new(alloc)?;
     let status = status_of(&old, &new, first);
     let given = DiffSummary { status, old, new };
@@ -60,17 +62,6 @@ pub fn diff_texts<W: Write>(
     });
     mem::forget((old_table, new_table));
     told
-}
-
-/// Returns the first difference between two tables.
-fn first_difference(
-    old: &Table<Global>,
-    new: &Table<Global>,
-    options: &DiffOptions,
-) -> Option<Difference>
-    ensures { IsFirstOf options.now old.now.routes new.now.routes result }
-{
-    options.comparison(old, new).first_difference(Addr(0))
 }
 
 /// Returns the status, from the summaries of two runs and the first difference between their tables.
