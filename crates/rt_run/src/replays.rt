@@ -26,13 +26,8 @@ pub fn replay_text<W: Write>(
     ensures place { (result ≡ Err (AppFault.Replay ReplayFault.Place))
         ↔ (HasShape levels × Any (λ pick. 2 ^ levels ≤ pick) picks.now) }
 {
-    let steps = match replay(alloc, levels, picks) {
-        Ok(steps) => steps,
-        Err(fault) => return Err(AppFault::Replay(fault)),
-    };
-    let Ok(room) = OutputRoom::new(alloc) else {
-        return Err(AppFault::Replay(ReplayFault::Memory));
-    };
+    let steps = replay(alloc, levels, picks).map_err(AppFault::Replay)?;
+    let room = OutputRoom::new(alloc).map_err(|_| AppFault::Replay(ReplayFault::Memory))?;
     let steps = steps.as_slice();
     let inside = inside_place(steps);
     let done = Status::Done as u8;

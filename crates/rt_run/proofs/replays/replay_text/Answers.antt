@@ -1,4 +1,4 @@
-use Rattle.std.proofs.Common.{rules}
+use Rattle.std.proofs.Common.{◌≡◌, Ok, arith, rules}
 use Rattle.ya_core.specs.ArbitrationTree.{HasShape}
 use Rattle.rt_print.specs.ReplayText.{replay_text_of}
 use Rattle.rt_print.proofs.Promised.{replay_text-some}
@@ -8,9 +8,10 @@ use Rattle.rt_run.proofs.replays.replay_text.Goals as goal
 
 pub returns-clause-text : goal.returns-clause-text
 returns-clause-text g c =
-    let shaped : (HasShape c.args.levels → ⊥) → ⊥ = λ none. cc (c.in-Ok.ensures.levels.1 none) in
+    let replayed : c.replay.result ≡ Ok c.in_ok-steps.steps = grind arith in
+    let shaped : (HasShape c.args.levels → ⊥) → ⊥ = λ none. let fault = c.replay.ensures.levels.1 none in cc in
     let tells = rw c.as_slice-steps.ensures.value at c.inside_place-inside.ensures in
     let is : IsReplayText c.args.levels c.args.picks.now (replay_text_of c.as_slice-steps.result.now c.inside_place-inside.result) =
-    rw c.as_slice-steps.ensures.value (is_replay_text c.args.levels c.args.picks.now _ c.inside_place-inside.result shaped c.in-Ok.ensures.steps tells) in
+    rw c.as_slice-steps.ensures.value (is_replay_text c.args.levels c.args.picks.now _ c.inside_place-inside.result shaped (rw replayed at c.replay.ensures.steps) tells) in
     leaves_replay _ _ _ _ _ c.write_through.result is c.write_through.ensures.fault
     (c.write_through.ensures.text _ (replay_text-some _ _) (λ old written new called. search rules))
