@@ -58,7 +58,12 @@ pub fn show<W: Write>(
     let (table, run) = run_in_turn(alloc, asked)?;
     let read = read_lookup_addresses(alloc, question)?;
     let addresses = read.addresses.as_slice();
-    let given = query_summary(run, read.faulty);
+    let not_taken = status_where(false, read.faulty.count > 0);
+    let given = QuerySummary {
+        status: not_taken.max(run.status),
+        run,
+        faulty: read.faulty,
+    };
     let told = write_answer(alloc, &table, style, question, addresses, given, w);
     mem::forget(table);
     told
@@ -76,18 +81,6 @@ fn read_lookup_addresses(alloc: Global, question: &Question<'_>) -> Result<Addre
     let mut addresses = asked.named.to_vec(alloc)?;
     addresses.append(&mut said)?;
     Ok(AddressText { addresses, faulty })
-}
-
-/// Returns the result of a query, from the run's summary and the faulty lines of the text of addresses.
-fn query_summary(run: RunSummary, faulty: FaultyLines) -> QuerySummary
-    ensures { result ≡ record { status = max (status_where false (nat_lt 0 faulty.count)) run.status; run = run; faulty = faulty } }
-{
-    let not_taken = status_where(false, faulty.count > 0);
-    QuerySummary {
-        status: not_taken.max(run.status),
-        run,
-        faulty,
-    }
 }
 
 /// Writes the answer to the question from the table, in few large writes, and returns `given`; `addresses` are the ones to
@@ -112,37 +105,22 @@ fn write_answer<W: Write>(
             })
         }
         Question::All(_) => {
-            let matches = matches_of(alloc, table, addresses)?;
-            let all = matches.as_slice();
-            write_through(
-                w,
-                room,
-                all.is_empty(),
-                given,
-                |out| write_matches(out, style, all),
-            )
+            let all = matches_of(alloc, table, addresses)?;
+            write_through(w, room, all.is_empty(), given, |out| {
+                write_matches(out, style, all.as_slice())
+            })
         }
         Question::Routes(asked) => {
             let routes = routes_asked(alloc, table, asked)?;
-            let routes = routes.as_slice();
-            write_through(
-                w,
-                room,
-                routes.is_empty(),
-                given,
-                |out| write_routes(out, style, routes),
-            )
+            write_through(w, room, routes.is_empty(), given, |out| {
+                write_routes(out, style, routes.as_slice())
+            })
         }
         Question::Counts(asked) => {
             let routes = routes_asked(alloc, table, asked)?;
-            let routes = routes.as_slice();
-            write_through(
-                w,
-                room,
-                false,
-                given,
-                |out| write_counts(out, style, routes),
-            )
+            write_through(w, room, false, given, |out| {
+                write_counts(out, style, routes.as_slice())
+            })
         }
     }
 }

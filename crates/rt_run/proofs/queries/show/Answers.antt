@@ -9,4 +9,4 @@ returns-clause-text g c =
     let read : IsAsked (named_in question) (said_in question) c.as_slice-addresses.result.now c.in_ok-read.read.faulty =
     rw c.as_slice-addresses.ensures.value (c.in_ok-read.ensures {u = tt}) in
     let is = is_answer c.args.asked.now c.args.style.now question _ _ _ _ read c.in_ok-table.ensures.ran in
-    writes_or_fails (IsAnswer c.args.asked.now c.args.style.now question) _ _ _ _ c.write_answer-told.result is (rw c.query_summary-given.ensures at c.write_answer-told.ensures)
+    writes_or_fails (IsAnswer c.args.asked.now c.args.style.now question) _ _ _ _ c.write_answer-told.result is (rw (c.max.ensures, c.status_where-not_taken.ensures) at c.write_answer-told.ensures)
