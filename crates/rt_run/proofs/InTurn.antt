@@ -1,8 +1,8 @@
 -- Texts executed one after another, line by line and text by text: some history of them leaves the same table.
 use Rattle.std.proofs.Common.{◌≡◌, ◌≢◌, inl, inr, ℕ, zero, suc, ◌+◌, ◌<◌, ◌≤◌, Option, List, [], ◌∷◌, ◌++◌, length, map, take, drop}
-use Rattle.std.proofs.Common.{get_or, refl, sym, ap, subst, ◌∙◌, arith, append_assoc, append-nil, length-append, length-drop, take-append-drop}
+use Rattle.std.proofs.Common.{refl, sym, ap, subst, ◌∙◌, arith, append_assoc, append-nil, length-append, length-drop, take-append-drop}
 use Rattle.std.proofs.lemmas.Bool.{cases_lt}
-use Rattle.std.proofs.lemmas.List.{map-append, length-map, length-take-le, map_more as map_next}
+use Rattle.std.proofs.lemmas.List.{map-append, length-take-le}
 use Rattle.std.proofs.lemmas.List.Elements.{All-nil, All-cons, All-append, All-weaker}
 use Rattle.rt_rib.specs.declared.commands.Cmd.{Cmd}
 use Rattle.rt_rib.specs.declared.commands.Reply.{Reply}
@@ -262,14 +262,3 @@ leaves_all texts limit batch table tallies summary so_far same status = record {
   left = so_far.left;
   summed = record { tallied = same ∙ so_far.tallied; is_status = status ∙ ap tallies_status (sym same) };
 }
-
--- the texts so far, and one more
-pub texts_more : {V : Type 0} (items : V → List ℕ) (texts : List V) (i : ℕ) (one : V) (text : List ℕ) → i < length texts → one ≡ get_or texts i one
-    → text ≡ items one → map items (take i texts) ++ text ∷ [] ≡ map items (take (i + 1) texts)
-texts_more items texts i one text here is same =
-    ap (λ (t : List ℕ). map items (take i texts) ++ t ∷ []) (same ∙ ap items is) ∙ sym (map_next items texts i one here)
-
-pub texts_count : {V : Type 0} (items : V → List ℕ) (texts : List V) (i : ℕ) → i < length texts → i + 1 ≡ length (map items (take i texts)) + 1
-texts_count items texts i here =
-    let taken : length (take i texts) ≡ i = length-take-le i texts (omega (arith, here)) in
-    omega (arith, length-map (take i texts) items, taken)

@@ -1,8 +1,8 @@
 //! Runs without some of their feeds. The other feeds keep their numbers.
-ghost use Rattle.std.specs.Prelude.{◌≡◌, ◌≤◌, if◌then◌else◌, [], length, map};
+ghost use Rattle.std.specs.Prelude.{◌≡◌, ◌≤◌, [], length, map, get_or};
 ghost use Rattle.rt_rib.specs.Book.{IsLimit};
 ghost use Rattle.rt_rib.specs.declared.limits.TheConstants.{MAX_FEEDS};
-ghost use Rattle.rt_run.specs.ChosenFeeds.{is_one_of, is_selected, is_left_out, texts_kept, AreWithout};
+ghost use Rattle.rt_run.specs.ChosenFeeds.{is_selected, is_left_out, texts_kept, AreWithout};
 
 use std::marker::Model;
 
@@ -20,14 +20,7 @@ impl FeedChoice<'_> {
     pub fn leaves_out(&self, feed: u32) -> bool
         ensures { result ≡ is_left_out self.now.only.now self.now.without.now feed }
     {
-        is_one_of(self.without, feed) || !is_selected(self.only, feed)
-    }
-
-    /// Returns the feed's text, or an empty one if the feed is left out.
-    pub(crate) fn text_of<'t>(&self, feed: u32, text: &'t [u8]) -> &'t [u8]
-        ensures { result.now ≡ (if is_left_out self.now.only.now self.now.without.now feed then [] else text.now) }
-    {
-        if self.leaves_out(feed) { &[] } else { text }
+        self.without.contains(&feed) || !is_selected(self.only, feed)
     }
 }
 
@@ -35,24 +28,17 @@ impl FeedChoice<'_> {
 pub(crate) fn is_selected(feeds: &[u32], feed: u32) -> bool
     ensures { result ≡ is_selected feeds.now feed }
 {
-    feeds.is_empty() || is_one_of(feeds, feed)
-}
-
-/// Returns true if the feed is one of these.
-fn is_one_of(feeds: &[u32], feed: u32) -> bool
-    ensures { result ≡ is_one_of feeds.now feed }
-{
-    feeds.iter().any(|number| *number == feed)
+    feeds.is_empty() || feeds.contains(&feed)
 }
 
 /// The texts of a run's feeds. A text of a feed that is left out counts as empty: contracts see an empty text there, and the
 /// given text isn't read.
 #[derive(Drop)]
 pub struct ChosenTexts<'a> {
-    pub(crate) texts: &'a [Vec<u8>],
+    texts: &'a [Vec<u8>],
     pub(crate) limit: u32,
     batch: usize,
-    pub(crate) choice: FeedChoice<'a>,
+    choice: FeedChoice<'a>,
 }
 
 impl<'a> Model for ChosenTexts<'a> {
@@ -106,5 +92,19 @@ impl<'a> ChosenTexts<'a> {
         ensures few { result ≤ MAX_FEEDS }
     {
         self.texts.len()
+    }
+
+    /// Returns the text of the feed at this place, or an empty one if there is none or the feed is left out.
+    pub(crate) fn text(&self, index: usize) -> &'a [u8]
+        ensures { result.now ≡ get_or self.now.texts index [] }
+    {
+        let Some(text) = self.texts.get(index) else {
+            return &[];
+        };
+        if self.choice.leaves_out(index as u32 + 1) {
+            &[]
+        } else {
+            text.as_slice()
+        }
     }
 }

@@ -1,18 +1,16 @@
 //! Runs for callers that print neither journal nor reports: the texts are executed one after another, on the caller's
 //! thread. Only the table and a tally of each text are stored.
-ghost use Rattle.std.specs.Prelude.{◌≡◌, ◌≢◌, ◌↔◌, ◌≤◌, ℕ, [], length, map, IfOk};
-ghost use Rattle.rt_rib.specs.declared.limits.TheConstants.{MAX_FEEDS};
-ghost use Rattle.rt_rib.specs.Book.{IsLimit, IsFeed, table_state};
-ghost use Rattle.rt_run.specs.ChosenFeeds.{is_left_out, texts_kept};
+ghost use Rattle.std.specs.Prelude.{◌≡◌, ◌≢◌, ◌↔◌, [], IfOk};
+ghost use Rattle.rt_rib.specs.Book.{IsFeed, table_state};
 ghost use Rattle.rt_run.specs.TableText.{LeavesTable};
-ghost use Rattle.rt_run.specs.inside.Runs.{ExecutesText, ExecutesLine, ExecutesCommand};
+ghost use Rattle.rt_run.specs.inside.Runs.{ExecutesText, ExecutesLine};
 
 use crate::ahead::{CommandOrder, read_ahead};
-use crate::chosen::{ChosenTexts, FeedChoice};
+use crate::chosen::ChosenTexts;
 use crate::tallies::{RejectedInput, RunSummary, summary_of};
 use rt_feed::{Answer, RunFault, Version, next_line, parse_line, text_body};
-use rt_rib::{Cmd, Refused, Table};
-use std::alloc::{AllocError, Global};
+use rt_rib::{Refused, Table};
+use std::alloc::Global;
 
 /// Executes the texts one after another over one table, the k-th for feed k, and an empty text for each feed that is left out.
 /// This is one of the runs that threads could have made. Returns the table that all texts leave, and the summary. Callers
@@ -29,31 +27,13 @@ pub(crate) fn run_in_turn(
     if asked.count() == 0 {
         return Err(RunFault::NoText);
     }
-    execute_texts(alloc, asked.texts, asked.limit, asked.choice).map_err(|_| RunFault::Memory)
-}
-
-/// Executes the texts one after another over one table. Its result doesn't depend on the batch.
-fn execute_texts(
-    alloc: Global,
-    texts: &[Vec<u8>],
-    limit: u32,
-    choice: FeedChoice<'_>,
-) -> Result<(Table<Global>, RunSummary), AllocError>
-    requires limited { IsLimit limit }
-    requires few { length texts.now ≤ MAX_FEEDS }
-    ensures { IfOk result (λ run. (batch : ℕ) → 1 ≤ batch
-        → LeavesTable (record {
-          texts = texts_kept (is_left_out choice.entry.only.now choice.entry.without.now) 1 (map (λ text. text.items) texts.now);
-          limit = limit;
-          batch = batch;
-        }) run.0.routes run.1) }
-{
-    let mut table = Table::new(alloc, limit);
-    let mut tallies = Vec::with_capacity(alloc, texts.len())?;
-    for (index, text) in texts.iter().enumerate() {
+    let mut table = Table::new(alloc, asked.limit);
+    let Ok(mut tallies) = Vec::with_capacity(alloc, asked.count()) else {
+        return Err(RunFault::Memory);
+    };
+    for index in 0..asked.count() {
         let feed = index as u32 + 1;
-        let kept = choice.text_of(feed, text.as_slice());
-        let tally = execute_text(&mut table, feed, kept);
+        let tally = execute_text(&mut table, feed, asked.text(index));
         tallies.push_reserved(tally);
     }
     Ok((table, summary_of(tallies)))
@@ -97,19 +77,11 @@ fn execute_line(
             None => None,
             Some(cmd) => {
                 order.add(cmd);
-                Some(execute(table, feed, cmd))
+                match table.apply(feed, cmd) {
+                    Ok(reply) => Some(Answer::Did(reply)),
+                    Err(Refused) => Some(Answer::Refused),
+                }
             }
         },
-    }
-}
-
-/// Executes the command.
-fn execute(table: &mut Table<Global>, feed: u32, cmd: Cmd) -> Answer
-    requires { IsFeed feed }
-    ensures { ExecutesCommand feed cmd (table_state table.old) (table_state table.new) result }
-{
-    match table.apply(feed, cmd) {
-        Ok(reply) => Answer::Did(reply),
-        Err(Refused) => Answer::Refused,
     }
 }

@@ -1,10 +1,10 @@
 -- The result of a run of feeds before its text is written; and texts that are executed one after another: the effect of a
--- command, a line, a text and the texts so far.
-use Rattle.std.specs.Prelude.{◌≡◌, ℕ, List, length, ◌+◌, ◌<◌, ◌≤◌, [], ◌∷◌, ◌++◌, map, Option}
+-- line, a text and the texts so far.
+use Rattle.std.specs.Prelude.{◌≡◌, ℕ, List, length, ◌+◌, ◌<◌, ◌≤◌, [], ◌++◌, map, Option}
 use Rattle.rt_rib.specs.Book.{BookContents, TableState}
 use Rattle.rt_shared.specs.SharedTable.{SharedId, HeldPass, ArePassesOf, Settles}
 use Rattle.rt_feed.specs.declared.report.Line.{Line}
-use Rattle.rt_feed.specs.Lines.{LineOutcome, TextYields, LinesYield, reading, command_answer, line_answer, report_lines, command_of, commands_of}
+use Rattle.rt_feed.specs.Lines.{LineOutcome, TextYields, LinesYield, reading, line_answer, report_lines, command_of, commands_of}
 use Rattle.rt_run.specs.RunText.{RunContents, IsJournalOfRun, reports_of}
 use Rattle.rt_rib.specs.declared.commands.Cmd.{Cmd}
 use Rattle.rt_rib.specs.declared.commands.Entry.{Entry}
@@ -39,12 +39,6 @@ Continues feed asked old new = (new.limit ≡ old.limit)
     × ((journal : List Entry) → IsLawfulJournal old.limit journal → old.routes ≡ table_of_journal old.limit journal
     → IsLawfulJournal old.limit (journal ++ entries feed (visit_of asked))
     × (new.routes ≡ table_of_journal old.limit (journal ++ entries feed (visit_of asked))))
-
--- the command was executed, and a report would have this answer
-pub record ExecutesCommand (feed : ℕ) (cmd : Cmd) (old new : TableState) (answer : Answer) : Type 0 where
-  pub outcome : Outcome
-  pub answered : answer ≡ command_answer outcome
-  pub continued : Continues feed ((cmd, outcome) ∷ []) old new
 
 -- the line was executed, and a report would have this answer for it, if it had one
 pub record ExecutesLine (version : Version) (feed : ℕ) (line : List ℕ) (old new : TableState) (answer : Option Answer) : Type 0 where
