@@ -78,12 +78,16 @@ some_text : {V : Type 0} (texts : List V) (i : ℕ) → i < length texts → V
 some_text [] i here = absurd (omega (arith, here))
 some_text (text ∷ texts) i here = text
 
--- the passes of a table, the first of which are in gates to it: their gates, before and after a run of as many texts
+-- each text was run through the gate of the pass at its place: the gates before and after
+pub record WereRun {V : Type 0} (items : V → List ℕ) (texts : List V) (batch : ℕ) (passes : List HeldPass) (feeds feeds' : List (Feed HeldPass)) : Type 0 where
+  pub few : length texts ≤ length passes
+  pub opened : feeds ≡ map (λ p. record { gate = p; report = None }) (take (length texts) passes)
+  pub as_many : length feeds' ≡ length feeds
+  pub ran : (i : ℕ) (t : V) (d : Feed HeldPass) → i < length texts
+      → RunsOne name holds batch (items (get_or texts i t)) (get_or feeds i d).gate (get_or feeds' i d).gate (get_or feeds' i d).report
+
 module _ {V : Type 0} (items : V → List ℕ) (texts : List V) (table : SharedId) (batch : ℕ) (passes : List HeldPass) (dealt : ArePassesOf table passes)
-    (fresh : All (λ (p : HeldPass). p.seen ≡ []) passes) (few : length texts ≤ length passes) (feeds feeds' : List (Feed HeldPass))
-    (opened : feeds ≡ map (λ p. record { gate = p; report = None }) (take (length texts) passes)) (as_many : length feeds' ≡ length feeds)
-    (ran : (i : ℕ) (t : V) (d : Feed HeldPass) → i < length texts
-    → RunsOne name holds batch (items (get_or texts i t)) (get_or feeds i d).gate (get_or feeds' i d).gate (get_or feeds' i d).report) where
+    (fresh : All (λ (p : HeldPass). p.seen ≡ []) passes) (feeds feeds' : List (Feed HeldPass)) (were : WereRun items texts batch passes feeds feeds') where
   -- a pass and a feed for positions outside of the lists
   abbrev no_pass : HeldPass
   no_pass = record { table = table; feed = 0; seen = [] }
@@ -95,13 +99,13 @@ module _ {V : Type 0} (items : V → List ℕ) (texts : List V) (table : SharedI
   no_feed = open_feed no_pass
 
   n_feeds : length feeds' ≡ length texts
-  n_feeds = as_many ∙ (ap length opened ∙ (length-map (take (length texts) passes) open_feed ∙ length-take-le (length texts) passes few))
+  n_feeds = were.as_many ∙ (ap length were.opened ∙ (length-map (take (length texts) passes) open_feed ∙ length-take-le (length texts) passes were.few))
 
   -- the gate of a feed before the run is its pass
   gate_before : (i : ℕ) → i < length texts → (get_or feeds i no_feed).gate ≡ get_or passes i no_pass
   gate_before i here =
-      let within : i < length (take (length texts) passes) = omega (arith, length-take-le (length texts) passes few, here) in
-      ap (λ (fs : List (Feed HeldPass)). (get_or fs i no_feed).gate) opened
+      let within : i < length (take (length texts) passes) = omega (arith, length-take-le (length texts) passes were.few, here) in
+      ap (λ (fs : List (Feed HeldPass)). (get_or fs i no_feed).gate) were.opened
       ∙ (ap (λ (f : Feed HeldPass). f.gate) (get_or-map open_feed (take (length texts) passes) i no_pass no_feed within)
       ∙ get_or-take (length texts) passes i no_pass here)
 
@@ -132,7 +136,7 @@ module _ {V : Type 0} (items : V → List ℕ) (texts : List V) (table : SharedI
   named_back : (i : ℕ) → name (get_or back i no_pass) ≡ name (get_or passes i no_pass)
   named_back i = elim (cases_lt i (length texts)) [
     | inr idle ↦ ap name (idle_back i idle)
-    | inl here ↦ ap name (ran_back i here) ∙ ((ran i (some_text texts i here) no_feed here).named ∙ ap name (gate_before i here))
+    | inl here ↦ ap name (ran_back i here) ∙ ((were.ran i (some_text texts i here) no_feed here).named ∙ ap name (gate_before i here))
   ]
 
   feed_back : (i : ℕ) → i < length passes → (get_or back i no_pass).feed ≡ i + 1
@@ -188,14 +192,14 @@ module _ {V : Type 0} (items : V → List ℕ) (texts : List V) (table : SharedI
       explained_at : (i m : ℕ) (t' : V) (r : List Line) → i < length texts
           → m ≡ 1 + i → IsExplained batch m journal (items (get_or texts i t')) (get_or reports i r)
       explained_at i m t' r here is =
-          let within : i < length passes = omega (arith, here, few) in
-          let run = ran i t' no_feed here in
+          let within : i < length passes = omega (arith, here, were.few) in
+          let one = were.ran i t' no_feed here in
           let old = (get_or feeds i no_feed).gate in
           let new = (get_or feeds' i no_feed).gate in
           let report = get_or reports i r in
           let runs : RunsFeed holds batch (items (get_or texts i t')) old new report =
           subst (λ (o : Option (List Line)). MatchOption o (RunsPrefixOf holds batch (items (get_or texts i t')) old new)
-          (λ lines. RunsFeed holds batch (items (get_or texts i t')) old new lines)) (report_at i r here) run.runs in
+          (λ lines. RunsFeed holds batch (items (get_or texts i t')) old new lines)) (report_at i r here) one.runs in
           let unseen : old.seen ≡ [] = ap (λ (p : HeldPass). p.seen) (gate_before i here) ∙ fresh i no_pass within in
           let next : m ≡ i + 1 = omega (arith, is) in
           let mine : new.feed ≡ m = ap (λ (p : HeldPass). p.feed) (sym (ran_back i here)) ∙ (feed_back i within ∙ sym next) in

@@ -2,11 +2,8 @@
 ghost use Rattle.std.specs.Prelude.{◌≡◌, ◌↔◌, ◌⊎◌, ◌+◌, ◌*◌, ◌^◌, ◌<◌, ◌≤◌, ◌++◌, [], map, length, vec_len, vec_capacity, All, Some, None, IfOk, IsSome};
 ghost use Rattle.rt_rib.specs.declared.limits.TheConstants.{MAX_FEEDS};
 ghost use Rattle.rt_rib.specs.Book.{IsLimit};
-ghost use Rattle.std.specs.List.{list_any};
-ghost use Rattle.rt_feed.specs.Reports.{has_refusal, has_fault};
 ghost use Rattle.rt_run.specs.RunText.{IsRunText, WritesOrFails, reports_status};
-ghost use Rattle.rt_run.specs.inside.Runs.{RunOverBook, RunBeforeSettle};
-ghost use Rattle.rt_shared.specs.SharedTable.{ArePassesOf};
+ghost use Rattle.rt_run.specs.inside.Runs.{RunOverBook};
 ghost use Rattle.ya_core.specs.ArbitrationTree.{HasShape};
 
 use crate::faults::AppFault;
@@ -103,37 +100,17 @@ fn run_in_tree<R: Threads + Wait + Sync, const L: u32>(
     requires fewest { (L ≡ 1) ⊎ (2 ^ L < 2 * length texts.now) }
     ensures { IfOk result (λ run. RunOverBook (record { texts = map (λ text. text.items) texts.now; limit = limit; batch = batch }) run.0.items run.1) }
 {
-    let (table, passes) = SharedRib::<L>::new(alloc, limit)?;
-    let (passes, reports) = run_passes(rt, alloc, &table, passes, texts, batch)?;
-    Ok((reports, table.settle(rt, passes)))
-}
-
-/// Runs the texts, the k-th with the k-th of the table's passes. Returns all passes of the table, and the reports.
-fn run_passes<R: Threads + Wait + Sync, const L: u32>(
-    rt: &R,
-    alloc: Global,
-    table: &SharedRib<L>,
-    passes: Vec<FeedPass>,
-    texts: &[Vec<u8>],
-    batch: usize,
-) -> Result<(Vec<FeedPass>, Vec<Report>), AllocError>
-    requires dealt { ArePassesOf table.now passes.items }
-    requires fresh { All (λ p. p.seen ≡ []) passes.items }
-    requires few { length texts.now ≤ length passes.items }
-    requires batched { 1 ≤ batch }
-    ensures { IfOk result (λ joined. RunBeforeSettle (map (λ text. text.items) texts.now) batch table.now joined.0.items joined.1.items) }
-{
+    let (table, mut passes) = SharedRib::<L>::new(alloc, limit)?;
     let mut ended = Vec::with_capacity(alloc, passes.len())?;
     let mut reports = Vec::with_capacity(alloc, texts.len())?;
-    let mut passes = passes;
-    let idle = passes.split_off(texts.len())?;
-    let mut feeds = open_gates(alloc, table, passes)?;
+    let mut idle = passes.split_off(texts.len())?;
+    let mut feeds = open_gates(alloc, &table, passes)?;
     let Ok(()) = run_feeds(rt, alloc, texts, batch, &mut feeds) else {
-        return Err(AllocError);
+        return Err(Refused);
     };
     close_gates(feeds, &mut ended, &mut reports);
-    append_passes(&mut ended, idle);
-    Ok((ended, reports))
+    ended.append(&mut idle)?;
+    Ok((reports, table.settle(rt, ended)))
 }
 
 /// Returns a gate to the table for each pass.
@@ -166,7 +143,6 @@ fn close_gates<const L: u32>(
     requires reports { (reports.old.items ≡ []) × (vec_len feeds ≤ vec_capacity reports.old) }
     ensures passes { passes.new.items ≡ map (λ feed. feed.gate) feeds.entry.items }
     ensures reports { map Some reports.new.items ≡ map (λ feed. feed.report) feeds.entry.items }
-    ensures room { vec_capacity passes.old ≤ vec_capacity passes.new }
 {
     for feed in feeds {
         let Feed { gate, report } = feed;
@@ -176,33 +152,11 @@ fn close_gates<const L: u32>(
     }
 }
 
-/// Appends the passes `more`.
-fn append_passes(passes: &mut Vec<FeedPass>, mut more: Vec<FeedPass>)
-    requires { vec_len passes.old + vec_len more ≤ vec_capacity passes.old }
-    ensures { passes.new.items ≡ passes.old.items ++ more.items }
-{
-    let Ok(()) = passes.append(&mut more) else {
-        unreachable!()
-    };
-}
-
 /// Returns the status of a run with these reports.
 fn status_of(reports: &[Report]) -> u8
     ensures { result ≡ reports_status reports.now }
 {
-    status_where(any_refusal(reports), any_fault(reports))
-}
-
-/// Returns true if some report contains a refused command.
-fn any_refusal(reports: &[Report]) -> bool
-    ensures { result ≡ list_any has_refusal reports.now }
-{
-    reports.iter().any(|report| report.has_refusal())
-}
-
-/// Returns true if some report contains a faulty line.
-fn any_fault(reports: &[Report]) -> bool
-    ensures { result ≡ list_any has_fault reports.now }
-{
-    reports.iter().any(|report| report.has_fault())
+    let refused = reports.iter().any(|report| report.has_refusal());
+    let faulty = reports.iter().any(|report| report.has_fault());
+    status_where(refused, faulty)
 }

@@ -2,7 +2,6 @@
 -- line, a text and the texts so far.
 use Rattle.std.specs.Prelude.{◌≡◌, ℕ, List, length, ◌+◌, ◌<◌, ◌≤◌, [], ◌++◌, map, Option}
 use Rattle.rt_rib.specs.Book.{BookContents, TableState}
-use Rattle.rt_shared.specs.SharedTable.{SharedId, HeldPass, ArePassesOf, Settles}
 use Rattle.rt_feed.specs.declared.report.Line.{Line}
 use Rattle.rt_feed.specs.Lines.{LineOutcome, TextYields, LinesYield, reading, line_answer, report_lines, command_of, commands_of}
 use Rattle.rt_run.specs.RunText.{RunContents, IsJournalOfRun, reports_of}
@@ -24,13 +23,6 @@ pub record RunOverBook (asked : RunContents) (reports : List (List Line)) (book 
   pub history : IsJournalOfRun asked.texts asked.limit asked.batch book.journal outcomes
   pub reported : reports ≡ reports_of outcomes
   pub counted : length reports ≡ length asked.texts
-
--- the texts were run with passes of the table, which have all been returned, and these are the reports: for every book
--- to which the table settles, the texts were run to their ends with it
-pub record RunBeforeSettle (texts : List (List ℕ)) (batch : ℕ) (table : SharedId) (passes : List HeldPass) (reports : List (List Line)) : Type 0 where
-  pub back : ArePassesOf table passes
-  pub settled : (book : BookContents) → book.limit ≡ table.limit → Settles table passes book.journal
-      → RunOverBook (record { texts = texts; limit = table.limit; batch = batch }) reports book
 
 -- the feed's commands had these outcomes: to each lawful journal that leaves the old routes their entries may be appended, and
 -- it is still lawful and leaves the new routes
