@@ -4,6 +4,8 @@ use Rattle.std.proofs.Common.{refl, sym, ap, subst, ◌∙◌, arith, append_ass
 use Rattle.std.proofs.lemmas.Bool.{cases_lt}
 use Rattle.std.proofs.lemmas.List.{map-append, length-take-le}
 use Rattle.std.proofs.lemmas.List.Elements.{All-nil, All-cons, All-append, All-weaker}
+use Rattle.std.specs.declared.vec.Vec.{Vec}
+use Rattle.std.specs.declared.alloc.Global.{Global}
 use Rattle.rt_rib.specs.declared.commands.Cmd.{Cmd}
 use Rattle.rt_rib.specs.declared.commands.Reply.{Reply}
 use Rattle.rt_rib.specs.declared.commands.Entry.{Entry}
@@ -25,7 +27,7 @@ use Rattle.rt_run.specs.declared.tallies.RejectedInput.{RejectedInput}
 use Rattle.rt_run.specs.declared.tallies.RunSummary.{RunSummary}
 use Rattle.rt_run.specs.RunText.{Explains, ExplainsFrom, reports_of}
 use Rattle.rt_run.specs.TableText.{tally_of, tallies_status, LeavesTable}
-use Rattle.rt_run.specs.inside.Runs.{Continues, ExecutesText, ExecutesLine, IsExecuting, LeavesSoFar}
+use Rattle.rt_run.specs.inside.Runs.{Continues, ExecutesText, ExecutesLine, IsExecuting}
 use Rattle.rt_run.proofs.Lists.{map_more, split-joined}
 
 -- a feed's command with its reply as an entry
@@ -208,23 +210,28 @@ explains_more batch last journal own text lines by explained feed (one ∷ texts
 )
 explains_more batch last journal own text lines by explained feed texts outcomes is so_far = absurd so_far
 
+-- the summary of a run with these tallies
+abbrev pub summary : Vec RejectedInput Global → RunSummary
+summary tallies = record { status = tallies_status tallies.items; tallies = tallies }
+
 -- before the first text
-pub leaves_nothing : (limit batch : ℕ) (table : TableState) → table ≡ record { limit = limit; routes = [] } → LeavesSoFar [] limit batch table []
+pub leaves_nothing : (limit batch : ℕ) (table : TableState) (tallies : Vec RejectedInput Global) → table.routes ≡ [] → tallies.items ≡ []
+    → LeavesTable (record { texts = []; limit = limit; batch = batch }) table.routes (summary tallies)
 unfolding table_of_journal
-leaves_nothing limit batch table is = record {
-  limited = ap (λ (t : TableState). t.limit) is;
+leaves_nothing limit batch table tallies is none = record {
   journal = [];
   outcomes = [];
   history = record { lawful = IsLawfulJournal-nil limit; explained = tt; no_other = All-nil _ };
-  left = ap (λ (t : TableState). t.routes) is;
-  tallied = refl;
+  left = is;
+  summed = record { tallied = none; is_status = refl };
 }
 
 -- one more text
-pub leaves_more : (texts : List (List ℕ)) (text : List ℕ) (limit batch feed : ℕ) (old new : TableState) (tallies tallies' : List RejectedInput) (tally : RejectedInput)
-    → 1 ≤ batch → feed ≡ length texts + 1 → LeavesSoFar texts limit batch old tallies → ExecutesText feed text old new tally
-    → tallies' ≡ tallies ++ tally ∷ [] → LeavesSoFar (texts ++ text ∷ []) limit batch new tallies'
-leaves_more texts text limit batch feed old new tallies tallies' tally some is so_far executed pushed =
+pub leaves_more : (texts : List (List ℕ)) (text : List ℕ) (limit batch feed : ℕ) (old new : TableState) (tallies tallies' : Vec RejectedInput Global) (tally : RejectedInput)
+    → 1 ≤ batch → feed ≡ length texts + 1 → old.limit ≡ limit → LeavesTable (record { texts = texts; limit = limit; batch = batch }) old.routes (summary tallies)
+    → ExecutesText feed text old new tally → tallies'.items ≡ tallies.items ++ tally ∷ []
+    → LeavesTable (record { texts = texts ++ text ∷ []; limit = limit; batch = batch }) new.routes (summary tallies')
+leaves_more texts text limit batch feed old new tallies tallies' tally some is limited so_far executed pushed =
     let journal = so_far.journal in
     let own = entries feed (visit_of (commands_of executed.outcomes)) in
     let by : AllBy feed own = entries_by feed (visit_of (commands_of executed.outcomes)) in
@@ -233,9 +240,8 @@ leaves_more texts text limit batch feed old new tallies tallies' tally some is s
     let others : NoneBy feed journal =
     All-weaker (Fits texts) (λ (e : Entry). e.feed ≢ feed) (λ e of same. absurd (omega (arith, of.1, same, is))) journal so_far.history.no_other in
     let now : IsLeftBy limit new (journal ++ own) =
-    rw so_far.limited at (executed.continued.1 journal (rw so_far.limited so_far.history.lawful) (rw so_far.limited so_far.left)) in
+    rw limited at (executed.continued.1 journal (rw limited so_far.history.lawful) (rw limited so_far.left)) in
     record {
-      limited = executed.continued.0 ∙ so_far.limited;
       journal = journal ++ own;
       outcomes = so_far.outcomes ++ executed.outcomes ∷ [];
       history = record {
@@ -247,18 +253,9 @@ leaves_more texts text limit batch feed old new tallies tallies' tally some is s
             (All-weaker (λ (e : Entry). e.feed ≡ feed) (Fits (texts ++ text ∷ [])) (λ e of. omega (arith, of, is, more)) own by);
       };
       left = now.1;
-      tallied = map_more tally_of tallies tallies' (reports_of so_far.outcomes) (report_lines 1 executed.outcomes) tally so_far.tallied pushed executed.tallied
-          ∙ ap (map tally_of) (sym (map-append (report_lines 1) so_far.outcomes (executed.outcomes ∷ [])));
+      summed = record {
+        tallied = map_more tally_of tallies.items tallies'.items (reports_of so_far.outcomes) (report_lines 1 executed.outcomes) tally so_far.summed.tallied pushed executed.tallied
+            ∙ ap (map tally_of) (sym (map-append (report_lines 1) so_far.outcomes (executed.outcomes ∷ [])));
+        is_status = refl;
+      };
     }
-
--- after the last text
-pub leaves_all : (texts : List (List ℕ)) (limit batch : ℕ) (table : TableState) (tallies : List RejectedInput) (summary : RunSummary) → LeavesSoFar texts limit batch table tallies
-    → summary.tallies.items ≡ tallies → summary.status ≡ tallies_status tallies
-    → LeavesTable (record { texts = texts; limit = limit; batch = batch }) table.routes summary
-leaves_all texts limit batch table tallies summary so_far same status = record {
-  journal = so_far.journal;
-  outcomes = so_far.outcomes;
-  history = so_far.history;
-  left = so_far.left;
-  summed = record { tallied = same ∙ so_far.tallied; is_status = status ∙ ap tallies_status (sym same) };
-}

@@ -69,8 +69,7 @@ pub struct RunSummary {
 
 /// Returns the summary of a run with these tallies.
 pub(crate) fn summary_of(tallies: Vec<RejectedInput>) -> RunSummary
-    ensures tallies { result.tallies ≡ tallies }
-    ensures is_status { result.status ≡ tallies_status tallies.items }
+    ensures { result ≡ record { status = tallies_status tallies.items; tallies = tallies } }
 {
     let refused = tallies.iter().any(|tally| tally.refused > 0);
     let rejected = tallies

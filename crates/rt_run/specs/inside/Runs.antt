@@ -1,6 +1,6 @@
 -- The result of a run of feeds before its text is written; and texts that are executed one after another: the effect of a
 -- line, a text and the texts so far.
-use Rattle.std.specs.Prelude.{◌≡◌, ℕ, List, length, ◌+◌, ◌<◌, ◌≤◌, [], ◌++◌, map, Option}
+use Rattle.std.specs.Prelude.{◌≡◌, ℕ, List, length, ◌+◌, ◌<◌, ◌≤◌, [], ◌++◌, Option}
 use Rattle.rt_rib.specs.Book.{BookContents, TableState}
 use Rattle.rt_feed.specs.declared.report.Line.{Line}
 use Rattle.rt_feed.specs.Lines.{LineOutcome, TextYields, LinesYield, reading, line_answer, report_lines, command_of, commands_of}
@@ -62,12 +62,3 @@ pub record IsBelow (number : ℕ) (tally : RejectedInput) : Type 0 where
   pub existing : tally.existing < number
   pub missing : tally.missing < number
   pub refused : tally.refused < number
-
--- these texts were run to their ends: some history of them leaves the table, and these are the tallies of their reports
-pub record LeavesSoFar (texts : List (List ℕ)) (limit batch : ℕ) (table : TableState) (tallies : List RejectedInput) : Type 0 where
-  pub limited : table.limit ≡ limit
-  pub journal : List Entry
-  pub outcomes : List (List LineOutcome)
-  pub history : IsJournalOfRun texts limit batch journal outcomes
-  pub left : table.routes ≡ table_of_journal limit journal
-  pub tallied : tallies ≡ map tally_of (reports_of outcomes)
