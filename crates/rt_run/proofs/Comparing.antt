@@ -1,21 +1,20 @@
 -- The output of a comparison: the lines of the differences so far, and then the lines of the rest.
-use Rattle.std.proofs.Common.{◌≡◌, Bool, true, false, not, is_some, ℕ, ◌+◌, ◌<◌, max}
+use Rattle.std.proofs.Common.{◌≡◌, if◌then◌else◌, Bool, true, false, not, is_some, ℕ, ◌+◌, ◌<◌, max}
 use Rattle.std.proofs.Common.{List, [], ◌∷◌, ◌++◌, Option, Some, None, length, append_assoc, append-nil, refl, sym, ap, subst, ◌∙◌, arith}
-use Rattle.std.proofs.lemmas.Grind.{common_steps, flat_map-append}
+use Rattle.std.proofs.lemmas.Grind.{common_steps}
 use Rattle.std.specs.Io.KnownBytes.{Appends}
 use Rattle.rt_cidr.specs.Output.{AppendsBeginning}
 use Rattle.rt_cidr.proofs.Promised.{begins_after, begins_longer}
 use Rattle.rt_rib.specs.declared.routes.Route.{Route}
 use Rattle.rt_diff.specs.declared.comparison.Difference.{Difference}
 use Rattle.rt_diff.specs.Answers.{own_numbers}
-use Rattle.rt_diff.specs.Differences.{AreDifferences}
 use Rattle.rt_diff.proofs.Promised.{at, rest_none, rest_next, rest_there, whole, differences_of, differences_are, is_differences_of}
 use Rattle.rt_print.specs.DifferenceText.{DiffContents, range_as, difference_as, differences_as}
 use Rattle.rt_run.specs.declared.comparisons.DiffSummary.{DiffSummary}
 use Rattle.rt_run.specs.RunText.{RunContents}
 use Rattle.rt_run.specs.TableText.{LeavesTable}
 use Rattle.rt_run.specs.DiffText.{renumbered_new, differ_status, IsDiffText}
-use Rattle.rt_run.specs.inside.Outputs.{IsEmpty, IsFirstFrom, IsFirstOf, lines_of, compared_status, IsSoFar}
+use Rattle.rt_run.specs.inside.Outputs.{IsEmpty, IsFirstFrom, IsFirstOf, lines_of, IsSoFar}
 
 -- an absent difference is `None`
 pub none_left : (next : Option Difference) → ((d : Difference) → next ≡ Some d → ⊥) → next ≡ None
@@ -29,14 +28,17 @@ range-some json d old new rest = grind (arith, common_steps)
 module _ (asked : DiffContents) (old new : List Route) where
   -- before the first line
   pub none_so_far : (first : Option Difference) → IsFirstOf asked old new first → IsSoFar asked old new first []
-  none_so_far first is = record { done = []; printed = refl; from = at 0; first = is; whole = λ rest are. whole asked.by (own_numbers old) (renumbered_new asked new) rest are }
+  none_so_far first is = record {
+    from = at 0;
+    first = is;
+    whole = λ rest are. ap (differences_as asked) (sym (is_differences_of asked.by (own_numbers old) (renumbered_new asked new) rest
+        (whole asked.by (own_numbers old) (renumbered_new asked new) rest are)));
+  }
 
   -- one more line
   pub one_more : (text : List ℕ) (d : Difference) (next : Option Difference) → IsSoFar asked old new (Some d) text
       → IsFirstFrom asked old new (at (d.last.0 + 1)) next → IsSoFar asked old new next (text ++ difference_as asked d)
   one_more text d next far is = record {
-    done = far.done ++ d ∷ [];
-    printed = rw (flat_map-append (difference_as asked) far.done (d ∷ []), append-nil (difference_as asked d), far.printed);
     from = at (d.last.0 + 1);
     first = is;
     whole = λ rest are.
@@ -46,23 +48,15 @@ module _ (asked : DiffContents) (old new : List Route) where
   -- if no difference is left, these are all lines
   pub all_so_far : (text : List ℕ) → IsSoFar asked old new None text → text ≡ lines_of asked old new
   all_so_far text far =
-      let is : AreDifferences asked.by (own_numbers old) (renumbered_new asked new) (far.done ++ []) = far.whole [] (rest_none asked.by (own_numbers old) (renumbered_new asked new) far.from.0 far.first) in
-      far.printed ∙ ap (differences_as asked) (sym (append-nil far.done) ∙ is_differences_of asked.by (own_numbers old) (renumbered_new asked new) (far.done ++ []) is)
+      sym (far.whole [] (rest_none asked.by (own_numbers old) (renumbered_new asked new) far.from.0 far.first) ∙ append-nil text)
 
-  -- the list continues with the next difference, if there is one
-  list_so_far : (text : List ℕ) (d : Difference) (far : IsSoFar asked old new (Some d) text)
-      → (rest : List Difference) × (differences_of asked.by (own_numbers old) (renumbered_new asked new) ≡ far.done ++ (d ∷ rest))
-  list_so_far text d far =
-      let (rest, are) = rest_there asked.by (own_numbers old) (renumbered_new asked new) (d.last.0 + 1) (omega (arith, far.first.difference.fits)) in
-      (rest, sym (is_differences_of asked.by (own_numbers old) (renumbered_new asked new) (far.done ++ (d ∷ rest)) (far.whole (d ∷ rest) (rest_next asked.by (own_numbers old) (renumbered_new asked new) far.from d rest far.first are))))
-
-  -- its line follows the text so far
+  -- if there is a next difference, its line follows the text so far
   text_so_far : (text : List ℕ) (d : Difference) → IsSoFar asked old new (Some d) text
       → (rest : List ℕ) × (lines_of asked old new ≡ (text ++ difference_as asked d) ++ rest)
   text_so_far text d far =
-      let (rest, is) = list_so_far text d far in (
+      let (rest, are) = rest_there asked.by (own_numbers old) (renumbered_new asked new) (d.last.0 + 1) (omega (arith, far.first.difference.fits)) in (
         differences_as asked rest,
-        rw (is, flat_map-append (difference_as asked) far.done (d ∷ rest), ← far.printed, append_assoc),
+        rw append_assoc (far.whole (d ∷ rest) (rest_next asked.by (own_numbers old) (renumbered_new asked new) far.from d rest far.first are)),
       )
 
   -- hence a fault within it leaves a beginning of all lines
@@ -81,19 +75,19 @@ module _ (asked : DiffContents) (old new : List Route) where
   lines-empty first empty e is = absurd cc
 
   -- the status from the first difference is the status from the list
-  pub status_by_first : (first : Option Difference) (m n : ℕ) → IsFirstOf asked old new first
-      → compared_status m n first ≡ max (differ_status (differences_of asked.by (own_numbers old) (renumbered_new asked new))) (max m n)
-  unfolding none_so_far
-  status_by_first None m n is =
-      let none = is_differences_of asked.by (own_numbers old) (renumbered_new asked new) [] (whole asked.by (own_numbers old) (renumbered_new asked new) [] (rest_none asked.by (own_numbers old) (renumbered_new asked new) 0 is)) in
-      ap (λ list. max (differ_status list) (max m n)) none
-  status_by_first (Some d) m n is =
-      let (rest, all) = list_so_far [] d (none_so_far (Some d) is) in ap (λ list. max (differ_status list) (max m n)) (sym all)
+  pub status_by_first : (first : Option Difference) (most : ℕ) → IsFirstOf asked old new first
+      → max (if is_some first then 1 else 0) most ≡ max (differ_status (differences_of asked.by (own_numbers old) (renumbered_new asked new))) most
+  status_by_first None most is = ap (λ list. max (differ_status list) most) (is_differences_of asked.by (own_numbers old) (renumbered_new asked new) []
+      (whole asked.by (own_numbers old) (renumbered_new asked new) [] (rest_none asked.by (own_numbers old) (renumbered_new asked new) 0 is)))
+  status_by_first (Some d) most is =
+      let (rest, are) = rest_there asked.by (own_numbers old) (renumbered_new asked new) (d.last.0 + 1) (omega (arith, is.difference.fits)) in
+      ap (λ list. max (differ_status list) most) (is_differences_of asked.by (own_numbers old) (renumbered_new asked new) (d ∷ rest)
+      (whole asked.by (own_numbers old) (renumbered_new asked new) (d ∷ rest) (rest_next asked.by (own_numbers old) (renumbered_new asked new) (at 0) d rest is are)))
 
 -- the output for two runs is the text of their tables' differences
 pub is_diff : (asked : DiffContents) (old_asked new_asked : RunContents) (old new : List Route) (given : DiffSummary) (first : Option Difference)
     → LeavesTable old_asked old given.old → LeavesTable new_asked new given.new → IsFirstOf asked old new first
-    → given.status ≡ compared_status given.old.status given.new.status first → IsDiffText asked old_asked new_asked (lines_of asked old new) given
+    → given.status ≡ max (if is_some first then 1 else 0) (max given.old.status given.new.status) → IsDiffText asked old_asked new_asked (lines_of asked old new) given
 is_diff asked old_asked new_asked old new given first old_left new_left is status = record {
   old_table = old;
   new_table = new;
@@ -102,5 +96,5 @@ is_diff asked old_asked new_asked old new given first old_left new_left is statu
   list = differences_of asked.by (own_numbers old) (renumbered_new asked new);
   differences = differences_are asked.by (own_numbers old) (renumbered_new asked new);
   printed = refl;
-  is_status = status ∙ status_by_first asked old new first given.old.status given.new.status is;
+  is_status = status ∙ status_by_first asked old new first (max given.old.status given.new.status) is;
 }

@@ -21,7 +21,8 @@ use Rattle.rt_run.specs.declared.question.Question.{Question}
 use Rattle.rt_run.specs.RunText.{RunContents, WritesOrFails, status_where}
 use Rattle.rt_run.specs.TableText.{answers_text, question_text, named_in, said_in, LeavesTable, IsAnswer}
 use Rattle.rt_run.specs.Replayed.{IsReplayText, LeavesReplay}
-use Rattle.rt_run.specs.inside.Outputs.{IsAsked, Writes, matches_text, IsEmpty}
+use Rattle.rt_feed.specs.Addresses.{SaysAddresses}
+use Rattle.rt_run.specs.inside.Outputs.{Writes, matches_text, IsEmpty}
 use Rattle.ya_core.specs.declared.step.Step.{Step}
 use Rattle.ya_core.specs.Steps.{State, opening}
 use Rattle.ya_core.specs.ArbitrationTree.{HasShape}
@@ -52,12 +53,12 @@ answered run faulty = record { status = max (status_where false (nat_lt 0 faulty
 
 -- the text for the question's addresses is the answer
 pub is_answer : (asked : RunContents) (style : StyleContents) (question : Question) (table : List Route) (summary : RunSummary)
-    (addresses : List Addr) (faulty : FaultyLines) → IsAsked (named_in question) (said_in question) addresses faulty → LeavesTable asked table summary
+    (said addresses : List Addr) (faulty : FaultyLines) → SaysAddresses (said_in question) said faulty → addresses ≡ named_in question ++ said → LeavesTable asked table summary
     → IsAnswer asked style question (question_text style question addresses table) (answered summary faulty)
-is_answer asked style question table summary addresses faulty all leaves = record {
-  said = all.said;
-  says = all.says;
-  shown = record { table = table; leaves = leaves; shown = ap (λ (these : List Addr). question_text style question these table) all.all };
+is_answer asked style question table summary said addresses faulty says all leaves = record {
+  said = said;
+  says = says;
+  shown = record { table = table; leaves = leaves; shown = ap (λ (these : List Addr). question_text style question these table) all };
   is_status = refl;
 }
 

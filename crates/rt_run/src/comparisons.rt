@@ -1,8 +1,7 @@
 //! Comparisons of two runs: the addresses for which their final tables give different answers.
-ghost use Rattle.std.specs.Prelude.{◌≡◌, ◌↔◌, ◌⊎◌, []};
+ghost use Rattle.std.specs.Prelude.{◌≡◌, ◌↔◌, ◌⊎◌, if◌then◌else◌, is_some, max, []};
 ghost use Rattle.rt_run.specs.RunText.{WritesOrFails};
 ghost use Rattle.rt_run.specs.DiffText.{IsDiffText};
-ghost use Rattle.rt_run.specs.inside.Outputs.{compared_status, IsFirstOf};
 
 use crate::chosen::ChosenTexts;
 use crate::faults::AppFault;
@@ -66,7 +65,7 @@ pub fn diff_texts<W: Write>(
 
 /// Returns the status, from the summaries of two runs and the first difference between their tables.
 fn status_of(old: &RunSummary, new: &RunSummary, first: Option<Difference>) -> u8
-    ensures { result ≡ compared_status old.now.status new.now.status first }
+    ensures { result ≡ max (if is_some first then 1 else 0) (max old.now.status new.now.status) }
 {
     let differ = match first {
         Some(_) => Status::Differ as u8,

@@ -1,11 +1,11 @@
 //! Queries: a question to the finished table of a run, and the output of the answer.
-ghost use Rattle.std.specs.Prelude.{◌≡◌, ◌↔◌, max, nat_lt, false, [], IfOk};
+ghost use Rattle.std.specs.Prelude.{◌≡◌, ◌↔◌, [], IfOk};
 ghost use Rattle.rt_rib.specs.Selection.{selected};
 ghost use Rattle.rt_print.specs.Styles.{StyleContents};
 ghost use Rattle.rt_run.specs.ChosenFeeds.{routes_of_selected};
-ghost use Rattle.rt_run.specs.RunText.{WritesOrFails, status_where};
-ghost use Rattle.rt_run.specs.TableText.{all_answers_text, question_text, named_in, said_in, IsAnswer};
-ghost use Rattle.rt_run.specs.inside.Outputs.{IsAsked, matches_text, Writes};
+ghost use Rattle.rt_run.specs.RunText.{WritesOrFails};
+ghost use Rattle.rt_run.specs.TableText.{all_answers_text, question_text, IsAnswer};
+ghost use Rattle.rt_run.specs.inside.Outputs.{matches_text, Writes};
 
 use crate::chosen::{ChosenTexts, is_selected};
 use crate::faults::AppFault;
@@ -15,10 +15,10 @@ use crate::question::{AskedRoutes, Question};
 use crate::tallies::{RunSummary, status_where};
 use crate::turns::run_in_turn;
 use rt_cidr::Addr;
-use rt_feed::{AddressText, FaultyLines, RunFault, read_addresses};
+use rt_feed::{FaultyLines, RunFault, read_addresses};
 use rt_print::{OutputRoom, Style, write_counts, write_routes};
 use rt_rib::{Refused, Route, Table};
-use std::alloc::{AllocError, Global};
+use std::alloc::Global;
 use std::io::Write;
 use std::mem;
 
@@ -56,31 +56,20 @@ pub fn show<W: Write>(
     ensures no_text { (result ≡ Err (AppFault.Run RunFault.NoText)) ↔ (asked.now.texts ≡ []) }
 {
     let (table, run) = run_in_turn(alloc, asked)?;
-    let read = read_lookup_addresses(alloc, question)?;
-    let addresses = read.addresses.as_slice();
+    let looked_up = question.addresses();
+    let mut read = read_addresses(alloc, looked_up.text)?;
+    let mut addresses = looked_up.named.to_vec(alloc)?;
+    addresses.append(&mut read.addresses)?;
     let not_taken = status_where(false, read.faulty.count > 0);
     let given = QuerySummary {
         status: not_taken.max(run.status),
         run,
         faulty: read.faulty,
     };
+    let addresses = addresses.as_slice();
     let told = write_answer(alloc, &table, style, question, addresses, given, w);
     mem::forget(table);
     told
-}
-
-/// Returns all addresses of the question in order, and the faulty lines of its text of addresses.
-fn read_lookup_addresses(alloc: Global, question: &Question<'_>) -> Result<AddressText, AllocError>
-    ensures { IfOk result (λ read. IsAsked (named_in question.now) (said_in question.now) read.addresses.items read.faulty) }
-{
-    let asked = question.addresses();
-    let AddressText {
-        addresses: mut said,
-        faulty,
-    } = read_addresses(alloc, asked.text)?;
-    let mut addresses = asked.named.to_vec(alloc)?;
-    addresses.append(&mut said)?;
-    Ok(AddressText { addresses, faulty })
 }
 
 /// Writes the answer to the question from the table, in few large writes, and returns `given`; `addresses` are the ones to

@@ -1,6 +1,6 @@
--- The effect of an output on its writer, the addresses of a look-up, the text of all routes that cover each address, and the
--- output of a comparison of two tables.
-use Rattle.std.specs.Prelude.{◌≡◌, ℕ, ◌<◌, Bool, true, false, List, [], length, Option, Result, Ok, Err, ◌++◌, ◌-◌, ◌^◌, max, Some, None}
+-- The effect of an output on its writer, the text of all routes that cover each address, and the output of a comparison of
+-- two tables.
+use Rattle.std.specs.Prelude.{◌≡◌, ℕ, ◌<◌, Bool, true, false, List, [], length, Option, Result, Ok, Err, ◌++◌, ◌-◌, ◌^◌, Some, None}
 use Rattle.std.specs.List.{flat_map}
 use Rattle.std.specs.Io.KnownBytes.{Appends}
 use Rattle.rt_cidr.specs.Output.{AppendsBeginning}
@@ -10,12 +10,10 @@ use Rattle.rt_run.specs.declared.faults.AppFault.{AppFault}
 use Rattle.rt_run.specs.declared.faults.AppFault.TheVariants.{Run, Replay, Write}
 use Rattle.rt_run.specs.declared.output.AddressMatches.{AddressMatches}
 use Rattle.rt_cidr.specs.declared.address.Addr.{Addr}
-use Rattle.rt_feed.specs.declared.faulty.FaultyLines.{FaultyLines}
-use Rattle.rt_feed.specs.Addresses.{SaysAddresses}
 use Rattle.rt_rib.specs.declared.routes.Route.{Route}
 use Rattle.rt_diff.specs.declared.comparison.Difference.{Difference}
 use Rattle.rt_diff.specs.Answers.{own_numbers}
-use Rattle.rt_diff.specs.Differences.{IsFirstDifference, AreDifferences, Compared}
+use Rattle.rt_diff.specs.Differences.{IsFirstDifference, Compared}
 use Rattle.rt_diff.specs.inside.Rest.{AreRest}
 use Rattle.rt_diff.proofs.Promised.{differences_of}
 use Rattle.rt_print.specs.DifferenceText.{DiffContents, differences_as}
@@ -38,12 +36,6 @@ abbrev pub IsEmpty : Bool → List ℕ → Type 0
 IsEmpty true text = text ≡ []
 IsEmpty false text = 0 < length text
 
--- the addresses are the named ones and after them those in the text, and these are the faulty lines of the text
-pub record IsAsked (named : List Addr) (text : List ℕ) (addresses : List Addr) (faulty : FaultyLines) : Type 0 where
-  pub said : List Addr
-  pub says : SaysAddresses text said faulty
-  pub all : addresses ≡ named ++ said
-
 -- the comparison of two tables
 abbrev pub compared_of : DiffContents → List Route → List Route → Compared
 compared_of asked old new = record { by = asked.by; old_table = own_numbers old; new_table = renumbered_new asked new }
@@ -60,21 +52,14 @@ IsFirstOf asked old new first = IsFirstFrom asked old new (record { 0 = 0 }) fir
 abbrev pub lines_of : DiffContents → List Route → List Route → List ℕ
 lines_of asked old new = differences_as asked (differences_of asked.by (own_numbers old) (renumbered_new asked new))
 
--- the maximum of both runs' statuses and, if there is a difference, of 1
-abbrev pub compared_status : ℕ → ℕ → Option Difference → ℕ
-compared_status old new None = max 0 (max old new)
-compared_status old new (Some d) = max 1 (max old new)
-
 -- the number of addresses from the range on
 abbrev pub addresses_from : Option Difference → ℕ
 addresses_from None = 0
 addresses_from (Some d) = 2 ^ 32 - d.first.0
 
--- this text is the lines of the differences so far, and this is the next difference
+-- this is the next difference, and the lines of the differences from it on follow this text
 pub record IsSoFar (asked : DiffContents) (old new : List Route) (next : Option Difference) (text : List ℕ) : Type 0 where
-  pub done : List Difference
-  pub printed : text ≡ differences_as asked done
   pub from : Addr
   pub first : IsFirstFrom asked old new from next
   pub whole : (rest : List Difference) → AreRest asked.by (own_numbers old) (renumbered_new asked new) from.0 rest
-      → AreDifferences asked.by (own_numbers old) (renumbered_new asked new) (done ++ rest)
+      → lines_of asked old new ≡ text ++ differences_as asked rest
