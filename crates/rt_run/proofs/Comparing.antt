@@ -14,7 +14,7 @@ use Rattle.rt_run.specs.declared.comparisons.DiffSummary.{DiffSummary}
 use Rattle.rt_run.specs.RunText.{RunContents}
 use Rattle.rt_run.specs.TableText.{LeavesTable}
 use Rattle.rt_run.specs.DiffText.{renumbered_new, differ_status, IsDiffText}
-use Rattle.rt_run.specs.inside.Outputs.{IsEmpty, IsFirstFrom, IsFirstOf, lines_of, IsSoFar}
+use Rattle.rt_run.specs.inside.Outputs.{IsEmpty, IsFirstFrom, lines_of, IsSoFar}
 
 -- an absent difference is `None`
 pub none_left : (next : Option Difference) → ((d : Difference) → next ≡ Some d → ⊥) → next ≡ None
@@ -27,7 +27,7 @@ range-some json d old new rest = grind (arith, common_steps)
 
 module _ (asked : DiffContents) (old new : List Route) where
   -- before the first line
-  pub none_so_far : (first : Option Difference) → IsFirstOf asked old new first → IsSoFar asked old new first []
+  pub none_so_far : (first : Option Difference) → IsFirstFrom asked old new (at 0) first → IsSoFar asked old new first []
   none_so_far first is = record {
     from = at 0;
     first = is;
@@ -67,7 +67,7 @@ module _ (asked : DiffContents) (old new : List Route) where
       subst (AppendsBeginning a c) (sym is) (begins_longer a c (text ++ difference_as asked d) rest (begins_after a b c text (difference_as asked d) written begun))
 
   -- there is a line if and only if there is a first difference
-  pub lines-empty : (first : Option Difference) (empty : Bool) → is_some first ≡ not empty → IsFirstOf asked old new first → IsEmpty empty (lines_of asked old new)
+  pub lines-empty : (first : Option Difference) (empty : Bool) → is_some first ≡ not empty → IsFirstFrom asked old new (at 0) first → IsEmpty empty (lines_of asked old new)
   lines-empty None true e is = sym (all_so_far [] (none_so_far None is))
   lines-empty (Some d) false e is =
       let (rest, same) = text_so_far [] d (none_so_far (Some d) is) in
@@ -75,7 +75,7 @@ module _ (asked : DiffContents) (old new : List Route) where
   lines-empty first empty e is = absurd cc
 
   -- the status from the first difference is the status from the list
-  pub status_by_first : (first : Option Difference) (most : ℕ) → IsFirstOf asked old new first
+  pub status_by_first : (first : Option Difference) (most : ℕ) → IsFirstFrom asked old new (at 0) first
       → max (if is_some first then 1 else 0) most ≡ max (differ_status (differences_of asked.by (own_numbers old) (renumbered_new asked new))) most
   status_by_first None most is = ap (λ list. max (differ_status list) most) (is_differences_of asked.by (own_numbers old) (renumbered_new asked new) []
       (whole asked.by (own_numbers old) (renumbered_new asked new) [] (rest_none asked.by (own_numbers old) (renumbered_new asked new) 0 is)))
@@ -86,7 +86,7 @@ module _ (asked : DiffContents) (old new : List Route) where
 
 -- the output for two runs is the text of their tables' differences
 pub is_diff : (asked : DiffContents) (old_asked new_asked : RunContents) (old new : List Route) (given : DiffSummary) (first : Option Difference)
-    → LeavesTable old_asked old given.old → LeavesTable new_asked new given.new → IsFirstOf asked old new first
+    → LeavesTable old_asked old given.old → LeavesTable new_asked new given.new → IsFirstFrom asked old new (at 0) first
     → given.status ≡ max (if is_some first then 1 else 0) (max given.old.status given.new.status) → IsDiffText asked old_asked new_asked (lines_of asked old new) given
 is_diff asked old_asked new_asked old new given first old_left new_left is status = record {
   old_table = old;

@@ -8,7 +8,7 @@ ghost use Rattle.rt_rib.specs.declared.limits.TheConstants.{MAX_FEEDS};
 ghost use Rattle.rt_print.specs.Routes.{table_text};
 ghost use Rattle.rt_run.specs.RunText.{reports_text};
 ghost use Rattle.rt_run.specs.TableText.{answers_text};
-ghost use Rattle.rt_run.specs.inside.Outputs.{matches_text, IsEmpty, Writes, IsFirstOf, lines_of};
+ghost use Rattle.rt_run.specs.inside.Outputs.{matches_text, IsEmpty, Writes, IsFirstFrom, lines_of};
 
 use crate::faults::AppFault;
 use crate::forwarding::look_up_by;
@@ -160,7 +160,7 @@ pub(crate) fn write_differences<'a, W: Write>(
     new: &'a Table<Global>,
     first: Option<Difference>,
 ) -> Result<(), io::Error>
-    requires { IsFirstOf options.now old.now.routes new.now.routes first }
+    requires { IsFirstFrom options.now old.now.routes new.now.routes (record { 0 = 0 }) first }
     ensures { WritesText (W.contents w.old) (W.contents w.new) (lines_of options.now old.now.routes new.now.routes) result }
 {
     let mut tables = options.comparison(old, new);

@@ -13,7 +13,7 @@ use Rattle.rt_cidr.specs.declared.address.Addr.{Addr}
 use Rattle.rt_rib.specs.declared.routes.Route.{Route}
 use Rattle.rt_diff.specs.declared.comparison.Difference.{Difference}
 use Rattle.rt_diff.specs.Answers.{own_numbers}
-use Rattle.rt_diff.specs.Differences.{IsFirstDifference, Compared}
+use Rattle.rt_diff.specs.Differences.{IsFirstDifference}
 use Rattle.rt_diff.specs.inside.Rest.{AreRest}
 use Rattle.rt_diff.proofs.Promised.{differences_of}
 use Rattle.rt_print.specs.DifferenceText.{DiffContents, differences_as}
@@ -36,17 +36,9 @@ abbrev pub IsEmpty : Bool → List ℕ → Type 0
 IsEmpty true text = text ≡ []
 IsEmpty false text = 0 < length text
 
--- the comparison of two tables
-abbrev pub compared_of : DiffContents → List Route → List Route → Compared
-compared_of asked old new = record { by = asked.by; old_table = own_numbers old; new_table = renumbered_new asked new }
-
 -- the first difference of all from an address on
 abbrev pub IsFirstFrom : DiffContents → List Route → List Route → Addr → Option Difference → Type 0
 IsFirstFrom asked old new from first = IsFirstDifference asked.by (own_numbers old) (renumbered_new asked new) from first
-
--- the first of all differences
-abbrev pub IsFirstOf : DiffContents → List Route → List Route → Option Difference → Type 0
-IsFirstOf asked old new first = IsFirstFrom asked old new (record { 0 = 0 }) first
 
 -- the lines of all differences of the two tables
 abbrev pub lines_of : DiffContents → List Route → List Route → List ℕ

@@ -1,6 +1,4 @@
-use Rattle.std.proofs.Common.{Some, ap, append-nil, arith}
-use Rattle.rt_rib.specs.declared.commands.Reply.TheVariants.{Full, Exists, Missing}
-use Rattle.rt_feed.specs.declared.report.Answer.TheVariants.{Did, Refused, Fault}
+use Rattle.std.proofs.Common.{ap, append-nil, arith}
 use Rattle.rt_feed.specs.Lines.{numbered}
 use Rattle.rt_run.specs.declared.tallies.RejectedInput.{RejectedInput}
 use Rattle.rt_run.specs.TableText.{faults_of}
@@ -10,19 +8,19 @@ use Rattle.rt_run.proofs.tallies.RejectedInput.count.Goals as goal
 pub returns-in-Some-Fault : goal.returns-in-Some-Fault
 returns-in-Some-Fault c report is =
     let faulty = c.put.ensures (faults_of report) (ap (λ (t : RejectedInput). t.faulty) is) in
-    grind (arith, faulty, tally_more report (numbered c.args.number (Some (Fault c.in-Some-Fault.fault))))
+    grind (arith, faulty, tally_more report (numbered c.args.number c.args.said))
 
 pub returns-in-Some-Did-Full : goal.returns-in-Some-Did-Full
-returns-in-Some-Did-Full c report is = grind (arith, tally_more report (numbered c.args.number (Some (Did Full))), append-nil (faults_of report))
+returns-in-Some-Did-Full c report is = grind (arith, tally_more report (numbered c.args.number c.args.said), append-nil (faults_of report))
 
 pub returns-in-Some-Did-Exists : goal.returns-in-Some-Did-Exists
-returns-in-Some-Did-Exists c report is = grind (arith, tally_more report (numbered c.args.number (Some (Did Exists))), append-nil (faults_of report))
+returns-in-Some-Did-Exists c report is = grind (arith, tally_more report (numbered c.args.number c.args.said), append-nil (faults_of report))
 
 pub returns-in-Some-Did-Missing : goal.returns-in-Some-Did-Missing
-returns-in-Some-Did-Missing c report is = grind (arith, tally_more report (numbered c.args.number (Some (Did Missing))), append-nil (faults_of report))
+returns-in-Some-Did-Missing c report is = grind (arith, tally_more report (numbered c.args.number c.args.said), append-nil (faults_of report))
 
 pub returns-in-Some-Refused : goal.returns-in-Some-Refused
-returns-in-Some-Refused c report is = grind (arith, tally_more report (numbered c.args.number (Some Refused)), append-nil (faults_of report))
+returns-in-Some-Refused c report is = grind (arith, tally_more report (numbered c.args.number c.args.said), append-nil (faults_of report))
 
 pub returns : goal.returns
 returns c report is = grind (arith, tally_more report (numbered c.args.number c.args.said), append-nil (faults_of report))
