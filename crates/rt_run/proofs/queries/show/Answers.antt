@@ -1,4 +1,4 @@
-use Rattle.std.proofs.Common.{◌≡◌, ◌++◌, refl, rules}
+use Rattle.std.proofs.Common.{◌≡◌, ◌++◌, ◌∙◌, refl}
 use Rattle.rt_feed.specs.Addresses.{SaysAddresses}
 use Rattle.rt_run.specs.TableText.{named_in, said_in, IsAnswer}
 use Rattle.rt_run.proofs.Outputs.{writes_or_fails, is_answer}
@@ -9,7 +9,8 @@ returns-clause-text g c =
     let question = c.args.question.now in
     let said = c.in_ok-read.read.addresses.items in
     let says : SaysAddresses (said_in question) said c.in_ok-read.read.faulty = rw c.addresses-looked_up.ensures.said at (c.in_ok-read.ensures {u = tt}) in
-    let named : c.in_ok-addresses.addresses.items ≡ named_in question = search rules in
+    let named : c.in_ok-addresses.addresses.items ≡ named_in question =
+    (c.in_ok-addresses.ensures {u = tt}).items_if_clones_equal (λ x y same. same) ∙ c.addresses-looked_up.ensures.named in
     let all : c.as_slice-addresses.result.now ≡ named_in question ++ said =
     rw (c.as_slice-addresses.ensures.value, (c.in_ok-append.ensures {u = tt}).items, named) refl in
     let is = is_answer c.args.asked.now c.args.style.now question _ _ said c.as_slice-addresses.result.now _ says all c.in_ok-table.ensures.ran in
