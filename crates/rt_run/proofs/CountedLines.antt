@@ -44,10 +44,6 @@ counted (line ∷ report) =
 pub some_faulty : (report : List Line) → has_fault report ≡ nat_lt 0 (faulty_lines (faults_of report)).count
 some_faulty report = sym (counts_some (λ (line : Line). is_fault line.answer) report) ∙ ap (λ n. nat_lt 0 n) (counted report)
 
--- the faults of later lines come after those of earlier lines
-faults-append : (report more : List Line) → faults_of (report ++ more) ≡ faults_of report ++ faults_of more
-faults-append report more = filter_map-append (λ (line : Line). fault_at line.number line.answer) report more
-
 -- the tally of a report with more lines
 pub tally_more : (report more : List Line) → tally_of (report ++ more) ≡ record {
   faulty = faulty_lines (faults_of report ++ faults_of more);
@@ -58,7 +54,8 @@ pub tally_more : (report more : List Line) → tally_of (report ++ more) ≡ rec
 }
 tally_more report more =
     let count = λ (test : Answer → Bool). sum_by-append (λ (line : Line). cond (test line.answer) 1 0) report more in
-    rw (faults-append report more, count was_full, count was_existing, count was_missing, count is_refusal) refl
+    let faults = filter_map-append (λ (line : Line). fault_at line.number line.answer) report more in
+    rw (faults, count was_full, count was_existing, count was_missing, count is_refusal) refl
 
 -- a report has at most as many lines as its text
 report-few : (number : ℕ) (outcomes : List LineOutcome) → length (report_lines number outcomes) ≤ length outcomes
