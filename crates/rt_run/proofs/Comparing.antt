@@ -1,5 +1,6 @@
 -- The output of a comparison: the lines of the differences so far, and then the lines of the rest.
-use Rattle.std.proofs.Common.{◌≡◌, if◌then◌else◌, Bool, true, false, not, is_some, ℕ, ◌+◌, ◌<◌, max}
+use Rattle.rt_run.proofs.Outputs.{has_byte}
+use Rattle.std.proofs.Common.{◌≡◌, ◌==◌, if◌then◌else◌, Bool, true, false, not, is_some, ℕ, ◌+◌, ◌<◌, max}
 use Rattle.std.proofs.Common.{List, [], ◌∷◌, ◌++◌, Option, Some, None, length, append_assoc, append-nil, refl, sym, ap, subst, ◌∙◌, arith}
 use Rattle.std.proofs.lemmas.Grind.{common_steps}
 use Rattle.std.specs.Io.KnownBytes.{Appends}
@@ -14,7 +15,7 @@ use Rattle.rt_run.specs.declared.comparisons.DiffSummary.{DiffSummary}
 use Rattle.rt_run.specs.RunText.{RunContents}
 use Rattle.rt_run.specs.TableText.{LeavesTable}
 use Rattle.rt_run.specs.DiffText.{renumbered_new, differ_status, IsDiffText}
-use Rattle.rt_run.specs.inside.Outputs.{IsEmpty, IsFirstFrom, lines_of, IsSoFar}
+use Rattle.rt_run.specs.inside.Outputs.{IsFirstFrom, lines_of, IsSoFar}
 
 -- an absent difference is `None`
 pub none_left : (next : Option Difference) → ((d : Difference) → next ≡ Some d → ⊥) → next ≡ None
@@ -67,11 +68,11 @@ module _ (asked : DiffContents) (old new : List Route) where
       subst (AppendsBeginning a c) (sym is) (begins_longer a c (text ++ difference_as asked d) rest (begins_after a b c text (difference_as asked d) written begun))
 
   -- there is a line if and only if there is a first difference
-  pub lines-empty : (first : Option Difference) (empty : Bool) → is_some first ≡ not empty → IsFirstFrom asked old new (at 0) first → IsEmpty empty (lines_of asked old new)
-  lines-empty None true e is = sym (all_so_far [] (none_so_far None is))
+  pub lines-empty : (first : Option Difference) (empty : Bool) → is_some first ≡ not empty → IsFirstFrom asked old new (at 0) first → empty ≡ (length (lines_of asked old new) == 0)
+  lines-empty None true e is = ap (λ (t : List ℕ). length t == 0) (all_so_far [] (none_so_far None is))
   lines-empty (Some d) false e is =
       let (rest, same) = text_so_far [] d (none_so_far (Some d) is) in
-      subst (λ (t : List ℕ). 0 < length t) (sym same) (range-some asked.old.json d _ _ rest)
+      has_byte _ (subst (λ (t : List ℕ). 0 < length t) (sym same) (range-some asked.old.json d _ _ rest))
   lines-empty first empty e is = absurd cc
 
   -- the status from the first difference is the status from the list

@@ -1,8 +1,9 @@
 -- The effect of a call on its writer, from its output, and which output is empty.
-use Rattle.std.proofs.Common.{◌≡◌, ◌==◌, ℕ, ◌<◌, max, Bool, true, false, List, [], ◌∷◌, ◌++◌, length, Option, Result, Ok, Err, IfErr, refl, sym, ap, subst, ◌∙◌, arith, length-append}
-use Rattle.std.proofs.Common.{eqb-true, ◌≤◌}
+use Rattle.std.proofs.Common.{◌≡◌, ◌==◌, ℕ, ◌<◌, max, Bool, false, List, [], ◌∷◌, ◌++◌, length, Option, Result, Ok, Err, IfErr, refl, sym, ap, subst, ◌∙◌, arith, length-append}
+use Rattle.std.proofs.Common.{◌≤◌}
 use Rattle.std.specs.Prelude.{nat_lt}
 use Rattle.std.specs.List.{flat_map}
+use Rattle.std.proofs.lemmas.Bool.Decides.{nat_tests}
 use Rattle.std.proofs.lemmas.Grind.{common_steps}
 use Rattle.rt_cidr.specs.declared.address.Addr.{Addr}
 use Rattle.rt_rib.specs.declared.routes.Route.{Route}
@@ -22,7 +23,7 @@ use Rattle.rt_run.specs.RunText.{RunContents, WritesOrFails, status_where}
 use Rattle.rt_run.specs.TableText.{answers_text, question_text, named_in, said_in, LeavesTable, IsAnswer}
 use Rattle.rt_run.specs.Replayed.{IsReplayText, LeavesReplay}
 use Rattle.rt_feed.specs.Addresses.{SaysAddresses}
-use Rattle.rt_run.specs.inside.Outputs.{Writes, matches_text, IsEmpty}
+use Rattle.rt_run.specs.inside.Outputs.{Writes, matches_text}
 use Rattle.ya_core.specs.declared.step.Step.{Step}
 use Rattle.ya_core.specs.Steps.{State, opening}
 use Rattle.ya_core.specs.ArbitrationTree.{HasShape}
@@ -62,17 +63,19 @@ is_answer asked style question table summary said addresses faulty says all leav
   is_status = refl;
 }
 
+-- a text with a byte isn't empty
+pub has_byte : (text : List ℕ) → 0 < length text → false ≡ (length text == 0)
+has_byte text some = grind (arith, nat_tests)
+
 -- no run's text is empty
 pub run_text-some : (reports : List ℕ) (routes : List Route) → 0 < length (reports ++ table_text routes)
 unfolding count_text
 run_text-some reports routes = simp length-append (omega arith)
 
 -- a list of texts that aren't empty joins to the empty text if and only if the list is empty
-texts-empty : {X : Type 0} (text : X → List ℕ) → ((x : X) → 0 < length (text x)) → (empty : Bool) (xs : List X) → empty ≡ (length xs == 0) → IsEmpty empty (flat_map text xs)
-texts-empty text some true [] is = refl
-texts-empty text some true (x ∷ xs) is = absurd (omega (arith, eqb-true (length (x ∷ xs)) 0 (sym is)))
-texts-empty text some false [] is = absurd cc
-texts-empty text some false (x ∷ xs) is = let first = some x in simp length-append (omega arith)
+texts-empty : {X : Type 0} (text : X → List ℕ) → ((x : X) → 0 < length (text x)) → (empty : Bool) (xs : List X) → empty ≡ (length xs == 0) → empty ≡ (length (flat_map text xs) == 0)
+texts-empty text some empty [] is = is
+texts-empty text some empty (x ∷ xs) is = grind (arith, nat_tests, some x, length-append (text x) (flat_map text xs))
 
 -- nor is the text of a look-up, in any style
 row_as-some : (json : Bool) (label : ℕ → List ℕ) (route : Route) → 0 < length (row_as json label route)
@@ -88,15 +91,15 @@ unfolding all_found_as address_head
 all_found_as-some json label addr found = grind (arith, common_steps, found_as-some)
 
 module _ (style : StyleContents) (empty : Bool) where
-  pub rows-empty : (routes : List Route) → empty ≡ (length routes == 0) → IsEmpty empty (rows_as style routes)
+  pub rows-empty : (routes : List Route) → empty ≡ (length routes == 0) → empty ≡ (length (rows_as style routes) == 0)
   rows-empty = texts-empty (row_as style.json (label_of style.labels)) (row_as-some style.json (label_of style.labels)) empty
 
-  pub answers-empty : (table : List Route) (addresses : List Addr) → empty ≡ (length addresses == 0) → IsEmpty empty (answers_text style addresses table)
+  pub answers-empty : (table : List Route) (addresses : List Addr) → empty ≡ (length addresses == 0) → empty ≡ (length (answers_text style addresses table) == 0)
   answers-empty table =
       texts-empty (λ addr. found_as style.json (label_of style.labels) addr (look_up addr table))
       (λ addr. found_as-some style.json (label_of style.labels) addr (look_up addr table)) empty
 
-  pub matches-empty : (all : List AddressMatches) → empty ≡ (length all == 0) → IsEmpty empty (matches_text style all)
+  pub matches-empty : (all : List AddressMatches) → empty ≡ (length all == 0) → empty ≡ (length (matches_text style all) == 0)
   matches-empty =
       texts-empty (λ one. all_found_as style.json (label_of style.labels) one.addr one.routes.items)
       (λ one. all_found_as-some style.json (label_of style.labels) one.addr one.routes.items) empty

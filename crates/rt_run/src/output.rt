@@ -1,6 +1,6 @@
 //! Output: the parts of a run's text, the answers to questions, and the differences between two tables. Each part goes to
 //! any writer; `write_through` writes an output through one buffer.
-ghost use Rattle.std.specs.Prelude.{◌≡◌, ◌++◌, [], ◌≤◌, ℕ, List, Option, length, IfSome, IfErr};
+ghost use Rattle.std.specs.Prelude.{◌≡◌, ◌==◌, ◌++◌, [], ◌≤◌, ℕ, List, Option, length, IfSome, IfErr};
 ghost use Rattle.std.specs.Fn.{FnOnceReturnsAtMut};
 ghost use Rattle.rt_cidr.specs.Output.{WritesText};
 ghost use Rattle.rt_print.specs.Buffer.{buffered};
@@ -8,7 +8,7 @@ ghost use Rattle.rt_rib.specs.declared.limits.TheConstants.{MAX_FEEDS};
 ghost use Rattle.rt_print.specs.Routes.{table_text};
 ghost use Rattle.rt_run.specs.RunText.{reports_text};
 ghost use Rattle.rt_run.specs.TableText.{answers_text};
-ghost use Rattle.rt_run.specs.inside.Outputs.{matches_text, IsEmpty, Writes, IsFirstFrom, lines_of};
+ghost use Rattle.rt_run.specs.inside.Outputs.{matches_text, Writes, IsFirstFrom, lines_of};
 
 use crate::faults::AppFault;
 use crate::forwarding::look_up_by;
@@ -36,7 +36,7 @@ pub(crate) fn write_through<
 >(w: &mut W, room: OutputRoom, is_empty: bool, given: X, print: F) -> Result<X, AppFault>
     requires new { room ≡ [] }
     requires called { F.IsAlwaysCallable print }
-    ensures text { (text : List ℕ) → IsEmpty is_empty text → ((old : _) (written : _) (new : _) → FnOnceReturnsAtMut F.FnOnce print old written new
+    ensures text { (text : List ℕ) → is_empty ≡ (length text == 0) → ((old : _) (written : _) (new : _) → FnOnceReturnsAtMut F.FnOnce print old written new
         → WritesText (buffered old.writer.ghost_name (W.contents old.began.value) (W.contents old.writer.now) old.held)
         (buffered new.writer.ghost_name (W.contents new.began.value) (W.contents new.writer.now) new.held) text written)
         → Writes text given (W.contents w.old) (W.contents w.new) result }
@@ -57,7 +57,7 @@ fn finish<W: Write, X: Drop>(
     is_empty: bool,
     given: X,
 ) -> Result<X, AppFault>
-    ensures text { (name : ℕ) (began after : Option (List ℕ)) (text : List ℕ) → IsEmpty is_empty text
+    ensures text { (name : ℕ) (began after : Option (List ℕ)) (text : List ℕ) → is_empty ≡ (length text == 0)
         → WritesText (buffered name began began [])
         (buffered buffer.old.writer.ghost_name (W.contents buffer.old.began.value) (W.contents buffer.old.writer.now) buffer.old.held) text written
         → (name ≡ buffer.new.writer.ghost_name → after ≡ W.contents buffer.new.writer.now) → Writes text given began after result }

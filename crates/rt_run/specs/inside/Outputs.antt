@@ -1,6 +1,6 @@
 -- The effect of an output on its writer, the text of all routes that cover each address, and the output of a comparison of
 -- two tables.
-use Rattle.std.specs.Prelude.{◌≡◌, ℕ, ◌<◌, Bool, true, false, List, [], length, Option, Result, Ok, Err, ◌++◌, ◌-◌, ◌^◌, Some, None}
+use Rattle.std.specs.Prelude.{◌≡◌, ℕ, List, Option, Result, Ok, Err, ◌++◌, ◌-◌, ◌^◌, Some, None}
 use Rattle.std.specs.List.{flat_map}
 use Rattle.std.specs.Io.KnownBytes.{Appends}
 use Rattle.rt_cidr.specs.Output.{AppendsBeginning}
@@ -30,11 +30,6 @@ Writes text given old new (Ok done) = (done ≡ given) × Appends old new text
 Writes text given old new (Err (Run refusal)) = (refusal ≡ fault.Memory) × (new ≡ old)
 Writes text given old new (Err (Replay fault)) = ⊥
 Writes text given old new (Err Write) = AppendsBeginning old new text
-
--- true of an empty text, false of a text with a byte
-abbrev pub IsEmpty : Bool → List ℕ → Type 0
-IsEmpty true text = text ≡ []
-IsEmpty false text = 0 < length text
 
 -- the first difference of all from an address on
 abbrev pub IsFirstFrom : DiffContents → List Route → List Route → Addr → Option Difference → Type 0

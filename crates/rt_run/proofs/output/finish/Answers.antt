@@ -1,4 +1,5 @@
-use Rattle.std.proofs.Common.{rules}
+use Rattle.std.proofs.Common.{arith, rules}
+use Rattle.std.proofs.lemmas.Bool.Decides.{nat_tests}
 use Rattle.std.proofs.KnownBytes.{Appends-kept}
 use Rattle.rt_print.proofs.Promised.{stops, stops_held}
 use Rattle.rt_run.proofs.output.finish.Goals as goal
@@ -10,4 +11,4 @@ returns-in-Err-clause-text g c name began after text empty wrote same =
 pub returns-in-Err-flush-clause-text : goal.returns-in-Err-flush-clause-text
 returns-in-Err-flush-clause-text g c name began after text empty wrote same =
     stops_held name _ began (g.W.Write.contents c.flush.new.self.began.value) (g.W.Write.contents c.flush.new.self.writer.now) after c.flush.new.self.held text same
-    (Appends-kept _ _ _ text (search rules) c.flush.ensures.bytes) (search rules) (rw c.if-is_empty.false at empty)
+    (Appends-kept _ _ _ text (search rules) c.flush.ensures.bytes) (search rules) (grind (arith, nat_tests))

@@ -1,5 +1,5 @@
 use Rattle.std.proofs.Common.{rules}
-use Rattle.rt_run.proofs.Outputs.{rows-empty, answers-empty, matches-empty, counts-some}
+use Rattle.rt_run.proofs.Outputs.{has_byte, rows-empty, answers-empty, matches-empty, counts-some}
 use Rattle.rt_run.proofs.queries.write_answer.Goals as goal
 
 pub returns-in-Best : goal.returns-in-Best
@@ -22,5 +22,5 @@ returns-in_ok-routes-in-Routes g c =
 pub returns-in_ok-routes-in-Counts : goal.returns-in_ok-routes-in-Counts
 returns-in_ok-routes-in-Counts g c =
     rw (c.in-Counts.is, ← (c.in_ok-routes-in-Counts.ensures {u = tt}))
-    (c.write_through-in-Counts.ensures.text _ (counts-some c.args.style.now c.in_ok-routes-in-Counts.routes.items)
+    (c.write_through-in-Counts.ensures.text _ (has_byte _ (counts-some c.args.style.now c.in_ok-routes-in-Counts.routes.items))
     (λ old written new called. search rules))
