@@ -1,6 +1,6 @@
 -- Examples that test the definitions of rt_feed, each below a line with the definition's name. Both sides are computed;
 -- relations and laws are spelled out for some values.
-use Rattle.std.proofs.Common.{◌≡◌, ◌≢◌, ℕ, ◌+◌, true, false, List, [], ◌∷◌, ◌++◌, length, map, slice_index, eqb, Some, None, Ok, Err, inl, inr, codes, refl}
+use Rattle.std.proofs.Common.{◌≡◌, ◌≢◌, ℕ, true, false, List, [], ◌∷◌, ◌++◌, length, map, slice_index, eqb, Some, None, Ok, Err, inl, inr, codes, refl}
 use Rattle.std.proofs.Common.{sym, ap, ◌∙◌, subst, arith}
 use Rattle.std.proofs.lemmas.Bool.{or_parts, eqb-false}
 use Rattle.std.proofs.lemmas.List.Elements.{All-nil, All-cons}
@@ -35,10 +35,8 @@ use Rattle.rt_feed.specs.Visits.{concatenated, AreOneList, piece_of, IsSplitInto
 use Rattle.rt_feed.specs.Printed.{reply_text, fault_text, answer_text, line_text, report_text}
 use Rattle.rt_print.specs.Routes.{route_text}
 use Rattle.std.specs.Prelude.{◌<◌, ◌-◌, ◌^◌, ◌%◌, Option}
-use Rattle.rt_rib.specs.declared.routes.Hop.{Hop}
 use Rattle.rt_feed.specs.declared.versions.Version.{Version}
 use Rattle.std.specs.declared.result.Result.{Result}
-use Rattle.std.proofs.Common.{◌/◌}
 
 -- the address 192.0.2.1, and the command of the first line of examples/first.feed
 abbrev pub at_192_0_2_1 : Addr

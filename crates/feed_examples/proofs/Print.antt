@@ -1,6 +1,6 @@
 -- Examples that test the definitions of rt_print, each below a line with the definition's name. Both sides are computed;
 -- relations and laws are spelled out for some values.
-use Rattle.std.proofs.Common.{◌≡◌, ℕ, zero, suc, ◌<◌, true, false, List, [], ◌∷◌, ◌++◌, length, map, Some, None, Ok, Err, codes, refl, ap, arith}
+use Rattle.std.proofs.Common.{◌≡◌, ℕ, zero, suc, ◌<◌, true, false, List, [], ◌∷◌, ◌++◌, length, Some, None, Ok, Err, codes, refl, ap, arith}
 use Rattle.std.specs.Prelude.{decimal}
 use Rattle.std.specs.Fmt.{digits}
 use Rattle.rt_cidr.specs.Text.{address_text, prefix_text}

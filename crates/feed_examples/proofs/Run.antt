@@ -1,6 +1,6 @@
 -- Examples that test the definitions of rt_run, each below a line with the definition's name. Both sides are computed,
 -- except for the texts of numbers, which have one spelling each.
-use Rattle.std.proofs.Common.{◌≡◌, ◌≢◌, ℕ, zero, suc, ◌+◌, ◌≤◌, ◌==◌, ◌&&◌, nat_le, max, Bool, true, false, if◌then◌else◌, Some, None, Ok, Err}
+use Rattle.std.proofs.Common.{◌≡◌, ◌≢◌, ℕ, zero, suc, ◌+◌, ◌≤◌, ◌==◌, ◌&&◌, nat_le, nat_lt, max, Bool, true, false, if◌then◌else◌, Some, None, Ok, Err}
 use Rattle.std.proofs.Common.{List, [], ◌∷◌, ◌++◌, length, map, filter, take, drop, get_or, inl, inr, codes, refl, sym, ap, ◌∙◌, subst, arith, append-nil}
 use Rattle.std.specs.List.{All, Contains, list_any, list_all}
 use Rattle.std.proofs.lemmas.Bool.{and_parts, eqb-true, eqb-false, leb-true}
@@ -50,14 +50,18 @@ use Rattle.rt_run.specs.RunText.{Explains, ExplainsFrom, IsJournalOfRun, reports
 use Rattle.rt_run.proofs.Lists.{cut-joined}
 use Rattle.rt_print.specs.ReplayText.{inside_text}
 use Rattle.rt_run.specs.Replayed.{IsReplayText, LeavesReplay}
-use Rattle.rt_run.specs.declared.tallies.RunSummary.{RunSummary}
+use Rattle.rt_run.specs.declared.tallies.RejectedInput.{RejectedInput}
 use Rattle.rt_print.specs.Styles.{StyleContents, row_as, found_as, all_found_as, reason_text}
 use Rattle.rt_print.specs.Counts.{totals_as, count_as, counts_as}
 use Rattle.rt_run.specs.TableText.{answers_text, all_answers_text, routes_text, counts_text, was_full, was_existing, was_missing, faults_of, tally_of}
-use Rattle.rt_run.specs.TableText.{has_refused, has_rejected, tallies_status, LeavesTable, question_text, named_in, said_in, IsQueryOutput, IsAnswer}
+use Rattle.rt_run.specs.TableText.{has_refused, has_rejected, tallies_status, NoneRefused, LeavesTable, question_text, named_in, said_in, IsQueryOutput, IsAnswer}
 use Rattle.rt_run.specs.declared.question.LookupAddresses.{LookupAddresses}
 use Rattle.rt_run.specs.declared.question.AskedRoutes.{AskedRoutes}
+use Rattle.rt_run.specs.declared.question.Question.{Question}
 use Rattle.rt_run.specs.declared.question.Question.TheVariants as ask
+use Rattle.rt_run.specs.declared.queries.QuerySummary.{QuerySummary}
+use Rattle.std.specs.declared.vec.Vec.{Vec}
+use Rattle.std.specs.declared.alloc.Global.{Global}
 use Rattle.rt_run.specs.SameTable.{table_alone, LeavesAlone, IsUnion, IsAnsweredAlone}
 use Rattle.rt_run.specs.ChosenFeeds.{is_selected, is_left_out, texts_kept, routes_of_selected}
 use Rattle.rt_run.specs.ChosenFeeds.{AreWithout}
@@ -674,40 +678,40 @@ one_by_one_of texts = record { texts = texts; limit = 1; batch = 1 }
 abbrev the_tutorials_run : RunContents
 the_tutorials_run = record { texts = north ∷ south ∷ east ∷ []; limit = 65536; batch = 1 }
 
+-- NoneRefused
+a_fault_is_no_refusal :
+    NoneRefused (map tally_of (reports_of ((faulty fault.Hop ∷ []) ∷ (asked Dump (Did Full) ∷ []) ∷ [])))
+    × (¬ NoneRefused (map tally_of (reports_of ((skipped ∷ []) ∷ (asked Dump Refused ∷ []) ∷ []))))
+a_fault_is_no_refusal = (refl, λ same. cc)
+
 -- LeavesTable
 what_the_tutorial_leaves :
-    (summary : RunSummary) → summary.tallies.items ≡ map tally_of (reports_of the_tutorials_outcomes) → summary.status ≡ 0
-    → LeavesTable the_tutorials_run (table_of_journal 65536 tutorial) summary
-what_the_tutorial_leaves summary tallied status = record {
+    (tallies : List RejectedInput) → tallies ≡ map tally_of (reports_of the_tutorials_outcomes) → LeavesTable the_tutorials_run (table_of_journal 65536 tutorial) tallies
+what_the_tutorial_leaves tallies tallied = record {
   journal = tutorial;
   outcomes = the_tutorials_outcomes;
   history = the_history_of_the_tutorial;
   left = refl;
-  summed = record { tallied = tallied; is_status = status ∙ ap tallies_status (sym tallied) };
+  tallied = tallied;
 }
 
 -- IsQueryOutput
 what_is_told_of_the_tutorial :
-    (text_of : List Route → List ℕ) (summary : RunSummary) → summary.tallies.items ≡ map tally_of (reports_of the_tutorials_outcomes)
-    → summary.status ≡ 0 → IsQueryOutput the_tutorials_run text_of (text_of (table_of_journal 65536 tutorial)) summary
-what_is_told_of_the_tutorial text_of summary tallied status = record {
+    (text_of : List Route → List ℕ) (tallies : List RejectedInput) → tallies ≡ map tally_of (reports_of the_tutorials_outcomes)
+    → IsQueryOutput the_tutorials_run text_of (text_of (table_of_journal 65536 tutorial)) tallies
+what_is_told_of_the_tutorial text_of tallies tallied = record {
   table = table_of_journal 65536 tutorial;
-  leaves = what_the_tutorial_leaves summary tallied status;
+  leaves = what_the_tutorial_leaves tallies tallied;
   shown = refl;
 }
 
-its_status_is_told : (bytes : List ℕ) (summary : RunSummary) → summary.status ≡ 1 → ¬ IsQueryOutput (one_by_one_of (text ∷ [])) table_text bytes summary
-its_status_is_told bytes summary one h =
-    let tallies = summary.tallies.items in
-    none_is_1 (list_any has_refused tallies) (list_any has_rejected tallies) (sym one ∙ h.leaves.summed.is_status)
-
-no_table_untold : (bytes : List ℕ) (summary : RunSummary) → summary.tallies.items ≡ [] → ¬ IsQueryOutput (one_by_one_of (text ∷ [])) table_text bytes summary
-no_table_untold bytes summary none h = by h.leaves.outcomes h.leaves.history.explained h.leaves.summed.tallied
+no_table_untold : (bytes : List ℕ) → ¬ IsQueryOutput (one_by_one_of (text ∷ [])) table_text bytes []
+no_table_untold bytes h = by h.leaves.outcomes h.leaves.history.explained h.leaves.tallied
   where
     by : (outcomes : List (List LineOutcome)) → ExplainsFrom 1 1 h.leaves.journal (text ∷ []) outcomes
-        → summary.tallies.items ≢ map tally_of (reports_of outcomes)
+        → ◌≢◌ {A = List RejectedInput} [] (map tally_of (reports_of outcomes))
     by [] explained same = explained
-    by (one ∷ others) explained same = let some : [] ≡ tally_of (report_lines 1 one) ∷ map tally_of (reports_of others) = sym none ∙ same in cc
+    by (one ∷ others) explained same = let some : [] ≡ tally_of (report_lines 1 one) ∷ map tally_of (reports_of others) = same in cc
 
 -- without texts there is neither a feed nor an entry
 nobody_asks : (journal : List Entry) → All (λ (e : Entry). (1 ≤ e.feed) × (e.feed ≤ 0)) journal → journal ≡ []
@@ -719,9 +723,9 @@ abbrev length_text : List Route → List ℕ
 length_text table = length table ∷ []
 
 -- IsQueryOutput
-no_route_of_no_text : (summary : RunSummary) → ¬ IsQueryOutput (one_by_one_of []) length_text (1 ∷ []) summary
+no_route_of_no_text : (tallies : List RejectedInput) → ¬ IsQueryOutput (one_by_one_of []) length_text (1 ∷ []) tallies
 unfolding table_of_journal
-no_route_of_no_text summary h =
+no_route_of_no_text tallies h =
     let no_entries = nobody_asks h.leaves.journal h.leaves.history.no_other in
     let none : ◌≡◌ {A = List ℕ} (1 ∷ []) (0 ∷ []) = h.shown ∙ ap length_text (h.leaves.left ∙ ap (table_of_journal 1) no_entries) in cc
 
@@ -761,27 +765,40 @@ all_or_the_best = (refl, refl)
 
 -- IsAnswer
 the_named_one_before_the_two_of_the_text :
-    (summary : RunSummary) → summary.tallies.items ≡ map tally_of (reports_of the_tutorials_outcomes) → summary.status ≡ 0
+    (tallies : Vec RejectedInput Global) → tallies.items ≡ map tally_of (reports_of the_tutorials_outcomes)
     → IsAnswer the_tutorials_run plain (ask.Best one_and_a_text)
     (answers_text plain (at_10_9_0_1 ∷ at_192_0_2_1 ∷ at_10_1_2_3 ∷ []) (table_of_journal 65536 tutorial))
-    (record { status = 2; run = summary; faulty = record { count = 1; first = Some (3, fault.Text) } })
-the_named_one_before_the_two_of_the_text summary tallied status = record {
+    (record { status = 2; tallies = tallies; faulty = record { count = 1; first = Some (3, fault.Text) } })
+the_named_one_before_the_two_of_the_text tallies tallied = record {
   said = at_192_0_2_1 ∷ at_10_1_2_3 ∷ [];
   says = two_are_asked_and_a_line_is_faulty;
-  shown = what_is_told_of_the_tutorial (answers_text plain (at_10_9_0_1 ∷ at_192_0_2_1 ∷ at_10_1_2_3 ∷ [])) summary tallied status;
-  is_status = rw status refl;
+  shown = what_is_told_of_the_tutorial (answers_text plain (at_10_9_0_1 ∷ at_192_0_2_1 ∷ at_10_1_2_3 ∷ [])) tallies.items tallied;
+  is_status = rw tallied refl;
 }
+
+no_answer_has_status_1 :
+    (request : RunContents) (style : StyleContents) (question : Question) (bytes : List ℕ) (given : QuerySummary) → given.status ≡ 1 → ¬ IsAnswer request style question bytes given
+no_answer_has_status_1 request style question bytes given one h =
+    by (nat_lt 0 given.faulty.count) (list_any has_refused given.tallies.items) (list_any has_rejected given.tallies.items) (sym one ∙ h.is_status)
+  where
+    by : (faulty refused rejected : Bool) → 1 ≢ max (status_where false faulty) (status_where refused rejected)
+    by true true rejected same = cc
+    by true false true same = cc
+    by true false false same = cc
+    by false true rejected same = cc
+    by false false true same = cc
+    by false false false same = cc
 
 -- WritesOrFails
 nothing_but_what_is_told :
-    (request : RunContents) (text_of : List Route → List ℕ) (new : List ℕ) (summary : RunSummary)
-    → WritesOrFails (IsQueryOutput request text_of) (Some []) (Some new) (Ok summary) → IsQueryOutput request text_of new summary
-nothing_but_what_is_told request text_of new summary (bytes, is, same) =
-    let all : bytes ≡ new = sym same in subst (λ b. IsQueryOutput request text_of b summary) all is
+    (request : RunContents) (text_of : List Route → List ℕ) (new : List ℕ) (tallies : List RejectedInput)
+    → WritesOrFails (IsQueryOutput request text_of) (Some []) (Some new) (Ok tallies) → IsQueryOutput request text_of new tallies
+nothing_but_what_is_told request text_of new tallies (bytes, is, same) =
+    let all : bytes ≡ new = sym same in subst (λ b. IsQueryOutput request text_of b tallies) all is
 
 no_table_in_place_of_what_the_writer_had :
-    (summary : RunSummary) → ¬ WritesOrFails (IsQueryOutput (one_by_one_of (text ∷ [])) table_text) (Some (codes "x")) (Some []) (Ok summary)
-no_table_in_place_of_what_the_writer_had summary (bytes, is, same) = let lost : [] ≡ 120 ∷ bytes = same in cc
+    (tallies : List RejectedInput) → ¬ WritesOrFails (IsQueryOutput (one_by_one_of (text ∷ [])) table_text) (Some (codes "x")) (Some []) (Ok tallies)
+no_table_in_place_of_what_the_writer_had tallies (bytes, is, same) = let lost : [] ≡ 120 ∷ bytes = same in cc
 
 no_table_where_it_was_refused : WritesOrFails (IsQueryOutput (one_by_one_of []) table_text) (Some (codes "x")) (Some (codes "x")) (Err (Run run.NoText))
 no_table_where_it_was_refused = ((λ same. cc), refl)
@@ -799,10 +816,10 @@ nor_as_a_replay : ¬ WritesOrFails (IsQueryOutput (one_by_one_of (text ∷ [])) 
 nor_as_a_replay h = h
 
 a_beginning_of_it_where_it_could_not_be_written :
-    (request : RunContents) (text_of : List Route → List ℕ) (summary : RunSummary) → IsQueryOutput request text_of (codes "table 0\n") summary
+    (request : RunContents) (text_of : List Route → List ℕ) (tallies : List RejectedInput) → IsQueryOutput request text_of (codes "table 0\n") tallies
     → WritesOrFails (IsQueryOutput request text_of) (Some (codes "x")) (Some (codes "xtab")) (Err Write)
-a_beginning_of_it_where_it_could_not_be_written request text_of summary is =
-    (codes "table 0\n", summary, is, record { count = 3; within = omega arith; appended = refl })
+a_beginning_of_it_where_it_could_not_be_written request text_of tallies is =
+    (codes "table 0\n", tallies, is, record { count = 3; within = omega arith; appended = refl })
 
 no_bytes_lost_where_the_table_could_not_be_written :
     ¬ WritesOrFails (IsQueryOutput (one_by_one_of (text ∷ [])) table_text) (Some (codes "x")) (Some []) (Err Write)
@@ -849,18 +866,18 @@ what_a_comparison_is_asked style = (refl, refl, refl)
 
 -- IsDiffText
 nothing_is_written_of_a_run_and_itself :
-    (style : StyleContents) (old new : RunSummary) → old.tallies.items ≡ map tally_of (reports_of the_tutorials_outcomes) → old.status ≡ 0
-    → new.tallies.items ≡ map tally_of (reports_of the_tutorials_outcomes) → new.status ≡ 0
+    (style : StyleContents) (old new : Vec RejectedInput Global) → old.items ≡ map tally_of (reports_of the_tutorials_outcomes)
+    → new.items ≡ map tally_of (reports_of the_tutorials_outcomes)
     → IsDiffText (whole_routes style) the_tutorials_run the_tutorials_run [] (record { status = 0; old = old; new = new })
-nothing_is_written_of_a_run_and_itself style old new old_tallied old_status new_tallied new_status = record {
+nothing_is_written_of_a_run_and_itself style old new old_tallied new_tallied = record {
   old_table = table_of_journal 65536 tutorial;
   new_table = table_of_journal 65536 tutorial;
-  old_left = what_the_tutorial_leaves old old_tallied old_status;
-  new_left = what_the_tutorial_leaves new new_tallied new_status;
+  old_left = what_the_tutorial_leaves old.items old_tallied;
+  new_left = what_the_tutorial_leaves new.items new_tallied;
   list = [];
   differences = a_table_and_itself_have_none (own_numbers (table_of_journal 65536 tutorial));
   printed = refl;
-  is_status = rw old_status (rw new_status refl);
+  is_status = rw (old_tallied, new_tallied) refl;
 }
 
 differ_is_0_or_1 : (list : List Difference) → differ_status list ≤ 1
@@ -868,12 +885,12 @@ differ_is_0_or_1 [] = omega arith
 differ_is_0_or_1 (d ∷ list) = omega arith
 
 never_status_2_of_two_runs_without_faults :
-    (terms : DiffContents) (old new : RunContents) (bytes : List ℕ) (given : DiffSummary) → given.old.status ≡ 0 → given.new.status ≡ 0
+    (terms : DiffContents) (old new : RunContents) (bytes : List ℕ) (given : DiffSummary) → tallies_status given.old.items ≡ 0 → tallies_status given.new.items ≡ 0
     → given.status ≡ 2 → ¬ IsDiffText terms old new bytes given
 never_status_2_of_two_runs_without_faults terms old new bytes given old_status new_status status is = by (differ_status is.list) (differ_is_0_or_1 is.list) told
   where
     told : 2 ≡ max (differ_status is.list) (max 0 0)
-    told = sym status ∙ is.is_status ∙ ap (λ n. max (differ_status is.list) (max n given.new.status)) old_status ∙ ap (λ n. max (differ_status is.list) (max 0 n)) new_status
+    told = sym status ∙ is.is_status ∙ ap (λ n. max (differ_status is.list) (max n (tallies_status given.new.items))) old_status ∙ ap (λ n. max (differ_status is.list) (max 0 n)) new_status
 
     by : (n : ℕ) → n ≤ 1 → 2 ≢ max n (max 0 0)
     by zero small same = cc

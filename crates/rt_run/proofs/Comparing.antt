@@ -13,7 +13,7 @@ use Rattle.rt_diff.proofs.Promised.{at, rest_none, rest_next, rest_there, whole,
 use Rattle.rt_print.specs.DifferenceText.{DiffContents, range_as, difference_as, differences_as}
 use Rattle.rt_run.specs.declared.comparisons.DiffSummary.{DiffSummary}
 use Rattle.rt_run.specs.RunText.{RunContents}
-use Rattle.rt_run.specs.TableText.{LeavesTable}
+use Rattle.rt_run.specs.TableText.{tallies_status, LeavesTable}
 use Rattle.rt_run.specs.DiffText.{renumbered_new, differ_status, IsDiffText}
 use Rattle.rt_run.specs.inside.Outputs.{IsFirstFrom, lines_of, IsSoFar}
 
@@ -87,8 +87,8 @@ module _ (asked : DiffContents) (old new : List Route) where
 
 -- the output for two runs is the text of their tables' differences
 pub is_diff : (asked : DiffContents) (old_asked new_asked : RunContents) (old new : List Route) (given : DiffSummary) (first : Option Difference)
-    → LeavesTable old_asked old given.old → LeavesTable new_asked new given.new → IsFirstFrom asked old new (at 0) first
-    → given.status ≡ max (if is_some first then 1 else 0) (max given.old.status given.new.status) → IsDiffText asked old_asked new_asked (lines_of asked old new) given
+    → LeavesTable old_asked old given.old.items → LeavesTable new_asked new given.new.items → IsFirstFrom asked old new (at 0) first
+    → given.status ≡ max (if is_some first then 1 else 0) (max (tallies_status given.old.items) (tallies_status given.new.items)) → IsDiffText asked old_asked new_asked (lines_of asked old new) given
 is_diff asked old_asked new_asked old new given first old_left new_left is status = record {
   old_table = old;
   new_table = new;
@@ -97,5 +97,5 @@ is_diff asked old_asked new_asked old new given first old_left new_left is statu
   list = differences_of asked.by (own_numbers old) (renumbered_new asked new);
   differences = differences_are asked.by (own_numbers old) (renumbered_new asked new);
   printed = refl;
-  is_status = status ∙ status_by_first asked old new first (max given.old.status given.new.status) is;
+  is_status = status ∙ status_by_first asked old new first (max (tallies_status given.old.items) (tallies_status given.new.items)) is;
 }

@@ -4,8 +4,6 @@ use Rattle.std.proofs.Common.{refl, sym, ap, subst, ◌∙◌, arith, append_ass
 use Rattle.std.proofs.lemmas.Bool.{cases_lt}
 use Rattle.std.proofs.lemmas.List.{map-append, length-take-le}
 use Rattle.std.proofs.lemmas.List.Elements.{All-nil, All-cons, All-append, All-weaker}
-use Rattle.std.specs.declared.vec.Vec.{Vec}
-use Rattle.std.specs.declared.alloc.Global.{Global}
 use Rattle.rt_rib.specs.declared.commands.Cmd.{Cmd}
 use Rattle.rt_rib.specs.declared.commands.Reply.{Reply}
 use Rattle.rt_rib.specs.declared.commands.Entry.{Entry}
@@ -24,9 +22,8 @@ use Rattle.rt_feed.specs.Lines.{IsBody, CutsLine, LineOutcome, skipped, TextYiel
 use Rattle.rt_feed.specs.Visits.{concatenated, piece_of, IsSplitInto}
 use Rattle.rt_feed.proofs.Promised.{length-cut, report_lines-push, commands_of-append}
 use Rattle.rt_run.specs.declared.tallies.RejectedInput.{RejectedInput}
-use Rattle.rt_run.specs.declared.tallies.RunSummary.{RunSummary}
 use Rattle.rt_run.specs.RunText.{Explains, ExplainsFrom, reports_of}
-use Rattle.rt_run.specs.TableText.{tally_of, tallies_status, LeavesTable}
+use Rattle.rt_run.specs.TableText.{tally_of, LeavesTable}
 use Rattle.rt_run.specs.inside.Runs.{Continues, ExecutesText, ExecutesLine, IsExecuting}
 use Rattle.rt_run.proofs.Lists.{map_more, split-joined}
 
@@ -210,27 +207,23 @@ explains_more batch last journal own text lines by explained feed (one ∷ texts
 )
 explains_more batch last journal own text lines by explained feed texts outcomes is so_far = absurd so_far
 
--- the summary of a run with these tallies
-abbrev pub summary : Vec RejectedInput Global → RunSummary
-summary tallies = record { status = tallies_status tallies.items; tallies = tallies }
-
 -- before the first text
-pub leaves_nothing : (limit batch : ℕ) (table : TableState) (tallies : Vec RejectedInput Global) → table.routes ≡ [] → tallies.items ≡ []
-    → LeavesTable (record { texts = []; limit = limit; batch = batch }) table.routes (summary tallies)
+pub leaves_nothing : (limit batch : ℕ) (table : TableState) (tallies : List RejectedInput) → table.routes ≡ [] → tallies ≡ []
+    → LeavesTable (record { texts = []; limit = limit; batch = batch }) table.routes tallies
 unfolding table_of_journal
 leaves_nothing limit batch table tallies is none = record {
   journal = [];
   outcomes = [];
   history = record { lawful = IsLawfulJournal-nil limit; explained = tt; no_other = All-nil _ };
   left = is;
-  summed = record { tallied = none; is_status = refl };
+  tallied = none;
 }
 
 -- one more text
-pub leaves_more : (texts : List (List ℕ)) (text : List ℕ) (limit batch feed : ℕ) (old new : TableState) (tallies tallies' : Vec RejectedInput Global) (tally : RejectedInput)
-    → 1 ≤ batch → feed ≡ length texts + 1 → old.limit ≡ limit → LeavesTable (record { texts = texts; limit = limit; batch = batch }) old.routes (summary tallies)
-    → ExecutesText feed text old new tally → tallies'.items ≡ tallies.items ++ tally ∷ []
-    → LeavesTable (record { texts = texts ++ text ∷ []; limit = limit; batch = batch }) new.routes (summary tallies')
+pub leaves_more : (texts : List (List ℕ)) (text : List ℕ) (limit batch feed : ℕ) (old new : TableState) (tallies tallies' : List RejectedInput) (tally : RejectedInput)
+    → 1 ≤ batch → feed ≡ length texts + 1 → old.limit ≡ limit → LeavesTable (record { texts = texts; limit = limit; batch = batch }) old.routes tallies
+    → ExecutesText feed text old new tally → tallies' ≡ tallies ++ tally ∷ []
+    → LeavesTable (record { texts = texts ++ text ∷ []; limit = limit; batch = batch }) new.routes tallies'
 leaves_more texts text limit batch feed old new tallies tallies' tally some is limited so_far executed pushed =
     let journal = so_far.journal in
     let own = entries feed (visit_of (commands_of executed.outcomes)) in
@@ -253,9 +246,6 @@ leaves_more texts text limit batch feed old new tallies tallies' tally some is l
             (All-weaker (λ (e : Entry). e.feed ≡ feed) (Fits (texts ++ text ∷ [])) (λ e of. omega (arith, of, is, more)) own by);
       };
       left = now.1;
-      summed = record {
-        tallied = map_more tally_of tallies.items tallies'.items (reports_of so_far.outcomes) (report_lines 1 executed.outcomes) tally so_far.summed.tallied pushed executed.tallied
-            ∙ ap (map tally_of) (sym (map-append (report_lines 1) so_far.outcomes (executed.outcomes ∷ [])));
-        is_status = refl;
-      };
+      tallied = map_more tally_of tallies tallies' (reports_of so_far.outcomes) (report_lines 1 executed.outcomes) tally so_far.tallied pushed executed.tallied
+          ∙ ap (map tally_of) (sym (map-append (report_lines 1) so_far.outcomes (executed.outcomes ∷ [])));
     }

@@ -101,9 +101,9 @@ filtered_table test table is = record {
 }
 
 pub shows_rest : ShowsUnion → LosesLeftOut → OneTableOfSet → ShowsRest
-shows_rest shows loses one is_left_out all union asked text_of bytes summary without of_all is not_refused =
+shows_rest shows loses one is_left_out all union asked text_of bytes tallies without of_all is not_refused =
     let stays : Route → Bool = λ r. not (is_left_out r.feed) in
-    let rest = shows asked text_of bytes summary is not_refused in
+    let rest = shows asked text_of bytes tallies is not_refused in
     let same : rest.0 ≡ filter stays union =
     one rest.0 (filter stays union) rest.1.table (filtered_table stays union of_all.table) (λ r. (
       (λ c.

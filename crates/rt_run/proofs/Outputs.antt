@@ -16,11 +16,13 @@ use Rattle.rt_print.specs.Styles.{StyleContents, label_of, row_as, rows_as, addr
 use Rattle.rt_run.specs.declared.faults.AppFault.{AppFault}
 use Rattle.rt_run.specs.declared.faults.AppFault.TheVariants.{Run, Replay, Write}
 use Rattle.rt_run.specs.declared.output.AddressMatches.{AddressMatches}
-use Rattle.rt_run.specs.declared.tallies.RunSummary.{RunSummary}
+use Rattle.std.specs.declared.vec.Vec.{Vec}
+use Rattle.std.specs.declared.alloc.Global.{Global}
+use Rattle.rt_run.specs.declared.tallies.RejectedInput.{RejectedInput}
 use Rattle.rt_run.specs.declared.queries.QuerySummary.{QuerySummary}
 use Rattle.rt_run.specs.declared.question.Question.{Question}
 use Rattle.rt_run.specs.RunText.{RunContents, WritesOrFails, status_where}
-use Rattle.rt_run.specs.TableText.{answers_text, question_text, named_in, said_in, LeavesTable, IsAnswer}
+use Rattle.rt_run.specs.TableText.{answers_text, question_text, named_in, said_in, tallies_status, LeavesTable, IsAnswer}
 use Rattle.rt_run.specs.Replayed.{IsReplayText, LeavesReplay}
 use Rattle.rt_feed.specs.Addresses.{SaysAddresses}
 use Rattle.rt_run.specs.inside.Outputs.{Writes, matches_text}
@@ -49,14 +51,14 @@ leaves_replay levels picks text old new (Err (Replay why)) is only wrote = absur
 leaves_replay levels picks text old new (Err Write) is only wrote = (text, is, wrote)
 
 -- the summary of a query
-abbrev answered : RunSummary → FaultyLines → QuerySummary
-answered run faulty = record { status = max (status_where false (nat_lt 0 faulty.count)) run.status; run = run; faulty = faulty }
+abbrev answered : Vec RejectedInput Global → FaultyLines → QuerySummary
+answered tallies faulty = record { status = max (status_where false (nat_lt 0 faulty.count)) (tallies_status tallies.items); tallies = tallies; faulty = faulty }
 
 -- the text for the question's addresses is the answer
-pub is_answer : (asked : RunContents) (style : StyleContents) (question : Question) (table : List Route) (summary : RunSummary)
-    (said addresses : List Addr) (faulty : FaultyLines) → SaysAddresses (said_in question) said faulty → addresses ≡ named_in question ++ said → LeavesTable asked table summary
-    → IsAnswer asked style question (question_text style question addresses table) (answered summary faulty)
-is_answer asked style question table summary said addresses faulty says all leaves = record {
+pub is_answer : (asked : RunContents) (style : StyleContents) (question : Question) (table : List Route) (tallies : Vec RejectedInput Global)
+    (said addresses : List Addr) (faulty : FaultyLines) → SaysAddresses (said_in question) said faulty → addresses ≡ named_in question ++ said → LeavesTable asked table tallies.items
+    → IsAnswer asked style question (question_text style question addresses table) (answered tallies faulty)
+is_answer asked style question table tallies said addresses faulty says all leaves = record {
   said = said;
   says = says;
   shown = record { table = table; leaves = leaves; shown = ap (λ (these : List Addr). question_text style question these table) all };

@@ -30,10 +30,9 @@ use Rattle.rt_shared.specs.JournalVisits.{AnsweredBatch, visit_of, entries}
 use Rattle.rt_feed.specs.Visits.{concatenated}
 use Rattle.rt_print.specs.Routes.{table_text}
 use Rattle.rt_run.specs.declared.tallies.RejectedInput.{RejectedInput}
-use Rattle.rt_run.specs.declared.tallies.RunSummary.{RunSummary}
 use Rattle.rt_run.specs.RunText.{RunContents, Explains, ExplainsFrom, reports_of, reports_text, some_refused, status_where, reports_status}
-use Rattle.rt_run.specs.TableText.{tally_of, has_refused, has_rejected, tallies_status, IsSummary, LeavesTable}
-use Rattle.rt_run.specs.SameTable.{table_alone, IsUnion, HaveSameInput, HaveSameSummary}
+use Rattle.rt_run.specs.TableText.{tally_of, has_refused, NoneRefused, LeavesTable}
+use Rattle.rt_run.specs.SameTable.{table_alone, IsUnion, HaveSameInput}
 use Rattle.rt_run.specs.SameTable.{LeavesUnion, AnswersAlone, HaveSameTallies, HaveOneUnion, EndsInUnion, EndInOneTable, ShowsUnion, ShowOneTable}
 use Rattle.rt_run.proofs.Lists.{counts_some, split-joined, map_split, filter_split}
 use Rattle.rt_run.proofs.CountedLines.{some_faulty}
@@ -180,12 +179,10 @@ by_tallies tallies = status_where (list_any has_refused tallies) (list_any has_f
 status-tallies : (reports : List (List Line)) → reports_status reports ≡ by_tallies (map tally_of reports)
 status-tallies reports = rw (refused-tallies reports, some-tallies has_fault has_faulty some_faulty reports) refl
 
--- if a summary's status isn't 5, no command was refused
-none_refused : (outcomes : List (List LineOutcome)) (summary : RunSummary) → IsSummary (reports_of outcomes) summary → summary.status ≢ 5
+-- if by the tallies no command was refused, then none was
+none_refused : (outcomes : List (List LineOutcome)) (tallies : List RejectedInput) → tallies ≡ map tally_of (reports_of outcomes) → NoneRefused tallies
     → some_refused outcomes ≡ false
-none_refused outcomes summary is not =
-    refused-tallies (reports_of outcomes) ∙ (ap (list_any has_refused) (sym is.tallied)
-    ∙ by_status _ (list_any has_rejected summary.tallies.items) summary.status is.is_status not)
+none_refused outcomes tallies tallied none = refused-tallies (reports_of outcomes) ∙ (ap (list_any has_refused) (sym tallied) ∙ none)
 
 -- a feed that has an entry has a text
 has_text : (journal : List Entry) (n feed : ℕ) → All (λ e. (1 ≤ e.feed) × (e.feed ≤ n)) journal → (own : List Entry) → feed_entries feed journal ≡ own
@@ -268,31 +265,29 @@ final_table_is_deterministic ends one tallies texts limit batch batch' bytes byt
     )
 
 -- a run that left a table left the union
-pub left_union : LeavesUnion → (one : RunContents) (table : List Route) (summary : RunSummary) → LeavesTable one table summary → summary.status ≢ 5
+pub left_union : LeavesUnion → (one : RunContents) (table : List Route) (tallies : List RejectedInput) → LeavesTable one table tallies → NoneRefused tallies
     → IsUnion one.texts one.limit table
-left_union leaves one table summary left not =
+left_union leaves one table tallies left none =
     subst (IsUnion one.texts one.limit) (sym left.left)
-    (leaves one.texts one.limit one.batch left.journal left.outcomes left.history (none_refused left.outcomes summary left.summed not))
+    (leaves one.texts one.limit one.batch left.journal left.outcomes left.history (none_refused left.outcomes tallies left.tallied none))
 
--- two runs of the same input that ended without a refusal have the same summary
-pub say_the_same : HaveSameTallies → (one one' : RunContents) (table table' : List Route) (summary summary' : RunSummary) → HaveSameInput one one'
-    → LeavesTable one table summary → LeavesTable one' table' summary' → summary.status ≢ 5 → summary'.status ≢ 5 → HaveSameSummary summary summary'
-say_the_same tallies one one' table table' summary summary' same left left' not not' =
-    let tallied : summary.tallies.items ≡ summary'.tallies.items =
-    left.summed.tallied
-    ∙ (tallies one.texts one.limit one.batch one'.batch left.journal left'.journal left.outcomes left'.outcomes left.history
+-- two runs of the same input that ended without a refusal have the same tallies
+pub say_the_same : HaveSameTallies → (one one' : RunContents) (table table' : List Route) (tallies tallies' : List RejectedInput) → HaveSameInput one one'
+    → LeavesTable one table tallies → LeavesTable one' table' tallies' → NoneRefused tallies → NoneRefused tallies' → tallies ≡ tallies'
+say_the_same have_same one one' table table' tallies tallies' same left left' none none' =
+    left.tallied
+    ∙ (have_same one.texts one.limit one.batch one'.batch left.journal left'.journal left.outcomes left'.outcomes left.history
     (rw (same.0, same.1) left'.history)
-    (none_refused left.outcomes summary left.summed not) (none_refused left'.outcomes summary' left'.summed not') ∙ sym left'.summed.tallied) in
-    (left.summed.is_status ∙ (ap tallies_status tallied ∙ sym left'.summed.is_status), tallied)
+    (none_refused left.outcomes tallies left.tallied none) (none_refused left'.outcomes tallies' left'.tallied none') ∙ sym left'.tallied)
 
 pub shows_union : LeavesUnion → ShowsUnion
-shows_union leaves one text_of bytes summary is not = (is.table, left_union leaves one is.table summary is.leaves not, is.shown)
+shows_union leaves one text_of bytes tallies is none = (is.table, left_union leaves one is.table tallies is.leaves none, is.shown)
 
 pub query_output_is_deterministic : ShowsUnion → HaveOneUnion → HaveSameTallies → ShowOneTable
-query_output_is_deterministic shows only tallies one one' text_of bytes bytes' summary summary' same is is' not not' =
-    let here = shows one text_of bytes summary is not in
-    let there = shows one' text_of bytes' summary' is' not' in
+query_output_is_deterministic shows only have_same one one' text_of bytes bytes' tallies tallies' same is is' none none' =
+    let here = shows one text_of bytes tallies is none in
+    let there = shows one' text_of bytes' tallies' is' none' in
     let union = only one.texts one.limit here.0 there.0 here.1 (rw (same.0, same.1) there.1) in (
       here.2 ∙ (ap text_of union ∙ sym there.2),
-      say_the_same tallies one one' is.table is'.table summary summary' same is.leaves is'.leaves not not',
+      say_the_same have_same one one' is.table is'.table tallies tallies' same is.leaves is'.leaves none none',
     )

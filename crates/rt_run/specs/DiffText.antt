@@ -7,7 +7,7 @@ use Rattle.rt_diff.specs.Differences.{AreDifferences}
 use Rattle.rt_print.specs.DifferenceText.{DiffContents, differences_as}
 use Rattle.rt_run.specs.declared.comparisons.DiffSummary.{DiffSummary}
 use Rattle.rt_run.specs.RunText.{RunContents}
-use Rattle.rt_run.specs.TableText.{LeavesTable}
+use Rattle.rt_run.specs.TableText.{tallies_status, LeavesTable}
 
 -- the new table, its feeds identified by these numbers
 abbrev pub renumbered_new : DiffContents → List Route → RenumberedTable
@@ -23,9 +23,9 @@ differ_status (d ∷ list) = 1
 pub record IsDiffText (asked : DiffContents) (old new : RunContents) (bytes : List ℕ) (given : DiffSummary) : Type 0 where
   pub old_table : List Route
   pub new_table : List Route
-  pub old_left : LeavesTable old old_table given.old
-  pub new_left : LeavesTable new new_table given.new
+  pub old_left : LeavesTable old old_table given.old.items
+  pub new_left : LeavesTable new new_table given.new.items
   pub list : List Difference
   pub differences : AreDifferences asked.by (own_numbers old_table) (renumbered_new asked new_table) list
   pub printed : bytes ≡ differences_as asked list
-  pub is_status : given.status ≡ max (differ_status list) (max given.old.status given.new.status)
+  pub is_status : given.status ≡ max (differ_status list) (max (tallies_status given.old.items) (tallies_status given.new.items))

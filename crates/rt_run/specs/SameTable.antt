@@ -13,11 +13,11 @@ use Rattle.rt_shared.specs.declared.outcome.Outcome.TheVariants.{Did}
 use Rattle.rt_feed.specs.Lines.{LineOutcome, TextYields, commands_of}
 use Rattle.rt_print.specs.Routes.{table_text}
 use Rattle.rt_print.specs.Styles.{StyleContents}
-use Rattle.rt_run.specs.declared.tallies.RunSummary.{RunSummary}
+use Rattle.rt_run.specs.declared.tallies.RejectedInput.{RejectedInput}
 use Rattle.rt_run.specs.declared.queries.QuerySummary.{QuerySummary}
 use Rattle.rt_run.specs.declared.question.Question.{Question}
 use Rattle.rt_run.specs.RunText.{RunContents, IsJournalOfRun, IsRunText, reports_of, reports_text, some_refused}
-use Rattle.rt_run.specs.TableText.{tally_of, IsQueryOutput, IsAnswer}
+use Rattle.rt_run.specs.TableText.{tally_of, NoneRefused, IsQueryOutput, IsAnswer}
 use Rattle.rt_run.specs.ChosenFeeds.{AreWithout}
 use Rattle.rt_diff.specs.declared.comparison.Difference.{Difference}
 use Rattle.rt_diff.specs.Answers.{own_numbers}
@@ -91,33 +91,29 @@ EndInOneTable =
 abbrev pub HaveSameInput : RunContents → RunContents → Type 0
 HaveSameInput one other = (one.texts ≡ other.texts) × (one.limit ≡ other.limit)
 
--- the summaries are the same
-abbrev pub HaveSameSummary : RunSummary → RunSummary → Type 0
-HaveSameSummary one other = (one.status ≡ other.status) × (one.tallies.items ≡ other.tallies.items)
-
 -- if no command ran out of memory, the output of a query of a run's table is its output for the union
 abbrev pub ShowsUnion : Type 0
 ShowsUnion =
-    (asked : RunContents) (text_of : List Route → List ℕ) (bytes : List ℕ) (summary : RunSummary)
-    → IsQueryOutput asked text_of bytes summary → summary.status ≢ 5
+    (asked : RunContents) (text_of : List Route → List ℕ) (bytes : List ℕ) (tallies : List RejectedInput)
+    → IsQueryOutput asked text_of bytes tallies → NoneRefused tallies
     → (union : List Route) × IsUnion asked.texts asked.limit union × (bytes ≡ text_of union)
 
 -- if no command ran out of memory, two runs of the same texts and limit with the same query write the same bytes, with the
 -- same status and tallies, for any batches and any interleaving of the threads
 abbrev pub ShowOneTable : Type 0
 ShowOneTable =
-    (asked asked' : RunContents) (text_of : List Route → List ℕ) (bytes bytes' : List ℕ) (summary summary' : RunSummary)
-    → HaveSameInput asked asked' → IsQueryOutput asked text_of bytes summary → IsQueryOutput asked' text_of bytes' summary'
-    → summary.status ≢ 5 → summary'.status ≢ 5 → (bytes ≡ bytes') × HaveSameSummary summary summary'
+    (asked asked' : RunContents) (text_of : List Route → List ℕ) (bytes bytes' : List ℕ) (tallies tallies' : List RejectedInput)
+    → HaveSameInput asked asked' → IsQueryOutput asked text_of bytes tallies → IsQueryOutput asked' text_of bytes' tallies'
+    → NoneRefused tallies → NoneRefused tallies' → (bytes ≡ bytes') × (tallies ≡ tallies')
 
 -- the same for the answers to questions: if texts, limit, style and question are the same, so are the bytes, the status, the
--- faulty lines of the text of addresses, and the summary of the run
+-- faulty lines of the text of addresses, and the tallies
 abbrev pub AnswerOnce : Type 0
 AnswerOnce =
     (asked asked' : RunContents) (style : StyleContents) (question : Question) (bytes bytes' : List ℕ) (given given' : QuerySummary)
     → HaveSameInput asked asked' → IsAnswer asked style question bytes given → IsAnswer asked' style question bytes' given'
-    → given.run.status ≢ 5 → given'.run.status ≢ 5
-    → (bytes ≡ bytes') × (given.status ≡ given'.status) × (given.faulty ≡ given'.faulty) × HaveSameSummary given.run given'.run
+    → NoneRefused given.tallies.items → NoneRefused given'.tallies.items
+    → (bytes ≡ bytes') × (given.status ≡ given'.status) × (given.faulty ≡ given'.faulty) × (given.tallies.items ≡ given'.tallies.items)
 
 -- the union of the texts without some feeds contains the routes of the union of all texts, except the routes of the feeds
 -- that are left out
@@ -130,8 +126,8 @@ LosesLeftOut =
 -- and what is told of the table of such a run is told of these routes, if no command was refused for want of memory
 abbrev pub ShowsRest : Type 0
 ShowsRest =
-    (is_left_out : ℕ → Bool) (all : List (List ℕ)) (union : List Route) (asked : RunContents) (text_of : List Route → List ℕ) (bytes : List ℕ) (summary : RunSummary)
-    → AreWithout is_left_out all asked.texts → IsUnion all asked.limit union → IsQueryOutput asked text_of bytes summary → summary.status ≢ 5
+    (is_left_out : ℕ → Bool) (all : List (List ℕ)) (union : List Route) (asked : RunContents) (text_of : List Route → List ℕ) (bytes : List ℕ) (tallies : List RejectedInput)
+    → AreWithout is_left_out all asked.texts → IsUnion all asked.limit union → IsQueryOutput asked text_of bytes tallies → NoneRefused tallies
     → bytes ≡ text_of (filter (λ r. not (is_left_out r.feed)) union)
 
 -- the bytes are the lines of all ranges for which the unions of the old and of the new texts give different answers
@@ -148,7 +144,7 @@ pub record TellsUnions (asked : DiffContents) (old new : RunContents) (bytes : L
 abbrev pub DiffsUnions : Type 0
 DiffsUnions =
     (asked : DiffContents) (old new : RunContents) (bytes : List ℕ) (given : DiffSummary)
-    → IsDiffText asked old new bytes given → given.old.status ≢ 5 → given.new.status ≢ 5 → TellsUnions asked old new bytes
+    → IsDiffText asked old new bytes given → NoneRefused given.old.items → NoneRefused given.new.items → TellsUnions asked old new bytes
 
 -- if no command ran out of memory, two comparisons of the same texts and limits, on the same terms, write the same bytes,
 -- with the same statuses and tallies, for any batches and any interleaving of the threads
@@ -156,5 +152,5 @@ abbrev pub DiffOnce : Type 0
 DiffOnce =
     (asked : DiffContents) (old old' new new' : RunContents) (bytes bytes' : List ℕ) (given given' : DiffSummary)
     → HaveSameInput old old' → HaveSameInput new new' → IsDiffText asked old new bytes given → IsDiffText asked old' new' bytes' given'
-    → given.old.status ≢ 5 → given.new.status ≢ 5 → given'.old.status ≢ 5 → given'.new.status ≢ 5
-    → (bytes ≡ bytes') × (given.status ≡ given'.status) × HaveSameSummary given.old given'.old × HaveSameSummary given.new given'.new
+    → NoneRefused given.old.items → NoneRefused given.new.items → NoneRefused given'.old.items → NoneRefused given'.new.items
+    → (bytes ≡ bytes') × (given.status ≡ given'.status) × (given.old.items ≡ given'.old.items) × (given.new.items ≡ given'.new.items)

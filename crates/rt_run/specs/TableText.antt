@@ -19,7 +19,6 @@ use Rattle.rt_feed.specs.Reports.{is_refusal}
 use Rattle.rt_print.specs.Counts.{counts_as}
 use Rattle.rt_print.specs.Styles.{StyleContents, label_of, rows_as, found_as, all_found_as}
 use Rattle.rt_run.specs.declared.tallies.RejectedInput.{RejectedInput}
-use Rattle.rt_run.specs.declared.tallies.RunSummary.{RunSummary}
 use Rattle.rt_run.specs.declared.queries.QuerySummary.{QuerySummary}
 use Rattle.rt_run.specs.declared.question.Question.{Question}
 use Rattle.rt_run.specs.declared.question.Question.TheVariants as ask
@@ -110,23 +109,22 @@ has_rejected tally = nat_lt 0 tally.faulty.count || nat_lt 0 tally.full
 abbrev pub tallies_status : List RejectedInput → ℕ
 tallies_status tallies = status_where (list_any has_refused tallies) (list_any has_rejected tallies)
 
--- the summary has the tallies of the reports and their status
-pub record IsSummary (reports : List (List Line)) (summary : RunSummary) : Type 0 where
-  pub tallied : summary.tallies.items ≡ map tally_of reports
-  pub is_status : summary.status ≡ tallies_status summary.tallies.items
+-- no command ran out of memory
+abbrev pub NoneRefused : List RejectedInput → Type 0
+NoneRefused tallies = list_any has_refused tallies ≡ false
 
--- some run of this input left this table, and this is its summary
-pub record LeavesTable (asked : RunContents) (table : List Route) (summary : RunSummary) : Type 0 where
+-- some run of this input left this table, and these are the tallies of its reports
+pub record LeavesTable (asked : RunContents) (table : List Route) (tallies : List RejectedInput) : Type 0 where
   pub journal : List Entry
   pub outcomes : List (List LineOutcome)
   pub history : IsJournalOfRun asked.texts asked.limit asked.batch journal outcomes
   pub left : table ≡ table_of_journal asked.limit journal
-  pub summed : IsSummary (reports_of outcomes) summary
+  pub tallied : tallies ≡ map tally_of (reports_of outcomes)
 
--- the bytes are the text of the table that some run of this input left, and this is the run's summary
-pub record IsQueryOutput (asked : RunContents) (text_of : List Route → List ℕ) (bytes : List ℕ) (summary : RunSummary) : Type 0 where
+-- the bytes are the text of the table that some run of this input left, and these are the run's tallies
+pub record IsQueryOutput (asked : RunContents) (text_of : List Route → List ℕ) (bytes : List ℕ) (tallies : List RejectedInput) : Type 0 where
   pub table : List Route
-  pub leaves : LeavesTable asked table summary
+  pub leaves : LeavesTable asked table tallies
   pub shown : bytes ≡ text_of table
 
 -- the bytes are the answer to the question, in the style, from the table that some run of this input left. The addresses to
@@ -135,5 +133,5 @@ pub record IsQueryOutput (asked : RunContents) (text_of : List Route → List �
 pub record IsAnswer (asked : RunContents) (style : StyleContents) (question : Question) (bytes : List ℕ) (given : QuerySummary) : Type 0 where
   pub said : List Addr
   pub says : SaysAddresses (said_in question) said given.faulty
-  pub shown : IsQueryOutput asked (question_text style question (named_in question ++ said)) bytes given.run
-  pub is_status : given.status ≡ max (status_where false (nat_lt 0 given.faulty.count)) given.run.status
+  pub shown : IsQueryOutput asked (question_text style question (named_in question ++ said)) bytes given.tallies.items
+  pub is_status : given.status ≡ max (status_where false (nat_lt 0 given.faulty.count)) (tallies_status given.tallies.items)

@@ -1,13 +1,14 @@
 //! Comparisons of two runs: the addresses for which their final tables give different answers.
 ghost use Rattle.std.specs.Prelude.{◌≡◌, ◌↔◌, ◌⊎◌, if◌then◌else◌, is_some, max, []};
 ghost use Rattle.rt_run.specs.RunText.{WritesOrFails};
+ghost use Rattle.rt_run.specs.TableText.{tallies_status};
 ghost use Rattle.rt_run.specs.DiffText.{IsDiffText};
 
 use crate::chosen::ChosenTexts;
 use crate::faults::AppFault;
 use crate::output::{write_differences, write_through};
 use crate::status::Status;
-use crate::tallies::RunSummary;
+use crate::tallies::{RejectedInput, tallies_status};
 use crate::turns::run_in_turn;
 use rt_cidr::Addr;
 use rt_diff::Difference;
@@ -21,18 +22,19 @@ use std::mem;
 /// The result of comparing two runs.
 #[derive(Debug, Drop)]
 pub struct DiffSummary {
-    /// The exit status: the maximum of both runs' statuses and, if the tables differ for some address, of 1.
+    /// The exit status: 5 if some command ran out of memory, else 2 if some line was faulty or some `add` was over the limit,
+    /// else 1 if the tables differ for some address, else 0.
     pub status: u8,
-    /// The summary of the old run.
-    pub old: RunSummary,
-    /// The summary of the new run.
-    pub new: RunSummary,
+    /// The rejected input of each old text, in the order of the feeds.
+    pub old: Vec<RejectedInput>,
+    /// The rejected input of each new text, in the order of the feeds.
+    pub new: Vec<RejectedInput>,
 }
 
 /// Executes the old texts and then the new ones, one after another, each side over its own table. Then writes to `w` each
 /// range of addresses for which the two tables give different answers, in ascending order and with the given options: a line
 /// `FIRST-LAST OLD -> NEW`, or a JSON object (`write_difference`). Writes nothing else; hence if nothing is written,
-/// both tables give the same answer for every address. Returns the summaries if everything was written. Its errors are
+/// both tables give the same answer for every address. Returns the summary if everything was written. Its errors are
 /// those of `run_texts`: F1 if there is no old text or no new text; F3 also if there is no memory for the tallies. Leaks the
 /// tables, as `run_texts` does.
 pub fn diff_texts<W: Write>(
@@ -54,7 +56,7 @@ pub fn diff_texts<W: Write>(
         .comparison(&old_table, &new_table)
         .first_difference(Addr(0));
     let room = OutputRoom::new(alloc)?;
-    let status = status_of(&old, &new, first);
+    let status = status_of(old.as_slice(), new.as_slice(), first);
     let given = DiffSummary { status, old, new };
     let told = write_through(w, room, first.is_none(), given, |out| {
         write_differences(out, options, &old_table, &new_table, first)
@@ -63,13 +65,13 @@ pub fn diff_texts<W: Write>(
     told
 }
 
-/// Returns the status, from the summaries of two runs and the first difference between their tables.
-fn status_of(old: &RunSummary, new: &RunSummary, first: Option<Difference>) -> u8
-    ensures { result ≡ max (if is_some first then 1 else 0) (max old.now.status new.now.status) }
+/// Returns the status, from the tallies of two runs and the first difference between their tables.
+fn status_of(old: &[RejectedInput], new: &[RejectedInput], first: Option<Difference>) -> u8
+    ensures { result ≡ max (if is_some first then 1 else 0) (max (tallies_status old.now) (tallies_status new.now)) }
 {
     let differ = match first {
         Some(_) => Status::Differ as u8,
         None => Status::Done as u8,
     };
-    differ.max(old.status.max(new.status))
+    differ.max(tallies_status(old).max(tallies_status(new)))
 }

@@ -12,7 +12,7 @@ use crate::faults::AppFault;
 use crate::forwarding::fib_for;
 use crate::output::{AddressMatches, write_answers, write_matches, write_through};
 use crate::question::{AskedRoutes, Question};
-use crate::tallies::{RunSummary, status_where};
+use crate::tallies::{RejectedInput, status_where, tallies_status};
 use crate::turns::run_in_turn;
 use rt_cidr::Addr;
 use rt_feed::{FaultyLines, RunFault, read_addresses};
@@ -25,10 +25,11 @@ use std::mem;
 /// The result of a query.
 #[derive(Debug, Drop)]
 pub struct QuerySummary {
-    /// The exit status: the run's, but 2 instead of 0 if a line of the text of addresses was faulty.
+    /// The exit status: 5 if some command ran out of memory, else 2 if some line was faulty, also of the text of addresses, or
+    /// some `add` was over the limit, else 0.
     pub status: u8,
-    /// The summary of the run.
-    pub run: RunSummary,
+    /// The rejected input of each feed's text, in the order of the feeds.
+    pub tallies: Vec<RejectedInput>,
     /// The faulty lines of the text of addresses.
     pub faulty: FaultyLines,
 }
@@ -55,15 +56,15 @@ pub fn show<W: Write>(
     ensures text { WritesOrFails (IsAnswer asked.now style.now question.now) (W.contents w.old) (W.contents w.new) result }
     ensures no_text { (result ≡ Err (AppFault.Run RunFault.NoText)) ↔ (asked.now.texts ≡ []) }
 {
-    let (table, run) = run_in_turn(alloc, asked)?;
+    let (table, tallies) = run_in_turn(alloc, asked)?;
     let looked_up = question.addresses();
     let mut read = read_addresses(alloc, looked_up.text)?;
     let mut addresses = looked_up.named.to_vec(alloc)?;
     addresses.append(&mut read.addresses)?;
     let not_taken = status_where(false, read.faulty.count > 0);
     let given = QuerySummary {
-        status: not_taken.max(run.status),
-        run,
+        status: not_taken.max(tallies_status(tallies.as_slice())),
+        tallies,
         faulty: read.faulty,
     };
     let addresses = addresses.as_slice();

@@ -57,26 +57,16 @@ impl RejectedInput {
     }
 }
 
-/// The summary of a run: its exit status and its rejected input.
-#[derive(Debug, Drop)]
-pub struct RunSummary {
-    /// The exit status: 5 if some command ran out of memory, else 2 if some line was faulty or some `add` was over the
-    /// limit, else 0.
-    pub status: u8,
-    /// The rejected input of each text, in the order of the feeds.
-    pub tallies: Vec<RejectedInput>,
-}
-
-/// Returns the summary of a run with these tallies.
-pub(crate) fn summary_of(tallies: Vec<RejectedInput>) -> RunSummary
-    ensures { result ≡ record { status = tallies_status tallies.items; tallies = tallies } }
+/// Returns the exit status of a run with these tallies: 5 if some command ran out of memory, else 2 if some line was faulty
+/// or some `add` was over the limit, else 0.
+pub(crate) fn tallies_status(tallies: &[RejectedInput]) -> u8
+    ensures { result ≡ tallies_status tallies.now }
 {
     let refused = tallies.iter().any(|tally| tally.refused > 0);
     let rejected = tallies
         .iter()
         .any(|tally| tally.faulty.count > 0 || tally.full > 0);
-    let status = status_where(refused, rejected);
-    RunSummary { status, tallies }
+    status_where(refused, rejected)
 }
 
 /// Returns the status: `refused` means that some command ran out of memory, `left_out` that other input was rejected.

@@ -7,20 +7,20 @@ ghost use Rattle.rt_run.specs.inside.Runs.{ExecutesText, ExecutesLine};
 
 use crate::ahead::{CommandOrder, read_ahead};
 use crate::chosen::ChosenTexts;
-use crate::tallies::{RejectedInput, RunSummary, summary_of};
+use crate::tallies::RejectedInput;
 use rt_feed::{Answer, RunFault, Version, next_line, parse_line, text_body};
 use rt_rib::{Refused, Table};
 use std::alloc::Global;
 
 /// Executes the texts one after another over one table, the k-th for feed k, and an empty text for each feed that is left out.
-/// This is one of the runs that threads could have made. Returns the table that all texts leave, and the summary. Callers
+/// This is one of the runs that threads could have made. Returns the table that all texts leave, and the tally of each. Callers
 /// leak the table: freeing it node by node would take a tenth of a run, and the system takes its pages back at once.
 /// Errors: F1 if there is no text; F3 if memory ran out outside of a command.
 pub(crate) fn run_in_turn(
     alloc: Global,
     asked: &ChosenTexts<'_>,
-) -> Result<(Table<Global>, RunSummary), RunFault>
-    ensures ran { IfOk result (λ run. LeavesTable asked.now run.0.routes run.1) }
+) -> Result<(Table<Global>, Vec<RejectedInput>), RunFault>
+    ensures ran { IfOk result (λ run. LeavesTable asked.now run.0.routes run.1.items) }
     ensures refused { result ≢ Err RunFault.FeedCount }
     ensures no_text { (result ≡ Err RunFault.NoText) ↔ (asked.now.texts ≡ []) }
 {
@@ -36,7 +36,7 @@ pub(crate) fn run_in_turn(
         let tally = execute_text(&mut table, feed, asked.text(index));
         tallies.push_reserved(tally);
     }
-    Ok((table, summary_of(tallies)))
+    Ok((table, tallies))
 }
 
 /// Executes the commands of the feed's text in order, and returns the tally of rejected input.

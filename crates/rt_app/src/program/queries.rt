@@ -6,7 +6,7 @@ ghost use Rattle.rt_rib.specs.declared.limits.TheConstants.{MAX_FEEDS};
 use super::feed_choice::FeedNumbers;
 use super::prefixes::prefix_of;
 use super::styles::style_of;
-use super::warnings::{report_faulty_lines, report_summary};
+use super::warnings::{report_faulty_lines, report_tallies};
 use super::{Program, ProgramError};
 use command_line::{LookupRequest, PrefixFilterArg, RunRequest, TableRequest};
 use rt_cidr::Addr;
@@ -85,7 +85,7 @@ impl<R: Files + Wait + AllocGlobal, O: Write, E: Write> Program<'_, R, O, E> {
         if let Some(name) = more {
             report_faulty_lines(&mut self.screen, name, given.faulty);
         }
-        report_summary(&mut self.screen, files, &given.run);
+        report_tallies(&mut self.screen, files, given.tallies.as_slice());
         Ok(given.status)
     }
 }

@@ -1,12 +1,12 @@
 //! Reports of a file's rejected input on standard error, one line per kind. Errors of standard error itself are ignored.
 
 use rt_feed::FaultyLines;
-use rt_run::{RejectedInput, RunSummary};
+use rt_run::RejectedInput;
 use std::io::Write;
 
 /// Reports the rejected input of each file.
-pub(super) fn report_summary<E: Write>(err: &mut E, names: &[&str], summary: &RunSummary) {
-    for (name, tally) in names.iter().zip(summary.tallies.iter()) {
+pub(super) fn report_tallies<E: Write>(err: &mut E, names: &[&str], tallies: &[RejectedInput]) {
+    for (name, tally) in names.iter().zip(tallies.iter()) {
         report_rejected(err, name, tally);
     }
 }

@@ -13,5 +13,5 @@ returns-clause-text g c =
     (c.in_ok-addresses.ensures {u = tt}).items_if_clones_equal (λ x y same. same) ∙ c.addresses-looked_up.ensures.named in
     let all : c.as_slice-addresses.result.now ≡ named_in question ++ said =
     rw (c.as_slice-addresses.ensures.value, (c.in_ok-append.ensures {u = tt}).items, named) refl in
-    let is = is_answer c.args.asked.now c.args.style.now question _ _ said c.as_slice-addresses.result.now _ says all c.in_ok-table.ensures.ran in
-    writes_or_fails (IsAnswer c.args.asked.now c.args.style.now question) _ _ _ _ c.write_answer-told.result is (rw (c.max.ensures, c.status_where-not_taken.ensures) at c.write_answer-told.ensures)
+    let is = is_answer c.args.asked.now c.args.style.now question _ c.in_ok-table.tallies said c.as_slice-addresses.result.now _ says all c.in_ok-table.ensures.ran in
+    writes_or_fails (IsAnswer c.args.asked.now c.args.style.now question) _ _ _ _ c.write_answer-told.result is (rw (c.max.ensures, c.status_where-not_taken.ensures, c.tallies_status.ensures, c.as_slice.ensures.value) at c.write_answer-told.ensures)

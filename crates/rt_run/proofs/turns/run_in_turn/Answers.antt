@@ -10,7 +10,7 @@ loop-index-init c =
     let made = c.in-Ok.ensures {u = tt} in
     let asked = c.args.asked.now in
     record {
-      left = leaves_nothing asked.limit asked.batch (table_state c.new-table.result) c.in-Ok.tallies (ap (λ (t : TableState). t.routes) c.new-table.ensures) made.items;
+      left = leaves_nothing asked.limit asked.batch (table_state c.new-table.result) c.in-Ok.tallies.items (ap (λ (t : TableState). t.routes) c.new-table.ensures) made.items;
       limited = ap (λ (t : TableState). t.limit) c.new-table.ensures ∙ ap (λ (t : RunContents). t.limit) c.asked.view_is;
       counted = made.len;
       room = omega (arith, made.capacity, c.count-2.ensures.count);
@@ -35,4 +35,4 @@ pub returns-clause-ran : goal.returns-clause-ran
 returns-clause-ran c =
     let texts = c.args.asked.now.texts in
     let all : take c.loop-index.index texts ≡ texts = take_all c.loop-index.index texts (omega (arith, c.loop-index-test.false, c.count-index-end.ensures.count)) in
-    rw (c.summary_of.ensures, ← all) c.loop-index.invariant.left
+    rw (← all) c.loop-index.invariant.left
