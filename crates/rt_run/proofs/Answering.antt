@@ -12,7 +12,8 @@ use Rattle.rt_cidr.proofs.Promised.{begins_after, begins_longer}
 use Rattle.rt_rib.specs.declared.routes.Route.{Route}
 use Rattle.rt_rib.specs.LookUp.{look_up, look_up_all}
 use Rattle.rt_print.specs.Styles.{StyleContents, label_of, found_as, all_found_as}
-use Rattle.rt_run.specs.declared.output.AddressMatches.{AddressMatches}
+use Rattle.std.specs.declared.vec.Vec.{Vec}
+use Rattle.std.specs.declared.alloc.Global.{Global}
 use Rattle.rt_run.specs.TableText.{answers_text, all_answers_text}
 use Rattle.rt_run.specs.inside.Outputs.{matches_text}
 use Rattle.rt_print.proofs.Promised.{stops_all}
@@ -48,13 +49,13 @@ module _ (style : StyleContents) (table : List Route) (piece : List Addr) (answe
 
 -- all covering routes of one more address
 pub matches_more :
-    (style : StyleContents) (table : List Route) (addresses : List Addr) (k : ℕ) (none : Addr) (all all' : List AddressMatches) (one : AddressMatches) → k < length addresses
-    → all' ≡ all ++ one ∷ [] → one.addr ≡ get_or addresses k none → one.routes.items ≡ look_up_all (get_or addresses k none) table
+    (style : StyleContents) (table : List Route) (addresses : List Addr) (k : ℕ) (none : Addr) (all all' : List (Addr × Vec Route Global)) (one : Addr × Vec Route Global) → k < length addresses
+    → all' ≡ all ++ one ∷ [] → one.0 ≡ get_or addresses k none → one.1.items ≡ look_up_all (get_or addresses k none) table
     → matches_text style all ≡ all_answers_text style (take k addresses) table → matches_text style all' ≡ all_answers_text style (take (k + 1) addresses) table
 matches_more style table addresses k none all all' one here pushed of_it found so_far =
-    let text : AddressMatches → List ℕ = λ m. all_found_as style.json (label_of style.labels) m.addr m.routes.items in
+    let text : (Addr × Vec Route Global) → List ℕ = λ m. all_found_as style.json (label_of style.labels) m.0 m.1.items in
     let answer : Addr → List ℕ = λ a. all_found_as style.json (label_of style.labels) a (look_up_all a table) in
     let addr = get_or addresses k none in
-    let same : text one ≡ answer addr = ap (λ a. all_found_as style.json (label_of style.labels) a one.routes.items) of_it ∙ ap (all_found_as style.json (label_of style.labels) addr) found in
+    let same : text one ≡ answer addr = ap (λ a. all_found_as style.json (label_of style.labels) a one.1.items) of_it ∙ ap (all_found_as style.json (label_of style.labels) addr) found in
     let after = flat_map-append answer (take k addresses) (addr ∷ []) in
     rw (pushed, take_more addresses k none here, flat_map-append text all (one ∷ []), after, so_far, same)

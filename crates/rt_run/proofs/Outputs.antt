@@ -15,7 +15,6 @@ use Rattle.rt_print.specs.Counts.{totals_as, counts_as}
 use Rattle.rt_print.specs.Styles.{StyleContents, label_of, row_as, rows_as, address_head, found_as, all_found_as}
 use Rattle.rt_run.specs.declared.faults.AppFault.{AppFault}
 use Rattle.rt_run.specs.declared.faults.AppFault.TheVariants.{Run, Replay, Write}
-use Rattle.rt_run.specs.declared.output.AddressMatches.{AddressMatches}
 use Rattle.std.specs.declared.vec.Vec.{Vec}
 use Rattle.std.specs.declared.alloc.Global.{Global}
 use Rattle.rt_run.specs.declared.tallies.RejectedInput.{RejectedInput}
@@ -101,10 +100,10 @@ module _ (style : StyleContents) (empty : Bool) where
       texts-empty (λ addr. found_as style.json (label_of style.labels) addr (look_up addr table))
       (λ addr. found_as-some style.json (label_of style.labels) addr (look_up addr table)) empty
 
-  pub matches-empty : (all : List AddressMatches) → empty ≡ (length all == 0) → empty ≡ (length (matches_text style all) == 0)
+  pub matches-empty : (all : List (Addr × Vec Route Global)) → empty ≡ (length all == 0) → empty ≡ (length (matches_text style all) == 0)
   matches-empty =
-      texts-empty (λ one. all_found_as style.json (label_of style.labels) one.addr one.routes.items)
-      (λ one. all_found_as-some style.json (label_of style.labels) one.addr one.routes.items) empty
+      texts-empty (λ one. all_found_as style.json (label_of style.labels) one.0 one.1.items)
+      (λ one. all_found_as-some style.json (label_of style.labels) one.0 one.1.items) empty
 
 -- nor is the text of the counts
 pub counts-some : (style : StyleContents) (routes : List Route) → 0 < length (counts_as style routes)

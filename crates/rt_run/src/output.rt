@@ -131,23 +131,16 @@ fn write_piece<W: Write>(
     Ok(())
 }
 
-/// An address and all routes that cover it, the best first.
-#[derive(Drop)]
-pub(crate) struct AddressMatches {
-    pub(crate) addr: Addr,
-    pub(crate) routes: Vec<Route>,
-}
-
-/// Writes all routes that cover each address.
+/// Writes all routes that cover each address, the best first.
 pub(crate) fn write_matches<W: Write>(
     w: &mut W,
     style: &Style,
-    all: &[AddressMatches],
+    all: &[(Addr, Vec<Route>)],
 ) -> Result<(), io::Error>
     ensures { WritesText (W.contents w.old) (W.contents w.new) (matches_text style.now all.now) result }
 {
     for one in all {
-        write_all_matches(w, style, one.addr, one.routes.as_slice())?;
+        write_all_matches(w, style, one.0, one.1.as_slice())?;
     }
     Ok(())
 }

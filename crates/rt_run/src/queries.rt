@@ -10,7 +10,7 @@ ghost use Rattle.rt_run.specs.inside.Outputs.{matches_text, Writes};
 use crate::chosen::{ChosenTexts, is_selected};
 use crate::faults::AppFault;
 use crate::forwarding::fib_for;
-use crate::output::{AddressMatches, write_answers, write_matches, write_through};
+use crate::output::{write_answers, write_matches, write_through};
 use crate::question::{AskedRoutes, Question};
 use crate::tallies::{RejectedInput, status_where, tallies_status};
 use crate::turns::run_in_turn;
@@ -115,21 +115,18 @@ fn write_answer<W: Write>(
     }
 }
 
-/// Returns for each address, in order, all routes of the table that cover it.
+/// Returns each address, in order, and all routes of the table that cover it, the best first.
 fn matches_of(
     alloc: Global,
     table: &Table<Global>,
     addresses: &[Addr],
-) -> Result<Vec<AddressMatches>, Refused>
+) -> Result<Vec<(Addr, Vec<Route>)>, Refused>
     ensures { IfOk result (λ all. (style : StyleContents) → matches_text style all.items ≡ all_answers_text style addresses.now table.now.routes) }
 {
     let mut all = Vec::with_capacity(alloc, addresses.len())?;
     for addr in addresses {
         let routes = table.look_up_all(alloc, *addr)?;
-        all.push_reserved(AddressMatches {
-            addr: *addr,
-            routes,
-        });
+        all.push_reserved((*addr, routes));
     }
     Ok(all)
 }

@@ -8,7 +8,8 @@ use Rattle.rt_feed.specs.declared.faults.RunFault.TheVariants as fault
 use Rattle.rt_print.specs.Styles.{StyleContents, label_of, all_found_as}
 use Rattle.rt_run.specs.declared.faults.AppFault.{AppFault}
 use Rattle.rt_run.specs.declared.faults.AppFault.TheVariants.{Run, Replay, Write}
-use Rattle.rt_run.specs.declared.output.AddressMatches.{AddressMatches}
+use Rattle.std.specs.declared.vec.Vec.{Vec}
+use Rattle.std.specs.declared.alloc.Global.{Global}
 use Rattle.rt_cidr.specs.declared.address.Addr.{Addr}
 use Rattle.rt_rib.specs.declared.routes.Route.{Route}
 use Rattle.rt_diff.specs.declared.comparison.Difference.{Difference}
@@ -20,8 +21,8 @@ use Rattle.rt_print.specs.DifferenceText.{DiffContents, differences_as}
 use Rattle.rt_run.specs.DiffText.{renumbered_new}
 
 -- for each address, in order, all routes that cover it
-abbrev pub matches_text : StyleContents → List AddressMatches → List ℕ
-matches_text style all = flat_map (λ one. all_found_as style.json (label_of style.labels) one.addr one.routes.items) all
+abbrev pub matches_text : StyleContents → List (Addr × Vec Route Global) → List ℕ
+matches_text style all = flat_map (λ one. all_found_as style.json (label_of style.labels) one.0 one.1.items) all
 
 -- the text was appended to the writer's contents, and this was returned; or nothing was written, if memory ran out; or a
 -- beginning of the text
