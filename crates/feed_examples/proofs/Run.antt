@@ -55,8 +55,6 @@ use Rattle.rt_print.specs.Styles.{StyleContents, row_as, found_as, all_found_as,
 use Rattle.rt_print.specs.Counts.{totals_as, count_as, counts_as}
 use Rattle.rt_run.specs.TableText.{answers_text, all_answers_text, routes_text, counts_text, was_full, was_existing, was_missing, faults_of, tally_of}
 use Rattle.rt_run.specs.TableText.{has_refused, has_rejected, tallies_status, NoneRefused, LeavesTable, question_text, named_in, said_in, IsQueryOutput, IsAnswer}
-use Rattle.rt_run.specs.declared.question.LookupAddresses.{LookupAddresses}
-use Rattle.rt_run.specs.declared.question.AskedRoutes.{AskedRoutes}
 use Rattle.rt_run.specs.declared.question.Question.{Question}
 use Rattle.rt_run.specs.declared.question.Question.TheVariants as ask
 use Rattle.rt_run.specs.declared.queries.QuerySummary.{QuerySummary}
@@ -729,36 +727,42 @@ no_route_of_no_text tallies h =
     let no_entries = nobody_asks h.leaves.journal h.leaves.history.no_other in
     let none : ◌≡◌ {A = List ℕ} (1 ∷ []) (0 ∷ []) = h.shown ∙ ap length_text (h.leaves.left ∙ ap (table_of_journal 1) no_entries) in cc
 
--- one named address, and those of the text
-abbrev one_and_a_text : LookupAddresses
-one_and_a_text = record { named = record { ref_ptr = (0, 0); now = at_10_9_0_1 ∷ [] }; text = record { ref_ptr = (0, 0); now = asked_text } }
+-- the best route of one named address and of those of the text; and all their routes
+abbrev the_best_of_one_and_a_text : Question
+the_best_of_one_and_a_text = ask.Best (record { ref_ptr = (0, 0); now = at_10_9_0_1 ∷ [] }) (record { ref_ptr = (0, 0); now = asked_text })
 
--- every route of the table
-abbrev every_route : AskedRoutes
-every_route = record { selection = record { part = part.All; only_best = false; feed = None }; feeds = record { ref_ptr = (0, 0); now = [] } }
+abbrev all_of_one_and_a_text : Question
+all_of_one_and_a_text = ask.All (record { ref_ptr = (0, 0); now = at_10_9_0_1 ∷ [] }) (record { ref_ptr = (0, 0); now = asked_text })
+
+-- every route of the table, and their number
+abbrev every_route : Question
+every_route = ask.Routes (record { part = part.All; only_best = false; feed = None }) (record { ref_ptr = (0, 0); now = [] })
+
+abbrev the_number_of_all : Question
+the_number_of_all = ask.Counts (record { part = part.All; only_best = false; feed = None }) (record { ref_ptr = (0, 0); now = [] })
 
 -- named_in
 only_look_ups_have_addresses :
-    (named_in (ask.Best one_and_a_text) ≡ at_10_9_0_1 ∷ []) × (named_in (ask.All one_and_a_text) ≡ at_10_9_0_1 ∷ []) × (named_in (ask.Routes every_route) ≡ [])
-    × (named_in (ask.Counts every_route) ≡ [])
+    (named_in the_best_of_one_and_a_text ≡ at_10_9_0_1 ∷ []) × (named_in all_of_one_and_a_text ≡ at_10_9_0_1 ∷ []) × (named_in every_route ≡ [])
+    × (named_in the_number_of_all ≡ [])
 only_look_ups_have_addresses = (refl, refl, refl, refl)
 
 -- said_in
 only_look_ups_have_a_text :
-    (said_in (ask.Best one_and_a_text) ≡ asked_text) × (said_in (ask.All one_and_a_text) ≡ asked_text) × (said_in (ask.Routes every_route) ≡ [])
-    × (said_in (ask.Counts every_route) ≡ [])
+    (said_in the_best_of_one_and_a_text ≡ asked_text) × (said_in all_of_one_and_a_text ≡ asked_text) × (said_in every_route ≡ [])
+    × (said_in the_number_of_all ≡ [])
 only_look_ups_have_a_text = (refl, refl, refl, refl)
 
 -- question_text
 routes_and_their_numbers :
-    (question_text plain (ask.Routes every_route) [] two_to_ten_8 ≡ codes "10.0.0.0/8 feed 2 pref 30 via discard\n10.0.0.0/8 feed 1 pref 50 via discard\n")
-    × (question_text plain (ask.Counts every_route) [] two_to_ten_8 ≡ codes "routes 2 prefixes 1\nfeed 1 routes 1\nfeed 2 routes 1\nlength 8 routes 2\n")
+    (question_text plain every_route [] two_to_ten_8 ≡ codes "10.0.0.0/8 feed 2 pref 30 via discard\n10.0.0.0/8 feed 1 pref 50 via discard\n")
+    × (question_text plain the_number_of_all [] two_to_ten_8 ≡ codes "routes 2 prefixes 1\nfeed 1 routes 1\nfeed 2 routes 1\nlength 8 routes 2\n")
 unfolding digits address_text prefix_text row_as counts_as totals_as count_as
 routes_and_their_numbers = (refl, refl)
 
 all_or_the_best :
-    (question_text plain (ask.Best one_and_a_text) (at_10_1_2_3 ∷ []) two_to_ten_8 ≡ codes "10.1.2.3 route 10.0.0.0/8 feed 2 pref 30 via discard\n")
-    × (question_text plain (ask.All one_and_a_text) (at_10_1_2_3 ∷ []) two_to_ten_8
+    (question_text plain the_best_of_one_and_a_text (at_10_1_2_3 ∷ []) two_to_ten_8 ≡ codes "10.1.2.3 route 10.0.0.0/8 feed 2 pref 30 via discard\n")
+    × (question_text plain all_of_one_and_a_text (at_10_1_2_3 ∷ []) two_to_ten_8
     ≡ codes "10.1.2.3 route 10.0.0.0/8 feed 2 pref 30 via discard\n10.1.2.3 also 10.0.0.0/8 feed 1 pref 50 via discard preference\n")
 unfolding digits address_text prefix_text look_up look_up_all found_as all_found_as reason_text
 all_or_the_best = (refl, refl)
@@ -766,7 +770,7 @@ all_or_the_best = (refl, refl)
 -- IsAnswer
 the_named_one_before_the_two_of_the_text :
     (tallies : Vec RejectedInput Global) → tallies.items ≡ map tally_of (reports_of the_tutorials_outcomes)
-    → IsAnswer the_tutorials_run plain (ask.Best one_and_a_text)
+    → IsAnswer the_tutorials_run plain the_best_of_one_and_a_text
     (answers_text plain (at_10_9_0_1 ∷ at_192_0_2_1 ∷ at_10_1_2_3 ∷ []) (table_of_journal 65536 tutorial))
     (record { status = 2; tallies = tallies; faulty = record { count = 1; first = Some (3, fault.Text) } })
 the_named_one_before_the_two_of_the_text tallies tallied = record {

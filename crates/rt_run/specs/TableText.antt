@@ -43,24 +43,24 @@ counts_text style asked feeds table = counts_as style (routes_of_selected feeds 
 
 -- the text that answers a question about a table, in the style; `addresses` are the ones to look up
 abbrev pub question_text : StyleContents → Question → List Addr → List Route → List ℕ
-question_text style (ask.Best asked) addresses table = answers_text style addresses table
-question_text style (ask.All asked) addresses table = all_answers_text style addresses table
-question_text style (ask.Routes asked) addresses table = routes_text style asked.selection asked.feeds.now table
-question_text style (ask.Counts asked) addresses table = counts_text style asked.selection asked.feeds.now table
+question_text style (ask.Best named text) addresses table = answers_text style addresses table
+question_text style (ask.All named text) addresses table = all_answers_text style addresses table
+question_text style (ask.Routes selection feeds) addresses table = routes_text style selection feeds.now table
+question_text style (ask.Counts selection feeds) addresses table = counts_text style selection feeds.now table
 
 -- the named addresses of a question
 abbrev pub named_in : Question → List Addr
-named_in (ask.Best asked) = asked.named.now
-named_in (ask.All asked) = asked.named.now
-named_in (ask.Routes asked) = []
-named_in (ask.Counts asked) = []
+named_in (ask.Best named text) = named.now
+named_in (ask.All named text) = named.now
+named_in (ask.Routes selection feeds) = []
+named_in (ask.Counts selection feeds) = []
 
 -- its text of addresses
 abbrev pub said_in : Question → List ℕ
-said_in (ask.Best asked) = asked.text.now
-said_in (ask.All asked) = asked.text.now
-said_in (ask.Routes asked) = []
-said_in (ask.Counts asked) = []
+said_in (ask.Best named text) = text.now
+said_in (ask.All named text) = text.now
+said_in (ask.Routes selection feeds) = []
+said_in (ask.Counts selection feeds) = []
 
 -- an `add` was over the limit
 abbrev pub was_full : Answer → Bool

@@ -40,7 +40,7 @@ pub use chosen::{ChosenTexts, FeedChoice};
 pub use comparisons::{DiffSummary, diff_texts};
 pub use faults::AppFault;
 pub use queries::{QuerySummary, show};
-pub use question::{AskedRoutes, LookupAddresses, Question};
+pub use question::Question;
 pub use replays::replay_text;
 pub use runs::{MAX_FEED_FILES, run_texts};
 pub use status::Status;

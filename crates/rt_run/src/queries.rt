@@ -11,13 +11,13 @@ use crate::chosen::{ChosenTexts, is_selected};
 use crate::faults::AppFault;
 use crate::forwarding::fib_for;
 use crate::output::{write_answers, write_matches, write_through};
-use crate::question::{AskedRoutes, Question};
+use crate::question::Question;
 use crate::tallies::{RejectedInput, status_where, tallies_status};
 use crate::turns::run_in_turn;
 use rt_cidr::Addr;
 use rt_feed::{FaultyLines, RunFault, read_addresses};
 use rt_print::{OutputRoom, Style, write_counts, write_routes};
-use rt_rib::{Refused, Route, Table};
+use rt_rib::{Refused, Route, Selection, Table};
 use std::alloc::Global;
 use std::io::Write;
 use std::mem;
@@ -57,9 +57,9 @@ pub fn show<W: Write>(
     ensures no_text { (result ≡ Err (AppFault.Run RunFault.NoText)) ↔ (asked.now.texts ≡ []) }
 {
     let (table, tallies) = run_in_turn(alloc, asked)?;
-    let looked_up = question.addresses();
-    let mut read = read_addresses(alloc, looked_up.text)?;
-    let mut addresses = looked_up.named.to_vec(alloc)?;
+    let (named, text) = question.addresses();
+    let mut read = read_addresses(alloc, text)?;
+    let mut addresses = named.to_vec(alloc)?;
     addresses.append(&mut read.addresses)?;
     let not_taken = status_where(false, read.faulty.count > 0);
     let given = QuerySummary {
@@ -88,26 +88,26 @@ fn write_answer<W: Write>(
 {
     let room = OutputRoom::new(alloc)?;
     match question {
-        Question::Best(_) => {
+        Question::Best { .. } => {
             let fib = fib_for(alloc, table, addresses.len());
             write_through(w, room, addresses.is_empty(), given, |out| {
                 write_answers(out, style, table, &fib, addresses)
             })
         }
-        Question::All(_) => {
+        Question::All { .. } => {
             let all = matches_of(alloc, table, addresses)?;
             write_through(w, room, all.is_empty(), given, |out| {
                 write_matches(out, style, all.as_slice())
             })
         }
-        Question::Routes(asked) => {
-            let routes = routes_asked(alloc, table, asked)?;
+        Question::Routes { selection, feeds } => {
+            let routes = routes_asked(alloc, table, selection, feeds)?;
             write_through(w, room, routes.is_empty(), given, |out| {
                 write_routes(out, style, routes.as_slice())
             })
         }
-        Question::Counts(asked) => {
-            let routes = routes_asked(alloc, table, asked)?;
+        Question::Counts { selection, feeds } => {
+            let routes = routes_asked(alloc, table, selection, feeds)?;
             write_through(w, room, false, given, |out| {
                 write_counts(out, style, routes.as_slice())
             })
@@ -131,15 +131,16 @@ fn matches_of(
     Ok(all)
 }
 
-/// Returns the routes of the table that are printed, in its order.
+/// Returns the selected routes of the table, in its order; of these feeds, if there are any.
 fn routes_asked(
     alloc: Global,
     table: &Table<Global>,
-    asked: &AskedRoutes<'_>,
+    selection: &Selection,
+    feeds: &[u32],
 ) -> Result<Vec<Route>, Refused>
-    ensures { IfOk result (λ routes. routes.items ≡ routes_of_selected asked.now.feeds.now (selected asked.now.selection table.now.routes)) }
+    ensures { IfOk result (λ routes. routes.items ≡ routes_of_selected feeds.now (selected selection.now table.now.routes)) }
 {
-    let mut routes = table.select(alloc, &asked.selection)?;
-    routes.retain(|route| is_selected(asked.feeds, route.feed));
+    let mut routes = table.select(alloc, selection)?;
+    routes.retain(|route| is_selected(feeds, route.feed));
     Ok(routes)
 }

@@ -12,7 +12,7 @@ use command_line::{LookupRequest, PrefixFilterArg, RunRequest, TableRequest};
 use rt_cidr::Addr;
 use rt_print::Style;
 use rt_rib::{PrefixFilter, Selection};
-use rt_run::{AskedRoutes, ChosenTexts, FeedChoice, LookupAddresses, Question, show};
+use rt_run::{ChosenTexts, FeedChoice, Question, show};
 use std::alloc::Global;
 use std::io::Write;
 use std::rt::Files;
@@ -35,14 +35,11 @@ impl<R: Files + Wait + AllocGlobal, O: Write, E: Write> Program<'_, R, O, E> {
             None => Vec::new(self.alloc),
         };
         let asked = asked_of(&request.run, texts.as_slice(), feeds.choice());
-        let addresses = LookupAddresses {
-            named: named.as_slice(),
-            text: text.as_slice(),
-        };
+        let (named, text) = (named.as_slice(), text.as_slice());
         let question = if request.all {
-            Question::All(addresses)
+            Question::All { named, text }
         } else {
-            Question::Best(addresses)
+            Question::Best { named, text }
         };
         self.show(&asked, &style, &question, files, request.more)
     }
@@ -58,14 +55,17 @@ impl<R: Files + Wait + AllocGlobal, O: Write, E: Write> Program<'_, R, O, E> {
         let feeds = FeedNumbers::of(self.alloc, &request.feeds, files)?;
         let texts = self.read_feeds(feeds.files, feeds.choice_of_all())?;
         let asked = asked_of(&request.run, texts.as_slice(), feeds.choice_of_all());
-        let routes = AskedRoutes {
-            selection,
-            feeds: feeds.only.as_slice(),
-        };
+        let only = feeds.only.as_slice();
         let question = if request.count {
-            Question::Counts(routes)
+            Question::Counts {
+                selection,
+                feeds: only,
+            }
         } else {
-            Question::Routes(routes)
+            Question::Routes {
+                selection,
+                feeds: only,
+            }
         };
         self.show(&asked, &style, &question, files, None)
     }

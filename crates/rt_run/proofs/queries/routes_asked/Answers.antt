@@ -5,5 +5,5 @@ use Rattle.rt_run.proofs.queries.routes_asked.Goals as goal
 
 pub returns : goal.returns
 returns c =
-    filter_same _ (λ r. is_selected c.args.asked.now.feeds.now r.feed) _ (λ x b f' k. search rules) _ _ c.retain.ensures.filtered
-    ∙ ap (routes_of_selected c.args.asked.now.feeds.now) (c.in_ok-routes.ensures {u = tt})
+    filter_same _ (λ r. is_selected c.args.feeds.now r.feed) _ (λ x b f' k. search rules) _ _ c.retain.ensures.filtered
+    ∙ ap (routes_of_selected c.args.feeds.now) (c.in_ok-routes.ensures {u = tt})

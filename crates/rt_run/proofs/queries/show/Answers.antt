@@ -8,9 +8,9 @@ pub returns-clause-text : goal.returns-clause-text
 returns-clause-text g c =
     let question = c.args.question.now in
     let said = c.in_ok-read.read.addresses.items in
-    let says : SaysAddresses (said_in question) said c.in_ok-read.read.faulty = rw c.addresses-looked_up.ensures.said at (c.in_ok-read.ensures {u = tt}) in
+    let says : SaysAddresses (said_in question) said c.in_ok-read.read.faulty = rw c.addresses.ensures.said at (c.in_ok-read.ensures {u = tt}) in
     let named : c.in_ok-addresses.addresses.items ≡ named_in question =
-    (c.in_ok-addresses.ensures {u = tt}).items_if_clones_equal (λ x y same. same) ∙ c.addresses-looked_up.ensures.named in
+    (c.in_ok-addresses.ensures {u = tt}).items_if_clones_equal (λ x y same. same) ∙ c.addresses.ensures.named in
     let all : c.as_slice-addresses.result.now ≡ named_in question ++ said =
     rw (c.as_slice-addresses.ensures.value, (c.in_ok-append.ensures {u = tt}).items, named) refl in
     let is = is_answer c.args.asked.now c.args.style.now question _ c.in_ok-table.tallies said c.as_slice-addresses.result.now _ says all c.in_ok-table.ensures.ran in
