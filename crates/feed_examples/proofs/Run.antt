@@ -1,6 +1,6 @@
 -- Examples that test the definitions of rt_run, each below a line with the definition's name. Both sides are computed,
 -- except for the texts of numbers, which have one spelling each.
-use Rattle.std.proofs.Common.{◌≡◌, ◌≢◌, ℕ, zero, suc, ◌+◌, ◌≤◌, ◌==◌, ◌&&◌, nat_le, nat_lt, max, Bool, true, false, if◌then◌else◌, Some, None, Ok, Err}
+use Rattle.std.proofs.Common.{◌≡◌, ◌≢◌, ℕ, zero, suc, ◌+◌, ◌≤◌, ◌==◌, ◌&&◌, nat_le, max, Bool, true, false, if◌then◌else◌, Some, None, Ok, Err}
 use Rattle.std.proofs.Common.{List, [], ◌∷◌, ◌++◌, length, map, filter, take, drop, get_or, inl, inr, codes, refl, sym, ap, ◌∙◌, subst, arith, append-nil}
 use Rattle.std.specs.List.{All, Contains, list_any, list_all}
 use Rattle.std.proofs.lemmas.Bool.{and_parts, eqb-true, eqb-false, leb-true}
@@ -41,7 +41,7 @@ use Rattle.rt_diff.specs.Answers.{own_numbers}
 use Rattle.rt_diff.specs.declared.table_answers.CompareBy.TheVariants as by
 use Rattle.table_examples.proofs.Diff.{a_table_and_itself_have_none}
 use Rattle.rt_run.specs.DiffText.{differ_status, IsDiffText}
-use Rattle.rt_run.specs.declared.comparisons.DiffSummary.{DiffSummary}
+use Rattle.rt_run.specs.declared.tallies.RunSummary.{RunSummary}
 use Rattle.ya_lock.specs.Lock.{LockId}
 use Rattle.rt_shared.specs.SharedTable.{SharedId, HeldPass, Settles}
 use Rattle.rt_run.specs.declared.faults.AppFault.TheVariants.{Run, Replay, Write}
@@ -54,10 +54,9 @@ use Rattle.rt_run.specs.declared.tallies.RejectedInput.{RejectedInput}
 use Rattle.rt_print.specs.Styles.{StyleContents, row_as, found_as, all_found_as, reason_text}
 use Rattle.rt_print.specs.Counts.{totals_as, count_as, counts_as}
 use Rattle.rt_run.specs.TableText.{answers_text, all_answers_text, routes_text, counts_text, was_full, was_existing, was_missing, faults_of, tally_of}
-use Rattle.rt_run.specs.TableText.{has_refused, has_rejected, tallies_status, NoneRefused, LeavesTable, question_text, named_in, said_in, IsQueryOutput, IsAnswer}
+use Rattle.rt_run.specs.TableText.{has_refused, has_rejected, tallies_status, faulty_tally, NoneRefused, LeavesTable, question_text, named_in, said_in, IsQueryOutput, IsAnswer}
 use Rattle.rt_run.specs.declared.question.Question.{Question}
 use Rattle.rt_run.specs.declared.question.Question.TheVariants as ask
-use Rattle.rt_run.specs.declared.queries.QuerySummary.{QuerySummary}
 use Rattle.std.specs.declared.vec.Vec.{Vec}
 use Rattle.std.specs.declared.alloc.Global.{Global}
 use Rattle.rt_run.specs.SameTable.{table_alone, LeavesAlone, IsUnion, IsAnsweredAlone}
@@ -676,6 +675,10 @@ one_by_one_of texts = record { texts = texts; limit = 1; batch = 1 }
 abbrev the_tutorials_run : RunContents
 the_tutorials_run = record { texts = north ∷ south ∷ east ∷ []; limit = 65536; batch = 1 }
 
+-- faulty_tally
+no_rejected_input_but_faulty_lines : (faulty_tally (record { count = 0; first = None }) ≡ tally_of []) × (has_rejected (faulty_tally (record { count = 1; first = Some (3, fault.Text) })) ≡ true)
+no_rejected_input_but_faulty_lines = (refl, refl)
+
 -- NoneRefused
 a_fault_is_no_refusal :
     NoneRefused (map tally_of (reports_of ((faulty fault.Hop ∷ []) ∷ (asked Dump (Did Full) ∷ []) ∷ [])))
@@ -769,29 +772,24 @@ all_or_the_best = (refl, refl)
 
 -- IsAnswer
 the_named_one_before_the_two_of_the_text :
-    (tallies : Vec RejectedInput Global) → tallies.items ≡ map tally_of (reports_of the_tutorials_outcomes)
+    (tallies : Vec RejectedInput Global)
+    → tallies.items ≡ map tally_of (reports_of the_tutorials_outcomes) ++ faulty_tally (record { count = 1; first = Some (3, fault.Text) }) ∷ []
     → IsAnswer the_tutorials_run plain the_best_of_one_and_a_text
-    (answers_text plain (at_10_9_0_1 ∷ at_192_0_2_1 ∷ at_10_1_2_3 ∷ []) (table_of_journal 65536 tutorial))
-    (record { status = 2; tallies = tallies; faulty = record { count = 1; first = Some (3, fault.Text) } })
+    (answers_text plain (at_10_9_0_1 ∷ at_192_0_2_1 ∷ at_10_1_2_3 ∷ []) (table_of_journal 65536 tutorial)) (record { status = 2; tallies = tallies })
 the_named_one_before_the_two_of_the_text tallies tallied = record {
   said = at_192_0_2_1 ∷ at_10_1_2_3 ∷ [];
+  faulty = record { count = 1; first = Some (3, fault.Text) };
   says = two_are_asked_and_a_line_is_faulty;
-  shown = what_is_told_of_the_tutorial (answers_text plain (at_10_9_0_1 ∷ at_192_0_2_1 ∷ at_10_1_2_3 ∷ [])) tallies.items tallied;
+  tallies = map tally_of (reports_of the_tutorials_outcomes);
+  shown = what_is_told_of_the_tutorial (answers_text plain (at_10_9_0_1 ∷ at_192_0_2_1 ∷ at_10_1_2_3 ∷ [])) (map tally_of (reports_of the_tutorials_outcomes)) refl;
+  tallied = tallied;
   is_status = rw tallied refl;
 }
 
 no_answer_has_status_1 :
-    (request : RunContents) (style : StyleContents) (question : Question) (bytes : List ℕ) (given : QuerySummary) → given.status ≡ 1 → ¬ IsAnswer request style question bytes given
+    (request : RunContents) (style : StyleContents) (question : Question) (bytes : List ℕ) (given : RunSummary) → given.status ≡ 1 → ¬ IsAnswer request style question bytes given
 no_answer_has_status_1 request style question bytes given one h =
-    by (nat_lt 0 given.faulty.count) (list_any has_refused given.tallies.items) (list_any has_rejected given.tallies.items) (sym one ∙ h.is_status)
-  where
-    by : (faulty refused rejected : Bool) → 1 ≢ max (status_where false faulty) (status_where refused rejected)
-    by true true rejected same = cc
-    by true false true same = cc
-    by true false false same = cc
-    by false true rejected same = cc
-    by false false true same = cc
-    by false false false same = cc
+    none_is_1 (list_any has_refused given.tallies.items) (list_any has_rejected given.tallies.items) (sym one ∙ h.is_status)
 
 -- WritesOrFails
 nothing_but_what_is_told :
@@ -870,18 +868,21 @@ what_a_comparison_is_asked style = (refl, refl, refl)
 
 -- IsDiffText
 nothing_is_written_of_a_run_and_itself :
-    (style : StyleContents) (old new : Vec RejectedInput Global) → old.items ≡ map tally_of (reports_of the_tutorials_outcomes)
-    → new.items ≡ map tally_of (reports_of the_tutorials_outcomes)
-    → IsDiffText (whole_routes style) the_tutorials_run the_tutorials_run [] (record { status = 0; old = old; new = new })
-nothing_is_written_of_a_run_and_itself style old new old_tallied new_tallied = record {
+    (style : StyleContents) (tallies : Vec RejectedInput Global)
+    → tallies.items ≡ map tally_of (reports_of the_tutorials_outcomes) ++ map tally_of (reports_of the_tutorials_outcomes)
+    → IsDiffText (whole_routes style) the_tutorials_run the_tutorials_run [] (record { status = 0; tallies = tallies })
+nothing_is_written_of_a_run_and_itself style tallies tallied = record {
   old_table = table_of_journal 65536 tutorial;
   new_table = table_of_journal 65536 tutorial;
-  old_left = what_the_tutorial_leaves old.items old_tallied;
-  new_left = what_the_tutorial_leaves new.items new_tallied;
+  old_tallies = map tally_of (reports_of the_tutorials_outcomes);
+  new_tallies = map tally_of (reports_of the_tutorials_outcomes);
+  old_left = what_the_tutorial_leaves _ refl;
+  new_left = what_the_tutorial_leaves _ refl;
+  tallied = tallied;
   list = [];
   differences = a_table_and_itself_have_none (own_numbers (table_of_journal 65536 tutorial));
   printed = refl;
-  is_status = rw (old_tallied, new_tallied) refl;
+  is_status = rw tallied refl;
 }
 
 differ_is_0_or_1 : (list : List Difference) → differ_status list ≤ 1
@@ -889,14 +890,14 @@ differ_is_0_or_1 [] = omega arith
 differ_is_0_or_1 (d ∷ list) = omega arith
 
 never_status_2_of_two_runs_without_faults :
-    (terms : DiffContents) (old new : RunContents) (bytes : List ℕ) (given : DiffSummary) → tallies_status given.old.items ≡ 0 → tallies_status given.new.items ≡ 0
+    (terms : DiffContents) (old new : RunContents) (bytes : List ℕ) (given : RunSummary) → tallies_status given.tallies.items ≡ 0
     → given.status ≡ 2 → ¬ IsDiffText terms old new bytes given
-never_status_2_of_two_runs_without_faults terms old new bytes given old_status new_status status is = by (differ_status is.list) (differ_is_0_or_1 is.list) told
+never_status_2_of_two_runs_without_faults terms old new bytes given none status is = by (differ_status is.list) (differ_is_0_or_1 is.list) told
   where
-    told : 2 ≡ max (differ_status is.list) (max 0 0)
-    told = sym status ∙ is.is_status ∙ ap (λ n. max (differ_status is.list) (max n (tallies_status given.new.items))) old_status ∙ ap (λ n. max (differ_status is.list) (max 0 n)) new_status
+    told : 2 ≡ max (differ_status is.list) 0
+    told = sym status ∙ is.is_status ∙ ap (max (differ_status is.list)) none
 
-    by : (n : ℕ) → n ≤ 1 → 2 ≢ max n (max 0 0)
+    by : (n : ℕ) → n ≤ 1 → 2 ≢ max n 0
     by zero small same = cc
     by (suc zero) small same = cc
     by (suc (suc n)) small same = absurd (omega (arith, small))

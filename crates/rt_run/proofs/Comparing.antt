@@ -1,6 +1,6 @@
 -- The output of a comparison: the lines of the differences so far, and then the lines of the rest.
 use Rattle.rt_run.proofs.Outputs.{has_byte}
-use Rattle.std.proofs.Common.{◌≡◌, ◌==◌, if◌then◌else◌, Bool, true, false, not, is_some, ℕ, ◌+◌, ◌<◌, max}
+use Rattle.std.proofs.Common.{◌++◌, ◌≡◌, ◌==◌, if◌then◌else◌, Bool, true, false, not, is_some, ℕ, ◌+◌, ◌<◌, max}
 use Rattle.std.proofs.Common.{List, [], ◌∷◌, ◌++◌, Option, Some, None, length, append_assoc, append-nil, refl, sym, ap, subst, ◌∙◌, arith}
 use Rattle.std.proofs.lemmas.Grind.{common_steps}
 use Rattle.std.specs.Io.KnownBytes.{Appends}
@@ -11,7 +11,8 @@ use Rattle.rt_diff.specs.declared.comparison.Difference.{Difference}
 use Rattle.rt_diff.specs.Answers.{own_numbers}
 use Rattle.rt_diff.proofs.Promised.{at, rest_none, rest_next, rest_there, whole, differences_of, differences_are, is_differences_of}
 use Rattle.rt_print.specs.DifferenceText.{DiffContents, range_as, difference_as, differences_as}
-use Rattle.rt_run.specs.declared.comparisons.DiffSummary.{DiffSummary}
+use Rattle.rt_run.specs.declared.tallies.RejectedInput.{RejectedInput}
+use Rattle.rt_run.specs.declared.tallies.RunSummary.{RunSummary}
 use Rattle.rt_run.specs.RunText.{RunContents}
 use Rattle.rt_run.specs.TableText.{tallies_status, LeavesTable}
 use Rattle.rt_run.specs.DiffText.{renumbered_new, differ_status, IsDiffText}
@@ -86,16 +87,20 @@ module _ (asked : DiffContents) (old new : List Route) where
       (whole asked.by (own_numbers old) (renumbered_new asked new) (d ∷ rest) (rest_next asked.by (own_numbers old) (renumbered_new asked new) (at 0) d rest is are)))
 
 -- the output for two runs is the text of their tables' differences
-pub is_diff : (asked : DiffContents) (old_asked new_asked : RunContents) (old new : List Route) (given : DiffSummary) (first : Option Difference)
-    → LeavesTable old_asked old given.old.items → LeavesTable new_asked new given.new.items → IsFirstFrom asked old new (at 0) first
-    → given.status ≡ max (if is_some first then 1 else 0) (max (tallies_status given.old.items) (tallies_status given.new.items)) → IsDiffText asked old_asked new_asked (lines_of asked old new) given
-is_diff asked old_asked new_asked old new given first old_left new_left is status = record {
+pub is_diff : (asked : DiffContents) (old_asked new_asked : RunContents) (old new : List Route) (old_tallies new_tallies : List RejectedInput) (given : RunSummary)
+    (first : Option Difference) → LeavesTable old_asked old old_tallies → LeavesTable new_asked new new_tallies → given.tallies.items ≡ old_tallies ++ new_tallies
+    → IsFirstFrom asked old new (at 0) first → given.status ≡ max (if is_some first then 1 else 0) (tallies_status given.tallies.items)
+    → IsDiffText asked old_asked new_asked (lines_of asked old new) given
+is_diff asked old_asked new_asked old new old_tallies new_tallies given first old_left new_left tallied is status = record {
   old_table = old;
   new_table = new;
+  old_tallies = old_tallies;
+  new_tallies = new_tallies;
   old_left = old_left;
   new_left = new_left;
+  tallied = tallied;
   list = differences_of asked.by (own_numbers old) (renumbered_new asked new);
   differences = differences_are asked.by (own_numbers old) (renumbered_new asked new);
   printed = refl;
-  is_status = status ∙ status_by_first asked old new first (max (tallies_status given.old.items) (tallies_status given.new.items)) is;
+  is_status = status ∙ status_by_first asked old new first (tallies_status given.tallies.items) is;
 }

@@ -1,7 +1,6 @@
 -- The effect of a call on its writer, from its output, and which output is empty.
-use Rattle.std.proofs.Common.{◌≡◌, ◌==◌, ℕ, ◌<◌, max, Bool, false, List, [], ◌∷◌, ◌++◌, length, Option, Result, Ok, Err, IfErr, refl, sym, ap, subst, ◌∙◌, arith, length-append}
+use Rattle.std.proofs.Common.{◌≡◌, ◌==◌, ℕ, ◌<◌, Bool, false, List, [], ◌∷◌, ◌++◌, length, Option, Result, Ok, Err, IfErr, refl, sym, ap, subst, ◌∙◌, arith, length-append}
 use Rattle.std.proofs.Common.{◌≤◌}
-use Rattle.std.specs.Prelude.{nat_lt}
 use Rattle.std.specs.List.{flat_map}
 use Rattle.std.proofs.lemmas.Bool.Decides.{nat_tests}
 use Rattle.std.proofs.lemmas.Grind.{common_steps}
@@ -18,10 +17,10 @@ use Rattle.rt_run.specs.declared.faults.AppFault.TheVariants.{Run, Replay, Write
 use Rattle.std.specs.declared.vec.Vec.{Vec}
 use Rattle.std.specs.declared.alloc.Global.{Global}
 use Rattle.rt_run.specs.declared.tallies.RejectedInput.{RejectedInput}
-use Rattle.rt_run.specs.declared.queries.QuerySummary.{QuerySummary}
+use Rattle.rt_run.specs.declared.tallies.RunSummary.{RunSummary}
 use Rattle.rt_run.specs.declared.question.Question.{Question}
-use Rattle.rt_run.specs.RunText.{RunContents, WritesOrFails, status_where}
-use Rattle.rt_run.specs.TableText.{answers_text, question_text, named_in, said_in, tallies_status, LeavesTable, IsAnswer}
+use Rattle.rt_run.specs.RunText.{RunContents, WritesOrFails}
+use Rattle.rt_run.specs.TableText.{answers_text, question_text, named_in, said_in, faulty_tally, tallies_status, LeavesTable, IsAnswer}
 use Rattle.rt_run.specs.Replayed.{IsReplayText, LeavesReplay}
 use Rattle.rt_feed.specs.Addresses.{SaysAddresses}
 use Rattle.rt_run.specs.inside.Outputs.{Writes, matches_text}
@@ -49,19 +48,19 @@ leaves_replay levels picks text old new (Err (Run why)) is only wrote = absurd c
 leaves_replay levels picks text old new (Err (Replay why)) is only wrote = absurd wrote
 leaves_replay levels picks text old new (Err Write) is only wrote = (text, is, wrote)
 
--- the summary of a query
-abbrev answered : Vec RejectedInput Global → FaultyLines → QuerySummary
-answered tallies faulty = record { status = max (status_where false (nat_lt 0 faulty.count)) (tallies_status tallies.items); tallies = tallies; faulty = faulty }
-
 -- the text for the question's addresses is the answer
-pub is_answer : (asked : RunContents) (style : StyleContents) (question : Question) (table : List Route) (tallies : Vec RejectedInput Global)
-    (said addresses : List Addr) (faulty : FaultyLines) → SaysAddresses (said_in question) said faulty → addresses ≡ named_in question ++ said → LeavesTable asked table tallies.items
-    → IsAnswer asked style question (question_text style question addresses table) (answered tallies faulty)
-is_answer asked style question table tallies said addresses faulty says all leaves = record {
+pub is_answer : (asked : RunContents) (style : StyleContents) (question : Question) (table : List Route) (tallies : List RejectedInput)
+    (said addresses : List Addr) (faulty : FaultyLines) (given : RunSummary) → SaysAddresses (said_in question) said faulty → addresses ≡ named_in question ++ said
+    → LeavesTable asked table tallies → given.tallies.items ≡ tallies ++ faulty_tally faulty ∷ [] → given.status ≡ tallies_status given.tallies.items
+    → IsAnswer asked style question (question_text style question addresses table) given
+is_answer asked style question table tallies said addresses faulty given says all leaves tallied status = record {
   said = said;
+  faulty = faulty;
   says = says;
+  tallies = tallies;
   shown = record { table = table; leaves = leaves; shown = ap (λ (these : List Addr). question_text style question these table) all };
-  is_status = refl;
+  tallied = tallied;
+  is_status = status;
 }
 
 -- a text with a byte isn't empty

@@ -1,11 +1,12 @@
 -- The output of a comparison: the ranges of addresses for which the final tables of two runs give different answers.
-use Rattle.std.specs.Prelude.{◌≡◌, ℕ, max, List, [], ◌∷◌}
+use Rattle.std.specs.Prelude.{◌≡◌, ℕ, max, List, [], ◌∷◌, ◌++◌}
 use Rattle.rt_rib.specs.declared.routes.Route.{Route}
 use Rattle.rt_diff.specs.declared.comparison.Difference.{Difference}
 use Rattle.rt_diff.specs.Answers.{RenumberedTable, own_numbers}
 use Rattle.rt_diff.specs.Differences.{AreDifferences}
 use Rattle.rt_print.specs.DifferenceText.{DiffContents, differences_as}
-use Rattle.rt_run.specs.declared.comparisons.DiffSummary.{DiffSummary}
+use Rattle.rt_run.specs.declared.tallies.RejectedInput.{RejectedInput}
+use Rattle.rt_run.specs.declared.tallies.RunSummary.{RunSummary}
 use Rattle.rt_run.specs.RunText.{RunContents}
 use Rattle.rt_run.specs.TableText.{tallies_status, LeavesTable}
 
@@ -18,14 +19,17 @@ abbrev pub differ_status : List Difference → ℕ
 differ_status [] = 0
 differ_status (d ∷ list) = 1
 
--- the bytes are the lines of all ranges for which the tables of two runs give different answers; the status is the
--- maximum of both runs' statuses and, if there is a line, of 1
-pub record IsDiffText (asked : DiffContents) (old new : RunContents) (bytes : List ℕ) (given : DiffSummary) : Type 0 where
+-- the bytes are the lines of all ranges for which the tables of two runs give different answers. The tallies are those of the
+-- old run and then of the new one; the status is theirs, but at least 1 if there is a line
+pub record IsDiffText (asked : DiffContents) (old new : RunContents) (bytes : List ℕ) (given : RunSummary) : Type 0 where
   pub old_table : List Route
   pub new_table : List Route
-  pub old_left : LeavesTable old old_table given.old.items
-  pub new_left : LeavesTable new new_table given.new.items
+  pub old_tallies : List RejectedInput
+  pub new_tallies : List RejectedInput
+  pub old_left : LeavesTable old old_table old_tallies
+  pub new_left : LeavesTable new new_table new_tallies
+  pub tallied : given.tallies.items ≡ old_tallies ++ new_tallies
   pub list : List Difference
   pub differences : AreDifferences asked.by (own_numbers old_table) (renumbered_new asked new_table) list
   pub printed : bytes ≡ differences_as asked list
-  pub is_status : given.status ≡ max (differ_status list) (max (tallies_status given.old.items) (tallies_status given.new.items))
+  pub is_status : given.status ≡ max (differ_status list) (tallies_status given.tallies.items)

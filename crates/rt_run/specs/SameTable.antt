@@ -14,7 +14,7 @@ use Rattle.rt_feed.specs.Lines.{LineOutcome, TextYields, commands_of}
 use Rattle.rt_print.specs.Routes.{table_text}
 use Rattle.rt_print.specs.Styles.{StyleContents}
 use Rattle.rt_run.specs.declared.tallies.RejectedInput.{RejectedInput}
-use Rattle.rt_run.specs.declared.queries.QuerySummary.{QuerySummary}
+use Rattle.rt_run.specs.declared.tallies.RunSummary.{RunSummary}
 use Rattle.rt_run.specs.declared.question.Question.{Question}
 use Rattle.rt_run.specs.RunText.{RunContents, IsJournalOfRun, IsRunText, reports_of, reports_text, some_refused}
 use Rattle.rt_run.specs.TableText.{tally_of, NoneRefused, IsQueryOutput, IsAnswer}
@@ -23,7 +23,6 @@ use Rattle.rt_diff.specs.declared.comparison.Difference.{Difference}
 use Rattle.rt_diff.specs.Answers.{own_numbers}
 use Rattle.rt_diff.specs.Differences.{AreDifferences}
 use Rattle.rt_print.specs.DifferenceText.{DiffContents, differences_as}
-use Rattle.rt_run.specs.declared.comparisons.DiffSummary.{DiffSummary}
 use Rattle.rt_run.specs.DiffText.{renumbered_new, IsDiffText}
 
 -- the set that the feed's commands leave by themselves, whatever their outcomes, with at most `limit` routes
@@ -106,14 +105,14 @@ ShowOneTable =
     → HaveSameInput asked asked' → IsQueryOutput asked text_of bytes tallies → IsQueryOutput asked' text_of bytes' tallies'
     → NoneRefused tallies → NoneRefused tallies' → (bytes ≡ bytes') × (tallies ≡ tallies')
 
--- the same for the answers to questions: if texts, limit, style and question are the same, so are the bytes, the status, the
--- faulty lines of the text of addresses, and the tallies
+-- the same for the answers to questions: if texts, limit, style and question are the same, so are the bytes, the status and
+-- the tallies
 abbrev pub AnswerOnce : Type 0
 AnswerOnce =
-    (asked asked' : RunContents) (style : StyleContents) (question : Question) (bytes bytes' : List ℕ) (given given' : QuerySummary)
+    (asked asked' : RunContents) (style : StyleContents) (question : Question) (bytes bytes' : List ℕ) (given given' : RunSummary)
     → HaveSameInput asked asked' → IsAnswer asked style question bytes given → IsAnswer asked' style question bytes' given'
     → NoneRefused given.tallies.items → NoneRefused given'.tallies.items
-    → (bytes ≡ bytes') × (given.status ≡ given'.status) × (given.faulty ≡ given'.faulty) × (given.tallies.items ≡ given'.tallies.items)
+    → (bytes ≡ bytes') × (given.status ≡ given'.status) × (given.tallies.items ≡ given'.tallies.items)
 
 -- the union of the texts without some feeds contains the routes of the union of all texts, except the routes of the feeds
 -- that are left out
@@ -143,14 +142,14 @@ pub record TellsUnions (asked : DiffContents) (old new : RunContents) (bytes : L
 -- this holds if no command ran out of memory
 abbrev pub DiffsUnions : Type 0
 DiffsUnions =
-    (asked : DiffContents) (old new : RunContents) (bytes : List ℕ) (given : DiffSummary)
-    → IsDiffText asked old new bytes given → NoneRefused given.old.items → NoneRefused given.new.items → TellsUnions asked old new bytes
+    (asked : DiffContents) (old new : RunContents) (bytes : List ℕ) (given : RunSummary)
+    → IsDiffText asked old new bytes given → NoneRefused given.tallies.items → TellsUnions asked old new bytes
 
 -- if no command ran out of memory, two comparisons of the same texts and limits, on the same terms, write the same bytes,
 -- with the same statuses and tallies, for any batches and any interleaving of the threads
 abbrev pub DiffOnce : Type 0
 DiffOnce =
-    (asked : DiffContents) (old old' new new' : RunContents) (bytes bytes' : List ℕ) (given given' : DiffSummary)
+    (asked : DiffContents) (old old' new new' : RunContents) (bytes bytes' : List ℕ) (given given' : RunSummary)
     → HaveSameInput old old' → HaveSameInput new new' → IsDiffText asked old new bytes given → IsDiffText asked old' new' bytes' given'
-    → NoneRefused given.old.items → NoneRefused given.new.items → NoneRefused given'.old.items → NoneRefused given'.new.items
-    → (bytes ≡ bytes') × (given.status ≡ given'.status) × (given.old.items ≡ given'.old.items) × (given.new.items ≡ given'.new.items)
+    → NoneRefused given.tallies.items → NoneRefused given'.tallies.items
+    → (bytes ≡ bytes') × (given.status ≡ given'.status) × (given.tallies.items ≡ given'.tallies.items)

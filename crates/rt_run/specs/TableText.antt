@@ -1,5 +1,5 @@
 -- The output of queries of a run's final table, and the tally of each text.
-use Rattle.std.specs.Prelude.{◌≡◌, ℕ, max, Bool, true, false, ◌||◌, nat_lt, List, [], ◌++◌, map, count_by, filter_map, Option, Some, None}
+use Rattle.std.specs.Prelude.{◌≡◌, ℕ, Bool, true, false, ◌||◌, nat_lt, List, [], ◌∷◌, ◌++◌, map, count_by, filter_map, Option, Some, None}
 use Rattle.std.specs.List.{flat_map, list_any}
 use Rattle.rt_cidr.specs.declared.address.Addr.{Addr}
 use Rattle.rt_rib.specs.declared.routes.Route.{Route}
@@ -11,6 +11,7 @@ use Rattle.rt_rib.specs.Selection.{selected}
 use Rattle.rt_rib.specs.Sequential.{table_of_journal}
 use Rattle.rt_feed.specs.declared.parse.LineFault.{LineFault}
 use Rattle.rt_feed.specs.declared.report.Line.{Line}
+use Rattle.rt_feed.specs.declared.faulty.FaultyLines.{FaultyLines}
 use Rattle.rt_feed.specs.declared.report.Answer.{Answer}
 use Rattle.rt_feed.specs.declared.report.Answer.TheVariants.{Did, Refused, Fault}
 use Rattle.rt_feed.specs.Lines.{LineOutcome}
@@ -19,7 +20,7 @@ use Rattle.rt_feed.specs.Reports.{is_refusal}
 use Rattle.rt_print.specs.Counts.{counts_as}
 use Rattle.rt_print.specs.Styles.{StyleContents, label_of, rows_as, found_as, all_found_as}
 use Rattle.rt_run.specs.declared.tallies.RejectedInput.{RejectedInput}
-use Rattle.rt_run.specs.declared.queries.QuerySummary.{QuerySummary}
+use Rattle.rt_run.specs.declared.tallies.RunSummary.{RunSummary}
 use Rattle.rt_run.specs.declared.question.Question.{Question}
 use Rattle.rt_run.specs.declared.question.Question.TheVariants as ask
 use Rattle.rt_run.specs.RunText.{RunContents, IsJournalOfRun, reports_of, status_where}
@@ -97,6 +98,10 @@ tally_of report = record {
   refused = count_by (λ (line : Line). is_refusal line.answer) report;
 }
 
+-- the tally of a text whose only rejected input are these faulty lines
+abbrev pub faulty_tally : FaultyLines → RejectedInput
+faulty_tally faulty = record { faulty = faulty; full = 0; existing = 0; missing = 0; refused = 0 }
+
 -- a command ran out of memory
 abbrev pub has_refused : RejectedInput → Bool
 has_refused tally = nat_lt 0 tally.refused
@@ -128,10 +133,13 @@ pub record IsQueryOutput (asked : RunContents) (text_of : List Route → List �
   pub shown : bytes ≡ text_of table
 
 -- the bytes are the answer to the question, in the style, from the table that some run of this input left. The addresses to
--- look up are the named ones and after them those in the lines of the text of addresses. The status is the run's, but at least
--- 2 if a line of this text is faulty
-pub record IsAnswer (asked : RunContents) (style : StyleContents) (question : Question) (bytes : List ℕ) (given : QuerySummary) : Type 0 where
+-- look up are the named ones and after them those in the lines of the text of addresses. The tallies are the run's and, last,
+-- that of this text
+pub record IsAnswer (asked : RunContents) (style : StyleContents) (question : Question) (bytes : List ℕ) (given : RunSummary) : Type 0 where
   pub said : List Addr
-  pub says : SaysAddresses (said_in question) said given.faulty
-  pub shown : IsQueryOutput asked (question_text style question (named_in question ++ said)) bytes given.tallies.items
-  pub is_status : given.status ≡ max (status_where false (nat_lt 0 given.faulty.count)) (tallies_status given.tallies.items)
+  pub faulty : FaultyLines
+  pub says : SaysAddresses (said_in question) said faulty
+  pub tallies : List RejectedInput
+  pub shown : IsQueryOutput asked (question_text style question (named_in question ++ said)) bytes tallies
+  pub tallied : given.tallies.items ≡ tallies ++ faulty_tally faulty ∷ []
+  pub is_status : given.status ≡ tallies_status given.tallies.items

@@ -8,7 +8,7 @@ use crate::chosen::ChosenTexts;
 use crate::faults::AppFault;
 use crate::output::{write_differences, write_through};
 use crate::status::Status;
-use crate::tallies::{RejectedInput, tallies_status};
+use crate::tallies::{RejectedInput, RunSummary, tallies_status};
 use crate::turns::run_in_turn;
 use rt_cidr::Addr;
 use rt_diff::Difference;
@@ -18,18 +18,6 @@ use rt_rib::Table;
 use std::alloc::Global;
 use std::io::Write;
 use std::mem;
-
-/// The result of comparing two runs.
-#[derive(Debug, Drop)]
-pub struct DiffSummary {
-    /// The exit status: 5 if some command ran out of memory, else 2 if some line was faulty or some `add` was over the limit,
-    /// else 1 if the tables differ for some address, else 0.
-    pub status: u8,
-    /// The rejected input of each old text, in the order of the feeds.
-    pub old: Vec<RejectedInput>,
-    /// The rejected input of each new text, in the order of the feeds.
-    pub new: Vec<RejectedInput>,
-}
 
 /// Executes the old texts and then the new ones, one after another, each side over its own table. Then writes to `w` each
 /// range of addresses for which the two tables give different answers, in ascending order and with the given options: a line
@@ -43,21 +31,22 @@ pub fn diff_texts<W: Write>(
     new_asked: &ChosenTexts<'_>,
     options: &DiffOptions,
     w: &mut W,
-) -> Result<DiffSummary, AppFault>
+) -> Result<RunSummary, AppFault>
     ensures text { WritesOrFails (IsDiffText options.now old_asked.now new_asked.now) (W.contents w.old) (W.contents w.new) result }
     ensures no_text { (result ≡ Err (AppFault.Run RunFault.NoText)) ↔ ((old_asked.now.texts ≡ []) ⊎ (new_asked.now.texts ≡ [])) }
 {
     if new_asked.count() == 0 {
         return Err(AppFault::Run(RunFault::NoText));
     }
-    let (old_table, old) = run_in_turn(alloc, old_asked)?;
-    let (new_table, new) = run_in_turn(alloc, new_asked)?;
+    let (old_table, mut tallies) = run_in_turn(alloc, old_asked)?;
+    let (new_table, mut new_tallies) = run_in_turn(alloc, new_asked)?;
+    tallies.append(&mut new_tallies)?;
     let first = options
         .comparison(&old_table, &new_table)
         .first_difference(Addr(0));
     let room = OutputRoom::new(alloc)?;
-    let status = status_of(old.as_slice(), new.as_slice(), first);
-    let given = DiffSummary { status, old, new };
+    let status = status_of(tallies.as_slice(), first);
+    let given = RunSummary { status, tallies };
     let told = write_through(w, room, first.is_none(), given, |out| {
         write_differences(out, options, &old_table, &new_table, first)
     });
@@ -65,13 +54,13 @@ pub fn diff_texts<W: Write>(
     told
 }
 
-/// Returns the status, from the tallies of two runs and the first difference between their tables.
-fn status_of(old: &[RejectedInput], new: &[RejectedInput], first: Option<Difference>) -> u8
-    ensures { result ≡ max (if is_some first then 1 else 0) (max (tallies_status old.now) (tallies_status new.now)) }
+/// Returns the status, from the tallies of both runs and the first difference between their tables.
+fn status_of(tallies: &[RejectedInput], first: Option<Difference>) -> u8
+    ensures { result ≡ max (if is_some first then 1 else 0) (tallies_status tallies.now) }
 {
     let differ = match first {
         Some(_) => Status::Differ as u8,
         None => Status::Done as u8,
     };
-    differ.max(tallies_status(old).max(tallies_status(new)))
+    differ.max(tallies_status(tallies))
 }

@@ -37,11 +37,11 @@ mod tallies;
 mod turns;
 
 pub use chosen::{ChosenTexts, FeedChoice};
-pub use comparisons::{DiffSummary, diff_texts};
+pub use comparisons::diff_texts;
 pub use faults::AppFault;
-pub use queries::{QuerySummary, show};
+pub use queries::show;
 pub use question::Question;
 pub use replays::replay_text;
 pub use runs::{MAX_FEED_FILES, run_texts};
 pub use status::Status;
-pub use tallies::RejectedInput;
+pub use tallies::{RejectedInput, RunSummary};

@@ -12,27 +12,15 @@ use crate::faults::AppFault;
 use crate::forwarding::fib_for;
 use crate::output::{write_answers, write_matches, write_through};
 use crate::question::Question;
-use crate::tallies::{RejectedInput, status_where, tallies_status};
+use crate::tallies::{RejectedInput, RunSummary, tallies_status};
 use crate::turns::run_in_turn;
 use rt_cidr::Addr;
-use rt_feed::{FaultyLines, RunFault, read_addresses};
+use rt_feed::{RunFault, read_addresses};
 use rt_print::{OutputRoom, Style, write_counts, write_routes};
 use rt_rib::{Refused, Route, Selection, Table};
 use std::alloc::Global;
 use std::io::Write;
 use std::mem;
-
-/// The result of a query.
-#[derive(Debug, Drop)]
-pub struct QuerySummary {
-    /// The exit status: 5 if some command ran out of memory, else 2 if some line was faulty, also of the text of addresses, or
-    /// some `add` was over the limit, else 0.
-    pub status: u8,
-    /// The rejected input of each feed's text, in the order of the feeds.
-    pub tallies: Vec<RejectedInput>,
-    /// The faulty lines of the text of addresses.
-    pub faulty: FaultyLines,
-}
 
 /// Executes the texts one after another. Then writes the answer to `w` in the given style, and nothing else:
 ///
@@ -52,21 +40,19 @@ pub fn show<W: Write>(
     style: &Style,
     question: &Question<'_>,
     w: &mut W,
-) -> Result<QuerySummary, AppFault>
+) -> Result<RunSummary, AppFault>
     ensures text { WritesOrFails (IsAnswer asked.now style.now question.now) (W.contents w.old) (W.contents w.new) result }
     ensures no_text { (result ≡ Err (AppFault.Run RunFault.NoText)) ↔ (asked.now.texts ≡ []) }
 {
-    let (table, tallies) = run_in_turn(alloc, asked)?;
+    let (table, mut tallies) = run_in_turn(alloc, asked)?;
     let (named, text) = question.addresses();
     let mut read = read_addresses(alloc, text)?;
     let mut addresses = named.to_vec(alloc)?;
     addresses.append(&mut read.addresses)?;
-    let not_taken = status_where(false, read.faulty.count > 0);
-    let given = QuerySummary {
-        status: not_taken.max(tallies_status(tallies.as_slice())),
-        tallies,
-        faulty: read.faulty,
-    };
+    tallies.try_reserve(1)?;
+    tallies.push_reserved(RejectedInput::of(read.faulty));
+    let status = tallies_status(tallies.as_slice());
+    let given = RunSummary { status, tallies };
     let addresses = addresses.as_slice();
     let told = write_answer(alloc, &table, style, question, addresses, given, w);
     mem::forget(table);
@@ -81,9 +67,9 @@ fn write_answer<W: Write>(
     style: &Style,
     question: &Question<'_>,
     addresses: &[Addr],
-    given: QuerySummary,
+    given: RunSummary,
     w: &mut W,
-) -> Result<QuerySummary, AppFault>
+) -> Result<RunSummary, AppFault>
     ensures { Writes (question_text style.now question.now addresses.now table.now.routes) given (W.contents w.old) (W.contents w.new) result }
 {
     let room = OutputRoom::new(alloc)?;

@@ -25,15 +25,15 @@ pub struct RejectedInput {
 
 impl RejectedInput {
     ghost use Rattle.rt_feed.specs.Lines.{numbered};
-    ghost use Rattle.rt_run.specs.TableText.{tally_of};
+    ghost use Rattle.rt_run.specs.TableText.{tally_of, faulty_tally};
     ghost use Rattle.rt_run.specs.inside.Runs.{IsBelow};
 
-    /// Returns the tally of a report without lines.
-    pub(crate) fn new() -> RejectedInput
-        ensures { result ≡ tally_of [] }
+    /// Returns the tally of a text whose only rejected input are these faulty lines.
+    pub(crate) fn of(faulty: FaultyLines) -> RejectedInput
+        ensures { result ≡ faulty_tally faulty }
     {
         RejectedInput {
-            faulty: FaultyLines::none(),
+            faulty,
             full: 0,
             existing: 0,
             missing: 0,
@@ -55,6 +55,17 @@ impl RejectedInput {
             Some(Answer::Did(_)) | None => {}
         }
     }
+}
+
+/// The result of a query or of a comparison.
+#[derive(Debug, Drop)]
+pub struct RunSummary {
+    /// The exit status: 5 if some command ran out of memory, else 2 if some line was faulty or some `add` was over the limit,
+    /// else 1 if two tables were compared and differ for some address, else 0.
+    pub status: u8,
+    /// The rejected input of each text: of a query's feeds, in order, and last of its text of addresses; or of the old feeds
+    /// of a comparison and then of the new ones.
+    pub tallies: Vec<RejectedInput>,
 }
 
 /// Returns the exit status of a run with these tallies: 5 if some command ran out of memory, else 2 if some line was faulty

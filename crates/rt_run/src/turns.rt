@@ -8,7 +8,7 @@ ghost use Rattle.rt_run.specs.inside.Runs.{ExecutesText, ExecutesLine};
 use crate::ahead::{CommandOrder, read_ahead};
 use crate::chosen::ChosenTexts;
 use crate::tallies::RejectedInput;
-use rt_feed::{Answer, RunFault, Version, next_line, parse_line, text_body};
+use rt_feed::{Answer, FaultyLines, RunFault, Version, next_line, parse_line, text_body};
 use rt_rib::{Refused, Table};
 use std::alloc::Global;
 
@@ -45,7 +45,7 @@ fn execute_text(table: &mut Table<Global>, feed: u32, text: &[u8]) -> RejectedIn
     ensures { ExecutesText feed text.now (table_state table.old) (table_state table.new) result }
 {
     let (version, lines) = text_body(text);
-    let mut tally = RejectedInput::new();
+    let mut tally = RejectedInput::of(FaultyLines::none());
     let mut order = CommandOrder::new();
     let mut rest = lines;
     let mut number = version.first_line() - 1;

@@ -3,7 +3,7 @@
 use super::feed_choice::FeedNumbers;
 use super::queries::asked_of;
 use super::styles::{check_sides, diff_options};
-use super::warnings::report_tallies;
+use super::warnings::report_each;
 use super::{Program, ProgramError};
 use command_line::DiffRequest;
 use rt_run::diff_texts;
@@ -30,8 +30,10 @@ impl<R: Files + Wait + AllocGlobal, O: Write, E: Write> Program<'_, R, O, E> {
             .screen
             .beside(old_asked.count() + new_asked.count(), self.out);
         let summary = diff_texts(self.alloc, &old_asked, &new_asked, &options, &mut out)?;
-        report_tallies(&mut self.screen, request.run.files, summary.old.as_slice());
-        report_tallies(&mut self.screen, request.new_files, summary.new.as_slice());
+        let (old_files, tallies) = (request.run.files, summary.tallies.as_slice());
+        let (old_tallies, new_tallies) = tallies.split_at(old_files.len().min(tallies.len()));
+        report_each(&mut self.screen, old_files, old_tallies);
+        report_each(&mut self.screen, request.new_files, new_tallies);
         Ok(summary.status)
     }
 }

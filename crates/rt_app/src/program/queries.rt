@@ -6,7 +6,7 @@ ghost use Rattle.rt_rib.specs.declared.limits.TheConstants.{MAX_FEEDS};
 use super::feed_choice::FeedNumbers;
 use super::prefixes::prefix_of;
 use super::styles::style_of;
-use super::warnings::{report_faulty_lines, report_tallies};
+use super::warnings::{report_each, report_rejected};
 use super::{Program, ProgramError};
 use command_line::{LookupRequest, PrefixFilterArg, RunRequest, TableRequest};
 use rt_cidr::Addr;
@@ -82,10 +82,12 @@ impl<R: Files + Wait + AllocGlobal, O: Write, E: Write> Program<'_, R, O, E> {
     ) -> Result<u8, ProgramError<'w>> {
         let mut out = self.screen.beside(asked.count(), self.out);
         let given = show(self.alloc, asked, style, question, &mut out)?;
-        if let Some(name) = more {
-            report_faulty_lines(&mut self.screen, name, given.faulty);
+        if let Some((addresses, feeds)) = given.tallies.as_slice().split_last() {
+            if let Some(name) = more {
+                report_rejected(&mut self.screen, name, addresses);
+            }
+            report_each(&mut self.screen, files, feeds);
         }
-        report_tallies(&mut self.screen, files, given.tallies.as_slice());
         Ok(given.status)
     }
 }

@@ -1,5 +1,6 @@
-use Rattle.std.proofs.Common.{◌≡◌, ◌-◌, length, arith}
+use Rattle.std.proofs.Common.{◌≡◌, ◌-◌, length, ap, ◌∙◌, arith}
 use Rattle.rt_feed.specs.Lines.{heading}
+use Rattle.rt_run.specs.TableText.{faulty_tally}
 use Rattle.rt_run.proofs.CountedLines.{lines_below}
 use Rattle.rt_run.proofs.InTurn.{begins, reads_on, ends}
 use Rattle.rt_run.proofs.turns.execute_text.Goals as goal
@@ -9,7 +10,8 @@ loop-line-init c =
     let version = c.text_body-version.result.0 in
     let first = c.first_line-number.ensures in
     let count : c.first_line-number.result - 1 ≡ length (heading version) = omega (arith, first) in
-    begins version c.args.feed c.args.text.now c.text_body-version.result.1.now _ _ _ c.text_body-version.ensures count c.new-tally.ensures
+    begins version c.args.feed c.args.text.now c.text_body-version.result.1.now _ _ _ c.text_body-version.ensures count
+    (c.of-tally.ensures ∙ ap faulty_tally c.none.ensures)
 
 pub count-requires : goal.count-requires
 count-requires c =
