@@ -19,11 +19,11 @@ use std::io::{self, Write};
 /// The maximum length of a prefix.
 const MAX_BITS: usize = 32;
 
-/// The number of routes of each feed, and to prefixes of each length.
+/// The number of prefixes of routes, and the number of routes of each feed and to prefixes of each length.
 #[derive(Drop)]
 struct Counts {
-    /// The last number is that of the routes of all feeds beyond the highest one.
-    feeds: [usize; MAX_FEEDS + 2],
+    prefixes: usize,
+    feeds: [usize; MAX_FEEDS + 1],
     lengths: [usize; MAX_BITS + 1],
 }
 
@@ -34,31 +34,49 @@ pub fn write_counts<W: Write>(w: &mut W, style: &Style, routes: &[Route]) -> io:
     ensures { WritesText (W.contents w.old) (W.contents w.new) (counts_as style.now routes.now) result }
 {
     let json = style.is_json();
-    let counts = counts_of(routes);
-    let feeds = Numbers {
-        json,
-        kind: "feed",
-        labels: style.labels(),
-        counts: &counts.feeds,
-        bound: MAX_FEEDS as u32 + 1,
-    };
-    let lengths = Numbers {
-        json,
-        kind: "length",
-        labels: &[],
-        counts: &counts.lengths,
-        bound: MAX_BITS as u32 + 1,
-    };
-    put_totals(w, json, routes)?;
-    (feeds, lengths).put_to(w)
+    let Counts {
+        prefixes,
+        feeds,
+        lengths,
+    } = counts_of(routes);
+    put_totals(w, json, routes.len() as u64, prefixes as u64)?;
+    put_numbers(w, json, "feed", style.labels(), &feeds)?;
+    put_numbers(w, json, "length", &[], &lengths)
+}
+
+/// Counts the prefixes of the routes, if routes to the same prefix are adjacent; and the routes of each feed, and those to
+/// prefixes of each length.
+fn counts_of(routes: &[Route]) -> Counts
+    ensures prefixes { result.prefixes ≡ prefix_count routes.now }
+    ensures feeds { (feed : ℕ) → feed ≤ MAX_FEEDS → get_or result.feeds feed 0 ≡ count_of feed routes.now }
+    ensures lengths { (len : ℕ) → len ≤ MAX_BITS → get_or result.lengths len 0 ≡ length_count len routes.now }
+{
+    let mut prefixes = 0;
+    let mut feeds = [0; MAX_FEEDS + 1];
+    let mut lengths = [0; MAX_BITS + 1];
+    let mut last: Option<&Route> = None;
+    for route in routes {
+        if last.is_none_or(|last| last.prefix != route.prefix) {
+            prefixes += 1;
+            last = Some(route);
+        }
+        if route.feed as usize <= MAX_FEEDS {
+            feeds[route.feed as usize] += 1;
+        }
+        lengths[route.prefix.len() as usize] += 1;
+    }
+    Counts {
+        prefixes,
+        feeds,
+        lengths,
+    }
 }
 
 /// Writes the number of routes, and of their prefixes.
 #[tactic(auto, unfolding(crate::specs::Counts::totals_as))]
-fn put_totals<W: Write>(w: &mut W, json: bool, routes: &[Route]) -> io::Result<()>
-    ensures { WritesText (W.contents w.old) (W.contents w.new) (totals_as json (length routes.now) (prefix_count routes.now)) result }
+fn put_totals<W: Write>(w: &mut W, json: bool, routes: u64, prefixes: u64) -> io::Result<()>
+    ensures { WritesText (W.contents w.old) (W.contents w.new) (totals_as json routes prefixes) result }
 {
-    let (routes, prefixes) = (routes.len() as u64, prefix_count(routes) as u64);
     if json {
         let prefixes = (",\"prefixes\":", (prefixes, "}\n"));
         ("{\"routes\":", (routes, prefixes)).put_to(w)
@@ -67,84 +85,46 @@ fn put_totals<W: Write>(w: &mut W, json: bool, routes: &[Route]) -> io::Result<(
     }
 }
 
-/// Counts the routes of each feed, and those to prefixes of each length.
-fn counts_of(routes: &[Route]) -> Counts
-    ensures feeds { (feed : ℕ) → feed ≤ MAX_FEEDS → get_or result.feeds feed 0 ≡ count_of feed routes.now }
-    ensures lengths { (len : ℕ) → len ≤ MAX_BITS → get_or result.lengths len 0 ≡ length_count len routes.now }
-{
-    let mut feeds = [0; MAX_FEEDS + 2];
-    let mut lengths = [0; MAX_BITS + 1];
-    for route in routes {
-        let feed = (route.feed as usize).min(MAX_FEEDS + 1);
-        let len = route.prefix.len() as usize;
-        feeds[feed] += 1;
-        lengths[len] += 1;
-    }
-    Counts { feeds, lengths }
-}
-
-/// The numbers of routes of a kind below a bound, each with the label of its position; those that are 0 are left out.
-#[derive(Clone, Copy)]
-struct Numbers<'a> {
+/// Writes these numbers of routes of a kind, each with the label of its position; those that are 0 are left out.
+#[tactic(auto, using(crate::proofs::LineParts::fits))]
+fn put_numbers<W: Write>(
+    w: &mut W,
     json: bool,
-    kind: &'a str,
-    labels: &'a [FeedLabel],
-    counts: &'a [usize],
-    bound: u32,
-    ghost counted: { bound ≤ length counts.now },
-}
-
-impl Text for Numbers<'_> {
-    ghost text = { λ n. flat_map (λ k. count_as n.json n.kind.now (label_of (label_pairs n.labels.now) k) (get_or n.counts.now k 0)) (range_with_len 0 n.bound) };
-
-    fn put_to<W: Write>(&self, w: &mut W) -> io::Result<()> {
-        for number in 0..self.bound {
-            self.put_number(w, number)?;
-        }
-        Ok(())
-    }
-}
-
-impl Numbers<'_> {
-    /// Writes this number of routes with the label of its position, unless it is 0.
-    #[tactic(auto, using(crate::proofs::LineParts::fits), unfolding(crate::specs::Counts::count_as))]
-    fn put_number<W: Write>(&self, w: &mut W, number: u32) -> io::Result<()>
-        requires below { number < self.now.bound }
-        ensures { WritesText (W.contents w.old) (W.contents w.new)
-            (count_as self.now.json self.now.kind.now (label_of (label_pairs self.now.labels.now) number) (get_or self.now.counts.now number 0)) result }
-    {
-        let count = self.counts[number as usize] as u64;
-        if count == 0 {
-            return Ok(());
-        }
-        let mut digits = ShortText::new();
-        digits.prepend_decimal(u64::from(number));
-        let label = label_in(self.labels, number).unwrap_or(digits.as_bytes());
-        if self.json {
-            let routes = (label, (",\"routes\":", (count, "}\n")));
-            ("{\"", (self.kind, ("\":", routes))).put_to(w)
-        } else {
-            (self.kind, (" ", (label, (" routes ", (count, "\n"))))).put_to(w)
-        }
-    }
-}
-
-/// Returns the number of prefixes of the routes, if routes to the same prefix are adjacent.
-fn prefix_count(routes: &[Route]) -> usize
-    ensures { result ≡ prefix_count routes.now }
+    kind: &str,
+    labels: &[FeedLabel],
+    counts: &[usize],
+) -> io::Result<()>
+    requires few { length counts.now ≤ MAX_FEEDS + 1 }
+    ensures { WritesText (W.contents w.old) (W.contents w.new)
+        (flat_map (λ k. count_as json kind.now (label_of (label_pairs labels.now) k) (get_or counts.now k 0)) (range_with_len 0 (length counts.now))) result }
 {
-    let Some((first, others)) = routes.split_first() else {
-        return 0;
-    };
-    let mut kept = first;
-    let mut rest = others;
-    let mut count = 1;
-    while let [next, behind @ ..] = rest {
-        if next.prefix != kept.prefix {
-            kept = next;
-            count += 1;
-        }
-        rest = behind;
+    for (number, count) in counts.iter().enumerate() {
+        let mut digits = ShortText::new();
+        digits.prepend_decimal(number as u64);
+        let label = label_in(labels, number as u32).unwrap_or(digits.as_bytes());
+        put_number(w, json, kind, label, *count as u64)?;
     }
-    count
+    Ok(())
+}
+
+/// Writes the number of routes of this kind and name, unless it is 0.
+#[tactic(auto, unfolding(crate::specs::Counts::count_as))]
+fn put_number<W: Write>(
+    w: &mut W,
+    json: bool,
+    kind: &str,
+    name: &[u8],
+    count: u64,
+) -> io::Result<()>
+    ensures { WritesText (W.contents w.old) (W.contents w.new) (count_as json kind.now name.now count) result }
+{
+    if count == 0 {
+        return Ok(());
+    }
+    if json {
+        let routes = (name, (",\"routes\":", (count, "}\n")));
+        ("{\"", (kind, ("\":", routes))).put_to(w)
+    } else {
+        (kind, (" ", (name, (" routes ", (count, "\n"))))).put_to(w)
+    }
 }
