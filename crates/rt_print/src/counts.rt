@@ -30,6 +30,7 @@ struct Counts {
 /// Writes the number of routes and of their prefixes, and then the number of routes of each feed and to prefixes of
 /// each length, in the style, each on a line; feeds and lengths without a route have no line. Routes to the same prefix
 /// are adjacent, as in a table. Errors and memory are as for `write_routes`.
+#[tactic(auto, using(crate::proofs::Writing::stops_within), unfolding(crate::specs::Counts::counts_as))]
 pub fn write_counts<W: Write>(w: &mut W, style: &Style, routes: &[Route]) -> io::Result<()>
     ensures { WritesText (W.contents w.old) (W.contents w.new) (counts_as style.now routes.now) result }
 {

@@ -17,8 +17,8 @@ use std::marker::Model;
 pub struct DiffOptions {
     by: CompareBy,
     numbers: Vec<u32>,
-    old: Style,
-    new: Style,
+    pub(crate) old: Style,
+    pub(crate) new: Style,
 }
 
 impl Model for DiffOptions {
@@ -53,20 +53,6 @@ impl DiffOptions {
             old,
             new,
         })
-    }
-
-    /// Returns the style of the old table.
-    pub(crate) fn old_style(&self) -> &Style
-        ensures { result.now ≡ self.now.old }
-    {
-        &self.old
-    }
-
-    /// Returns the style of the new table.
-    pub(crate) fn new_style(&self) -> &Style
-        ensures { result.now ≡ self.now.new }
-    {
-        &self.new
     }
 
     /// Returns the comparison of these two tables.

@@ -24,11 +24,11 @@ pub fn write_difference<W: Write>(
 {
     let Difference { first, last, .. } = *difference;
     let old = StyledAnswer {
-        style: options.old_style(),
+        style: &options.old,
         answer: &difference.old,
     };
     let new = StyledAnswer {
-        style: options.new_style(),
+        style: &options.new,
         answer: &difference.new,
     };
     if old.style.is_json() {

@@ -13,6 +13,6 @@ invariant-loop-route l =
     let rest = drop l.route-index l.routes in record {
       feeds : AreCounts (λ (r : Route). r.feed) MAX_FEEDS l.route-index l.routes l.feeds;
       lengths : AreCounts (λ (r : Route). r.prefix.len) MAX_BITS l.route-index l.routes l.lengths;
-      prefixes : l.prefixes + option_map_or (λ kept. prefix_count (kept.now ∷ rest)) l.last (1 + prefix_count rest) ≡ 1 + prefix_count l.routes;
-      few : l.prefixes ≤ l.route-index;
+      prefixes : (l.prefixes + option_map_or (λ kept. prefix_count (kept.now ∷ rest)) l.last (1 + prefix_count rest) ≡ 1 + prefix_count l.routes)
+          × (l.prefixes ≤ l.route-index);
     }

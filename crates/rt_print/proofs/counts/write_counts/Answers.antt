@@ -7,11 +7,6 @@ use Rattle.rt_print.proofs.Counting.{each_same}
 use Rattle.rt_print.proofs.Writing.{stops_within, writes_after}
 use Rattle.rt_print.proofs.counts.write_counts.Goals as goal
 
-pub returns-in_err-put_totals : goal.returns-in_err-put_totals
-unfolding counts_as
-returns-in_err-put_totals g c =
-    stops_within _ _ _ _ _ c.from_residual.ensures.0 (rw (c.is_json-json.ensures, c.counts_of-prefixes.ensures.prefixes) at c.in_err-put_totals.ensures.err)
-
 pub returns-in_err-put_numbers : goal.returns-in_err-put_numbers
 unfolding counts_as
 returns-in_err-put_numbers g c =
