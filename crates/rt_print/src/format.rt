@@ -1,6 +1,6 @@
 //! The format of printed routes.
 ghost use Rattle.std.specs.Prelude.{◌≡◌};
-ghost use Rattle.rt_print.specs.Labels.{is_json, has_names};
+ghost use Rattle.rt_print.specs.Labels.{has_names};
 
 /// The format of printed routes: lines or JSON objects, one a line, and what identifies a feed in them.
 #[derive(Clone, Copy, PartialEq, Eq, Debug)]
@@ -21,12 +21,5 @@ impl Format {
         ensures { result ≡ has_names self }
     {
         matches!(self, Format::Names | Format::JsonWithNames)
-    }
-
-    /// Returns true if routes are printed as JSON objects.
-    pub(crate) fn is_json(self) -> bool
-        ensures { result ≡ is_json self }
-    {
-        matches!(self, Format::Json | Format::JsonWithNames)
     }
 }

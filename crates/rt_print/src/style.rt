@@ -48,7 +48,7 @@ impl Style {
     {
         let labels = labels_by(alloc, format, first, paths)?;
         Ok(Style {
-            json: format.is_json(),
+            json: matches!(format, Format::Json | Format::JsonWithNames),
             labels,
         })
     }
