@@ -1,7 +1,7 @@
 -- Numbers of routes: those that are counted in one pass, by a number of each route; and their texts.
-use Rattle.std.proofs.Common.{◌≡◌, ◌==◌, ℕ, ◌+◌, ◌<◌, ◌≤◌, inl, inr, List, length, get_or, set, take, replicate, nat_le, if◌then◌else◌, count_by, refl, arith, zero, suc, ◌∷◌, Bool, true, false, not, Bor, Option, None, Some}
+use Rattle.std.proofs.Common.{◌≡◌, ◌==◌, ℕ, ◌+◌, ◌<◌, ◌≤◌, List, length, get_or, set, take, replicate, nat_le, if◌then◌else◌, count_by, refl, arith, zero, suc, ◌∷◌, Bool, true, false, not, Bor, Option, None, Some}
 use Rattle.std.proofs.lemmas.Grind.{get_or-set_at}
-use Rattle.std.proofs.lemmas.Bool.{cases_Bool, cases_eq}
+use Rattle.std.proofs.lemmas.Bool.{cases_eq}
 use Rattle.std.proofs.lemmas.Bool.Decides.{nat_tests}
 use Rattle.std.proofs.lemmas.List.{get_or-set_other, length-set, length-replicate, get_or-replicate}
 use Rattle.std.proofs.lemmas.List.Sums.{count_by_more_yes, count_by_more_no}
@@ -23,22 +23,15 @@ no_counts number max routes =
     record { sized = length-replicate (max + 1) 0; counted = none; few = λ k low. omega (arith, none k low) }
 
 -- one more route is counted at its number, unless that is above the maximum
-module _ (number : Route → ℕ) (max i : ℕ) (routes : List Route) (route : Route) (counts : List ℕ) (so_far : AreCounts number max i routes counts)
-    (here : i < length routes) (is : route ≡ get_or routes i route) where
-  pub one_counted : (counts' : List ℕ) → counts' ≡ (if nat_le (number route) max then set counts (number route) (get_or counts (number route) 0 + 1) else counts)
-      → AreCounts number max (i + 1) routes counts'
-  one_counted counts' more = rw more (record {
-    sized = grind (arith, length-set, so_far.sized);
-    counted = λ k within. elim (cases_Bool (number route == k)) [
-      | inl hit ↦
-          let more = count_by_more_yes (λ r. number r == k) routes i route here (rw (← is) hit) in
-          grind (arith, nat_tests, more, get_or-set_at, so_far.counted k within, so_far.sized)
-      | inr miss ↦
-          let same = count_by_more_no (λ r. number r == k) routes i route here (rw (← is) miss) in
-          grind (arith, nat_tests, same, get_or-set_other, so_far.counted k within)
-    ];
-    few = λ k within. grind (arith, cases_eq k (number route), get_or-set_at, get_or-set_other, so_far.few, so_far.sized);
-  })
+pub one_counted : (number : Route → ℕ) (max i : ℕ) (routes : List Route) (route : Route) (counts : List ℕ) → AreCounts number max i routes counts
+    → i < length routes → route ≡ get_or routes i route
+    → (counts' : List ℕ) → counts' ≡ (if nat_le (number route) max then set counts (number route) (get_or counts (number route) 0 + 1) else counts)
+    → AreCounts number max (i + 1) routes counts'
+one_counted number max i routes route counts so_far here is counts' more = rw more (record {
+  sized = grind (arith, length-set, so_far.sized);
+  counted = λ k within. grind (arith, nat_tests, count_by_more_yes (λ r. number r == k) routes i route here, count_by_more_no (λ r. number r == k) routes i route here, is, get_or-set_at, get_or-set_other, so_far.counted k within, so_far.sized);
+  few = λ k within. grind (arith, cases_eq k (number route), get_or-set_at, get_or-set_other, so_far.few, so_far.sized);
+})
 
 -- a route has one prefix more, unless its prefix is that of the route that was kept
 pub prefix_more : (last : Option (Bor Route)) (route : Route) (rest : List Route) (new : Bool)

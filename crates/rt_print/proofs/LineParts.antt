@@ -89,8 +89,7 @@ other_parts true label addr best comma r = simp append_assoc
 pub answer_parts : (json : Bool) (label : List ℕ) (r : Route)
     → route_open json label r ++ either json [] (codes "}") ≡ (if json then route_object label r [] else route_line label r)
 unfolding route_open route_front route_back route_object
-answer_parts false label r = simp (append_assoc, append-nil)
-answer_parts true label r = simp append_assoc
+answer_parts json label r = grind (arith, append_assoc, append-nil)
 
 -- either text is at most as long as both together
 pub either_fits : (json : Bool) (line object : List ℕ) → length (either json line object) ≤ length line + length object
