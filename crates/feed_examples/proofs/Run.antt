@@ -53,8 +53,9 @@ use Rattle.rt_run.specs.Replayed.{IsReplayText, LeavesReplay}
 use Rattle.rt_run.specs.declared.tallies.RejectedInput.{RejectedInput}
 use Rattle.rt_print.specs.Styles.{StyleContents, row_as, found_as, all_found_as, reason_text}
 use Rattle.rt_print.specs.Counts.{totals_as, count_as, counts_as}
-use Rattle.rt_run.specs.TableText.{answers_text, all_answers_text, routes_text, counts_text, was_full, was_existing, was_missing, faults_of, tally_of}
+use Rattle.rt_run.specs.TableText.{answers_text, all_answers_text, was_full, was_existing, was_missing, faults_of, tally_of}
 use Rattle.rt_run.specs.TableText.{has_refused, has_rejected, tallies_status, faulty_tally, NoneRefused, LeavesTable, question_text, named_in, said_in, IsQueryOutput, IsAnswer}
+use Rattle.rt_rib.specs.declared.selection.Selection.{Selection}
 use Rattle.rt_run.specs.declared.question.Question.{Question}
 use Rattle.rt_run.specs.declared.question.Question.TheVariants as ask
 use Rattle.std.specs.declared.vec.Vec.{Vec}
@@ -236,7 +237,14 @@ two_to_ten_8 = route_via ten_8 2 30 Discard ∷ route_via ten_8 1 50 Discard ∷
 abbrev plain : StyleContents
 plain = record { json = false; labels = [] }
 
--- routes_text
+-- the selected routes, and their number, of these feeds
+abbrev routes_text : StyleContents → Selection → List ℕ → List Route → List ℕ
+routes_text style selection feeds table = question_text style (ask.Routes selection (record { ref_ptr = (0, 0); now = feeds })) [] table
+
+abbrev counts_text : StyleContents → Selection → List ℕ → List Route → List ℕ
+counts_text style selection feeds table = question_text style (ask.Counts selection (record { ref_ptr = (0, 0); now = feeds })) [] table
+
+-- question_text
 all_of_them : routes_text plain (record { part = part.All; only_best = false; feed = None }) [] two_to_ten_8 ≡ codes "10.0.0.0/8 feed 2 pref 30 via discard\n10.0.0.0/8 feed 1 pref 50 via discard\n"
 unfolding digits address_text prefix_text row_as
 all_of_them = refl
@@ -263,7 +271,7 @@ of_two_of_three_feeds :
     ≡ route_via ten_8 1 1 Discard ∷ route_via ten_8 3 1 Discard ∷ []
 of_two_of_three_feeds = refl
 
--- counts_text
+-- question_text
 all_in_numbers : counts_text plain (record { part = part.All; only_best = false; feed = None }) [] two_to_ten_8
     ≡ codes "routes 2 prefixes 1\nfeed 1 routes 1\nfeed 2 routes 1\nlength 8 routes 2\n"
 unfolding counts_as totals_as count_as digits

@@ -5,7 +5,6 @@ use Rattle.rt_cidr.specs.declared.address.Addr.{Addr}
 use Rattle.rt_rib.specs.declared.routes.Route.{Route}
 use Rattle.rt_rib.specs.declared.commands.Reply.TheVariants.{Full, Exists, Missing}
 use Rattle.rt_rib.specs.declared.commands.Entry.{Entry}
-use Rattle.rt_rib.specs.declared.selection.Selection.{Selection}
 use Rattle.rt_rib.specs.LookUp.{look_up, look_up_all}
 use Rattle.rt_rib.specs.Selection.{selected}
 use Rattle.rt_rib.specs.Sequential.{table_of_journal}
@@ -34,20 +33,13 @@ answers_text style addresses table = flat_map (λ addr. found_as style.json (lab
 abbrev pub all_answers_text : StyleContents → List Addr → List Route → List ℕ
 all_answers_text style addresses table = flat_map (λ addr. all_found_as style.json (label_of style.labels) addr (look_up_all addr table)) addresses
 
--- the selected routes of the table, in its order; of these feeds, if there are any
-abbrev pub routes_text : StyleContents → Selection → List ℕ → List Route → List ℕ
-routes_text style asked feeds table = rows_as style (routes_of_selected feeds (selected asked table))
-
--- the number of these routes and of their prefixes, of each feed's, and of those of each length
-abbrev pub counts_text : StyleContents → Selection → List ℕ → List Route → List ℕ
-counts_text style asked feeds table = counts_as style (routes_of_selected feeds (selected asked table))
-
--- the text that answers a question about a table, in the style; `addresses` are the ones to look up
+-- the text that answers a question about a table, in the style; `addresses` are the ones to look up. If there are feeds, only
+-- their routes among the selected ones are printed or counted
 abbrev pub question_text : StyleContents → Question → List Addr → List Route → List ℕ
 question_text style (ask.Best named text) addresses table = answers_text style addresses table
 question_text style (ask.All named text) addresses table = all_answers_text style addresses table
-question_text style (ask.Routes selection feeds) addresses table = routes_text style selection feeds.now table
-question_text style (ask.Counts selection feeds) addresses table = counts_text style selection feeds.now table
+question_text style (ask.Routes selection feeds) addresses table = rows_as style (routes_of_selected feeds.now (selected selection table))
+question_text style (ask.Counts selection feeds) addresses table = counts_as style (routes_of_selected feeds.now (selected selection table))
 
 -- the named addresses of a question
 abbrev pub named_in : Question → List Addr
