@@ -48,8 +48,7 @@ class Tie:
         self.file, self.said = CRATES / file, said
         item = next(item for item in source(self.file).items if item.lines[0] == head + " {")
         kept = [line for member in item.members() if member.name in members for line in member.lines]
-        self.line, self.lines = item.start + 1, [item.lines[0], *kept, "}"]
-        self.comment = []
+        self.name, self.comment, self.lines = head, [], [item.lines[0], *kept, "}"]
 
     def rests_on(self):
         ghosts = imports(source(self.file).text)
@@ -64,11 +63,11 @@ class Clause:
         parts = path.split("::")
         if len(parts) < 3 or parts[0] not in all_crates():
             sys.exit(f"tools/statement: {said}: not CRATE::MODULE::FUNCTION or CRATE::TYPE::FUNCTION")
-        self.said, self.owner = said, parts[-2]
+        self.name, self.owner = said, parts[-2]
         function = public_function(parts[0], *parts[-2:])
         if not function:
             sys.exit(f"tools/statement: no public function {said}")
-        self.file, self.line, self.comment = function.file, function.start + 1, function.comment()
+        self.file, self.comment = function.file, function.comment()
         self.head, self.clauses = [], []
         for line in function.written()[:function.clauses_end()]:
             line = line[function.margin:]
@@ -131,31 +130,44 @@ def speaks_of(one):
     return rests_on(one) if isinstance(one, Definition) else one.rests_on()
 
 
-def shown(definition, link, brief=()):
-    """A definition on the page: its comment and its lines, and its place."""
-    lines = definition.lines
+def shown(definition, brief=()):
+    """The lines of a definition in a fence: its comment, the parameters around it, and itself."""
+    is_spec = definition.file.suffix == ".antt"
+    mark, lines, comment = "--" if is_spec else "///", definition.lines, list(definition.comment)
     if definition.key in brief:
         lines = [re.sub(r" (where|\{)$", "", lines[0])]
-    is_spec = definition.file.suffix == ".antt"
-    comment = [f"{'--' if is_spec else '///'} {line}" for line in definition.comment]
-    context = [f"-- for every {' '.join(definition.context)}"] if definition.context and is_spec else []
-    out = [f"[`{definition.name}`]({link}{definition.file.relative_to(TOP)}#L{definition.line})"]
-    if definition.key in brief:
-        out += ["", *wrapped(f"Only its first line: {BRIEF[definition.key]}")]
-    language = "agda" if is_spec else "rust"
-    return out + ["", f"```{language}", *comment, *context, *lines, "```", ""]
+        comment += wrapped(f"Only its first line: {brief[definition.key]}", width=116)
+    if definition.context and is_spec:
+        comment.append(f"for every {' '.join(definition.context)}")
+    return [*(f"{mark} {line}".rstrip() for line in comment), *lines]
 
 
-def shown_clause(clause, link):
-    place = f"{link}{clause.file.relative_to(TOP)}#L{clause.line}"
-    is_clause = isinstance(clause, Clause)
-    head = [f"[`{clause.said}`]({place})"] if is_clause else wrapped(f"{clause.said} [Source]({place})")
-    return [*head, "", "```rust", *(f"/// {line}" for line in clause.comment), *clause.lines, "```", ""]
+def shown_clause(clause):
+    """The lines of a clause or a tie in a fence."""
+    said = [] if isinstance(clause, Clause) else wrapped(clause.said, width=116)
+    return [*(f"/// {line}".rstrip() for line in said + clause.comment), *clause.lines]
 
 
-def wrapped(prose, margin=""):
+def fenced(language, parts):
+    """A fence with these parts, an empty line between each two; nothing if there are none."""
+    lines = [line for part in parts for line in ["", *part]]
+    return [f"```{language}", *lines[1:], "```", ""] if parts else []
+
+
+def places(ones, link):
+    """A list of the files that have these clauses, ties or definitions, each with their names in the order of the page.
+    There are no numbers of lines, since a page changes only if what it says does."""
+    names = {}
+    for one in ones:
+        names.setdefault(one.file, []).append(one.name)
+    rows = [f"- [{file.relative_to(CRATES)}]({link}{file.relative_to(TOP)}): " + ", ".join(f"`{name}`" for name in said)
+            for file, said in names.items()]
+    return [*(line for row in rows for line in wrapped(row, "  ")), ""] if rows else []
+
+
+def wrapped(prose, margin="", width=120):
     """The lines of a sentence or an item of a list."""
-    return textwrap.wrap(prose, 120, subsequent_indent=margin, break_long_words=False, break_on_hyphens=False)
+    return textwrap.wrap(prose, width, subsequent_indent=margin, break_long_words=False, break_on_hyphens=False)
 
 
 def named(definitions):
@@ -197,8 +209,8 @@ def definitions_of(speakers, written, brief, link):
         sys.exit("tools/statement: no comment says what this is: " + ", ".join(bare))
     spoken_of = {one.key for speaker in speakers + new for one in speaks_of(speaker) if isinstance(one, Definition)}
     out = list(from_above(old, spoken_of, written))
+    out += places(new, link) + fenced("agda", [shown(definition, brief) for definition in new])
     for definition in new:
-        out += shown(definition, link, brief)
         written.has(definition, brief)
     for module, names in words.items():
         written.library.setdefault(module, set()).update(names)
@@ -209,8 +221,7 @@ def chapter(one, written, link):
     """A chapter: its sentence and its premises, its clauses, and what they rest on."""
     speakers = [*map(Clause, one.clauses), *(Tie(**tie) for tie in one.ties)]
     out = [f"## {one.title}", "", *wrapped(one.said), "", *wrapped(f"*Premises:* {one.premises}"), ""]
-    for speaker in speakers:
-        out += shown_clause(speaker, link)
+    out += places(speakers, link) + fenced("rust", [shown_clause(speaker) for speaker in speakers])
     return out + definitions_of(speakers, written, BRIEF, link)
 
 
@@ -233,8 +244,8 @@ def head_of(page, table, written):
     return [f"# {page.title}", "", *wrapped(page.said), "", *wrapped(
         "Each clause is proved. To judge what it says, read it and the definitions below it: "
         f"{written.lines} lines on this page, comments not counted, in {written.definitions} definitions and types. Each "
-        "definition is printed once, below all that use it, with its comment and its place. Proofs and bodies need not "
-        "be read. `tools/statement --write` generates this page from the sources."), "",
+        "definition is printed once, below all that use it, with its comment; a list above names its file. "
+        "Proofs and bodies need not be read. `tools/statement --write` generates this page from the sources."), "",
         *legend(), "| Chapter | New definitions | Their lines |", "|---|---|---|", *table, ""]
 
 
@@ -292,7 +303,7 @@ def write():
 def print_clauses(said):
     """Any clauses and what they rest on, on standard output."""
     speakers, written = [Clause(one) for one in said], Written(PAGES[0])
-    out = [line for speaker in speakers for line in shown_clause(speaker, "")]
+    out = places(speakers, "") + fenced("rust", [shown_clause(speaker) for speaker in speakers])
     out += definitions_of(speakers, written, BRIEF, "")
     library = [f"- `{module}`: " + ", ".join(f"`{name}`" for name in sorted(name for name in names if name))
                for module, names in sorted(written.library.items())]
