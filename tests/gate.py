@@ -1,0 +1,297 @@
+#!/usr/bin/env python3
+"""Runs ./test in a repository of stubs, each of which can fail, and checks what it says of them.
+
+tests/gate.py [CASE..], or --list for the names of the cases. Needs git and python3, proves nothing, and takes about half a
+minute. In the repository, ./test, .ci/run, tools/verdict and what this uses are the real ones. Each other script is a
+stub, which ends as BREAKS says, a list of `SCRIPT=END`, and notes its words and the gate's variables.
+"""
+import concurrent.futures
+import json
+import os
+import pathlib
+import re
+import shutil
+import signal
+import subprocess
+import tempfile
+import time
+
+from common.checks import TOP, chosen, end, expect, of_thread, run, run_case
+
+LISTED = {"mutants": 4, "definitions": 2}
+QUICK = ["tests/launcher.py", "tests/libraries.py", "tools/unproved", "convert/test", "map/test", "tools/check",
+         "tests/installed.py", "tests/rows.py", "tests/command_line.py"]
+SCRIPTS = sorted({*QUICK, "tools/mutants", "tools/definitions", "tools/archive", "bindings/test",
+                  *(f"tests/{name}.py" for name in ("built", "gate", "mutants", "hostile", "sizes", "allocations",
+                                                    "refused_few", "costs"))})
+# What a stub prints last, and its status, by its end.
+STUB = """#!/usr/bin/env bash
+name="NAME"
+said="$name $*;"
+for one in "${!YARIB_@}"; do said="$said $one=${!one}"; done
+echo "$said" >>"$NOTES"
+case " $BREAKS " in
+  *" $name=status "*) echo "wrong in $name"; exit 1 ;;
+  *" $name=killed "*) kill -9 $$ ;;
+  *" $name=changes "*) echo "// more" >>changed.rt ;;
+  *" $name=waits "*) touch "$NOTES.waits"; sleep 600 ;;
+  *" $name=leaves-out "*) echo "left out: a case of $name, since it can't run here" ;;
+  *" $name=is-kept "*) echo "$name: passed in an earlier run on this machine" ;;
+  *" $name=none "*) echo "0 passed, 0 failed"; exit ;;
+  *" $name=fewer "*) echo "1 passed, 0 failed"; exit ;;
+  *" $name=one-fails "*) echo "body x/y: NOT REFUSED in z"; echo "COUNT_LESS passed, 1 failed"; exit 1 ;;
+  *" $name=count-and-status "*) echo "COUNT passed, 0 failed"; exit 1 ;;
+  *" $name=no-count "*) echo "body x/y: refused, as it must be: z"; exit ;;
+esac
+case $name in
+  tools/mutants) echo "body x/y: refused, as it must be: z"; echo "COUNT passed, 0 failed" ;;
+  tools/definitions) echo "definition x/y: refused, as it must be: z"; echo "COUNT passed, 0 failed" ;;
+  tools/archive) mkdir -p crates/yarib_c/out; echo a >crates/yarib_c/out/libyarib_c.a ;;
+  tools/unproved) echo "$PWD/prog" ;;
+  *) echo "$name: done" ;;
+esac
+"""
+RT = """#!/usr/bin/env bash
+echo "rt $*" >>"$NOTES"
+case $1 in version) echo "stand-in-1 logic 0123456789abcdef"; exit ;; esac
+echo "rt: rt_diff is kept: it was proved here"
+echo "rt: rt_fib proved"
+mkdir -p crates/rt_app/out && echo >crates/rt_app/out/rt_app
+case " $BREAKS " in
+  *" rt=status "*) echo "19 passed, 1 failed"; exit 1 ;;
+  *" rt=no-count "*) exit ;;
+  *" rt=one-fails "*) echo "18 passed, 2 failed"; exit ;;
+esac
+echo "20 passed, 0 failed"
+"""
+ONCE = """#!/usr/bin/env bash
+if [ "$1" = --anew ]; then shift; fi
+words=()
+for word; do if [ "$word" = : ]; then break; fi; words+=("$word"); done
+exec "${words[@]}"
+"""
+
+
+class Repository:
+    """A repository of git with the gate and stubs, in a directory that has the temporary files of its runs too."""
+
+    def __init__(self, folder):
+        self.folder, self.top, self.made = folder, folder / "top", folder / "made"
+
+    def copied(self, folder):
+        shutil.copytree(self.folder, folder, symlinks=True)
+        return Repository(folder)
+
+    def write(self):
+        self.made.mkdir(parents=True)
+        for name in ("test", ".ci/run", "tools/verdict", "tools/common.py", ".gitignore"):
+            (self.top / name).parent.mkdir(parents=True, exist_ok=True)
+            shutil.copy(TOP / name, self.top / name)
+        shutil.copytree(TOP / "common", self.top / "common", ignore=shutil.ignore_patterns("__pycache__"))
+        for name in SCRIPTS:
+            count = LISTED.get(name.removeprefix("tools/"), 0)
+            self.put(name, STUB.replace("NAME", name).replace("COUNT_LESS", str(count - 1)).replace("COUNT", str(count)))
+        self.put("tools/once", ONCE)
+        self.put("tools/progress", "#!/bin/sh\nexec cat\n")
+        self.put("prog", "a program\n")
+        self.put("changed.rt", "//\n")
+        for name, count in LISTED.items():
+            self.put(f"crates/small/must-fail/{name}.md", "# A list\n" + "\n## one\n" * count)
+        self.put("../bin/rt", RT)
+        self.git("init", "--quiet", "--initial-branch=main")
+        self.git("add", "--all")
+        self.git("commit", "--quiet", "--message", "all")
+        return self
+
+    def put(self, name, text):
+        (self.top / name).parent.mkdir(parents=True, exist_ok=True)
+        (self.top / name).write_text(text)
+        (self.top / name).chmod(0o755)
+
+    def git(self, *words):
+        author = {f"GIT_{who}_{what}": "gate@example.org" for who in ("AUTHOR", "COMMITTER") for what in ("NAME", "EMAIL")}
+        plain = {"GIT_CONFIG_GLOBAL": "/dev/null", "GIT_CONFIG_SYSTEM": "/dev/null"}
+        return subprocess.run(["git", *words], cwd=self.top, env=os.environ | author | plain, check=True,
+                              stdout=subprocess.PIPE, text=True).stdout.strip()
+
+    def environment(self, breaks, **more):
+        return os.environ | {"PATH": f"{self.folder}/bin:{os.environ['PATH']}", "BREAKS": breaks, "TMPDIR": str(self.made),
+                             "NOTES": str(self.folder / "notes"), "RT_JOBS": "1"} | more
+
+    def test(self, *words, breaks="", by="test", **more):
+        """The status of a run, the lines that it prints, and what the stubs have noted. What it leaves is checked."""
+        (self.folder / "notes").write_text("")
+        status, out, err = run([self.top / by, *words], cwd=self.top, env=self.environment(breaks, **more), timeout=120,
+                               start_new_session=True)
+        if left := sorted(path.name for path in self.made.iterdir()):
+            expect(f"files that ./test {' '.join(words)} leaves: {breaks}", left, [])
+        return status, [line for line in (err + out).splitlines() if line.strip()], (self.folder / "notes").read_text()
+
+    def verdict(self):
+        return json.loads((self.top / "out/gate.json").read_text())
+
+
+def each(new, rows, judge):
+    """Has `judge` look at each of the rows, some at the same time, each with a repository of its own."""
+    name = of_thread.case
+
+    def looked_at(row):
+        of_thread.case = name
+        judge(new(), row)
+
+    with concurrent.futures.ThreadPoolExecutor(6) as pool:
+        list(pool.map(looked_at, rows))
+
+
+# Catches a gate that passes over a script that fails, is killed or is missing, or that counts it as passed: `the status of
+# ./test if ..`, `the last line if ..`.
+def failing_scripts(new):
+    # tools/check is run first, and the run ends with it; tools/unproved is only for --quick.
+    rows = [(script, "status") for script in SCRIPTS if script not in ("tools/unproved", "tools/check")]
+    rows += [(f"tools/{name}", "killed") for name in ("mutants", "definitions", "archive")]
+    rows += [("tests/rows.py", "killed"), ("tests/rows.py", "missing"), ("map/test", "killed")]
+
+    def judge(one, row):
+        script, end = row
+        if end == "missing":
+            (one.top / script).unlink()
+        status, lines, _ = one.test(breaks=f"{script}={end}")
+        expect(f"the status of ./test if {script} ends so: {end}", status, 1)
+        number = re.fullmatch(r"(\d+) passed, (\d+) failed", lines[-1])
+        expect(f"the last line if {script} ends so: {end}", bool(number) and int(number[2]) > 0, True)
+        expect(f"what failed if {script} ends so: {end}", any(script in name for name in one.verdict()["failed"]), True)
+
+    each(new, rows, judge)
+    for breaks in ("tools/check=status", "rt=status", "rt=no-count"):
+        one = new()
+        expect(f"the status of ./test if {breaks}", one.test(breaks=breaks)[0] != 0, True)
+        expect(f"the verdict if {breaks}", one.verdict()["verdict"], "stopped")
+    expect("the status of ./test if rt counts failures and ends with status 0", new().test(breaks="rt=one-fails")[0], 1)
+
+
+# Catches a gate whose --quick ends with status 1 though all passed, or with 0 though a script failed, or leaves its files.
+def quick(new):
+    one = new()
+    status, lines, noted = one.test("--quick")
+    expect("the status of --quick", (status, lines[-1].endswith(f"{len(QUICK)} passed, 0 failed; nothing was proved")), (0, True))
+    expect("what --quick runs", {line.split()[0] for line in noted.splitlines()} - {"rt"}, set(QUICK))
+    verdict = one.verdict()
+    expect("its verdict", (verdict["verdict"], verdict["status"], verdict["mode"]), ("passed", 0, "quick"))
+    expect("it says what it leaves out", ["bindings/test" in line for line in verdict["left_out"]], [True])
+
+    def judge(other, script):
+        expect(f"the status of --quick if {script} fails", other.test("--quick", breaks=f"{script}=status")[0], 1)
+
+    each(new, QUICK, judge)
+
+
+# Catches a gate that doesn't look at the number of mutants that were tried, or at the status of what tries them: `.. of
+# tools/mutants`.
+def counts(new):
+    def judge(one, row):
+        tool, end = row
+        status, lines, _ = one.test(breaks=f"{tool}={end}")
+        expect(f"the status of ./test after {end} of {tool}", status, 1)
+        expect(f"it names {tool} after {end}", any(tool in line or "body x/y" in line for line in lines
+                                                   if line.startswith("  ")), True)
+
+    ends = ("none", "fewer", "one-fails", "count-and-status", "no-count")
+    each(new, [(f"tools/{tool}", end) for tool in LISTED for end in ends], judge)
+
+
+# Catches a gate in which the caller's variables leave something out, or that takes an option for another: `.. in the
+# environment`, `an unknown option`.
+def environment(new):
+    own = {"YARIB_UNPROVED": "1", "YARIB_KEPT": "1", "YARIB_ARCHIVE": "/none", "YARIB_LIBRARY": "/none", "YARIB_OTHER": "1"}
+    for words, wanted in (([], {"YARIB_KEPT", "YARIB_ARCHIVE"}), (["--anew"], {"YARIB_ARCHIVE"}), (["--quick"], {"YARIB_UNPROVED"})):
+        status, _, noted = new().test(*words, **own)
+        named = set(re.findall(r"\b(YARIB_\w+)=", noted))
+        expect(f"the variables of ./test {words} with others in the environment", (status, named), (0, wanted))
+        expect(f"their values {words}", "/none" in noted, False)
+    for words in (["--anwe"], ["--quick", "--anew"], ["--quick", "more"], ["--quic"], ["-q"], ["all"]):
+        status, lines, noted = new().test(*words)
+        expect(f"an unknown option {words}", (status, len(lines), noted), (2, 1, ""))
+    status, lines, noted = new().test("--help")
+    expect("the help", (status, "--anew" in "\n".join(lines), noted), (0, True, ""))
+
+
+# Catches a .ci/run that doesn't do what its head says: `.ci/run ..`.
+def continuous_integration(new):
+    for words in ([], ["--anew"]):
+        one = new()
+        status, lines, noted = one.test(*words, by=".ci/run")
+        expect(f".ci/run {words}", (status, lines[-1].endswith(", 0 failed")), (0, True))
+        called = [line for line in noted.splitlines() if line.startswith("rt ci")]
+        expect(f".ci/run {words} has proofs made so", called, [" ".join(["rt ci", *words])])
+    expect(".ci/run names its option", "--anew" in (TOP / ".ci/run").read_text(), True)
+
+
+# Catches a gate that doesn't say what it judged, what it took from an earlier run or what it left out, and one whose
+# verdict is that of other files: `the verdict ..`.
+def verdicts(new):
+    one = new()
+    commit = one.git("rev-parse", "HEAD")
+    status, lines, _ = one.test(breaks="tests/rows.py=leaves-out tests/launcher.py=is-kept")
+    verdict = one.verdict()
+    expect("the verdict of a clean tree", (status, verdict["verdict"], verdict["commit"], verdict["tree"], verdict["differing"],
+           verdict["unknown"]), (0, "passed", commit, one.git("rev-parse", "HEAD^{tree}"), [], []))
+    expect("it prints the commit", any(commit in line for line in lines), True)
+    expect("its counts", (sum(verdict["passed"].values()), verdict["failed"]), (int(lines[-1].split()[0]), {}))
+    expect("its mutants", {name: verdict["passed"][f"tools/{name}"] for name in LISTED}, LISTED)
+    expect("what was kept", verdict["kept"], ["rt: rt_diff is kept: it was proved here",
+                                              "tests/launcher.py: passed in an earlier run on this machine"])
+    expect("what was left out", verdict["left_out"], ["left out: a case of tests/rows.py, since it can't run here"])
+    expect("its toolchain", (verdict["toolchain"], verdict["logic"]), ("stand-in-1", "0123456789abcdef"))
+    one.put("changed.rt", "// another\n")
+    one.put("docs/new.md", "# New\n")
+    status, lines, _ = one.test()
+    verdict = one.verdict()
+    expect("the verdict with a changed file and one that git doesn't know", (verdict["differing"], verdict["unknown"]),
+           (["changed.rt"], ["docs/new.md"]))
+    expect("the tree isn't the commit's", (verdict["commit"], verdict["tree"] != one.git("rev-parse", "HEAD^{tree}")), (commit, True))
+    expect("it prints them", [any(name in line for line in lines) for name in ("changed.rt", "docs/new.md")], [True, True])
+    expect("git's own files are as they were", one.git("status", "--porcelain"), "M changed.rt\n?? docs/")
+    for words in ([], ["--quick"]):
+        other = new()
+        status, lines, _ = other.test(*words, breaks="tests/rows.py=changes")
+        expect(f"the verdict if a file changes meanwhile {words}", (status, other.verdict()["verdict"]), (1, "failed"))
+        expect(f"it is named {words}", any("changed.rt" in line for line in lines), True)
+    bare = new()
+    shutil.rmtree(bare.top / ".git")
+    expect("the verdict without git", (bare.test()[0], bare.verdict()["commit"], bare.verdict()["tree"]), (0, None, None))
+
+
+# Catches a gate that is ended and leaves an older verdict, or its files: `.. of a run that was ended`.
+def ended(new):
+    one = new()
+    (one.top / "out").mkdir()
+    (one.top / "out/gate.json").write_text("an older one\n")
+    (one.folder / "notes").write_text("")
+    with subprocess.Popen([one.top / "test", "--quick"], cwd=one.top, stdout=subprocess.DEVNULL, stderr=subprocess.DEVNULL,
+                          env=one.environment("tests/rows.py=waits"), start_new_session=True) as call:
+        while not (one.folder / "notes.waits").exists() and call.poll() is None:
+            time.sleep(0.02)
+        os.killpg(call.pid, signal.SIGTERM)
+    verdict = one.verdict()
+    expect("the verdict of a run that was ended", (verdict["verdict"], verdict["status"] != 0), ("stopped", True))
+    expect("the files of a run that was ended", sorted(path.name for path in one.made.iterdir()), [])
+
+
+CASES = (failing_scripts, quick, counts, environment, continuous_integration, verdicts, ended)
+
+
+def main():
+    cases = chosen(__doc__, CASES, takes=()).cases
+    with tempfile.TemporaryDirectory(prefix="gate-") as made, concurrent.futures.ThreadPoolExecutor(len(cases)) as pool:
+        whole = Repository(pathlib.Path(made).resolve() / "whole").write()
+
+        def new():
+            return whole.copied(pathlib.Path(tempfile.mkdtemp(dir=made)).resolve() / "copy")
+
+        for done in [pool.submit(run_case, case, new) for case in cases]:
+            done.result()
+    end()
+
+
+if __name__ == "__main__":
+    main()
