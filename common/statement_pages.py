@@ -19,10 +19,11 @@ class Chapter:
 
 
 class Page:
-    """A page in docs/: its file, its title, its introduction and its chapters."""
+    """A page in docs/: its file, its title, its introduction, its chapters, and the definitions that it prints by their
+    first lines."""
 
-    def __init__(self, name, title, said, chapters):
-        self.name, self.title, self.said, self.chapters = name, title, said, chapters
+    def __init__(self, name, title, said, chapters, brief):
+        self.name, self.title, self.said, self.chapters, self.brief = name, title, said, chapters, brief
         self.file = TOP / "docs" / name
 
 
@@ -30,14 +31,14 @@ def page_of(said):
     """Returns the page that a table of statement_pages.toml describes."""
     chapters = [Chapter(one["title"], one["said"], one["premises"], one["clauses"], one.get("tie", ()))
                 for one in said["chapter"]]
-    return Page(said["file"], said["title"], said["said"], chapters)
+    return Page(said["file"], said["title"], said["said"], chapters, {} if said.get("whole") else BRIEF)
 
 
 WORDS = tomllib.loads(pathlib.Path(__file__).with_suffix(".toml").read_text())
-PAGES = [page_of(said) for said in WORDS["page"]]
 # The signs that a reader has to know, the definitions of which the pages print only the first line, and the words of the
 # kit's library.
 LEGEND, BRIEF, KIT = WORDS["signs"], WORDS["brief"], WORDS["words"]
+PAGES = [page_of(said) for said in WORDS["page"]]
 PLAIN = {"Bool", "Err", "List", "None", "Ok", "Option", "Result", "Some", "false", "true", "none", "some", "ℕ"}
 
 
@@ -139,13 +140,21 @@ def shown(definition, brief=()):
         comment += wrapped(f"Only its first line: {brief[definition.key]}", width=116)
     if definition.context and is_spec:
         comment.append(f"for every {' '.join(definition.context)}")
-    return [*(f"{mark} {line}".rstrip() for line in comment), *lines]
+    return [*commented(mark, comment), *lines]
+
+
+# A link of a comment to another part of the sources, which leads nowhere on a page.
+SOURCE_LINK = re.compile(r"\[(`[^`]+`)\]\([\w:]+\)")
+
+
+def commented(mark, lines):
+    return [f"{mark} {SOURCE_LINK.sub(lambda link: link[1], line)}".rstrip() for line in lines]
 
 
 def shown_clause(clause):
     """The lines of a clause or a tie in a fence."""
     said = [] if isinstance(clause, Clause) else wrapped(clause.said, width=116)
-    return [*(f"/// {line}".rstrip() for line in said + clause.comment), *clause.lines]
+    return [*commented("///", said + clause.comment), *clause.lines]
 
 
 def fenced(language, parts):
@@ -203,7 +212,8 @@ def from_above(old, spoken_of, written):
 
 def definitions_of(speakers, written, brief, link):
     """What the speakers rest on, as far as it isn't further up."""
-    new, old, words = in_order(speakers, written.home, brief)
+    known = {key: page for key, page in written.home.items() if page or brief}
+    new, old, words = in_order(speakers, known, brief)
     bare = [one.key for one in new if not one.comment]
     if bare:
         sys.exit("tools/statement: no comment says what this is: " + ", ".join(bare))
@@ -222,7 +232,7 @@ def chapter(one, written, link):
     speakers = [*map(Clause, one.clauses), *(Tie(**tie) for tie in one.ties)]
     out = [f"## {one.title}", "", *wrapped(one.said), "", *wrapped(f"*Premises:* {one.premises}"), ""]
     out += places(speakers, link) + fenced("rust", [shown_clause(speaker) for speaker in speakers])
-    return out + definitions_of(speakers, written, BRIEF, link)
+    return out + definitions_of(speakers, written, written.page.brief, link)
 
 
 def legend():
@@ -250,7 +260,7 @@ def head_of(page, table, written):
 
 
 def anchor(title):
-    return title.lower().replace(" ", "-")
+    return re.sub(r"[^\w -]", "", title).lower().replace(" ", "-")
 
 
 def statement_page(page, written):
@@ -269,9 +279,8 @@ def page_text(lines):
     return "\n".join(lines).rstrip("\n") + "\n"
 
 
-def pages():
-    """The text of each page, and how many lines of definitions it has."""
-    written = Written()
+def pages(written):
+    """The text of each page, and how many lines of definitions it has; `written` says afterwards what the pages have."""
     for page in PAGES:
         yield page, statement_page(page, written), written.lines
 
@@ -282,19 +291,21 @@ def figure(page):
 
 
 def check():
-    """Ends with a fault if a page that is kept or its number of lines on the front page differs."""
-    readme = (TOP / "README.md").read_text()
-    for page, text, lines in pages():
+    """Ends with a fault if a page that is kept or its number of lines on the front page differs. Returns what the pages
+    have."""
+    readme, written = (TOP / "README.md").read_text(), Written()
+    for page, text, lines in pages(written):
         if not page.file.exists() or page.file.read_text() != text:
             sys.exit(f"docs/{page.name} is not what tools/statement --write would write")
         said = figure(page).search(readme)
         if not said or int(said[1]) != lines:
             sys.exit(f"README.md: docs/{page.name} has {lines} lines of definitions")
+    return written
 
 
 def write():
     readme = TOP / "README.md"
-    for page, text, lines in pages():
+    for page, text, lines in pages(Written()):
         page.file.write_text(text)
         readme.write_text(figure(page).sub(f"[{lines} lines](docs/{page.name})", readme.read_text()))
         print(f"docs/{page.name}: {lines} lines")
