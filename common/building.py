@@ -14,7 +14,7 @@ import tarfile
 import tempfile
 import time
 
-from .built import LOGIC, PARTS, STATE, own, product, sources_sum
+from .built import LOGIC, PARTS, STATE, discard, is_read, is_whole, own, product, put, sources_sum
 from .crates import CRATES, below, is_program, is_static, needs
 from .prover import kit, linking_words, words_for
 
@@ -22,6 +22,7 @@ FIRST_BUILD = "ten to fifteen minutes on four processors"
 # The estimated cost of a crate in addition to that of its sources, in bytes of source: of each crate, and of a linked program.
 EACH, PROGRAM = 60_000, 300_000
 MOST_JOBS = 4  # of one proof
+ENDING = (signal.SIGINT, signal.SIGTERM, signal.SIGHUP)  # signals that end a build
 
 
 def say(text):
@@ -47,6 +48,11 @@ def toolchain():
 # -- the copy that is built
 
 
+def unread(folder, names):
+    """Returns the names in a directory of those files that the prover doesn't read."""
+    return [name for name in names if not is_read(name) and not os.path.isdir(f"{folder}/{name}")]
+
+
 class Copy:
     """The sources at the start of a build, in a directory that also contains the libraries during the build."""
 
@@ -57,7 +63,7 @@ class Copy:
             (self.crates / crate).mkdir(parents=True)
             for part in PARTS:
                 if (CRATES / crate / part).is_dir():
-                    shutil.copytree(CRATES / crate / part, self.crates / crate / part)
+                    shutil.copytree(CRATES / crate / part, self.crates / crate / part, ignore=unread)
 
     def size(self, crate):
         return sum(path.stat().st_size for path in (self.crates / crate).rglob("*") if path.is_file())
@@ -70,7 +76,7 @@ class Copy:
         return product(crate, toolchain(), self.crates)
 
     def is_built(self, crate):
-        return self.product(crate).is_file()
+        return is_whole(self.product(crate))
 
     def unpack(self, crate):
         """Extracts a library of an earlier build to where the prover reads it."""
@@ -91,13 +97,14 @@ class Copy:
                 file.flush()
                 os.fsync(file.fileno())
             os.chmod(new, 0o755 if is_program(crate) else 0o644)
-            os.replace(new, kept)
+            put(new, kept)
         finally:
-            new.unlink(missing_ok=True)
-        older = sorted(STATE.glob(f"{crate}-*"), key=lambda path: path.stat().st_mtime, reverse=True)
+            discard(new)
+        products = [path for path in STATE.glob(f"{crate}-*") if path.suffix != ".sha256"]
+        older = sorted(products, key=lambda path: path.stat().st_mtime, reverse=True)
         # A program that is replaced may just be starting, so the last but one stays.
         for path in older[2 if is_program(crate) else 1:]:
-            path.unlink()
+            discard(path)
 
 
 # -- the prover's calls
@@ -262,6 +269,9 @@ class Signals:
     def end(self, number, frame=None):
         self.came = number
         if not self.is_put_off:
+            # A second signal would interrupt the removal of what the build leaves.
+            for each in ENDING:
+                signal.signal(each, signal.SIG_IGN)
             sys.exit(128 + number)
 
     @contextlib.contextmanager
@@ -297,7 +307,7 @@ def clear():
         if folder.name.startswith("yarib-build-"):
             shutil.rmtree(folder, ignore_errors=True)
         noted.unlink()
-    for path in STATE.glob("*.new"):
+    for path in [*STATE.glob("*.new"), *STATE.glob("*.new.sha256")]:
         path.unlink()
 
 
@@ -320,6 +330,8 @@ def build_in(folder, crate):
     for one in needed - wanted:
         copy.unpack(one)
     first = f"; a first build takes {FIRST_BUILD}" if wanted == needed else ""
+    if copy.product(crate).exists():
+        say(f"{copy.product(crate)} is not as it was built, and is built again")
     say(f"proving and building {len(wanted)} of {len(needed)} crates{first}")
     if first and is_program(crate):
         say("meanwhile ./try WORDS.. runs it unproved, in about a minute")
@@ -331,7 +343,7 @@ def build_in(folder, crate):
 
 def build(crate):
     """Builds a program or a static library, unless another build has just done so; returns its path."""
-    for number in (signal.SIGINT, signal.SIGTERM, signal.SIGHUP):
+    for number in ENDING:
         signal.signal(number, signals.end)
     try:
         toolchain()

@@ -120,8 +120,9 @@ class Copy:
         return self.built()
 
     def product(self, crate):
-        """The path of a crate's built file: the only one named after the crate, followed by a sum."""
-        [made] = (self.top / "out/build").glob(f"{crate}-*")
+        """The path of a crate's built file: the only one named after the crate, followed by a sum. Its own checksum is
+        beside it."""
+        [made] = [path for path in (self.top / "out/build").glob(f"{crate}-*") if path.suffix != ".sha256"]
         return made
 
     def change(self, name):
@@ -150,7 +151,7 @@ def with_own(tunables):
 # words []`.
 # Catches a launcher that drops a user's own tunables: `a user's own tunables`.
 def what_it_is_given(copy):
-    copy.start("run")
+    copy.start("run", "x")
     for words in (
         [], ["run"], ["run", "--limit", "3", "--batch", "4", "one.feed", "two.feed"],
         [str(count) for count in range(300)],
@@ -160,15 +161,15 @@ def what_it_is_given(copy):
     status, out, _ = copy.start(b"\xff", "--")
     expect("a word that is no text", (status, out.split("\0")[:4]), (0, ["3", "yarib", "\\xff", "--"]))
     for status in (1, 2, 6, 126, 127, 255):
-        expect(f"the status {status}", copy.start("run", names={"STARTED_STATUS": str(status)})[::2], (status, ""))
-    expect("standard input", copy.start("run", stdin=None, input=b"10.0.0.1\n"),
-           (0, told(["run"], copy.top, given="10.0.0.1\n"), ""))
+        expect(f"the status {status}", copy.start("run", "x", names={"STARTED_STATUS": str(status)})[::2], (status, ""))
+    expect("standard input", copy.start("run", "x", stdin=None, input=b"10.0.0.1\n"),
+           (0, told(["run", "x"], copy.top, given="10.0.0.1\n"), ""))
     own = "glibc.malloc.arena_max=2"
-    ended = copy.start("run", names={"GLIBC_TUNABLES": own})
-    expect("a user's own tunables", ended, (0, told(["run"], copy.top, tunables=with_own(own)), ""))
+    ended = copy.start("run", "x", names={"GLIBC_TUNABLES": own})
+    expect("a user's own tunables", ended, (0, told(["run", "x"], copy.top, tunables=with_own(own)), ""))
     link = copy.top.parent / "called"
     link.symlink_to(copy.top / "yarib")
-    expect("from elsewhere", copy.start("run", by=link, cwd=link.parent), (0, told(["run"], link.parent), ""))
+    expect("from elsewhere", copy.start("run", "x", by=link, cwd=link.parent), (0, told(["run", "x"], link.parent), ""))
     expect("what is built for calls with nothing changed",
            len([note for note in copy.built() if note == "begin rt_app"]), 1)
 
@@ -208,17 +209,73 @@ def what_is_built_anew(copy):
     for name in ("crates/rt_trie/must-fail/m.edit", *others, "crates/rt_trie/out/rlib", "README.md", "tests/rows.py"):
         copy.change(name)
         expect(f"not built where {name} is another", copy.built_by_call(), [])
-    copy.start("run", names={"VERSION": "2"})
+    copy.start("run", "x", names={"VERSION": "2"})
     expect("not built where only the toolchain is another", copy.built(), [])
     copy.change("crates/rt_app/src/main.rt")
-    copy.start("run", names={"VERSION": "2"})
+    copy.start("run", "x", names={"VERSION": "2"})
     expect("built where the toolchain is another", begun(copy.built()), whole)
+
+
+# Catches a launcher that starts a program that is empty, cut or changed: `not started where the program is ..`.
+# Catches a build that uses such a library or archive: `built where a library is ..`.
+def damaged(copy):
+    copy.start("run", "x")
+    copy.built()
+    program = copy.product("rt_app")
+    whole = program.read_bytes()
+    for how, content in (("empty", b""), ("cut", whole[:-1]), ("changed", whole[:-1] + b"x")):
+        program.write_bytes(content)
+        status, out, err = copy.start("run", "x", path="without")
+        expect(f"not started where the program is {how}", (status, out, len(err.splitlines())), (127, "", 1))
+        status, out, err = copy.start("run", "x")
+        expect(f"built where the program is {how}", (status, out, begun(copy.built())),
+               (0, told(["run", "x"], copy.top), {"rt_app"}))
+        expect(f"the program that is {how} is reported", f"{program} is not as it was built" in err, True)
+    program.with_name(f"{program.name}.sha256").unlink()
+    expect("built where the checksum is missing", begun(copy.built_by_call()), {"rt_app"})
+    copy.product("rt_cidr").write_bytes(b"")
+    copy.change("crates/rt_app/src/main.rt")
+    expect("built where a library is empty", "rt_cidr" in begun(copy.built_by_call()), True)
+
+
+# Catches a sum that depends on a file that the prover doesn't read, or a build that can't copy one: `not built where .. is
+# there`.
+def unread_files(copy):
+    copy.start("run", "x")
+    copy.built()
+    source = copy.top / "crates/rt_trie/src"
+    (source / ".#lib.rt").symlink_to("user@host.1234:1")
+    for name in (".lib.rt.swp", "lib.rt~", "#lib.rt#", "4913", "__pycache__/lib.cpython-311.pyc"):
+        (source / name).parent.mkdir(exist_ok=True)
+        (source / name).write_text("of an editor\n")
+        expect(f"not built where {name} is there", copy.built_by_call(), [])
+    copy.change("crates/rt_trie/src/lib.rt")
+    expect("built beside these", "rt_app" in begun(copy.built_by_call()), True)
+
+
+# Catches a source that can't be read, or a signal in the first second, that is reported with a traceback: `.. in one line`.
+def one_line(copy):
+    unread = copy.top / "crates/rt_trie/src/unread.rt"
+    unread.symlink_to("/proc/self/mem")
+    for words in (["run", "x"], ["--help"]):
+        status, out, err = copy.start(*words)
+        expect(f"{words}: a source that can't be read, in one line", (status, out, len(err.splitlines())), (126, "", 1))
+    unread.unlink()
+    how = {"env": copy.names(), "stdin": subprocess.DEVNULL, "cwd": copy.top, "start_new_session": True, "text": True,
+           "stdout": subprocess.PIPE, "stderr": subprocess.PIPE, "preexec_fn": heed_signals}
+    for delay in range(0, 400, 20):
+        with subprocess.Popen([copy.top / "yarib", "run", "x"], **how) as call:
+            time.sleep(delay / 1000)
+            with contextlib.suppress(ProcessLookupError):
+                os.killpg(call.pid, signal.SIGINT)
+            out, err = call.communicate()
+        expect(f"interrupted after {delay} ms, without a traceback", ("Traceback" in err, out), (False, ""))
 
 
 # Catches a launcher that starts the program of a reverted edit, or counts anything below crates/ as built: `the edit
 # taken back`.
 def taken_back(copy):
-    copy.start("run")
+    copy.start("run", "x")
     copy.built()
     source = copy.top / "crates/rt_app/src/main.rt"
     text = source.read_text()
@@ -243,14 +300,14 @@ def beside_the_gate(copy):
     kept.parent.mkdir(parents=True)
     kept.write_text("kept\n")
     for round in ("first", "second"):
-        copy.start("run")
+        copy.start("run", "x")
         expect(f"what the toolchain says of the tree after the {round} ./yarib", refused_files(copy.top), None)
         judged = {crate: copy.top / f"crates/{crate}/out/{crate}" for crate in ("rt_app", "yarib_c")}
         for path in judged.values():
             path.parent.mkdir(exist_ok=True)
             path.write_text(f"of the gate's {round} run")
         copy.change("crates/rt_app/src/main.rt")
-        copy.start("run")
+        copy.start("run", "x")
         copy.start("yarib_c", by=copy.top / "tools/build")
         expect(f"the gate's own files after the {round} run",
                (kept.read_text(), [path.read_text() for path in judged.values()]),
@@ -286,7 +343,7 @@ def begun_build(copy, crate):
     pid.unlink(missing_ok=True)
     how = {"env": copy.names() | {"HANGS": crate}, "stdin": subprocess.DEVNULL, "cwd": copy.top,
            "stdout": subprocess.PIPE, "stderr": subprocess.PIPE, "start_new_session": True, "preexec_fn": heed_signals}
-    with subprocess.Popen([copy.top / "yarib", "run"], **how) as call:
+    with subprocess.Popen([copy.top / "yarib", "run", "x"], **how) as call:
         wait_until(lambda: pid.exists() and pid.read_text().endswith("\n"))
         yield call, int(pid.read_text())
         if call.poll() is None:
@@ -355,20 +412,20 @@ def command(pid):
 # Catches a launcher that doesn't report in a single line a directory that can't be written, a full disk, a toolchain of
 # another logic, or a missing python3; or after which something counts as built: `.. : its line`, `built after ..`.
 def what_is_missing(copy):
-    status, out, err = copy.start("run", names={"LOGIC": "another"})
+    status, out, err = copy.start("run", "x", names={"LOGIC": "another"})
     expect("a toolchain of another logic: its line", (status, out, len(err.splitlines()), LOGIC in err), (127, "", 1, True))
     (copy.tools / "bare").mkdir()
     for name in ("bash", "dirname", "readlink", "rt"):
         (copy.tools / "bare" / name).symlink_to(copy.tools / ("with" if name == "rt" else "without") / name)
-    status, out, err = copy.start("run", path="bare")
+    status, out, err = copy.start("run", "x", path="bare")
     expect("python3 missing: its line", (status, out, len(err.splitlines()), "python3" in err), (127, "", 1, True))
     (copy.top / "out").write_text("no folder\n")
-    status, out, err = copy.start("run")
+    status, out, err = copy.start("run", "x")
     expect("a folder that can't be made: its line", (status, out, len(err.splitlines())), (126, "", 1))
     (copy.top / "out").unlink()
     # A file may have 100 kB, so that the library of rt_rib, two of whose files have 60 kB, can't be kept: as on a full disk.
     (copy.top / "crates/rt_rib/src/lib.rt").write_text("// " + "x" * 60_000 + "\n")
-    limited = ["bash", "-c", 'trap "" XFSZ; ulimit -f 100; exec "$0" "$@"', copy.top / "yarib", "run"]
+    limited = ["bash", "-c", 'trap "" XFSZ; ulimit -f 100; exec "$0" "$@"', copy.top / "yarib", "run", "x"]
     status, out, err = run(limited, env=copy.names(), stdin=subprocess.DEVNULL, cwd=copy.top)
     expect("a file that can't be written: its line", (status, out, "can't be built" in err.splitlines()[-1]),
            (126, "", True))
@@ -379,7 +436,7 @@ def what_is_missing(copy):
 
 # Catches other arguments for the prover than these, such as ones that disable its checks: `the words for the prover`.
 def words_for_the_prover(copy):
-    copy.start("run")
+    copy.start("run", "x")
     known = {"--jobs", "--crate-name", "--extern", "-L", "--antt-project", "--logic-built", "--links", "--statements", "-o",
              "--toolchain", "--backend"}
     for line in pathlib.Path(f"{copy.notes}.words").read_text().splitlines():
@@ -398,7 +455,7 @@ def begun(notes):
 # Catches a build that proves a crate before one that it needs: `rt_trie begins when rt_cidr has ended`.
 # Catches a build that doesn't prove a crate that the program needs, or proves another one: `what is proved`.
 def in_order(copy):
-    status, _, err = copy.start("run")
+    status, _, err = copy.start("run", "x")
     noted = copy.built()
     expect("what is proved", ({note.split()[1] for note in noted}, status), (below(["rt_app"]), 0))
     for crate in sorted(below(["rt_app"])):
@@ -411,9 +468,9 @@ def in_order(copy):
 # Catches builds without mutual exclusion: `three calls at once build once`, `two builds at once prove each crate once`.
 def one_at_a_time(copy):
     with concurrent.futures.ThreadPoolExecutor(3) as pool:
-        ended = list(pool.map(copy.start, ("run", "table", "diff")))
+        ended = list(pool.map(lambda name: copy.start(name, "x"), ("run", "table", "diff")))
     expect("three calls at once start the program", [one[:2] for one in ended],
-           [(0, told([word], copy.top)) for word in ("run", "table", "diff")])
+           [(0, told([word, "x"], copy.top)) for word in ("run", "table", "diff")])
     expect("three calls at once build once", copy.built().count("begin rt_app"), 1)
     copy.change("crates/rt_cidr/src/lib.rt")
     with concurrent.futures.ThreadPoolExecutor(2) as pool:
@@ -426,12 +483,12 @@ def one_at_a_time(copy):
 # Catches a build that counts as built what a killed prover, a failing linker or a prover without checks left: `a prover
 # is killed`, `the linker fails`, `a prover says of nothing that it is proved`.
 def failed_builds(copy):
-    copy.start("run")
+    copy.start("run", "x")
     for crate in ("ya_core", "rt_run", "rt_app"):
         copy.change("crates/rt_cidr/src/lib.rt")
         copy.change("crates/ya_core/src/lib.rt")
         copy.built()
-        status, out, err = copy.start("run", names={"FAILS": crate})
+        status, out, err = copy.start("run", "x", names={"FAILS": crate})
         log = copy.top / f"out/build/{crate}.log"
         is_told = f"{crate} is not proved; {log}" in err, log.read_text() == f"no proof of {crate}\n"
         expect(f"{crate} fails", (status, out, *is_told), (126, "", True, True))
@@ -440,7 +497,7 @@ def failed_builds(copy):
     for how, names in (("a prover is killed", {"DIES": "rt_app"}), ("the linker fails", {"LINKER_FAILS": "1"}),
                        ("a prover says of nothing that it is proved", {"SILENT": "rt_app"})):
         copy.change("crates/rt_app/src/main.rt")
-        expect(f"{how}: no program", copy.start("run", names=names)[:2], (126, ""))
+        expect(f"{how}: no program", copy.start("run", "x", names=names)[:2], (126, ""))
         copy.built()
         expect(f"{how}: built after it", begun(copy.built_by_call()), {"rt_app"})
 
@@ -469,22 +526,22 @@ def libraries(copy):
 
 # Catches a launcher that keeps the build's lock while the program runs: `built while the program runs`.
 def beside_a_run(copy):
-    copy.start("run")
+    copy.start("run", "x")
     how = {"env": copy.names(), "stdin": subprocess.PIPE, "stdout": subprocess.PIPE, "cwd": copy.top}
     for round in ("found built", "just built"):
-        with subprocess.Popen([copy.top / "yarib", "run"], **how) as running:
+        with subprocess.Popen([copy.top / "yarib", "run", "x"], **how) as running:
             wait_until(lambda: b"yarib\0run" in command(running.pid))
             copy.change("crates/rt_cidr/src/lib.rt")
-            expect(f"built while the program runs that was {round}", copy.start("run", timeout=60)[0], 0)
+            expect(f"built while the program runs that was {round}", copy.start("run", "x", timeout=60)[0], 0)
             copy.change("crates/rt_app/src/main.rt")
-            expect("it still runs", running.communicate()[0].decode(), told(["run"], copy.top))
+            expect("it still runs", running.communicate()[0].decode(), told(["run", "x"], copy.top))
 
 
 # Catches a build that counts a source as built that was changed meanwhile: `a source was changed while ..`.
 def changed_meanwhile(copy):
     for crate in ("rt_diff", "rt_app"):
         copy.change("crates/rt_cidr/src/lib.rt")
-        copy.start("run", names={"CHANGES": crate})
+        copy.start("run", "x", names={"CHANGES": crate})
         copy.built()
         expect(f"a source was changed while {crate} was built", copy.built_by_call().count("end rt_app"), 1)
     expect("nothing was changed since", copy.built_by_call(), [])
@@ -507,27 +564,42 @@ def without_a_program(copy):
     for words, name in ((["walk"], "no-subcommand"), (["a&b\\c", "x"], "no-subcommand"), (["--frob", "run"], "no-option")):
         misuse = stored(name).replace("WORD", words[0])
         expect(f"without a program {words}", copy.start(*words, path="without"), (3, "", misuse))
+    for words, option in ((["table", "--bets", "x"], "--bets"), (["run", "x", "--lim=3"], "--lim"), (["diff", "-x"], "-x"),
+                          (["replay", "--best"], "--best"), (["lookup", "--within", "10.0.0.0/8"], "--within")):
+        misuse = stored("no-option").replace("WORD", option).replace("yarib <COMMAND>", usage_of(page[words[0]]))
+        expect(f"without a program {words}", copy.start(*words, path="without"), (3, "", misuse))
+    for name, operands in (("run", "<FILE>..."), ("lookup", "<FILE>..."), ("table", "<FILE>..."),
+                           ("diff", "<OLD>...\n  <NEW>..."), ("replay", "--levels <L>")):
+        usage = usage_of(page[name]).replace("[OPTIONS] ", "")
+        misuse = stored("no-operand").replace("WORD", operands).replace("yarib <COMMAND>", usage)
+        expect(f"without a program, {name} without operands", copy.start(name, path="without"), (3, "", misuse))
+    expect("without a program, only flags", copy.start("table", "--best", path="without")[0], 3)
     expect("nothing is built for them", copy.built(), [])
     for words in (["run", "one.feed", "--help"], ["help", "walk"], ["help", "yarib"], ["-hx"], ["--help=x"], ["--"],
-                  ["run"], ["a\tb"]):
+                  ["run", "x"], ["table", "--limit"], ["run", "--", "--frob"], ["table", "-"], ["a\tb"]):
         expect(f"what needs a program {words}", copy.start(*words, path="without")[0], 127)
     copy.start("run", "x.feed")
     for words in (["--help"], ["--version"], ["walk"], []):
         expect(f"with a program {words}", copy.start(*words), (0, told(words, copy.top), ""))
 
 
+def usage_of(text):
+    """The usage that a help text has."""
+    return re.search(r"^Usage: (.*)$", text, re.M)[1]
+
+
 # Catches a launcher that needs the toolchain though nothing is to be built, or has another status if it is missing:
 # `without rt`.
 # Catches a build or a removal in a directory that isn't the repository: `a folder without sources`.
 def nothing_to_build_with(copy):
-    status, out, err = copy.start("run", path="without")
+    status, out, err = copy.start("run", "x", path="without")
     expect("without rt", (status, out, "PATH" in err and "rt" in err), (127, "", True))
-    copy.start("run")
-    expect("built, and then without rt", copy.start("run", path="without"), (0, told(["run"], copy.top), ""))
+    copy.start("run", "x")
+    expect("built, and then without rt", copy.start("run", "x", path="without"), (0, told(["run", "x"], copy.top), ""))
     copy.built()
     for name in ("crates.txt", "crates/rt_app/src/main.rt"):
         (copy.top / name).rename(copy.top / "kept")
-        status, out, err = copy.start("run")
+        status, out, err = copy.start("run", "x")
         expect(f"a folder without sources: no {name}", (status, out, str(copy.top) in err, copy.built()),
                (126, "", True, []))
         (copy.top / "kept").rename(copy.top / name)
@@ -596,7 +668,7 @@ def put_tools(folder):
 
 
 CASES = (
-    what_it_is_given, what_is_built_anew, taken_back, beside_the_gate, interrupted, what_is_missing, words_for_the_prover,
+    what_it_is_given, what_is_built_anew, damaged, unread_files, one_line, taken_back, beside_the_gate, interrupted, what_is_missing, words_for_the_prover,
     in_order, one_at_a_time, failed_builds, libraries, beside_a_run, changed_meanwhile, nothing_to_build_with,
     without_a_program, completions,
 )
