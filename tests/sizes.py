@@ -12,8 +12,9 @@ No clause can say that an allocation succeeds if there is memory. So the cases a
 5. The highest numbers and the last address.
 
 `lookup` and `table` are called on each number of files, on 300,000 routes and with 100,000 addresses. `lookup` is also
-called with just fewer and just more addresses and routes than a forwarding table needs to answer. Each option that
-changes the output is given at, just above and far above these sizes. All cases run with the memory settings of the
+called with just fewer and just more addresses and routes than a forwarding table needs to answer. Most options that
+change the output are given at, just above and far above these sizes; not `--exact`, `--without`, the choice of feeds by
+`lookup` and `diff`, and `--count` with names or JSON. All cases run with the memory settings of the
 launchers. With the C library's default, many threads share several arenas. This matters in cases with many threads and
 in cases that fill large pages. In these (`OF_MEMORY`) each `run` is called with both; the other commands have one
 thread. The other cases are about numbers in the code.
