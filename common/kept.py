@@ -1,13 +1,20 @@
 """What earlier gates on this machine passed: an entry of the user's cache, named by a checksum of everything on which the
-result depends. An entry that can't be read or written counts for nothing. Whoever can write to the directory is trusted,
-as with what `rt ci` keeps."""
+result depends. That is summed before the result is found and again afterwards; if it changed meanwhile, nothing is kept.
+An entry that can't be read or written counts for nothing. Whoever can write to the directory is trusted, as with what `rt
+ci` keeps."""
 import functools
 import hashlib
 import os
+import shutil
+import subprocess
 import tempfile
 
 from .crates import cache
 from .prover import kit
+
+
+# Libraries that gcc needs for tests under sanitizers.
+SANITIZERS = ("libasan.so", "libtsan.so", "libubsan.so")
 
 
 @functools.cache
@@ -17,29 +24,42 @@ def toolchain():
     return [(kit() / name).read_bytes() for name in ("KIT-ID", "WHAT")], prover.st_size, prover.st_mtime_ns
 
 
-def entry(kind, *depends):
-    return cache(kind) / hashlib.sha256(repr((toolchain(), depends)).encode()).hexdigest()
+def machine(commands):
+    """Returns what identifies each of these commands on this machine, or None for a missing one; of gcc also which of its
+    sanitizers are there."""
+    found = [(name, shutil.which(name)) for name in sorted(set(commands))]
+    known = [(name, path and (os.path.realpath(path), os.stat(path).st_size, os.stat(path).st_mtime_ns))
+             for name, path in found]
+    for library in SANITIZERS if ("gcc", None) not in found and "gcc" in commands else ():
+        known.append((library, subprocess.run(["gcc", f"-print-file-name={library}"], stdout=subprocess.PIPE,
+                                              text=True).stdout.strip()))
+    return known
 
 
-def read(path):
-    """Returns the text of an entry, or None."""
-    try:
-        return path.read_text() or None
-    except OSError:
-        return None
+class Entry:
+    """A result, which is kept only if all on which it depends is the same before and after. `depends` returns that."""
 
+    def __init__(self, kind, depends):
+        self.path_now = lambda: cache(kind) / hashlib.sha256(repr((toolchain(), depends())).encode()).hexdigest()
+        self.path = self.path_now()
 
-def write(path, text):
-    """Writes an entry. It is written apart and then renamed, so that no other run meets half of it."""
-    try:
-        path.parent.mkdir(parents=True, exist_ok=True)
-        with tempfile.NamedTemporaryFile("wb", dir=path.parent, delete=False) as new:
-            new.write(text if isinstance(text, bytes) else text.encode())
-        os.replace(new.name, path)
-    except OSError:
-        pass
+    def said(self):
+        """Returns the text that is kept, or None."""
+        try:
+            return self.path.read_text() or None
+        except OSError:
+            return None
 
-
-def copy(file, path):
-    """Writes an entry with the bytes of a file."""
-    write(path, file.read_bytes())
+    def keep(self, text):
+        """Keeps a text, or the bytes of a file, which is written apart and then renamed, so that no other run meets half of
+        it. Returns false, and keeps nothing, if something changed meanwhile."""
+        is_same = self.path_now() == self.path
+        if is_same:
+            try:
+                self.path.parent.mkdir(parents=True, exist_ok=True)
+                with tempfile.NamedTemporaryFile("wb", dir=self.path.parent, delete=False) as new:
+                    new.write(text if isinstance(text, bytes) else text.encode())
+                os.replace(new.name, self.path)
+            except OSError:
+                pass
+        return is_same

@@ -21,15 +21,17 @@ from common.checks import TOP, chosen, end, expect, of_thread, run, run_case
 LISTED = {"mutants": 4, "definitions": 2}
 QUICK = ["tests/launcher.py", "tests/libraries.py", "tools/unproved", "convert/test", "map/test", "tools/check",
          "tests/installed.py", "tests/rows.py", "tests/command_line.py"]
-SCRIPTS = sorted({*QUICK, "tools/mutants", "tools/definitions", "tools/archive", "bindings/test",
-                  *(f"tests/{name}.py" for name in ("built", "gate", "mutants", "hostile", "sizes", "allocations",
-                                                    "refused_few", "costs"))})
+# The scripts that ./test runs by tools/once, and all others.
+ONCE_RUN = [f"tests/{name}.py" for name in re.findall(r"^  once (\w+) ", (TOP / "test").read_text(), re.M)]
+SCRIPTS = sorted({*QUICK, *ONCE_RUN, "tools/mutants", "tools/definitions", "tools/archive", "bindings/test",
+                  *(f"tests/{name}.py" for name in ("hostile", "sizes", "allocations", "refused_few", "costs"))})
 # What a stub prints last, and its status, by its end.
 STUB = """#!/usr/bin/env bash
 name="NAME"
 said="$name $*;"
 for one in "${!YARIB_@}"; do said="$said $one=${!one}"; done
 echo "$said" >>"$NOTES"
+case "$name $*" in *" --sum") echo 1; exit ;; esac
 case " $BREAKS " in
   *" $name=status "*) echo "wrong in $name"; exit 1 ;;
   *" $name=killed "*) kill -9 $$ ;;

@@ -1,0 +1,230 @@
+#!/usr/bin/env python3
+"""Calls what keeps verdicts for later gates in a small repository, with a stub of the toolchain: tools/once, tools/archive,
+tools/definitions and tests/libraries.py keep a verdict for the files that were judged, and for nothing else.
+
+tests/kept.py [CASE..], or --list for the names of the cases. Needs python3, proves nothing, and takes seconds. A stub can
+change a file of the repository while it works: its command is $MEANWHILE. tests/mutants.py tests what is kept of mutants.
+"""
+import os
+import pathlib
+import shutil
+import tempfile
+
+from common.checks import TOP, chosen, end, expect, run, run_each
+
+RT = """#!/bin/sh
+case $1 in
+  doc) echo "$KIT/page.md" ;;
+  version) echo "stand-in-1 logic 0123456789abcdef" ;;
+  try)
+    echo "$PWD" >>"$NOTES"
+    eval "$MEANWHILE"
+    if grep -q wrong ../*/src/*.rt; then echo "test result: FAILED"; exit 1; fi
+    echo "run=ended status=0"; echo "test result: ok. 1 passed; 0 failed;" ;;
+esac
+"""
+# The stub of the prover makes of a crate's source its archive. Of copies of definitions it says that the examples of the
+# changed one, which are in the first, are refused.
+PROVER = """#!/bin/sh
+if [ "$1" = fmt ]; then exit; fi
+echo "$*" >>"$NOTES"
+eval "$MEANWHILE"
+if grep -qs wrong src/lib.rt; then exit 1; fi
+while [ $# -gt 0 ]; do
+  case $1 in -o) cp src/lib.rt "$2" ;; esac
+  shift
+done
+for file in proofs/H0_*Examples.antt; do
+  if [ -e "$file" ]; then echo "$file:$(wc -l <"$file"):1: error: it isn't so"; fi
+done
+echo "logic=proved holes=1"
+"""
+SCRIPT = """#!/bin/sh
+echo "$0" >>"$NOTES"
+eval "$MEANWHILE"
+top=$(dirname "$0")/..
+if ! command -v other >/dev/null; then echo "left out: what needs other"; fi
+grep -q right "$top/read.txt" && { [ -z "$MORE" ] || cat "$top/$MORE"; } || exit ${STATUS-1}
+"""
+FILES = {
+    "crates.txt": "one:\nabove staticlib: one\none_examples: one\n",
+    "HANDLES": "",
+    "crates/one/src/lib.rt": "//! One.\n#![tactic(auto)]\n",
+    "crates/one/specs/One.antt": "-- One.\npub one : Nat\none = 1\n",
+    "crates/one/must-fail/definitions.md": "# Changes\n\n## two\n\n```\nfile: specs/One.antt\nold: one = 1\nnew: one = 2\n"
+                                           "refused by: one_is_one\n```\n",
+    "crates/above/src/lib.rt": "//! The archive's text.\n",
+    "crates/one_examples/src/lib.rt": "//! Examples.\n",
+    "crates/one_examples/proofs/Examples.antt": "use Rattle.one.specs.One.{one}\n\n-- one\npub one_is_one : one ≡ 1\none_is_one = refl\n",
+    "tests/libraries/crates.txt.in": "tests_of_one: one\n",
+    "tests/libraries/tests_of_one/src/lib.rt.in": "#[test]\nfn is_one() {}\n",
+    "bench/benches/crates.txt.in": "benches: one\n",
+    "bench/benches/src/main.rt.in": "fn main() {}\n",
+    "read.txt": "right\n",
+    "other.txt": "other\n",
+}
+
+
+class Repository:
+    """A repository with the scripts of this one, a toolchain of stubs, and a cache of its own."""
+
+    def __init__(self):
+        self.room = pathlib.Path(tempfile.mkdtemp(dir=".")).resolve()
+        self.top, self.kit, self.notes = self.room / "top", self.room / "kit", self.room / "notes"
+        for folder in ("tools", "common"):
+            shutil.copytree(TOP / folder, self.top / folder, ignore=shutil.ignore_patterns("__pycache__"))
+        for name in ("libraries.py", "common.py"):
+            (self.top / "tests").mkdir(exist_ok=True)
+            shutil.copy(TOP / "tests" / name, self.top / "tests")
+        for name, text in FILES.items():
+            self.put(self.top / name, text)
+        for name, text in (("bin/rt", RT), ("bin/rattle", PROVER), ("toolchain/bin/clang", ""), ("KIT-ID", "1"), ("WHAT", "")):
+            self.put(self.kit / name, text)
+        self.put(self.top / "tests/one.sh", SCRIPT)
+
+    def put(self, path, text):
+        path.parent.mkdir(parents=True, exist_ok=True)
+        path.write_text(text)
+        path.chmod(0o755)
+
+    def call(self, *words, meanwhile="", more="", path=()):
+        """The status of a call, its output, and how often the stubs were called."""
+        self.notes.write_text("")
+        names = {"PATH": ":".join([*map(str, path), str(self.kit / "bin"), os.environ["PATH"]]), "KIT": str(self.kit),
+                 "NOTES": str(self.notes), "MEANWHILE": meanwhile, "MORE": more, "XDG_CACHE_HOME": str(self.room / "cache")}
+        status, out, err = run([self.top / words[0], *words[1:]], env=os.environ | names, cwd=self.top)
+        return status, out + err, len(self.notes.read_text().splitlines())
+
+    def change(self, name, old, new):
+        """The command that changes a file of the repository."""
+        return f"sed -i 's/{old}/{new}/' '{self.top / name}'"
+
+
+# Catches a kept verdict on files other than those that the script read: `.. is changed`, `.. meanwhile`, `a file that isn't
+# named`.
+# Catches a file that doesn't exist and is taken for nothing: `no such file`.
+# Catches a pass without a command that stays when the command is there: `other is there`.
+def once(new):
+    one = new()
+    own = lambda *names, **how: one.call("tools/once", "tests/one.sh", "word", ":", *(names or ("read.txt",)), **how)
+    ran = lambda ended: (ended[0], ended[2])
+    expect("at first", ran(own()), (0, 1))
+    ended = own()
+    expect("again", (ran(ended), "tests/one.sh word: passed in an earlier run on this machine" in ended[1]), ((0, 0), True))
+    expect("again, --anew", ran(one.call("tools/once", "--anew", "tests/one.sh", "word", ":", "read.txt")), (0, 1))
+    expect("with another word", ran(one.call("tools/once", "tests/one.sh", "more", ":", "read.txt")), (0, 1))
+    expect("a file that isn't named", ran(own(more="other.txt")), (0, 0))
+    for name, text in (("read.txt", "right, more\n"), ("tests/one.sh", SCRIPT + "# more\n")):
+        before = (one.top / name).read_text()
+        one.put(one.top / name, text)
+        expect(f"{name} is changed", ran(own()), (0, 1))
+        one.put(one.top / name, before)
+        expect(f"{name} is as it was", ran(own()), (0, 0))
+    (one.top / "read.txt").chmod(0o644)
+    expect("read.txt has other rights", ran(own()), (0, 1))
+    status, said, calls = own("read.txt", "none.txt")
+    expect("no such file", (status, "none.txt" in said, calls), (2, True, 0))
+    expect("no file", ran(one.call("tools/once", "tests/one.sh")), (1, 0))
+    one = new()
+    expect("a file that isn't named, but read", ran(own(more="other.txt")), (1, 1))
+    expect("it passes once it is named", ran(own("read.txt", "other.txt", more="other.txt")), (0, 1))
+    one.put(one.top / "other.txt", "another\n")
+    expect("that file is changed", ran(own("read.txt", "other.txt")), (0, 1))
+    one = new()
+    expect("it becomes wrong meanwhile", ran(own(meanwhile=one.change("read.txt", "right", "wrong"))), (0, 1))
+    expect("the wrong one", ran(own()), (1, 1))
+    expect("it is mended meanwhile", ran(own(meanwhile=one.change("read.txt", "wrong", "right"))), (1, 1))
+    one.put(one.top / "read.txt", "wrong\n")
+    expect("the wrong one again", ran(own()), (1, 1))
+    expect("what failed isn't kept", ran(own()), (1, 1))
+    one = new()
+    needing = lambda **how: one.call("tools/once", "tests/one.sh", ":", "read.txt", ":", "other", **how)
+    for calls in (1, 0):
+        status, said, called = needing()
+        expect("other isn't there", (status, "left out: what needs other\n" in said, called), (0, True, calls))
+    one.put(one.room / "more/other", "#!/bin/sh\n")
+    for calls in (1, 0):
+        status, said, called = needing(path=[one.room / "more"])
+        expect("other is there", (status, "left out" in said, called), (0, False, calls))
+    one.put(one.room / "more/other", "#!/bin/sh\n# another\n")
+    expect("another other is there", ran(needing(path=[one.room / "more"])), (0, 1))
+
+
+# Catches an archive of other text than the sources', or one that is kept under the sum of other sources: `.. meanwhile`,
+# `sources that were changed since`.
+def archive(new):
+    one, made = new(), lambda: (one.top / "crates/above/out/libabove.a").read_text()
+    build = lambda *words, **how: one.call("tools/archive", "above", *words, **how)[::2]
+    text, changed = FILES["crates/above/src/lib.rt"], FILES["crates/above/src/lib.rt"].replace("text", "letters")
+    expect("an archive", (build(), made()), ((0, 1), text))
+    (one.top / "crates/above/out/libabove.a").unlink()
+    expect("an archive again", (build(), made()), ((0, 0), text))
+    expect("an archive --anew", build("--anew"), (0, 1))
+    one = new()
+    expect("the source is changed meanwhile", (build(meanwhile=one.change("crates/above/src/lib.rt", "text", "letters")), made()),
+           ((0, 1), text))
+    expect("the changed source", (build(), made()), ((0, 1), changed))
+    one.put(one.top / "crates/above/src/lib.rt", text)
+    expect("the source as it was", (build(), made()), ((0, 0), text))
+    for name in ("crates/one/src/lib.rt", "crates/one/specs/One.antt"):
+        _, before, _ = one.call("tools/archive", "above", "--sum")
+        expect(f"the sum from before, {name}", build("--sources", before.strip()), (0, 0))
+        one.put(one.top / name, FILES[name] + "-- more\n")
+        expect(f"sources that were changed since: {name}", build("--sources", before.strip()), (1, 0))
+        expect(f"the changed source: {name}", build(), (0, 1))
+    one.put(one.top / "crates/above/src/lib.rt", "wrong\n")
+    expect("a wrong source", (build(), build()), ((1, 1), (1, 1)))
+
+
+# Catches tests of libraries that count as passed for sources which were saved meanwhile, or which changed: `.. meanwhile`.
+def libraries(new):
+    one = new()
+    tests = lambda *words, **how: one.call("tests/libraries.py", *words, **how)[::2]
+    expect("tests", tests("--kept"), (0, 2))
+    expect("tests again", tests("--kept"), (0, 0))
+    expect("tests again, not --kept", tests(), (0, 2))
+    source, test = one.top / "crates/one/src/lib.rt", one.top / "tests/libraries/tests_of_one/src/lib.rt.in"
+    for path, calls in ((test, 1), (source, 2), (one.top / "bench/benches/src/main.rt.in", 1)):
+        path.write_text(path.read_text() + "// more\n")
+        expect(f"{path.name} is changed", tests("--kept"), (0, calls))
+    one = new()
+    becomes_wrong = f"echo // wrong >>'{one.top}/crates/one/src/lib.rt'"
+    expect("a library becomes wrong meanwhile", tests("--kept", meanwhile=becomes_wrong), (0, 2))
+    expect("the wrong one", tests("--kept"), (1, 2))
+    is_mended = one.change("crates/one/src/lib.rt", "wrong", "right")
+    expect("it is mended meanwhile", tests("--kept", meanwhile=is_mended), (1, 2))
+    expect("the mended one", tests("--kept"), (0, 2))
+    one = new()
+    becomes_wrong = f"echo // wrong >>'{one.top}/tests/libraries/tests_of_one/src/lib.rt.in'"
+    expect("a test becomes wrong meanwhile", tests("--kept", meanwhile=becomes_wrong), (0, 2))
+    expect("the wrong test", tests("--kept"), (1, 1))
+
+
+# Catches changes of definitions that count as refused for definitions or examples which were saved meanwhile: `..
+# meanwhile`.
+def definitions(new):
+    one = new()
+    tried = lambda *words, **how: one.call("tools/definitions", "--gate", *words, **how)
+    status, said, calls = tried()
+    expect("a change", (status, said.endswith("definition one/two: refused, as it must be: one_is_one\n1 passed, 0 failed\n"), calls),
+           (0, True, 1))
+    status, said, calls = tried()
+    expect("a change again", (status, said.endswith("\n1 passed, 0 failed\n"), calls), (0, True, 0))
+    expect("--anew", tried("--anew")[::2], (0, 1))
+    for name in ("crates/one/specs/One.antt", "crates/one_examples/proofs/Examples.antt", "common/definition_reader.py"):
+        one = new()
+        more = f"""printf '\\n# more\\n' >>'{one.top / name}'""" if name.endswith(".py") else one.change(name, "1$", "1 ")
+        expect(f"{name} is saved meanwhile", tried(meanwhile=more)[::2], (0, 1))
+        expect(f"{name} as it was saved", tried()[2], 1)
+
+
+CASES = (once, archive, libraries, definitions)
+
+
+def main():
+    run_each(chosen(__doc__, CASES, takes=()).cases, Repository)
+    end()
+
+
+if __name__ == "__main__":
+    main()
