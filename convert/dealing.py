@@ -2,11 +2,10 @@
 have and, with --merge, one for many sources together."""
 import contextlib
 import itertools
-import pathlib
 import shutil
 import typing
 
-from errors import Refused, naming
+from errors import Refused
 
 FIRST_LINE = "version 2\n"
 MERGED = "merged"
@@ -15,10 +14,10 @@ BLOCK = 1 << 20
 
 
 class Source(typing.NamedTuple):
-    """A source's commands in a file: how many there are, and how many routes it has at a time, at most."""
+    """A source's commands in a file of that name: how many there are, and how many routes it has at a time, at most."""
 
     name: str
-    file: pathlib.Path
+    file: str
     commands: int
     routes: int
 
@@ -26,10 +25,10 @@ class Source(typing.NamedTuple):
         """Returns how many feeds the source needs."""
         return max(1, -(-self.routes // limit))
 
-    def counted(self, limit):
+    def counted(self, limit, directory):
         """Returns the source with the number of its prefixes, if it needs several feeds: each has a part of these."""
         is_whole = self.routes <= limit or self.commands == self.routes
-        return self if is_whole else self._replace(routes=len(places_of(self.file)))
+        return self if is_whole else self._replace(routes=len(places_of(self.file, directory)))
 
 
 def plan(sources, most, limit, prefixes):
@@ -48,10 +47,10 @@ def plan(sources, most, limit, prefixes):
     raise Refused(f"the routes need more than {most} feeds, of {limit} routes each: raise --merge")
 
 
-def state_of(file):
+def state_of(file, directory):
     """Returns the routes that a source's commands leave: the preference and the next hop of each prefix."""
     routes = {}
-    with naming(file), open(file) as lines:
+    with directory.open(file) as lines:
         for line in lines:
             word, *fields = line.split()
             if word == "purge":
@@ -63,50 +62,48 @@ def state_of(file):
     return routes
 
 
-def merged(sources, folder):
+def merged(sources, directory):
     """Writes the best route of each prefix among these sources as one source. Returns that, and how many routes were left
     out."""
     best, routes = {}, 0
     for source in sources:
-        state = state_of(source.file)
-        source.file.unlink()
+        state = state_of(source.file, directory)
+        directory.remove(source.file)
         routes += len(state)
         for prefix, route in state.items():
             if prefix not in best or route[0] < best[prefix][0]:
                 best[prefix] = route
     # the files of sources have numbers
-    file = folder / MERGED
-    with naming(file), open(file, "w") as opened:
-        opened.writelines(f"add {prefix} {preference} {hop}\n" for prefix, (preference, hop) in best.items())
-    return Source(MERGED, file, len(best), len(best)), routes - len(best)
+    with directory.open(MERGED, "w") as file:
+        file.writelines(f"add {prefix} {preference} {hop}\n" for prefix, (preference, hop) in best.items())
+    return Source(MERGED, MERGED, len(best), len(best)), routes - len(best)
 
 
-def write(source, folder, names):
+def write(source, directory, names):
     """Writes the source's commands to feeds of these names, those of each prefix to one of them."""
     if len(names) == 1:
-        copy(source.file, folder / names[0])
+        copy(source.file, directory, names[0])
     else:
-        deal(source, folder, names)
-    source.file.unlink()
+        deal(source, directory, names)
+    directory.remove(source.file)
 
 
-def copy(file, feed):
-    with naming(feed), open(feed, "wb") as written, open(file, "rb") as lines:
+def copy(file, directory, feed):
+    with directory.open(file, "rb") as lines, directory.open(feed, "wb") as written:
         written.write(FIRST_LINE.encode())
         shutil.copyfileobj(lines, written, BLOCK)
 
 
-def deal(source, folder, names):
+def deal(source, directory, names):
     with contextlib.ExitStack() as stack:
-        stack.enter_context(naming(folder / names[0]))
-        feeds = [stack.enter_context(open(folder / name, "w")) for name in names]
+        lines = stack.enter_context(directory.open(source.file))
+        feeds = [stack.enter_context(directory.open(name, "w")) for name in names]
         for feed in feeds:
             feed.write(FIRST_LINE)
-        lines = stack.enter_context(open(source.file))
         if source.commands == source.routes:
             deal_routes(lines, source.routes, feeds)
         else:
-            deal_commands(lines, places_of(source.file), feeds)
+            deal_commands(lines, places_of(source.file, directory), feeds)
 
 
 def deal_routes(lines, number, feeds):
@@ -121,10 +118,10 @@ def prefix_of(line):
     return line.split(" ", 2)[1].rstrip("\n") if " " in line else ""
 
 
-def places_of(file):
+def places_of(file, directory):
     """Returns the prefixes of a file's commands, each with its place in the order of their first occurrence."""
     places = {}
-    with naming(file), open(file) as lines:
+    with directory.open(file) as lines:
         for prefix in filter(None, map(prefix_of, lines)):
             places.setdefault(prefix, len(places))
     return places

@@ -550,9 +550,6 @@ class FeedFiles:
     def lines(self, source):
         return self.waiting.setdefault(source, [])
 
-    def path(self, number):
-        return self.folder.new / str(number)
-
     def flush_many(self):
         """Writes what waits, if that is many lines."""
         if sum(map(len, self.waiting.values())) > MOST_WAITING:
@@ -563,30 +560,31 @@ class FeedFiles:
         self.counts += [0] * (len(self.waiting) - len(self.counts))
         for number, lines in enumerate(self.waiting.values()):
             if lines:
-                with naming(self.path(number)), open(self.path(number), "a") as file:
+                with self.folder.directory.open(str(number), "a") as file:
                     file.write("".join(lines))
                 self.taken += len(lines)
                 self.counts[number] += len(lines)
                 lines.clear()
 
+    def name(self, source):
+        """The name of a source's file while it is written."""
+        return str(list(self.waiting).index(source))
+
     def written(self, source):
         """The lines of a source that are written."""
-        path = self.path(list(self.waiting).index(source))
-        if path.exists():
-            with naming(path), open(path) as file:
-                yield from file
+        with contextlib.suppress(FileNotFoundError), self.folder.directory.open(self.name(source)) as file:
+            yield from file
 
     def rewrite(self, source, lines):
         """Replaces a source's lines."""
-        path = self.folder.new / "rewritten"
-        with naming(path), open(path, "w") as file:
+        with self.folder.directory.open("rewritten", "w") as file:
             file.writelines(lines)
-        path.rename(self.path(list(self.waiting).index(source)))
+        self.folder.directory.rename("rewritten", self.name(source))
 
     def sources(self, names, routes):
         """The sources that have commands, under these names."""
-        every = zip(names, map(self.path, range(len(names))), self.counts, routes)
-        return [dealing.Source(*source).counted(GREATEST_LIMIT) for source in every if source[2]]
+        every = zip(names, map(str, range(len(names))), self.counts, routes)
+        return [dealing.Source(*source).counted(GREATEST_LIMIT, self.folder.directory) for source in every if source[2]]
 
     def put_in_place(self, sources):
         """Puts the sources' commands into their files, and the directory into its place. Returns the number of feeds in
@@ -597,7 +595,7 @@ class FeedFiles:
         names = iter(file_names([name for dealt in parts for name in dealt]))
         written = [[next(names) for _ in dealt] for dealt in parts]
         for source, files in zip(sources, written):
-            dealing.write(source, self.folder.new, files)
+            dealing.write(source, self.folder.directory, files)
         replaced, kept = self.folder.put_in_place([name for files in written for name in files])
         told = [f"replaced {replaced} feeds that {NAME} had written"] if replaced else []
         if kept:
@@ -612,7 +610,7 @@ class FeedFiles:
         own, together = dealing.plan(sources, most, GREATEST_LIMIT, prefixes)
         if not together:
             return own, []
-        source, left = dealing.merged(together, self.folder.new)
+        source, left = dealing.merged(together, self.folder.directory)
         return [*own, source], [f"merged the {len(together)} sources with the fewest routes into {source.name}.feed, with the best "
                                 f"route of each prefix among theirs; {left} further routes are omitted"]
 

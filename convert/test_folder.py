@@ -2,9 +2,13 @@
 write at once."""
 import fcntl
 import os
+import pathlib
 import resource
+import shutil
 import signal
+import stat
 import subprocess
+import tempfile
 import time
 
 from trial import MAX_FEED_FILES, Failed, files_of, run, words
@@ -205,6 +209,100 @@ def check_disk(made):
     expect("a file that can't be written", folder.parent.exists(), False)
 
 
+# another user, who isn't in the file of users
+OTHER = 65533
+# what may be put next to the directory `feeds`, or be it, by somebody else: the commands, and a part of the message
+TRAPS = (
+    ("mkdir .feeds.new && ln -s {victim}/kept .feeds.new/.written", "/.feeds.new: remove it"),
+    ("mkdir -m 777 .feeds.new", "/.feeds.new: remove it"),
+    ("mkdir .feeds.new && mkfifo .feeds.new/.written", "/.feeds.new: remove it"),
+    ("ln -s {victim} .feeds.new", "/.feeds.new isn't a directory: remove it"),
+    ("ln -s {victim}/none .feeds.new", "/.feeds.new isn't a directory: remove it"),
+    ("mkfifo .feeds.new", "/.feeds.new isn't a directory: remove it"),
+    ("ln -s {victim} .feeds.old", "/.feeds.old isn't a directory: remove it"),
+    ("mkfifo .feeds.old", "/.feeds.old isn't a directory: remove it"),
+    ("mkdir .feeds.old && echo version 2 > .feeds.old/evil.feed", "/.feeds.old belongs to another user (number 65533)"),
+    ("mkdir -m 777 feeds && echo version 2 > feeds/evil.feed", "/feeds belongs to another user (number 65533)"),
+    ("mkdir feeds && ln -s {victim}/kept feeds/.written", "/feeds belongs to another user (number 65533)"),
+    ("mkdir feeds && mkfifo feeds/.written", "/feeds belongs to another user (number 65533)"),
+)
+# the same of the user's own, which a program with other rights may have made
+OWN_TRAPS = (
+    ("mkdir .feeds.new && ln -s {victim}/kept .feeds.new/.written", "/.feeds.new/.written isn't a file: remove it"),
+    ("mkdir .feeds.new && mkfifo .feeds.new/.written", "/.feeds.new/.written isn't a file: remove it"),
+    ("mkdir -m 770 .feeds.new", "others than the user of this converter may write to"),
+    ("ln -s {victim} .feeds.new", "/.feeds.new isn't a directory: remove it"),
+    ("ln -s {victim} .feeds.old", "/.feeds.old isn't a directory: remove it"),
+    ("mkdir feeds && ln -s {victim}/kept feeds/.written", "/feeds/.written isn't a file: remove it"),
+    ("mkdir feeds && mkfifo feeds/.written", "/feeds/.written isn't a file: remove it"),
+    ("mkdir feeds && echo nonsense > feeds/.written", "/feeds/.written has a line that no converter writes: 'nonsense'"),
+)
+
+
+def state_of(directory):
+    """What is in a directory: for each path its kind, owner and contents."""
+    found = {}
+    for path in sorted(directory.rglob("*")):
+        status = path.lstat()
+        contents = path.read_text() if stat.S_ISREG(status.st_mode) else ""
+        found[path] = stat.S_IFMT(status.st_mode), status.st_uid, contents
+    return found
+
+
+def check_trap(shared, victim, commands, user, part):
+    """Somebody else's commands make the converter refuse the directory, and it changes nothing of theirs or elsewhere."""
+    commands = commands.format(victim=victim)
+    subprocess.run(["sh", "-ec", commands], cwd=shared, user=user, check=True)
+    before = state_of(shared), state_of(victim)
+    try:
+        status, _, said = run("bgpdump-to-feeds", DUMP, shared / "feeds", timeout=20)
+    except subprocess.TimeoutExpired:
+        raise Failed(f"a converter waits after {commands}") from None
+    if (state_of(shared), state_of(victim)) != before:
+        raise Failed(f"a converter changes something after {commands}: {state_of(shared)} {state_of(victim)}; it says {said}")
+    if status != 1 or part not in said or said.count("\n") != 1:
+        raise Failed(f"a converter after {commands} has status {status} and says {said}")
+    for path in shared.iterdir():
+        shutil.rmtree(path) if path.is_dir() and not path.is_symlink() else path.unlink()
+
+
+def check_shared(made):
+    """Where everybody may write, nothing of another user is followed, emptied, waited for or taken over."""
+    is_root = os.geteuid() == 0
+    if not is_root:
+        print("convert: not run as root: directories of another user were not tested")
+    with tempfile.TemporaryDirectory() as name:
+        shared, victim = pathlib.Path(name) / "shared", made / "victim"
+        pathlib.Path(name).chmod(0o755)
+        victim.mkdir()
+        (victim / "kept").write_text("kept\n")
+        (victim / "kept.feed").write_text("version 2\n")
+        shared.mkdir()
+        shared.chmod(0o1777)
+        for commands, part in TRAPS if is_root else ():
+            check_trap(shared, victim, commands, OTHER, part)
+        for commands, part in OWN_TRAPS:
+            check_trap(shared, victim, commands, None, part)
+        converted("bgpdump-to-feeds", DUMP, shared / "feeds")
+        expect("in a shared directory", names_in(shared), ["feeds"])
+
+
+def check_private(made):
+    """While a directory is written nobody else may look into it; then it has the usual mode, or that of the one before."""
+    folder = made / "modes" / "feeds"
+    folder.parent.mkdir()
+    mask = os.umask(0o002)
+    process = started(folder)
+    expect("the mode of what is written", stat.S_IMODE((folder.parent / ".feeds.new").stat().st_mode), 0o700)
+    process.communicate()
+    os.umask(mask)
+    expect("the mode of a new directory", stat.S_IMODE(folder.stat().st_mode), 0o775)
+    folder.chmod(0o2750)
+    converted("bgpdump-to-feeds", DUMP, folder)
+    expect("the mode of a replaced directory", stat.S_IMODE(folder.stat().st_mode), 0o2750)
+
+
 def check(made):
-    for each in (check_own, check_others, check_other_things, check_link, check_root, check_two, check_ended, check_half_replaced, check_disk):
+    for each in (check_own, check_others, check_other_things, check_link, check_root, check_two, check_ended,
+                 check_half_replaced, check_disk, check_shared, check_private):
         each(made)
