@@ -12,7 +12,8 @@ def say_in_one_line(kind, error, _):
     if issubclass(kind, (MemoryError, ImportError, SystemError)):
         os.write(2, b"%s\n" % NO_MEMORY.encode())
     elif not issubclass(kind, KeyboardInterrupt):
-        os.write(2, f"{NAME}: {kind.__name__}: {error}\n".encode())
+        # `repr` writes what a terminal could obey
+        os.write(2, f"{NAME}: {kind.__name__}: {str(error)!r}\n".encode())
 
 
 sys.excepthook = say_in_one_line

@@ -25,6 +25,12 @@ def naming(file):
         raise
 
 
+def printable(text):
+    """Returns a message's line in which `repr` has written each character that a terminal could obey, or that it wouldn't
+    show: names of files, protocols and VRFs may be chosen by others."""
+    return text if text.isprintable() else "".join(one if one.isprintable() else repr(one)[1:-1] for one in text)
+
+
 def in_words(error):
     """The error that ends a conversion, in one line."""
     if not isinstance(error, OSError) or error.filename is None:

@@ -20,7 +20,7 @@ from socket import AF_INET, inet_pton
 
 import dealing
 from ending import NAME, NO_MEMORY
-from errors import Missing, Refused, Wrong, in_words, naming
+from errors import Missing, Refused, Wrong, in_words, naming, printable
 from folders import Folder
 
 # what erases a terminal's line
@@ -65,13 +65,14 @@ NUMBER = struct.Struct(">I").unpack
 HOST_BITS = {str(length): (1 << 32 - length) - 1 for length in range(33)}
 
 
-def say(text):
-    """Writes a line on standard error, if that is open: else `print` would write it to standard output. On a terminal
-    it replaces the progress line."""
+def say(*lines):
+    """Writes lines on standard error, if that is open: else `print` would write them to standard output. On a terminal
+    they replace the progress line."""
     if sys.stderr is not None:
+        text = "".join(f"{printable(line)}\n" for line in lines)
         # if nobody reads it, nothing else changes
         with contextlib.suppress(OSError):
-            os.write(2, f"{ERASED if is_terminal() else ''}{text}\n".encode())
+            os.write(2, f"{ERASED if is_terminal() else ''}{text}".encode())
 
 
 class Offer(typing.NamedTuple):
@@ -103,12 +104,13 @@ class Notes:
         self.differs = self.differs or differs
 
     def report(self, taken, what):
+        """The lines that say what was accepted and what wasn't."""
         parts = [f"{number} {name}" for name, number in self.left_out.items()]
         lines = [f"accepted {taken} {what}; omitted " + (", ".join(parts) or "nothing")]
         lines += [f"{number} {name}" for name, number in self.told.items()]
         if self.differs:
             lines.append(f"so some addresses may be answered differently than by the daemon (status {OTHERWISE})")
-        return "\n".join(lines)
+        return lines
 
 
 class Progress:
@@ -620,13 +622,13 @@ class FeedFiles:
         time, if it isn't the number of its commands."""
         self.flush()
         if self.taken == 0:
-            raise Refused(notes.report(0, what).replace("\n", "; ") + "; nothing is written")
+            raise Refused("; ".join([*notes.report(0, what), "nothing is written"]))
         sources, merged = self.sources(names or list(self.waiting), routes or self.counts), []
         if self.arguments.merge:
             sources, merged = self.merge(sources, self.arguments.merge, prefixes)
         number, told = self.put_in_place(sources)
         PROGRESS.erase()
-        say("\n".join([notes.report(self.taken, what), *merged, *told]))
+        say(*notes.report(self.taken, what), *merged, *told)
         if number > MAX_FEED_FILES:
             names = listed([source.name for source in sources])
             say(f"{number} feeds are in the directory, and `yarib` accepts at most {MAX_FEED_FILES} files (status {OTHERWISE}): "
@@ -757,8 +759,15 @@ def as_number(text):
     return int(text)
 
 
+class Parser(argparse.ArgumentParser):
+    """A parser whose messages repeat arguments as `printable` writes them."""
+
+    def error(self, message):
+        super().error(printable(message))
+
+
 def plain_parser(documentation):
-    made = argparse.ArgumentParser(
+    made = Parser(
         description=documentation, epilog=ENDS, formatter_class=argparse.RawDescriptionHelpFormatter, allow_abbrev=False
     )
     made.add_argument("--most", default=MOST_BYTES, metavar="BYTES", type=count,

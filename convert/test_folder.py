@@ -302,7 +302,41 @@ def check_private(made):
     expect("the mode of a replaced directory", stat.S_IMODE(folder.stat().st_mode), 0o2750)
 
 
+# names of others, with what a terminal would obey
+RAW = "\x1b[2Jx\x85\u202e\n"
+VRFS = b"".join(b'{"vrfId":0,"vrfName":"%s","routerId":"1.1.1.1","routes":{"10.0.0.0/8":[{"valid":true,"bestpath":true,'
+                b'"peerId":"192.0.2.1","nexthops":[{"ip":"192.0.2.1","used":true}]}]}}\n' % name
+                for name in (b"a\\u001bb", b"\\u202ec"))
+
+
+def check_messages(made):
+    """What a terminal would obey is written as `repr` writes it: in the names of files and protocols, and in arguments."""
+    folder = made / "raw"
+    folder.mkdir()
+    (folder / f"{RAW}.feed").write_text("version 2\n")
+    shown = repr(RAW)[1:-1]
+    expect("a kept file", converted("bgpdump-to-feeds", DUMP, folder),
+           [f"kept 1 feeds that bgpdump-to-feeds had not written: {shown}.feed"])
+    (folder / RAW).write_text("")
+    status, _, said = run("bgpdump-to-feeds", DUMP, folder)
+    expect("another file", (status, said),
+           (1, f"bgpdump-to-feeds: {folder} contains other files than feeds ({shown}): name a new directory\n"))
+    for command, data, part in (
+        ("bird-to-feeds", b"BIRD 9\x1b[2J ready.\n", "BIRD 9\\x1b[2J"),
+        ("ip-to-feeds", b'[{"dst":"10.0.0.0/8","type":"\\u001b[2J","dev":"a"}]', "is a route of type \\x1b[2J, which has no"),
+        ("frr-to-feeds", VRFS, "several VRFs: a\\x1bb, \\u202ec; "),
+    ):
+        status, _, said = run(command, data, made / "named")
+        if status != 1 or part not in said or said.count("\n") != 1:
+            raise Failed(f"{command} should say {part!r}; status {status}, and it said {said!r}")
+    status, _, said = run("bird-to-feeds --table", DUMP, RAW, made / "named", f"--{RAW}")
+    if status != 2 or not said.endswith(f"bird-to-feeds: error: unrecognized arguments: --{shown}\n"):
+        raise Failed(f"an unknown argument has status {status}: {said!r}")
+    status, _, said = run("bird-to-feeds", BIRD, made / "none" / "\udcff")
+    expect("a folder whose name isn't UTF-8", status, 0)
+
+
 def check(made):
     for each in (check_own, check_others, check_other_things, check_link, check_root, check_two, check_ended,
-                 check_half_replaced, check_disk, check_shared, check_private):
+                 check_half_replaced, check_disk, check_shared, check_private, check_messages):
         each(made)
