@@ -787,6 +787,16 @@ def count(text):
     return int(text)
 
 
+@contextlib.contextmanager
+def output():
+    """Opens standard output for what a script writes. Python's own may be without a buffer (PYTHONUNBUFFERED), and then
+    drops what the system doesn't accept at once."""
+    if sys.stdout is None:
+        raise Refused("standard output is closed")
+    with naming("standard output"), open(1, "w", closefd=False) as opened:
+        yield opened
+
+
 def status_of(convert, *arguments):
     """The exit status of a converter, even if it exits by itself, as for `--help`."""
     try:

@@ -128,8 +128,6 @@ def around(patterns, hop, kind, device):
 def convert(patterns, arguments, told_outside, before="", after="", further=None):
     """Writes each best route by the pattern of its kind; connected networks come first, since they contain next hops.
     What `further` makes of the best routes comes last. Returns the exit status."""
-    if sys.stdout is None:
-        raise feeds.Refused("standard output is closed")
     notes = feeds.Notes()
     best = best_routes(arguments.most, notes)
     lines = list(further(best)) if further else []
@@ -139,13 +137,12 @@ def convert(patterns, arguments, told_outside, before="", after="", further=None
     if arguments.onlink:
         patterns = patterns | {"outside": patterns["onlink"]}
     text = functools.lru_cache(feeds.MOST_KNOWN)(lambda hop: around(patterns, hop, *kind(hop)))
-    with feeds.naming("standard output"):
-        sys.stdout.write(before)
-        sys.stdout.writelines(patterns["device"].format(prefix=prefix, device=devices[prefix]) for prefix in connected)
-        sys.stdout.writelines(prefix.join(text(hop)) for prefix, hop in best.items() if hop != feeds.CONNECTED)
-        sys.stdout.writelines(lines)
-        sys.stdout.write(after)
-        sys.stdout.flush()
+    with feeds.output() as output:
+        output.write(before)
+        output.writelines(patterns["device"].format(prefix=prefix, device=devices[prefix]) for prefix in connected)
+        output.writelines(prefix.join(text(hop)) for prefix, hop in best.items() if hop != feeds.CONNECTED)
+        output.writelines(lines)
+        output.write(after)
     for name, number in notes.told.items():
         feeds.say(f"{number} {name} (status {feeds.OTHERWISE})")
     outside = sum(kind(hop)[0] == "outside" for hop in best.values())
