@@ -1,8 +1,8 @@
 """Shared by the converters from a table: the best route of each prefix, as `yarib table` or `yarib run` prints it."""
+import argparse
 import functools
 import json
 import re
-import sys
 
 import feeds
 from rows import ROW
@@ -11,6 +11,8 @@ REPORT = re.compile(r"\d+:\d+ .+")
 # a report's text for a line whose route is not in the table
 NOT_TAKEN = re.compile(r".* (?:full|refused|fault E\d)")
 HEAD = re.compile(r"table (\d+)")
+# the name of an interface: the commands have it between blanks or quotes
+INTERFACE = re.compile(r"[A-Za-z0-9_][A-Za-z0-9_.@+-]{0,126}")
 NOT_IN_TABLE = "lines of the report say full, refused or fault: their routes are not in the table"
 
 
@@ -110,11 +112,24 @@ def devices_of(connected, named):
     return devices | {prefix: plain[0] for prefix in left}
 
 
+def interface(text):
+    """The name of an interface of the command line."""
+    if not INTERFACE.fullmatch(text):
+        raise argparse.ArgumentTypeError(f"{text!r} is not the name of an interface")
+    return text
+
+
+def network_interface(text):
+    """The interface of a network, after its prefix, or of the only one."""
+    interface(text.partition("=")[2] if "=" in text else text)
+    return text
+
+
 def options(documentation):
     parser = feeds.plain_parser(documentation)
-    parser.add_argument("--device", metavar="[PREFIX=]NAME", action="append", default=[],
+    parser.add_argument("--device", metavar="[PREFIX=]NAME", action="append", default=[], type=network_interface,
                         help="the interface of a connected network (next hop 0.0.0.0); without PREFIX, of the only one")
-    parser.add_argument("--onlink", metavar="NAME",
+    parser.add_argument("--onlink", metavar="NAME", type=interface,
                         help="the interface for next hops outside all connected networks of the table")
     return parser
 

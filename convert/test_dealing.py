@@ -30,7 +30,7 @@ def prefixes_of(file):
 
 
 def converted(command, data, folder, statuses=(0, 3), constants=""):
-    status, said = run_here(command, data, folder, constants)
+    status, said = run_here(command, data, folder, constants=constants)
     if status not in statuses:
         raise Failed(f"{command} with {constants!r} has status {status} and says {said}")
     return files_of(folder), said

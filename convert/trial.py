@@ -37,24 +37,25 @@ def words(command, constants=""):
 
 
 def run(command, data, *more, constants="", **settings):
-    """Runs a converter: its status, its output, and its messages."""
-    done = subprocess.run([*words(command, constants), *more], input=data, capture_output=True, **settings)
-    return done.returncode, done.stdout.decode(), done.stderr.decode()
+    """Runs a converter: its status, its output, which is "" if it goes elsewhere, and its messages."""
+    settings = {"stdout": subprocess.PIPE, "stderr": subprocess.PIPE} | settings
+    done = subprocess.run([*words(command, constants), *more], input=data, **settings)
+    return done.returncode, (done.stdout or b"").decode(), done.stderr.decode()
 
 
-def run_here(command, data, folder, constants=""):
+def run_here(command, data, *more, constants=""):
     """The status and the messages of a converter, as with `run`; it is run in a copy of this process, which starts
-    faster."""
+    faster. What it writes on standard output is dropped."""
     name, *options = command.split()
     code(str(HERE / name))
-    with tempfile.TemporaryFile() as given, tempfile.TemporaryFile() as said:
+    with tempfile.TemporaryFile() as given, tempfile.TemporaryFile() as said, open(os.devnull, "w") as dropped:
         given.write(data)
         given.seek(0)
         child = os.fork()
         if child == 0:
-            os.dup2(given.fileno(), 0)
-            os.dup2(said.fileno(), 2)
-            run_in_child([str(HERE / name), *options, str(folder)], constants)
+            for number, file in enumerate((given, dropped, said)):
+                os.dup2(file.fileno(), number)
+            run_in_child([str(HERE / name), *options, *map(str, more)], constants)
         _, status = os.waitpid(child, 0)
         said.seek(0)
         return os.waitstatus_to_exitcode(status), said.read().decode()

@@ -1,0 +1,81 @@
+"""Tests of the converters from a table: what they accept in options and files, and outputs that can't be written."""
+import json
+import os
+import resource
+
+from rows import row_text
+from trial import Failed, run
+
+TABLE = f"{row_text('10.0.0.0/8', '192.0.2.1')}\n".encode()
+OWN = {"dst": "10.1.0.0/16", "gateway": "192.0.2.1", "dev": "uplink", "flags": []}
+# a command of its own for `ip -batch`
+COMMAND = "\nroute flush table main\n"
+# Members of a route in the file of --replace, and a part of the message.
+ROUTES = (
+    ({"dst": f"10.1.0.0/16{COMMAND}"}, "route 2: '10.1.0.0/16\\nroute flush table main\\n' is not a prefix"),
+    ({"dst": f"10.1.0.1{COMMAND}"}, "route 2: '10.1.0.1\\nroute flush table main\\n/32' is not a prefix"),
+    ({"dst": f"default{COMMAND}"}, "is not a prefix"),
+    ({"dst": "my default"}, "is not a prefix"),
+    ({"dst": "10.1.0.0/16 table 100"}, "is not a prefix"),
+    ({"dst": "2001:db8::/32"}, "route 2: the route to 2001:db8::/32 is of IPv6"),
+    ({"type": f"blackhole{COMMAND}"}, "route 2: the route to 10.1.0.0/16 has the type 'blackhole\\nroute flush table main\\n'"),
+    ({"type": "black hole"}, "has the type 'black hole'"),
+    ({"type": ["blackhole"]}, "route 2: the member 'type' is missing or of another kind"),
+    ({"type": None}, "route 2: the member 'type' is missing or of another kind"),
+    ({"dst": 7}, "route 2: the member 'dst' is missing or of another kind"),
+    ({"metric": -1}, "the metric -1"),
+    ({"metric": "121"}, "route 2: the member 'metric' is missing or of another kind"),
+    ({"protocol": "static"}, "route 2: the route to 10.1.0.0/16 is another program's"),
+)
+FILES = (("[null]", "route 1: an object was expected: null"), ("7", "is not the list that"), ("[" * 100000, "is not JSON of"),
+         ("\x1f\x8b", "is not JSON of"))
+# Names that no interface has: a blank or a quote would end the name in a command.
+NAMES = ("", "a b", "a\nroute flush table main", "a\"", "a'", "a;b", "a#", "-a", "a/b", "\x1b[2J", "é", "a" * 128)
+
+
+def check_replace_file(made):
+    """A file of --replace whose routes aren't the kernel's is refused as a whole, and no command is written."""
+    file = made / "own.json"
+    given = [(json.dumps([OWN, OWN | route]), part) for route, part in ROUTES]
+    for text, part in given + list(FILES):
+        file.write_text(text)
+        status, written, said = run("table-to-ip --onlink uplink --replace", TABLE, file)
+        if status != 1 or written or part not in said or not said.startswith(f"table-to-ip: {file}") or said.count("\n") != 1:
+            raise Failed(f"table-to-ip --replace of {text[:200]} has status {status}, writes {written} and says {said}")
+
+
+def check_interfaces():
+    """Text that isn't the name of an interface is refused with the command line."""
+    for form in ("bird", "frr", "ip"):
+        for option in ("--onlink", "--device", "--device=10.0.0.0/8"):
+            status, written, said = run(f"table-to-{form}", TABLE, f"{option}=a b")
+            if status != 2 or written or "'a b' is not the name of an interface" not in said:
+                raise Failed(f"table-to-{form} {option} has status {status}, writes {written!r} and says {said!r}")
+    for name in NAMES:
+        status, written, said = run("table-to-ip", TABLE, f"--onlink={name}")
+        if status != 2 or written or f"argument --onlink: {name!r} is not the name of an interface" not in said:
+            raise Failed(f"table-to-ip --onlink={name!r} has status {status}, writes {written!r} and says {said!r}")
+    for name in ("eth0", "eth0.100", "br-lan", "wg_0", "a" * 127):
+        status, written, said = run("table-to-ip", TABLE, f"--onlink={name}")
+        if (status, said) != (0, "") or f" dev {name} onlink " not in written:
+            raise Failed(f"table-to-ip --onlink={name} has status {status}, writes {written} and says {said}")
+
+
+def check_short_write(made):
+    """An output that is full in the middle of the last write ends with status 1, also if Python doesn't buffer its output."""
+    table = "".join(row_text(f"10.{number >> 8}.{number & 255}.0/24", "192.0.2.1") + "\n" for number in range(2000)).encode()
+    for form in ("bird", "frr", "ip"):
+        whole = len(run(f"table-to-{form} --onlink uplink", table)[1])
+        limited = lambda: resource.setrlimit(resource.RLIMIT_FSIZE, (whole - 10,) * 2)
+        for unbuffered in ("", "1"):
+            with open(made / "full", "w") as full:
+                status, _, said = run(f"table-to-{form} --onlink uplink", table, stdout=full, preexec_fn=limited,
+                                      env=os.environ | {"PYTHONUNBUFFERED": unbuffered})
+            if (status, said) != (1, f"table-to-{form}: standard output: File too large\n"):
+                raise Failed(f"table-to-{form} {unbuffered and 'without a buffer'} on a full disk has status {status} and says {said}")
+
+
+def check(made):
+    check_replace_file(made)
+    check_interfaces()
+    check_short_write(made)
