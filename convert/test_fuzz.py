@@ -1,0 +1,122 @@
+"""Tests of converters with random changes of real input: each is converted, or refused in one line, and no message has a
+character that a terminal would obey."""
+import copy
+import json
+import random
+import re
+
+from rows import row_text
+from trial import SAMPLES, Failed, run_here
+
+# how often each input is changed
+TIMES = 20
+# what a value of JSON is replaced by
+VALUES = (None, [], {}, [None], {"a": None}, "", "x", "10.0.0.0/8", "::1", "\x1b[2J\u202e\x85\n", "9" * 400, 7, -1, 0,
+          1.5, 1e300, True, False)
+# what is put into lines
+TEXTS = ("", " ", "|", "\t", "\n", "\r", "\x00", "\x1b[31m", "\u202e", "\x85", "\ufeff", "\ud800", "9" * 20,
+         "-1", "10.0.0.0/8", "::/0", "{", "[")
+# Each converter with its options, the input that is changed, and the other arguments.
+JSON = [
+    ("ip-to-feeds", "kernel/routes.json"),
+    ("ip-to-feeds", "kernel/nexthop-shown.json"),
+    ("frr-to-feeds", "frr/bgp.json"),
+    ("frr-to-feeds", "frr/detail.json"),
+    ("frr-to-feeds", "frr/rib.json"),
+    ("frr-to-feeds --vrf blue", "frr/vrfs.json"),
+    ("gobgp-to-feeds", "gobgp/rib.json"),
+    ("openbgpd-to-feeds", "openbgpd/own.json"),
+    ("openbgpd-to-feeds --discard-community BLACKHOLE", "openbgpd/blackhole-detail.json"),
+]
+LINES = [
+    ("bird-to-feeds", "bird/bgp-routes-all.txt"),
+    ("bird-to-feeds", "bird/other.txt"),
+    ("bgpdump-to-feeds", "bgpdump/rib.txt"),
+    ("bgpdump-to-feeds", "bgpdump/updates.txt"),
+    ("table-to-ip --device 192.0.2.0/24=a --device 198.51.100.0/24=b", "table/run.txt"),
+]
+# Options that name a file of JSON: the converter, what it reads on standard input, and the file that is changed.
+FILES = [
+    ("ip-to-feeds --nexthops", "kernel/nexthop-numbers.json", "kernel/nexthop-objects.json"),
+    ("ip-to-feeds --rules", "kernel/routes.json", "kernel/rules-plain.json"),
+    ("table-to-ip --onlink a --replace", None, "kernel/own-routes.json"),
+]
+CRASHED = re.compile(r"\w*(Error|Exception|Iteration|Interrupt)\b.*")
+
+
+def parts_of(document):
+    """Each value of a document within another, with its place there."""
+    for place, value in list(document.items() if isinstance(document, dict) else enumerate(document)):
+        yield document, place
+        if isinstance(value, (dict, list)):
+            yield from parts_of(value)
+
+
+def documents_of(text):
+    """The JSON documents that a text has one after the other."""
+    at, decode = 0, json.JSONDecoder().raw_decode
+    while at < len(text):
+        document, end = decode(text, at)
+        yield document
+        at = end + len(text[end:]) - len(text[end:].lstrip())
+
+
+def changed_json(text, draw):
+    """The documents, of which one has one or two of its values replaced or removed."""
+    documents = list(documents_of(text))
+    changed = draw.randrange(len(documents))
+    documents[changed] = changed_document(documents[changed], draw)
+    return "\n".join(json.dumps(document, ensure_ascii=draw.random() < 0.5) for document in documents)
+
+
+def changed_document(document, draw):
+    for _ in range(draw.randint(1, 2)):
+        parts = list(parts_of(document)) if isinstance(document, (dict, list)) else []
+        if not parts or draw.random() < 0.05:
+            document = copy.deepcopy(draw.choice(VALUES))
+            continue
+        within, place = draw.choice(parts)
+        if draw.random() < 0.2:
+            del within[place]
+        else:
+            within[place] = copy.deepcopy(draw.choice(VALUES))
+    return document
+
+
+def changed_lines(text, draw):
+    """The text with some of its characters replaced, inserted or removed, or lines exchanged."""
+    for _ in range(draw.randint(1, 3)):
+        at, end = sorted(draw.randrange(len(text) + 1) for _ in range(2))
+        if draw.random() < 0.8:
+            end = min(end, at + draw.randint(0, 4))
+        text = text[:at] + draw.choice(TEXTS) + text[end:]
+    return text
+
+
+def check_changed(command, data, more, changed):
+    status, said = run_here(command, data, *more)
+    lines = said.split("\n")
+    crashed = [line for line in lines if CRASHED.fullmatch(line.partition(": ")[2] or line)]
+    unfit = [line for line in lines if not line.isprintable()]
+    if status not in (0, 1, 3) or status == 1 and len(lines) != 2 or crashed or unfit:
+        raise Failed(f"{command} of {changed!r} has status {status} and says {said!r}")
+
+
+def check(made):
+    draw = random.Random(88)
+    table = "".join(row_text(f"10.{second}.0.0/16", "192.0.2.1") + "\n" for second in range(4)).encode()
+    for number, (command, sample) in enumerate(JSON + LINES):
+        text = (SAMPLES / sample).read_text()
+        change = changed_json if sample.endswith(".json") else changed_lines
+        more = [made / f"fuzz{number}"] if command.split()[0].endswith("feeds") else []
+        for _ in range(TIMES):
+            changed = change(text, draw)
+            check_changed(command, changed.encode(errors="surrogatepass"), more, changed)
+    for number, (command, given, sample) in enumerate(FILES):
+        text, file = (SAMPLES / sample).read_text(), made / f"changed{number}.json"
+        data = (SAMPLES / given).read_bytes() if given else table
+        more = [made / f"files{number}"] if command.split()[0].endswith("feeds") else []
+        for _ in range(TIMES):
+            changed = (changed_json if draw.random() < 0.9 else changed_lines)(text, draw)
+            file.write_bytes(changed.encode(errors="surrogatepass"))
+            check_changed(command, data, [file, *more], changed)
