@@ -91,9 +91,16 @@ def of_comparison(made, title):
     return page(title, "comparison", COMPARISON_ORDER, made.feeds, held, colourings)
 
 
+class Parser(argparse.ArgumentParser):
+    """A parser whose messages repeat arguments as `printable` writes them."""
+
+    def error(self, message):
+        super().error(printable(message))
+
+
 def run(documentation, read, write, empty):
     """Runs a script; an error is one line on standard error and status 1. `empty` is the meaning of an empty input."""
-    parser = argparse.ArgumentParser(
+    parser = Parser(
         description=documentation, formatter_class=argparse.RawDescriptionHelpFormatter, allow_abbrev=False)
     parser.add_argument("file", nargs="?", help="the file to read (default: standard input)")
     parser.add_argument("--title", help="the heading of the map")
@@ -117,7 +124,8 @@ def run(documentation, read, write, empty):
         sys.exit(130)
     # nobody reads what is left to be flushed
     sys.stdout = None
-    sys.exit(said)
+    say(said)
+    sys.exit(1)
 
 
 def read_from(file, read):
@@ -129,14 +137,22 @@ def read_from(file, read):
 
 
 def write_out(text):
+    """Writes on standard output. Python's own may be without a buffer (PYTHONUNBUFFERED), and then drops what the system
+    doesn't accept at once."""
     if sys.stdout is None:
         raise OSError(errno.EBADF, "it is closed")
-    # arguments may contain bytes that aren't UTF-8
-    sys.stdout.buffer.write(text.encode("utf-8", errors="replace"))
-    sys.stdout.flush()
+    with open(1, "wb", closefd=False) as output:
+        # arguments may contain bytes that aren't UTF-8
+        output.write(text.encode("utf-8", errors="replace"))
+
+
+def printable(text):
+    """Returns a message's line in which `repr` has written each character that a terminal could obey, or that it wouldn't
+    show: names of files may be chosen by others."""
+    return text if text.isprintable() else "".join(one if one.isprintable() else repr(one)[1:-1] for one in text)
 
 
 def say(text):
     """A line on standard error, if that is open: else `print` would write it to standard output."""
     if sys.stderr is not None:
-        print(text, file=sys.stderr)
+        print(printable(text), file=sys.stderr)

@@ -29,8 +29,11 @@ MIXED = "some answers are next hops and some are routes: the input has more than
 # a route's numbers in the order in which they are printed, and what they are if no route is printed
 NUMBERS = ("pref",)
 NO_NUMBERS = (0,) * len(NUMBERS)
+# the characters that no feed's name may have: a blank, those that a terminal obeys, and those that change the direction of
+# the text around them
+NOT_IN_NAMES = r" \x00-\x1f\x7f-\x9f\u061c\u200e\u200f\u2028-\u202e\u2066-\u2069"
 # a route after its prefix, and a whole one
-ROUTE = re.compile(r"feed ([^ \x00-\x1f\x7f]+)" + "".join(f" {name} (0|[1-9][0-9]{{0,9}})" for name in NUMBERS)
+ROUTE = re.compile(f"feed ([^{NOT_IN_NAMES}]+)" + "".join(f" {name} (0|[1-9][0-9]{{0,9}})" for name in NUMBERS)
                    + r" via (\S+)")
 ROUTE_TEXT = "{prefix} feed {feed}" + "".join(f" {name} {{{name}}}" for name in NUMBERS) + " via {via}"
 
@@ -210,6 +213,8 @@ def text_of_answer(found):
     """Returns the text of an answer of a comparison that is null or an object."""
     if found is None:
         return "no route"
+    if type(found) is not dict:
+        raise ValueError
     if "prefix" in found:
         return text_of_route(found)
     hop = hop_of_object(found)
@@ -220,7 +225,10 @@ def text_of_answer(found):
 
 def object_of(line):
     """Returns the object that a line holds."""
-    found = json.loads(line)
+    try:
+        found = json.loads(line)
+    except RecursionError as error:
+        raise ValueError from error
     if type(found) is not dict or "\ufffd" in line:
         raise ValueError
     return found
