@@ -1,12 +1,14 @@
 #!/usr/bin/env python3
 """Calls what keeps verdicts for later gates in a small repository, with a stub of the toolchain: tools/once, tools/archive,
-tools/definitions and tests/libraries.py keep a verdict for the files that were judged, and for nothing else.
+tools/definitions, tools/mutants and tests/libraries.py keep a verdict for the files that were judged, and for nothing else.
 
 tests/kept.py [CASE..], or --list for the names of the cases. Needs python3, proves nothing, and takes seconds. A stub can
-change a file of the repository while it works: its command is $MEANWHILE. tests/mutants.py tests what is kept of mutants.
+change a file of the repository while it works: its command is $MEANWHILE. tests/mutants.py calls tools/mutants with the
+real prover.
 """
 import os
 import pathlib
+import re
 import shutil
 import tempfile
 
@@ -39,6 +41,25 @@ for file in proofs/H0_*Examples.antt; do
 done
 echo "logic=proved holes=1"
 """
+# The stub of the prover refuses each function whose text has `wrong` in it, and notes the functions that it looked at.
+CHECK = """#!/usr/bin/env python3
+import os, pathlib, re, subprocess, sys
+words = sys.argv[1:]
+crate = words[words.index("--crate-name") + 1]
+only = [words[at + 1] for at, word in enumerate(words) if word == "--only"]
+with open(os.environ["NOTES"], "a") as notes:
+    notes.write("".join(f"{crate} {name}\\n" for name in only))
+subprocess.run(os.environ["MEANWHILE"], shell=True)
+text = pathlib.Path("src/lib.rt").read_text()
+for name in only:
+    said = re.search(rf"^pub fn {name}\\b.*?^}}", text, re.M | re.S)
+    if not said or "wrong" in said[0]:
+        print("note: src/lib.rt:1:1: it is not proved that what the function ensures holds (`returns`)")
+        print(f"fn {crate}::{name}: not proved")
+    else:
+        print(f"fn {crate}::{name}: depends on a hole")
+print("holes=1")
+"""
 SCRIPT = """#!/bin/sh
 echo "$0" >>"$NOTES"
 eval "$MEANWHILE"
@@ -47,7 +68,7 @@ if ! command -v other >/dev/null; then echo "left out: what needs other"; fi
 grep -q right "$top/read.txt" && { [ -z "$MORE" ] || cat "$top/$MORE"; } || exit ${STATUS-1}
 """
 FILES = {
-    "crates.txt": "one:\nabove staticlib: one\none_examples: one\n",
+    "crates.txt": "one:\nabove staticlib: one\none_examples: one\nlow:\nsmall: low\n",
     "HANDLES": "",
     "crates/one/src/lib.rt": "//! One.\n#![tactic(auto)]\n",
     "crates/one/specs/One.antt": "-- One.\npub one : Nat\none = 1\n",
@@ -60,6 +81,23 @@ FILES = {
     "tests/libraries/tests_of_one/src/lib.rt.in": "#[test]\nfn is_one() {}\n",
     "bench/benches/crates.txt.in": "benches: one\n",
     "bench/benches/src/main.rt.in": "fn main() {}\n",
+    "crates/low/src/lib.rt": "//! Low.\n\npub fn low() -> u64\n    ensures { result ≡ 1 }\n{\n    1\n}\n\n"
+                             "pub const fn seen() -> u64 {\n    1\n}\n",
+    "crates/low/specs/Low.antt": "-- Low.\npub low : Nat\nlow = 1\n",
+    "crates/low/proofs/Lemma.antt": "-- A lemma of low.\n",
+    "crates/low/proofs/low/Answers.antt": "-- An answer of low.\n",
+    "crates/small/src/lib.rt": "//! Small.\n\npub fn twice(n: u64) -> u64\n    ensures { result ≡ n + n }\n{\n    n + n\n}\n\n"
+                               "pub fn same(n: u64) -> u64\n    ensures { result ≡ n }\n{\n    n\n}\n",
+    "crates/small/src/other.rt": "//! Another file.\n\npub fn other() -> u64\n    ensures { result ≡ 2 }\n{\n    2\n}\n",
+    "crates/small/specs/Small.antt": "-- Small.\npub small : Nat\nsmall = 1\n",
+    "crates/small/proofs/Lemma.antt": "-- A lemma of small.\n",
+    "crates/small/proofs/twice/Answers.antt": "use Rattle.small.proofs.helper.Cited.{cited}\n-- An answer of twice.\n",
+    "crates/small/proofs/helper/Cited.antt": "-- What the answer of twice cites.\n",
+    "crates/small/proofs/same/Answers.antt": "-- An answer of same.\n",
+    "crates/small/must-fail/mutants.md": "# Mutants\n\n" + "\n".join(
+        f"## {name}\n\n```\nfile: src/lib.rt\nold: {old}\nnew: {new}\nrefused in: {function}: returns\n```\n"
+        for name, old, new, function in (("one-wrong", "    n + n", "    wrong(n)", "twice"), ("other-wrong", "    n⏎", "    wrong⏎", "same"),
+                                         ("right", "    n + n", "    2 * n", "twice"))),
     "read.txt": "right\n",
     "other.txt": "other\n",
 }
@@ -218,7 +256,68 @@ def definitions(new):
         expect(f"{name} as it was saved", tried()[2], 1)
 
 
-CASES = (once, archive, libraries, definitions)
+# Files on which what is kept of mutants of `twice` and `same` in `small` depends, and others; each with a text to change.
+DECIDING = (
+    ("crates/low/src/lib.rt", "result ≡ 1", "result ≡ 1 + 0"), ("crates/low/src/lib.rt", "u64 {\n    1", "u64 {\n    2"),
+    ("crates/low/specs/Low.antt", "low = 1", "low = 2"), ("crates/low/proofs/Lemma.antt", "lemma", "theorem"),
+    ("crates.txt", "low:", "low: std"), ("crates.txt", "small: low", "small: low std"), ("crates/small/src/lib.rt", "//! Small", "//! Tiny"),
+    ("crates/small/src/other.rt", "result ≡ 2", "result ≡ 2 + 0"), ("crates/small/specs/Small.antt", "small = 1", "small = 2"),
+    ("crates/small/proofs/Lemma.antt", "lemma", "theorem"), ("tools/mutants", "not proved|no proof", "no proof|not proved"),
+    ("common/mutant_copy.py", "= 200_000,", "= 200_001,"),
+)
+WITHOUT_WEIGHT = (
+    ("crates/low/src/lib.rt", "{\n    1\n}\n\npub", "{\n    1 + 0\n}\n\npub"), ("crates/low/proofs/low/Answers.antt", "answer", "reply"),
+    ("crates/small/src/other.rt", "    2\n", "    1 + 1\n"), ("tools/mutants", "import argparse", "# more\nimport argparse"),
+    ("crates/one/src/lib.rt", "One", "Eins"), ("read.txt", "right", "left"),
+)
+
+
+# Catches a verdict on a mutant that is kept without the crates below, without the toolchain or for another mutant; a mutant
+# that isn't refused and is kept; `--anew` that tries nothing; a gate that tries only some: `the first gate`, `.. again`,
+# `.. is changed`.
+def mutants(new):
+    one = new()
+    one.put(one.kit / "bin/rattle", CHECK)
+
+    def gate(*words, **how):
+        status, said, _ = one.call("tools/mutants", "--gate", "--crate", "small", *words, **how)
+        tried = {line.split()[1].removesuffix("_mutant_2") for line in one.notes.read_text().splitlines()}
+        lines = dict(re.findall(r"^body small/([\w-]+): (refused, as it must be|NOT REFUSED)", said, re.M))
+        return status, said.splitlines()[-1], tried, sorted(name for name, verdict in lines.items() if verdict[0] == "r")
+
+    whole, kept = (1, "2 passed, 1 failed", {"twice", "same"}, ["one-wrong", "other-wrong"]), {"twice"}
+    expect("the first gate", gate(), whole)
+    expect("the gate again: only the mutant that isn't refused", gate(), (*whole[:2], kept, whole[3]))
+    expect("the gate again: what it says", "small: 2 of 3 bodies were refused in earlier runs" in one.call(
+        "tools/mutants", "--gate", "--crate", "small")[1], True)
+    expect("--anew", gate("--anew"), whole)
+    expect("one mutant by its name", gate("--anew", "other-wrong"), (0, "1 passed, 0 failed", {"same"}, ["other-wrong"]))
+
+    def is_changed(path, old, text, tried):
+        before = path.read_text()
+        path.write_text(before.replace(old, text, 1))
+        expect(f"{path.name} has another {old!r}", path.read_text() != before, True)
+        expect(f"{path.name} is changed: {old!r}", gate()[2], tried)
+        path.write_text(before)
+
+    for name, old, text in DECIDING:
+        is_changed(one.top / name, old, text, whole[2])
+    for name, old, text in WITHOUT_WEIGHT:
+        is_changed(one.top / name, old, text, kept)
+    is_changed(one.kit / "WHAT", "", "another toolchain", whole[2])
+    is_changed(one.top / "crates/small/proofs/same/Answers.antt", "answer", "reply", whole[2])
+    expect("all is as it was", gate(), (*whole[:2], kept, whole[3]))
+    for name in ("helper/Cited", "twice/Answers"):
+        # Only the mutants of `twice` depend on these.
+        one.put(one.top / f"crates/small/proofs/{name}.antt", FILES[f"crates/small/proofs/{name}.antt"] + "-- more\n")
+        tried = one.call("tools/mutants", "--gate", "--crate", "small", "one-wrong", "other-wrong")
+        expect(f"{name} is changed: the mutants of twice", ("1 of 2 bodies" in tried[1], tried[2]), (True, 1))
+    is_changed(one.top / "crates/small/must-fail/mutants.md", "    wrong⏎", "    wrong + 1⏎", whole[2])
+    gate("--anew", meanwhile=one.change("crates/small/specs/Small.antt", "small = 1", "small = 3"))
+    expect("a definition is saved meanwhile", gate()[2], whole[2])
+
+
+CASES = (once, archive, libraries, definitions, mutants)
 
 
 def main():
