@@ -1,4 +1,14 @@
-"""Shared by `make`, `make-ranks` and `make-hosts`: starts and queries the samples' daemons, and stores their output."""
+"""Shared by `make`, `make-ranks` and `make-hosts`: starts and queries the samples' daemons, and stores their output.
+
+The command line of each of them:
+
+    unshare --net --mount samples/make [--root DIR] [--into NAME] [PART..]
+
+Without --root the daemons of this machine are used. With it, those of the directory DIR, which has another release of
+Debian (`mmdebstrap --variant=apt --include=bird2,frr,gobgpd,openbgpd,iproute2,bgpdump,procps RELEASE DIR`). DIR isn't
+changed. With --into the samples are kept in the directory samples/NAME instead of samples.
+"""
+import argparse
 import json
 import os
 import pathlib
@@ -13,6 +23,8 @@ ADDRESSES = (HERE / "addresses.txt").read_text().split()
 SECONDS = (0, 1, 2, 40, 41, 42, 43, 44, 96, 97, 98, 99)
 OTHER = [f"10.{second}.{third}.7" for second in SECONDS for third in range(0, 255, 25)]
 REFUSED_BY_KERNEL = ("Invalid argument", "Permission denied", "No route to host")
+# where another root directory is mounted, and whose changes are gone at the end
+MOUNTED = pathlib.Path("/mnt")
 FRR = "/usr/lib/frr/bgpd -S -Z -n -l 127.0.0.11 -f collector.conf -i frr.pid --vty_socket . --log file:frr.log"
 
 
@@ -21,8 +33,48 @@ def say(command, check=True):
     return subprocess.run(command.split(), check=check, capture_output=True, text=True).stdout
 
 
+class Kept:
+    """Where samples are kept."""
+
+    folder = HERE
+
+
 def keep(name, text):
-    (HERE / name).write_text(text)
+    path = Kept.folder / name
+    path.parent.mkdir(parents=True, exist_ok=True)
+    path.write_text(text)
+
+
+def chosen(parts):
+    """The names of the parts that the command line chooses, all if it names none; with --root in that directory."""
+    reader = argparse.ArgumentParser()
+    reader.add_argument("--root", metavar="DIR")
+    reader.add_argument("--into", metavar="NAME", default="")
+    reader.add_argument("parts", metavar="PART", nargs="*", default=list(parts))
+    arguments = reader.parse_args()
+    Kept.folder = HERE / arguments.into
+    if arguments.root:
+        enter(pathlib.Path(arguments.root).resolve())
+    return arguments.parts
+
+
+def enter(root):
+    """Makes that directory the root of this process; what it changes there is gone at the end. It has the samples at
+    their path."""
+    say(f"mount -t tmpfs none {MOUNTED}")
+    upper, work, merged = (MOUNTED / name for name in ("upper", "work", "merged"))
+    for folder in (upper, work, merged):
+        folder.mkdir()
+    say(f"mount -t overlay overlay -o lowerdir={root},upperdir={upper},workdir={work} {merged}")
+    inside = merged / HERE.relative_to("/")
+    inside.mkdir(parents=True)
+    # OpenBGPD's processes have it as their root
+    (merged / "run/openbgpd").mkdir(exist_ok=True)
+    for command in (f"--bind {HERE} {inside}", f"-t proc proc {merged}/proc", f"-t sysfs sysfs {merged}/sys",
+                    f"--rbind /dev {merged}/dev"):
+        say(f"mount {command}")
+    os.chroot(merged)
+    os.chdir("/")
 
 
 def keep_answers(name, answer, addresses=ADDRESSES):
@@ -112,7 +164,7 @@ class Daemons:
 
 
 def prepare():
-    """Makes the interfaces that next hops lie on."""
+    """Makes the interfaces that next hops are on."""
     if say("ip -br link").count("\n") > 1:
         sys.exit(f"{sys.argv[0]}: run it in a network namespace of its own")
     say("ip link set lo up")
