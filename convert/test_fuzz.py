@@ -24,7 +24,9 @@ JSON = [
     ("frr-to-feeds", "frr/detail.json"),
     ("frr-to-feeds", "frr/rib.json"),
     ("frr-to-feeds --vrf blue", "frr/vrfs.json"),
+    ("frr-to-feeds", "debian-13/ranks/frr-detail.json"),
     ("gobgp-to-feeds", "gobgp/rib.json"),
+    ("gobgp-to-feeds", "debian-sid/ranks/gobgp.json"),
     ("openbgpd-to-feeds", "openbgpd/own.json"),
     ("openbgpd-to-feeds --discard-community BLACKHOLE", "openbgpd/blackhole-detail.json"),
 ]
