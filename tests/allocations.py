@@ -5,7 +5,7 @@ tests/allocations.py [PROGRAM [CASE..]], or --list for the names of the cases. N
 
 A list that grows doubles its capacity. So twice as many commands of a kind that doesn't allocate may cost only a few
 more requests, for the text, the reports and the journal; another one for each command would be noticed. A run makes no
-request between two writes. At its end, after all routes are withdrawn or purged, a run holds as much as a run with the
+request between two writes, and writes as much at once as the output buffer holds. At its end, after all routes are withdrawn or purged, a run holds as much as a run with the
 same number of `dump`s. A table that has routes is left to the system. The launchers' settings change no request, only
 where the C library finds the memory; so everything is run once.
 """
@@ -20,20 +20,25 @@ from common.table_model import dotted
 # journal.
 DOUBLING = 6
 WRITES = 1000
+# The output buffer has 65,536 bytes, and is written before a line for which there is no room.
+LEAST_WRITTEN = 65_000
 BATCHES = ("1", "64", "1024")
 
 
+# Catches an output buffer that writes each line at once, or 256 bytes at a time: `.. writes of .. bytes`.
 def counted(words, count):
-    """Requests, the blocks and bytes held at the end, and the requests at each write to standard output."""
+    """Requests, the blocks and bytes held at the end, and the requests at each write to standard output; these are few and
+    large."""
     with tempfile.TemporaryFile() as kept:
         kept.truncate(32 + 8 * WRITES)
-        status, _, err = run(words, env={"LD_PRELOAD": str(count), "COUNT_IN": str(kept.fileno())},
+        status, out, err = run(words, env={"LD_PRELOAD": str(count), "COUNT_IN": str(kept.fileno())},
                              pass_fds=[kept.fileno()])
         kept.seek(0)
         data = kept.read()
     requests, blocks, size, writes = struct.unpack_from("4Q", data)
     expect(f"{words[1:]}: it ends", (status, err), (0, ""))
     expect(f"{words[1:]}: there were requests", requests > 0, True)
+    expect(f"{words[1:]}: {writes} writes of {len(out)} bytes", writes <= len(out) // LEAST_WRITTEN + 2, True)
     return requests, (blocks, size), struct.unpack_from(f"{min(writes, WRITES)}Q", data, 32)
 
 

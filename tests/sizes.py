@@ -13,12 +13,13 @@ No clause can say that an allocation succeeds if there is memory. So the cases a
 
 `lookup` and `table` are called on each number of files, on 300,000 routes and with 100,000 addresses. `lookup` is also
 called with just fewer and just more addresses and routes than a forwarding table needs to answer. Most options that
-change the output are given at, just above and far above these sizes; not `--exact`, `--without`, the choice of feeds by
-`lookup` and `diff`, and `--count` with names or JSON. All cases run with the memory settings of the
+change the output are given at, just above and far above these sizes; not the choice of feeds by `diff`, and `--count` with
+names or JSON. All cases run with the memory settings of the
 launchers. With the C library's default, many threads share several arenas. This matters in cases with many threads and
 in cases that fill large pages. In these (`OF_MEMORY`) each `run` is called with both; the other commands have one
 thread. The other cases are about numbers in the code.
 """
+import hashlib
 import ipaddress
 import os
 import pathlib
@@ -112,6 +113,7 @@ def purges(yarib):
 # Catches a refusal of an `add` of preference 2^32 - 1 or of 255.255.255.255/32: `1 feeds in batches of 1`, `1:3
 # refused`.
 # Catches a refusal of a `dump` of the last feed if the journal has no room: `the last feed alone asks`, its line 1.
+# Catches F3 for `--exact` of a prefix that more than 8 feeds have: `--exact 10.0.0.0/8 of 9 files`.
 def feeds(yarib):
     """From 1 to MAX_FEEDS feeds: each has a route to the same prefix and one to the last address, and other routes."""
     texts = []
@@ -164,6 +166,10 @@ def shown(yarib, texts, names):
     listed = ran(texts, set(), 3)[1].listed()
     out = "".join(line + "\n" for line in listed)
     compare(f"the table of {len(names)} files", yarib("table", "--limit", "3", *names), status, out, told)
+    for prefix in ("10.0.0.0/8", "255.255.255.255/32"):
+        exact = "".join(line + "\n" for line in listed if line.startswith(prefix + " "))
+        ended = yarib("table", "--limit", "3", "--exact", prefix, *names)
+        compare(f"--exact {prefix} of {len(names)} files", ended, status, exact, told)
     ended = yarib("diff", "--limit", "3", *names, "--", *names)
     compare(f"{len(names)} files compared with themselves", ended, status, "", told + told)
 
@@ -269,10 +275,11 @@ def forms_by_options(name):
     said, named = (json_text(members(whole, **names, file=f"{name}.feed")) for names in ({}, {"name": name}))
     hop, route, by_name = "via 192.0.2.1", row("{0}/32").strip(), row("{0}/32", name).strip()
     tables = [(options, route) for options in (
-        ["--within", "10.0.0.0/7"], ["--feed", "1"], ["--best"], ["--best", "--feed", "1"])]
+        ["--within", "10.0.0.0/7"], ["--feed", "1"], ["--feed", "1", "--feed", "2"], ["--without", "2"], ["--best"],
+        ["--best", "--feed", "1"])]
     tables += [(["--names"], by_name), (["--json"], said), (["--names", "--json"], named),
                (["--json", "--within", "10.0.0.0/7", "--feed", "1"], said)]
-    answers = [(options, "{0} route " + route) for options in ([], ["--all"])]
+    answers = [(options, "{0} route " + route) for options in ([], ["--all"], ["--feed", "1"], ["--without", "2"])]
     answers += [([*more, "--names"], "{0} route " + by_name) for more in ([], ["--all"])]
     answers += [(["--json"], '{"address":"{0}","route":' + said + "}"),
                 (["--json", "--all", "--names"], '{"address":"{0}","route":' + named + ',"also":[]}')]
@@ -292,6 +299,7 @@ def printed(form, places):
 
 # Catches F3 for --within or --feed with over 2,000 rows, or for JSON with over 5,000: `['--feed', '1'] of 2001 rows`,
 # `['--json'] of 5001 rows`.
+# Catches F3 for two feeds of over 5,000 rows: `['--feed', '1', '--feed', '2'] of 5001 rows`.
 def options(yarib):
     """Each option that changes what is printed, at, just above and far above the sizes of the other cases."""
     pathlib.Path("none.feed").write_text("")
@@ -316,6 +324,7 @@ def options(yarib):
 
 
 # Catches F3 for --names of over 40 files, or of a name of over 200 bytes: `--names of 41 files`, `a name of 201 bytes`.
+# Catches an output that accepts no text of over 4,096 bytes: `--json with a path of 4085 bytes`.
 def names(yarib):
     """Feeds by name and as JSON: from 1 to MAX_FEEDS files, and names up to the longest of a file."""
     files = [f"file{feed}.feed" for feed in range(1, MAX_FEEDS + 1)]
@@ -340,6 +349,15 @@ def names(yarib):
             pathlib.Path(f"{folder}{name}.feed").write_text("add 10.0.0.0/8 1 192.0.2.1\n")
             ended = yarib("table", "--names", "--feed", "1", f"{folder}{name}.feed", "file1.feed")
             compare(f"a name of {size} bytes", ended, 0, row("10.0.0.0/8", name))
+    # The longest path, PATH_MAX with its end, plain and with characters that JSON writes as six.
+    for letter in ("d", "\u0001"):
+        folder = (letter * 250 + "/") * 16
+        os.makedirs(folder, exist_ok=True)
+        for size in (4_080, 4_085, 4_086, 4_095):
+            path = folder + letter * (size - len(folder) - 5) + ".feed"
+            pathlib.Path(path).write_text("add 10.0.0.0/8 1 192.0.2.1\n")
+            line = json_text(members(("10.0.0.0/8", 1, 1, "192.0.2.1"), file=path)) + "\n"
+            compare(f"--json with a path of {size} bytes of {letter!r}", yarib("table", "--json", path), 0, line)
 
 
 # Catches F3 for a comparison of more than 8,192 or 262,144 nodes, or after 1,000 ranges: `8193 routes that differ`,
@@ -412,6 +430,50 @@ def in_all(yarib):
     compare("16 feeds compared with 16", yarib("diff", *names, "--", *names), 0, "")
 
 
+# Catches a table that refuses a new prefix beyond 2,000,000 nodes: `1300000 different prefixes`.
+def different_prefixes(yarib):
+    """Single addresses of two feeds, none of them twice: more prefixes than one feed may have routes."""
+    sizes = (MOST, 300_000)
+    for feed, size in enumerate(sizes):
+        places = map(dotted, range(0x0A00_0000 + feed * MOST, 0x0A00_0000 + feed * MOST + size))
+        pathlib.Path(f"{feed + 1}.feed").write_text("".join(f"add {place}/32 1 192.0.2.1\n" for place in places))
+    count, last = sum(sizes), dotted(0x0A00_0000 + sum(sizes) - 1)
+    counts = f"routes {count} prefixes {count}\nfeed 1 routes {sizes[0]}\nfeed 2 routes {sizes[1]}\nlength 32 routes {count}\n"
+    compare(f"{count} different prefixes", yarib("table", "--count", "1.feed", "2.feed"), 0, counts)
+    compare("a look-up of the last", yarib("lookup", "--address", last, "1.feed", "2.feed"), 0,
+            f"{last} route {row(f'{last}/32', 2)}")
+
+
+# Catches F3 of a run of over 3,000,000 routes: `a run of 3014656 routes in all`.
+def three_million(yarib):
+    """A run with more routes than three feeds may have: its output, as a digest."""
+    feeds, places = range(1, 47), [f"10.{at >> 8}.{at & 255}.0/24" for at in range(65_536)]
+    pathlib.Path("whole.feed").write_text("".join(f"add {place} 1 192.0.2.1\n" for place in places))
+    with open("printed", "wb") as out:
+        ended = yarib("run", "--batch", "256", *["whole.feed"] * len(feeds), stdout=out)
+    report = [f":{line} added\n" for line in range(1, 65_537)]
+    rests, wanted = [row("", feed) for feed in feeds], hashlib.sha256()
+    for feed in feeds:
+        wanted.update(f"{feed}{str(feed).join(report)}".encode())
+    wanted.update(f"table {65_536 * len(feeds)}\n".encode())
+    for place in places:
+        wanted.update((place + place.join(rests)).encode())
+    with open("printed", "rb") as out:
+        found = hashlib.file_digest(out, "sha256").hexdigest()
+    expect(f"a run of {65_536 * len(feeds)} routes in all", (ended[0], ended[2], found), (0, "", wanted.hexdigest()))
+
+
+# Catches P3 for a replay of over 20,000 picks: `a replay of 60001 picks`.
+def picks(yarib):
+    """A long replay of one place, which comes inside and leaves again every six steps."""
+    steps = ("C1.0.0 := 1", "T1.0 := 1", "P1.0 := 0", "C1.0.1 = 0 inside", "C1.0.0 := 0", "T1.0 = 1 out")
+    for count in (20_001, 60_001, 100_000):
+        lines = "".join(f"{at + 1} p0 {steps[at % 6]}\n" for at in range(count))
+        inside = "p0" if count % 6 >= 4 else "none"
+        ended = yarib("replay", "--levels", "1", *["0"] * count)
+        compare(f"a replay of {count} picks", ended, 0, f"{lines}inside {inside}\n")
+
+
 # Catches a filter that copies the whole table: `--within a /16: bytes more than a look-up`.
 def part_of_a_million(yarib):
     """The routes of a million that are in a /16, and their number: after loading, only the rows allocate memory."""
@@ -438,7 +500,7 @@ def part_of_a_million(yarib):
 
 
 CASES = (batches, purges, feeds, many_offers, at_limit, at_greatest_limit, covered, options, names, compared, addresses,
-         forwarded, in_all, million, part_of_a_million)
+         forwarded, in_all, million, different_prefixes, three_million, picks, part_of_a_million)
 OF_MEMORY = (feeds, many_offers, in_all, million)
 
 
