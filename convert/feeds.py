@@ -48,6 +48,8 @@ MOST_KNOWN = 16384
 SET_ASIDE = frozenset(("damped", "history", "removed"))
 # the number of lines that are kept before they are written
 MOST_WAITING = 200000
+# how a text begins whose encoding is marked
+MARKED = {b"\xef\xbb\xbf": "UTF-8", b"\xff\xfe": "UTF-16", b"\xfe\xff": "UTF-16"}
 # how a compressed file begins, and what reads it
 COMPRESSED = {b"\x1f\x8b": ("gzip", "zcat"), b"\xfd7zXZ\0": ("xz", "xzcat"), b"BZh": ("bzip2", "bzcat"),
               b"\x28\xb5\x2f\xfd": ("zstd", "zstdcat")}
@@ -172,7 +174,7 @@ class Input:
         with naming("standard input"):
             while data := os.read(0, BLOCK):
                 if self.done == 0:
-                    refuse_compressed(data)
+                    refuse_other_forms(data)
                 self.done += len(data)
                 if self.done > self.most:
                     raise Refused(f"the input has more than {self.most} bytes: raise the limit with --most")
@@ -181,10 +183,14 @@ class Input:
             raise Refused("the input is empty")
 
 
-def refuse_compressed(data):
+def refuse_other_forms(data):
+    """Refuses what isn't the text that a daemon's command prints, but that text in another form."""
     for begin, (form, reader) in COMPRESSED.items():
         if data.startswith(begin):
             raise Refused(f"the input is compressed ({form}): decompress it with {reader}")
+    for begin, encoding in MARKED.items():
+        if data.startswith(begin):
+            raise Refused(f"the input begins with a byte order mark ({encoding}): write it as UTF-8 without one")
 
 
 class Lines(Input):

@@ -217,6 +217,16 @@ def check_compressed(made):
             expect(name, (status, said), (1, f"{command}: the input is compressed ({name}): decompress it with {reader}\n"))
 
 
+def check_marked(made):
+    """A byte order mark is named, since JSON may not begin with one, and PowerShell writes it."""
+    text = (SAMPLES / "kernel/routes.json").read_text()
+    for encoding, form in (("UTF-8", "utf-8"), ("UTF-16", "utf-16-le"), ("UTF-16", "utf-16-be")):
+        for command in ("ip-to-feeds", "bird-to-feeds"):
+            status, _, said = run(command, f"\ufeff{text}".encode(form), made / "marked")
+            expect(encoding, (status, said), (1, f"{command}: the input begins with a byte order mark ({encoding}): write it as UTF-8 "
+                                                 "without one\n"))
+
+
 def check_endless(made):
     """An input without an end ends at a size, and so does a value of JSON."""
     for command in ("gobgp-to-feeds", "bird-to-feeds", "table-to-frr"):
@@ -280,5 +290,5 @@ def check_missing(made):
 def check(made, conversions):
     check_cuts(made, conversions)
     for each in (check_cut_attributes, check_last_line, check_crlf, check_ipv6_default, check_names, check_many,
-                 check_limit, check_compressed, check_endless, check_files, check_missing):
+                 check_limit, check_compressed, check_marked, check_endless, check_files, check_missing):
         each(made)
