@@ -2,6 +2,7 @@
 import argparse
 import array
 import base64
+import datetime
 import errno
 import gc
 import html
@@ -56,8 +57,8 @@ def for_script(value):
     return json.dumps(value, separators=(",", ":")).replace("<", "\\u003c")
 
 
-def page(title, kind, order, feeds, held, colourings):
-    """The page's text."""
+def page(title, origin, kind, order, feeds, held, colourings):
+    """The page's text; `origin` says when and from what it was made."""
     about = {
         "kind": kind,
         "order": order,
@@ -70,6 +71,7 @@ def page(title, kind, order, feeds, held, colourings):
     packed = zlib.compress(b"".join(map(bytes_of, held.values())), LEVEL)
     parts = {
         "title": html.escape(title),
+        "made": html.escape(printable(origin)),
         "style": chart.style(),
         "about": for_script(about),
         "data": base64.b64encode(packed).decode(),
@@ -77,18 +79,18 @@ def page(title, kind, order, feeds, held, colourings):
     return re.sub(r"\{\{(\w+)\}\}", lambda found: parts[found[1]], TEMPLATE.read_text(encoding="utf-8"))
 
 
-def of_table(table, title):
+def of_table(table, title, origin):
     colourings = chart.of_table(table)
     title = title or f"Prefixes of the table: {table.rows:,}"
-    return page(title, "table", TABLE_ORDER, table.feeds, columns(table, colourings), colourings)
+    return page(title, origin, "table", TABLE_ORDER, table.feeds, columns(table, colourings), colourings)
 
 
-def of_comparison(made, title):
+def of_comparison(made, title, origin):
     changes = chart.changes_of(made)
     colourings = chart.of_comparison(made, changes)
     held = columns(made, colourings) | {"change": changes}
     title = title or f"Ranges answered otherwise: {made.rows:,}"
-    return page(title, "comparison", COMPARISON_ORDER, made.feeds, held, colourings)
+    return page(title, origin, "comparison", COMPARISON_ORDER, made.feeds, held, colourings)
 
 
 class Parser(argparse.ArgumentParser):
@@ -104,6 +106,7 @@ def run(documentation, read, write, empty):
         description=documentation, formatter_class=argparse.RawDescriptionHelpFormatter, allow_abbrev=False)
     parser.add_argument("file", nargs="?", help="the file to read (default: standard input)")
     parser.add_argument("--title", help="the heading of the map")
+    parser.add_argument("--command", metavar="TEXT", help="the command that printed the input, to be shown on the page")
     arguments = parser.parse_args()
     name = arguments.file or "standard input"
     # objects that are kept don't refer to themselves, so the cycle collector has nothing to find
@@ -112,7 +115,7 @@ def run(documentation, read, write, empty):
         made = read_from(arguments.file, read)
         if not made.rows:
             say(f"{NAME}: {name}: no row: {empty}")
-        write_out(write(made, arguments.title))
+        write_out(write(made, arguments.title, origin_of(arguments)))
         return
     except Refused as refused:
         said = f"{NAME}: {name}: {refused}"
@@ -126,6 +129,22 @@ def run(documentation, read, write, empty):
     sys.stdout = None
     say(said)
     sys.exit(1)
+
+
+def origin_of(arguments):
+    """The line of the page that says when it was made, by which script, and from what."""
+    time = time_of(os.environ.get("SOURCE_DATE_EPOCH"))
+    return f"Made on {time:%Y-%m-%d at %H:%M UTC} by {NAME} from {arguments.command or arguments.file or 'standard input'}."
+
+
+def time_of(seconds):
+    """The time that reproducible builds set, or else the present time."""
+    if seconds is None:
+        return datetime.datetime.now(datetime.UTC)
+    try:
+        return datetime.datetime.fromtimestamp(int(seconds), datetime.UTC)
+    except (ValueError, OverflowError, OSError):
+        raise Refused(f"SOURCE_DATE_EPOCH is {seconds!r} instead of a number of seconds") from None
 
 
 def read_from(file, read):

@@ -5,12 +5,15 @@ import bisect
 import html
 import itertools
 import json
+import os
 import pathlib
 import re
 import socket
 import subprocess
 import sys
 import zlib
+
+import reading
 
 HERE = pathlib.Path(__file__).resolve().parent
 END = 1 << 32
@@ -20,15 +23,24 @@ class Failed(Exception):
     """A test failed; the text says how."""
 
 
-def run(script, *words, data=b"", **settings):
+# the time that pages are made at, so that two of them can be compared
+TIME = {"SOURCE_DATE_EPOCH": "1795948200"}
+
+
+def run(script, *words, data=b"", env=TIME, **settings):
     """Runs a script: its status, its output, and its messages."""
-    done = subprocess.run([sys.executable, HERE / script, *words], input=data, capture_output=True, **settings)
+    done = subprocess.run([sys.executable, HERE / script, *words], input=data, capture_output=True, env=os.environ | env, **settings)
     return done.returncode, done.stdout.decode(), done.stderr.decode()
 
 
 def expect(what, found, wanted):
     if found != wanted:
         raise Failed(f"{what}: {str(found)[:1000]!r} in place of {str(wanted)[:1000]!r}")
+
+
+def row(prefix, feed=1, number=0, via="192.0.2.1"):
+    """A row of a table; each of the route's numbers is this one."""
+    return reading.ROUTE_TEXT.format(prefix=prefix, feed=feed, **dict.fromkeys(reading.NUMBERS, number), via=via) + "\n"
 
 
 def number_of(address):

@@ -9,7 +9,7 @@ import re
 import subprocess
 
 import chart
-from readback import END, Failed, Page, expect, run, text_of
+from readback import END, Failed, Page, expect, row, run, text_of
 from test_answers import DENSE, cases, check_comparison, check_table
 from test_colours import schemes
 
@@ -58,8 +58,8 @@ begun.then(async () => {
 });
 </script>
 """
-# Executes steps on a page, each after the one before has finished; records the view, the names and the colours in use
-# after each.
+# Executes steps on a page, each after the one before has finished; records the address, the names, the number of colours
+# in use, the view, and the counts of the legend after each.
 DOING = """
 <pre id="found"></pre>
 <script>
@@ -81,7 +81,9 @@ begun.then(async () => {
   for (const step of STEPS) {
     step();
     await new Promise((done) => setTimeout(done, 100));
-    found.push([location.hash, element("range").textContent, new Set(colours()).size]);
+    const counts = [...document.querySelectorAll("#legend .share")].map((one) => one.textContent.split(" ")[0]);
+    const view = `${dotted(shown.base)}/${shown.length}`;
+    found.push([location.hash, element("range").textContent, new Set(colours()).size, view, counts.join(" ")]);
   }
   element("found").textContent = JSON.stringify(found);
 });
@@ -93,12 +95,12 @@ STEPS_OF = b"""10.0.0.0-10.0.255.255 via 192.0.2.1 -> via 192.0.2.2
 """
 # Steps on the page of that comparison, and the results that are expected then.
 STEPS = [
-    ('element("back").click()', "", "", 4),
-    ('element("on").click()', "#10.0.0.0", "10.0.0.0", 4),
-    ('element("on").click()', "#10.2.0.0", "10.2.0.0", 4),
-    ('element("on").click()', "#10.10.0.0", "10.10.0.0", 4),
-    ('element("on").click()', "#10.10.0.0", "10.10.0.0", 4),
-    ('element("back").click()', "#10.2.0.0", "10.2.0.0", 4),
+    ('element("previous").click()', "", "", 4),
+    ('element("next").click()', "#10.0.0.0", "10.0.0.0", 4),
+    ('element("next").click()', "#10.2.0.0", "10.2.0.0", 4),
+    ('element("next").click()', "#10.10.0.0", "10.10.0.0", 4),
+    ('element("next").click()', "#10.10.0.0", "10.10.0.0", 4),
+    ('element("previous").click()', "#10.2.0.0", "10.2.0.0", 4),
     ('press("ArrowRight")', "#10.2.0.0", "10.2.0.3", 4),
     ('press("ArrowLeft")', "#10.2.0.0", "10.2.0.0", 4),
     ('press("ArrowLeft")', "#10.2.0.0", "10.2.0.0", 4),
@@ -120,6 +122,39 @@ STEPS = [
     ("by(1)", "#nowhere", "", 3),
     ("alone(1)", "#nowhere", "", 2),
     ("by(2)", "#nowhere", "", 3),
+]
+
+
+# Steps on the same page that lead only to ranges of the legend's only shown line, and the counts of the view.
+FILTER_STEPS = [
+    ("0", "", "", 4, "10.0.0.0/8", "131,072 65,536 458,752 16,121,856"),
+    ('ask("0.0.0.0/0")', "#0.0.0.0/0", "", 4, "0.0.0.0/0", "4,278,321,152 65,536 458,752 16,121,856"),
+    ('ask("10.2.0.0/16")', "#10.2.0.0/16", "", 4, "10.2.0.0/16", "0 0 65,536 0"),
+    ('ask("10.10.0.0")', "#10.10.0.0", "10.10.0.0", 4, "10.10.0.0/16", "0 0 0 65,536"),
+    ("alone(1)", "#10.10.0.0", "10.10.0.0", 2),
+    ('element("previous").click()', "#10.0.0.0", "10.0.0.0", 2),
+    ('element("next").click()', "#10.0.0.0", "10.0.0.0", 2),
+    ("alone(3)", "#10.0.0.0", "10.0.0.0", 2),
+    ('element("next").click()', "#10.10.0.0", "10.10.0.0", 2),
+    ("alone(3)", "#10.10.0.0", "10.10.0.0", 4),
+    ('element("previous").click()', "#10.2.0.0", "10.2.0.0", 4),
+    ("by(1)", "#10.2.0.0", "10.2.0.0", 3),
+    # the new next hop of the first two ranges
+    ("alone(2)", "#10.2.0.0", "10.2.0.0", 2),
+    ('element("next").click()', "#10.2.0.0", "10.2.0.0", 2),
+    ('element("previous").click()', "#10.0.0.0", "10.0.0.0", 2),
+]
+# Tables, and the view that the page opens with.
+HOMES = [
+    ("", "0.0.0.0/0"),
+    ("10.1.2.3/32", "10.1.0.0/16"),
+    ("10.1.0.0/16", "10.1.0.0/16"),
+    ("10.1.2.0/24 10.1.255.0/24", "10.1.0.0/16"),
+    ("10.1.2.0/24 10.2.0.0/24", "10.0.0.0/8"),
+    ("10.0.0.0/8", "10.0.0.0/8"),
+    ("10.0.0.0/8 11.0.0.0/32", "0.0.0.0/0"),
+    ("0.0.0.0/0 10.1.0.0/16", "0.0.0.0/0"),
+    ("255.255.255.255/32", "255.255.0.0/16"),
 ]
 
 
@@ -214,13 +249,21 @@ def found_by(browser, made, page, script, dark):
     return json.loads(html.unescape(found[1]))
 
 
-def check_steps(browser, made):
+def check_steps(browser, made, page, steps):
     """Buttons, keys and queries lead to the right view."""
-    page = Page(run("diff-to-map", data=STEPS_OF)[1])
-    steps = ", ".join(f"() => {{ {step}; }}" for step, *_ in STEPS)
-    done = found_by(browser, made, page, DOING.replace("STEPS", f"[{steps}]"), False)
-    for (step, *wanted), found in zip(STEPS, done, strict=True):
-        expect(f"what is found after {step}", found, wanted)
+    script = ", ".join(f"() => {{ {step}; }}" for step, *_ in steps)
+    done = found_by(browser, made, page, DOING.replace("STEPS", f"[{script}]"), False)
+    for (step, *wanted), found in zip(steps, done, strict=True):
+        expect(f"what is found after {step}", found[: len(wanted)], wanted)
+
+
+def check_homes(browser, made):
+    """A page opens where the routes are."""
+    for prefixes, view in HOMES:
+        table = "".join(row(prefix) for prefix in prefixes.split())
+        page = Page(run("table-to-map", data=table.encode())[1])
+        (*_, found, _), = found_by(browser, made, page, DOING.replace("STEPS", "[() => {}]"), False)
+        expect(f"where the page of {prefixes} opens", found, view)
 
 
 def check_shown(browser, made, page, said, dark):
@@ -245,7 +288,10 @@ def check_shown(browser, made, page, said, dark):
 
 def check(program, made, browser):
     tables, comparisons = cases(made)
-    check_steps(browser, made)
+    changes = Page(run("diff-to-map", data=STEPS_OF)[1])
+    check_steps(browser, made, changes, STEPS)
+    check_steps(browser, made, changes, FILTER_STEPS)
+    check_homes(browser, made)
     for dark in (False, True):
         for files in (tables[0], tables[-1]):
             check_shown(browser, made, *check_table(program, made, files), dark)

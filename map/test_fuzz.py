@@ -54,7 +54,7 @@ def check(kinds):
         for _ in range(TIMES):
             given = changed(text, draw)
             try:
-                write(read(io.BytesIO(given.encode(errors="surrogatepass"))), None)
+                write(read(io.BytesIO(given.encode(errors="surrogatepass"))), None, "")
                 made += 1
             except reading.Refused as refused:
                 if not page.printable(str(refused)) == str(refused):
