@@ -69,7 +69,7 @@ table 2
     call("replay --levels 7 200", "", 3, "yarib: fault P2\n"),
     call("replay --levels 0 0", "", 3, "yarib: fault P2\n"),
     call("replay --levels 255 0", "", 3, "yarib: fault P2\n"),
-    call("--version", "yarib 0.1.0\n"),
+    call("--version", "yarib 0.3.0\n"),
 ]
 
 SHOWN_FILES = TUTORIAL | {

@@ -30,6 +30,7 @@ from common import calls
 from common.checks import TOP, Program, chosen, close_all, compare, end, expect, is_unproved, run_each
 from common.table_model import (E1, E3, E8, MAX_FEEDS, TOO_MANY_FILES, Table, differences_text, dotted, json_text,
                                 members, row, shown)
+from common.versions import VERSION
 from schedules import in_turns, loaded
 from texts import ROW, ROW_OUT
 
@@ -384,8 +385,8 @@ def pages(yarib):
             expect(f"{words}", yarib(*words), (0, page[name], ""))
     stored = lambda name: (TOP / "tests" / "help" / name).read_text()
     for words in (["--version"], ["-V"]):
-        expect(f"{words}", yarib(*words), (0, "yarib 0.1.0\n", ""))
-    expect("the version that ./yarib prints without a program", stored("version"), "yarib 0.1.0\n")
+        expect(f"{words}", yarib(*words), (0, f"yarib {VERSION}\n", ""))
+    expect("the version that ./yarib prints without a program", stored("version"), f"yarib {VERSION}\n")
     expect("no word", yarib(), (3, "", page["yarib"]))
     # The output of ./yarib for such arguments without a built program, except a hint at a similar argument and at where
     # it belongs.

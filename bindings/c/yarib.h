@@ -55,7 +55,7 @@ extern "C" {
 
 #define YARIB_VERSION_MAJOR 0
 #define YARIB_VERSION_MINOR 2
-#define YARIB_VERSION "0.2"
+#define YARIB_VERSION "0.3.0"
 
 /* A handle to a table or to a forwarding table. C code must not read or write its contents. In this header the word table means a
  * routing table, with or without a journal. A parameter named `table` may also be a handle to a forwarding table, if the Errors of
@@ -104,7 +104,7 @@ enum yarib_status {
 #define YARIB_STATUS enum yarib_status
 #endif
 
-/* Returns the version of the library, such as "0.2"; YARIB_VERSION is the version of this header. */
+/* Returns the version of the library, such as "0.3.0"; YARIB_VERSION is the version of this header. */
 const char *yarib_version(void);
 
 /* Returns the name of a status, such as "no memory", or "unknown status". */

@@ -8,7 +8,7 @@ import platform
 import zipfile
 
 HERE = pathlib.Path(__file__).resolve().parent
-NAME, VERSION, ABOUT = "yarib", "0.2", "IPv4 routing tables whose answers are proved"
+NAME, VERSION, ABOUT = "yarib", "0.3.0", "IPv4 routing tables whose answers are proved"
 INFO = f"{NAME}-{VERSION}.dist-info"
 LIBRARY = os.environ.get("YARIB_LIBRARY")
 TAG = f"py3-none-linux_{platform.machine()}" if LIBRARY else "py3-none-any"

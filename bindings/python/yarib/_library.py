@@ -9,7 +9,7 @@ import struct
 import time
 from typing import Any, Callable, Dict, List, NoReturn, Tuple
 
-VERSION = "0.2"
+VERSION = "0.3.0"
 NAME = "libyarib.so.0"
 
 # The largest feed, limit and prefix length.

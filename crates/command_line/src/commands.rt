@@ -331,7 +331,7 @@ pub(crate) fn program<'a>(alloc: Global) -> Result<Command<'a>, AllocError> {
 /// Returns the program without its commands.
 fn bare_program<'a>(alloc: Global) -> Command<'a> {
     Command::new(alloc, "yarib")
-        .version("0.1.0")
+        .version("0.3.0")
         .about("An IPv4 routing table with proved answers")
         .subcommand_required(true)
         .arg_required_else_help(true)
