@@ -81,10 +81,11 @@ class Copy:
                 path = self.top / "crates" / crate / file
                 path.parent.mkdir(parents=True)
                 path.write_text("//\n")
-        common = [f"common/{name}.py" for name in ("built", "building", "crates", "prover")]
-        for name in ("yarib", "crates.txt", "tools/build", "tools/common.py", *common, "bindings/build",
+        common = [f"common/{name}.py" for name in ("built", "building", "crates", "prover", "versions")]
+        for name in ("yarib", "VERSION", "crates.txt", "tools/build", "tools/common.py", *common, "bindings/build",
                      "bindings/c/yarib.map", "bindings/c/yarib.h", "bindings/c/layer.h",
-                     "bindings/c/handles.c", "bindings/c/readers.c", "bindings/c/files.c", "bindings/c/heap.c"):
+                     "bindings/c/handles.c", "bindings/c/readers.c", "bindings/c/files.c", "bindings/c/about.c",
+                     "bindings/c/heap.c"):
             (self.top / name).parent.mkdir(parents=True, exist_ok=True)
             shutil.copy(TOP / name, self.top / name)
         for path in self.top.rglob("*"):
@@ -556,7 +557,8 @@ def without_a_program(copy):
              for flag in ("--help", "-h")]
     known += [(["help", name], page[name]) for name in ("run", "replay")]
     known += [(["run", "--help", "one.feed"], page["run"])]
-    known += [([word], stored("version")) for word in ("--version", "-V")]
+    about = copy.start("--about", "rt_app", by=copy.top / "tools/build")[1]
+    known += [([word], stored("version") + about) for word in ("--version", "-V")]
     known += [([word], page["yarib"]) for word in ("--help", "-h", "help")]
     for words, text in known:
         expect(f"without a program {words}", copy.start(*words, path="without"), (0, text, ""))
@@ -579,8 +581,9 @@ def without_a_program(copy):
                   ["run", "x"], ["table", "--limit"], ["run", "--", "--frob"], ["table", "-"], ["a\tb"]):
         expect(f"what needs a program {words}", copy.start(*words, path="without")[0], 127)
     copy.start("run", "x.feed")
-    for words in (["--help"], ["--version"], ["walk"], []):
+    for words in (["--help"], ["walk"], []):
         expect(f"with a program {words}", copy.start(*words), (0, told(words, copy.top), ""))
+    expect("with a program --version", copy.start("--version"), (0, told(["--version"], copy.top) + about, ""))
 
 
 def usage_of(text):

@@ -427,11 +427,6 @@ enum yarib_status yarib_forward(const yarib *table, yarib *forwarding) __attribu
 enum yarib_status yarib_share(const yarib *forwarding, yarib *other) __attribute__((alias("yarib_fib_clone")));
 enum yarib_status yarib_follow(yarib *table) __attribute__((alias("yarib_fib_attach")));
 
-const char *yarib_version(void)
-{
-    return YARIB_VERSION;
-}
-
 const char *yarib_status_text(enum yarib_status status)
 {
     static const char *const texts[] = {"done", "nothing", "bad number", "bad command", "no memory", "bad size", "none left",

@@ -337,7 +337,10 @@ static void names(void)
     yarib handle;
     handle = YARIB_EMPTY;
     CHECK(handle.inside == NULL && yarib_free(&handle) == YARIB_DONE);
-    CHECK(strcmp(yarib_version(), YARIB_VERSION) == 0);
+    char version[32];
+    snprintf(version, sizeof version, "%d.%d.", YARIB_VERSION_MAJOR, YARIB_VERSION_MINOR);
+    CHECK(strcmp(yarib_version(), YARIB_VERSION) == 0 && strncmp(YARIB_VERSION, version, strlen(version)) == 0);
+    CHECK(strncmp(yarib_build(), "sources ", 8) == 0 && strstr(yarib_build(), " logic "));
     yarib table = YARIB_EMPTY, other = YARIB_EMPTY;
     CHECK(yarib_new(&table, 1, YARIB_PLAIN) == YARIB_DONE && yarib_fib_new(&table, &handle) == YARIB_DONE);
     CHECK(yarib_fib_clone(&handle, &other) == YARIB_DONE && yarib_fib_attach(&table) == YARIB_DONE);

@@ -1,5 +1,8 @@
 /* yarib: IPv4 routing tables whose answers are proved.
  *
+ * The library is for Linux on x86-64-v2 (SSE4.2 and POPCNT), with glibc 2.32 or later; there is none for musl. On an older
+ * processor it ends the program with a message and status 127 when it is loaded.
+ *
  *     #include <yarib.h>
  *
  *     yarib table = YARIB_EMPTY;
@@ -15,7 +18,7 @@
  * Numbers. An address is a uint32_t in host byte order; 10.0.0.0 is 0x0a000000. Feeds are 1 to YARIB_MAX_FEED. The
  * lowest preference number is preferred; between equal preferences, the lowest feed. Sizes count elements, not bytes.
  *
- * Statuses. Every call returns an enum yarib_status, except yarib_version and yarib_status_text, which return strings, and
+ * Statuses. Every call returns an enum yarib_status, except yarib_version, yarib_build and yarib_status_text, which return strings, and
  * yarib_view_look_up. YARIB_DONE
  * is 0. If a call returns another status, the handles are unchanged and nothing was written, except by yarib_save, yarib_load and
  * the same calls of a concurrent table. If several statuses apply, the call returns the first of them in this order: YARIB_BUSY (any
@@ -54,7 +57,7 @@ extern "C" {
 #endif
 
 #define YARIB_VERSION_MAJOR 0
-#define YARIB_VERSION_MINOR 2
+#define YARIB_VERSION_MINOR 3
 #define YARIB_VERSION "0.3.0"
 
 /* A handle to a table or to a forwarding table. C code must not read or write its contents. In this header the word table means a
@@ -106,6 +109,10 @@ enum yarib_status {
 
 /* Returns the version of the library, such as "0.3.0"; YARIB_VERSION is the version of this header. */
 const char *yarib_version(void);
+
+/* Returns what the library was made of: the sum of the proved sources, the logic that proves them, and the sum of the C files, as
+ * "sources 40ab17443b4bf59b2521fb7733e013a7 logic dac8208d650f15bf layer 0123456789ab". */
+const char *yarib_build(void);
 
 /* Returns the name of a status, such as "no memory", or "unknown status". */
 const char *yarib_status_text(enum yarib_status status);
