@@ -5,13 +5,24 @@ import hashlib
 import os
 import pathlib
 import platform
+import re
+import time
 import zipfile
 
 HERE = pathlib.Path(__file__).resolve().parent
 NAME, VERSION, ABOUT = "yarib", "0.3.0", "IPv4 routing tables whose answers are proved"
 INFO = f"{NAME}-{VERSION}.dist-info"
 LIBRARY = os.environ.get("YARIB_LIBRARY")
-TAG = f"py3-none-linux_{platform.machine()}" if LIBRARY else "py3-none-any"
+# The time of each file; the least that a zip file can have, unless a build that can be repeated sets another one.
+WHEN = time.gmtime(int(os.environ.get("SOURCE_DATE_EPOCH", 315532800)))[:6]
+
+
+def tag():
+    """The systems on which the wheel can be used: those whose C library has what the library needs."""
+    if not LIBRARY:
+        return "py3-none-any"
+    needed = max(int(minor) for minor in re.findall(rb"\0GLIBC_2\.(\d+)(?=[.\0])", pathlib.Path(LIBRARY).read_bytes()))
+    return f"py3-none-manylinux_2_{needed}_{platform.machine()}"
 
 
 def files_of_wheel():
@@ -22,7 +33,7 @@ def files_of_wheel():
     about = f"Metadata-Version: 2.1\nName: {NAME}\nVersion: {VERSION}\nSummary: {ABOUT}\nRequires-Python: >=3.9\n"
     return found | {f"{INFO}/METADATA": about.encode(),
                     f"{INFO}/WHEEL": f"Wheel-Version: 1.0\nGenerator: yarib\nRoot-Is-Purelib: {str(not LIBRARY).lower()}\n"
-                                     f"Tag: {TAG}\n".encode()}
+                                     f"Tag: {tag()}\n".encode()}
 
 
 def listed(name, content):
@@ -33,9 +44,11 @@ def listed(name, content):
 
 def build_wheel(folder, config_settings=None, metadata_directory=None):
     """The call that pip makes: writes the wheel into the folder, and returns its name."""
-    files, name = files_of_wheel(), f"{NAME}-{VERSION}-{TAG}.whl"
+    files, name = files_of_wheel(), f"{NAME}-{VERSION}-{tag()}.whl"
     files[f"{INFO}/RECORD"] = ("".join(listed(*file) for file in files.items()) + f"{INFO}/RECORD,,\n").encode()
     with zipfile.ZipFile(pathlib.Path(folder) / name, "w", zipfile.ZIP_DEFLATED) as wheel:
         for file, content in files.items():
-            wheel.writestr(file, content)
+            entry = zipfile.ZipInfo(file, WHEN)
+            entry.compress_type, entry.external_attr = zipfile.ZIP_DEFLATED, 0o644 << 16
+            wheel.writestr(entry, content)
     return name
