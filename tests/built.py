@@ -90,7 +90,24 @@ def killed(new):
     expect("what counts as built after it", one.ready(), (3, ""))
 
 
-CASES = (saved_meanwhile, killed)
+# Catches a build whose bytes depend on the directory, the user, the umask, the time zone or the processors: `built twice`.
+def built_twice(new):
+    one = new()
+    first = run(one.words)[1].strip()
+    elsewhere = pathlib.Path.cwd() / "another place"
+    shutil.copytree(one.top, elsewhere, ignore=shutil.ignore_patterns("out"))
+    again = ["taskset", "-c", str(min(os.sched_getaffinity(0))), elsewhere / "tools/build", "one"]
+    if os.geteuid() == 0:
+        os.chown(elsewhere, 65534, 65534)
+        pathlib.Path.cwd().chmod(0o755)
+        again = ["setpriv", "--reuid=65534", "--regid=65534", "--clear-groups", *again]
+    status, made, said = run(again, env=os.environ | {"TZ": "Asia/Tokyo", "LANG": "C", "TMPDIR": "/tmp"}, preexec_fn=lambda: os.umask(0o077))
+    expect("built twice", (status, "one is proved" in said), (0, True))
+    expect("built twice: the bytes", pathlib.Path(made.strip()).read_bytes() == pathlib.Path(first).read_bytes(), True)
+    expect("built twice: the name", pathlib.Path(made.strip()).name, pathlib.Path(first).name)
+
+
+CASES = (saved_meanwhile, killed, built_twice)
 
 
 def main():
