@@ -1,0 +1,203 @@
+#!/usr/bin/env python3
+"""Makes the packages of a program and of the library, and uses them where there is no toolchain.
+
+tests/packages.py [PROGRAM [CASE..]], or --list for the names of the cases. Needs git, gcc, binutils and python3. The library
+is made of the archive that YARIB_ARCHIVE names, or else of what tools/build builds.
+
+The packages are installed in roots of Debian. YARIB_ROOTS names directories that have one, with python3, gcc, libc6-dev and
+pkg-config; they are copied. Otherwise mmdebstrap makes a root of Debian 12 and one of 13, once for this machine, in the
+user's cache. If that can't be done, it is said what is left out."""
+import gzip
+import os
+import pathlib
+import shutil
+import subprocess
+import sys
+import tarfile
+import tempfile
+
+from common.checks import TOP, built_file, chosen, end, expect, run, run_each
+from common.crates import cache
+from common.evidence import git
+from common.packages import Release, tools
+from common.versions import VERSION
+from texts import ROW, ROW_OUT
+
+SUITES = ("bookworm", "trixie")
+NEEDED = "python3,gcc,libc6-dev,pkg-config"
+ARCHIVE = f"yarib-{VERSION}-linux-x86_64"
+# What `ip -j route` prints.
+ROUTES = '[{"dst":"10.0.0.0/8","gateway":"192.0.2.1","dev":"eth0","protocol":"static"}]'
+# What is called in a root: a run, and a converter into a table into a map, by the commands' names on PATH.
+CALLS = f"""set -e
+cd /tmp
+test "$(yarib --version | head -n 1)" = "yarib {VERSION}"
+yarib run row.feed
+echo '{ROUTES}' | yarib-ip-to-feeds feeds
+yarib table --best feeds/*.feed | yarib-table-to-map >map.html
+grep -q '</html>' map.html
+"""
+LIBRARY_CALLS = """set -e
+cd /tmp
+cc -o example /usr/share/doc/libyarib-dev/examples/example.c $(pkg-config --cflags --libs yarib)
+./example
+python3 /usr/share/doc/python3-yarib/examples/example.py
+"""
+
+
+def made(program, folder):
+    """Makes a release in a directory, with the evidence of a test."""
+    archive = os.environ.get("YARIB_ARCHIVE") or built_file("yarib_c")
+    evidence = lambda library: f'{{"libyarib.so.0": "{library}"}}\n'.encode()
+    release = Release(program, archive, git("rev-parse", "HEAD"), int(git("log", "-1", "--format=%ct")), evidence)
+    release.write(folder)
+    return release
+
+
+# Catches packages that depend on the directory, the time, the umask or the time zone: `the packages made again`.
+def made_twice(packages):
+    again = pathlib.Path("again").resolve()
+    words = [sys.executable, __file__, "--make", packages.program, again]
+    ended = run(words, env=os.environ | {"TZ": "Asia/Tokyo", "LANG": "C"}, preexec_fn=lambda: os.umask(0o077))
+    expect("the packages made again", (ended[0], ended[2]), (0, ""))
+    for file in sorted(packages.folder.iterdir()):
+        expect(f"the packages made again: {file.name}", (again / file.name).read_bytes() == file.read_bytes(), True)
+    status, out, err = run(["sha256sum", "--quiet", "-c", "SHA256SUMS"], cwd=packages.folder)
+    expect("SHA256SUMS", (status, out, err), (0, "", ""))
+    expect("./release --verify without the toolchain",
+           run([TOP / "release", "--verify", packages.folder], env={"PATH": "/usr/bin:/bin"})[0], 0)
+    (again / "EVIDENCE.json").write_text("{}\n")
+    expect("./release --verify of a changed file", run([TOP / "release", "--verify", again], env={"PATH": "/usr/bin:/bin"})[0], 1)
+
+
+# Catches a package with an error of its form: `lintian`.
+# Catches a command without a manual page: `commands without a page`.
+def their_form(packages):
+    tree = tools()
+    commands = {pathlib.PurePath(path).name for path in tree.links}
+    pages = {pathlib.PurePath(path).name.removesuffix(".1") for path in tree.files if path.endswith(".1")}
+    expect("commands without a page", commands - pages, set())
+    scripts = {f"yarib-{path.name}" for folder in ("convert", "map") for path in (TOP / folder).glob("*-to-*")}
+    expect("commands in the packages", commands, scripts)
+    if not shutil.which("lintian"):
+        return print("left out: lintian, which is not on PATH", flush=True)
+    status, out, _ = run(["lintian", "-i", "-E", "--fail-on", "error,warning,info", *sorted(packages.folder.glob("*.deb"))])
+    expect("lintian", (status, out), (0, ""))
+
+
+# Catches an archive whose install script leaves something, or installs what doesn't run: `the archive ..`.
+def the_archive(packages):
+    with tarfile.open(packages.folder / f"{ARCHIVE}.tar.gz") as archive:
+        archive.extractall(".")
+    prefix = pathlib.Path("put here").resolve()
+    expect("the archive is installed", run([f"./{ARCHIVE}/install", prefix])[::2], (0, ""))
+    if "YARIB_UNPROVED" not in os.environ:
+        expect("the archive: a run", run([prefix / "bin/yarib", "run", "row.feed"]), (0, ROW_OUT, ""))
+    pathlib.Path("routes").write_text(ROUTES)
+    with open("routes") as routes:
+        expect("the archive: a converter", run([prefix / "bin/yarib-ip-to-feeds", "feeds"], stdin=routes)[0], 0)
+    settings = {"PKG_CONFIG_PATH": str(prefix / "lib/pkgconfig")}
+    expect("the archive: its version", run(["pkg-config", "--modversion", "yarib"], env=os.environ | settings)[1], f"{VERSION}\n")
+    expect("the archive is removed", (run([f"./{ARCHIVE}/install", "--remove", prefix])[0], prefix.exists()), (0, False))
+
+
+# Catches a wheel that pip refuses, or that lacks the library: `the wheel`.
+def the_wheel(packages):
+    [wheel] = packages.folder.glob("*.whl")
+    words = [sys.executable, "-m", "pip", "--disable-pip-version-check", "install", "-q", "--no-index", "--target", "site", wheel]
+    if run([sys.executable, "-m", "pip", "--version"])[0]:
+        return print("left out: the wheel (no pip)", flush=True)
+    expect("the wheel is installed", run(words, env=os.environ | {"PIP_ROOT_USER_ACTION": "ignore"})[::2], (0, ""))
+    shutil.copy(TOP / "bindings/python/example.py", "example.py")
+    shown = run([sys.executable, "example.py"], env=os.environ | {"PYTHONPATH": "site"})
+    expect("the wheel", (shown[0], shown[2], shown[1].count("\n")), (0, "", 3))
+
+
+def root_of(suite):
+    """Returns a directory with a root of Debian, made once for this machine, or None."""
+    root = cache("roots") / suite
+    if not root.exists() and os.geteuid() == 0 and shutil.which("mmdebstrap"):
+        root.parent.mkdir(parents=True, exist_ok=True)
+        with tempfile.TemporaryDirectory(dir=root.parent) as new:
+            words = ["mmdebstrap", "--quiet", "--variant=minbase", f"--include={NEEDED}", suite, f"{new}/root"]
+            if run(words, timeout=300)[0] == 0:
+                os.rename(f"{new}/root", root)
+    return root if root.exists() else None
+
+
+# Catches packages that need more than they say, or don't work where there is no toolchain: `in Debian ..`.
+def in_roots(packages):
+    named = os.environ.get("YARIB_ROOTS", "").split()
+    roots = [pathlib.Path(name) for name in named] or [root for root in map(root_of, SUITES) if root]
+    if not roots or os.geteuid() != 0:
+        return print("left out: packages in clean roots, which needs root and either YARIB_ROOTS or mmdebstrap", flush=True)
+    with_bindings = bindings(packages.folder)
+    for root in roots:
+        in_root(packages, root, with_bindings)
+
+
+def bindings(folder):
+    """Builds the examples of Go and Rust with the archives of their sources, and returns the programs."""
+    for name in ("go", "cargo"):
+        with tarfile.open(folder / f"yarib-{VERSION}-{name}.tar.gz") as archive:
+            archive.extractall(".")
+    built = []
+    if shutil.which("go"):
+        status, _, said = run(["go", "build", "-o", pathlib.Path("go-example").resolve(), "./example"],
+                              cwd=f"yarib-{VERSION}-go/go", timeout=300)
+        expect("the archive for Go", (status, said), (0, ""))
+        built.append(pathlib.Path("go-example").resolve())
+    if shutil.which("cargo"):
+        crate = pathlib.Path(f"yarib-{VERSION}-cargo/rust")
+        status, _, said = run(["cargo", "build", "--offline", "-q", "--example", "two_feeds"], cwd=crate, timeout=300)
+        expect("the archive for Rust", (status, said), (0, ""))
+        built.append((crate / "target/debug/examples/two_feeds").resolve())
+    return built
+
+
+def in_root(packages, root, programs):
+    with tempfile.TemporaryDirectory(prefix="yarib-root-") as folder:
+        copy = pathlib.Path(folder) / "root"
+        subprocess.run(["cp", "-a", "--reflink=auto", root, copy], check=True)
+        for file in [*packages.folder.glob("*.deb"), *programs]:
+            shutil.copy(file, copy / "tmp")
+        (copy / "tmp/row.feed").write_text(ROW)
+        name = f"in Debian {(copy / 'etc/debian_version').read_text().strip()}"
+        status, _, said = run(["chroot", copy, "sh", "-c", "dpkg -i /tmp/*.deb"])
+        expect(f"{name}: installed", (status, said), (0, ""))
+        if "YARIB_UNPROVED" not in os.environ:
+            expect(f"{name}: the program, a converter and a map", run(["chroot", copy, "sh", "-c", CALLS]), (0, ROW_OUT, ""))
+        status, out, said = run(["chroot", copy, "sh", "-c", LIBRARY_CALLS])
+        expect(f"{name}: C and Python", (status, out.count("10.1.0.0"), said), (0, 4, ""))
+        for program in programs:
+            status, out, said = run(["chroot", copy, f"/tmp/{program.name}"])
+            expect(f"{name}: {program.name}", (status, out.count("10.1.2.3: "), said), (0, 2, ""))
+        expect(f"{name}: a manual page", gzip.decompress((copy / "usr/share/man/man1/yarib-bird-to-feeds.1.gz").read_bytes())[:4], b".TH ")
+        status, _, said = run(["chroot", copy, "sh", "-c", "dpkg --purge python3-yarib libyarib-dev libyarib0 yarib"])
+        left = [path for path in ("usr/bin/yarib", "usr/share/yarib", "usr/libexec/yarib", "usr/share/doc/yarib") if (copy / path).exists()]
+        expect(f"{name}: removed", (status, said, left), (0, "", []))
+        print(f"{name}: the packages were installed, used and removed", flush=True)
+
+
+class Packages:
+    """The packages that are judged, made once for all cases."""
+
+    def __init__(self, program, folder):
+        self.program, self.folder = program, folder
+        made(program, folder)
+
+
+CASES = (made_twice, their_form, the_archive, the_wheel, in_roots)
+
+
+def main():
+    if sys.argv[1:2] == ["--make"]:
+        return made(*map(pathlib.Path, sys.argv[2:])) and None
+    words = chosen(__doc__, CASES)
+    with tempfile.TemporaryDirectory() as folder:
+        run_each(words.cases, Packages(words.program.path, pathlib.Path(folder) / "release"), files={"row.feed": ROW})
+    end()
+
+
+if __name__ == "__main__":
+    main()
