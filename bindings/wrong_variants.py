@@ -91,6 +91,9 @@ PYTHON = {
                                      "mixed = threading.get_ident() + id(prefix) & 0xFFFFFFFF"),
     "a source deals otherwise": (TABLES, "2_654_435_769", "2_654_435_761"),
     "an address isn't a key": (TABLES, "            return self.look_up(key)  # type", "            return None  # type"),
+    "put of a source raises for a prefix that is there": (
+        TABLES, "return self.table.put(prefix, via, pref, self.feed_of(prefix))",
+        "self.table.add(prefix, via, pref, self.feed_of(prefix))\n        return True"),
     "a source uses one feed": (TABLES, "return self.feeds[mixed * len(self.feeds) >> 32]", "return self.feeds[0]"),
     "close leaves a forwarding table open": (TABLES, "        self.close()\n", "        pass\n"),
     "one of two tables is counted": (TABLES, '        """Returns an estimate of the size of both tables in bytes, including attached forwarding tables."""\n',
@@ -240,12 +243,16 @@ RUST = {name: ("src/lib.rs", *texts) for name, texts in {
     "load skips a last line without its end": (".unwrap_or(&read)", ".unwrap_or_default()"),
     "load counts lines from 0": ("for line in 1.. {", "for line in 0.. {"),
     "load accepts long comments": ("bytes.len() > MAX_LINE ||", "bytes.len() > MAX_LINE + 1 ||"),
+    "a refusal lacks its reason": ("FileError::Table(error) | FileError::Route { error, .. } => Some(error),\n            FileError::Line",
+                                   "FileError::Table(error) => Some(error),\n            FileError::Route { .. } | FileError::Line"),
 }.items()} | {name: ("src/source.rs", *texts) for name, texts in {
     "a source uses one feed": ("u64::from(self.feeds)) >> 32", "u64::from(self.feeds)) >> 63"),
     "a source deals otherwise": (".wrapping_add(u32::from(prefix.len()))", ".wrapping_add(0)"),
     "a source purges its first feed": ("for feed in self.first..self.first + self.feeds", "for feed in self.first..=self.first"),
     "a source lists other feeds": ("(self.first..self.first + self.feeds).contains", "(1..self.first + self.feeds).contains"),
     "a source in a concurrent table purges its first feed": (".map(|feed| (feed, Command::Purge))", ".take(1)\n            .map(|feed| (feed, Command::Purge))"),
+    "a source in a concurrent table is purged feed by feed": (
+        "in self.table.apply_each(&commands)? {", "in commands.iter().map(|&(feed, command)| self.table.apply(feed, command)) {"),
     "a source in a concurrent table lists other feeds": ("self.source.feeds().contains", "(1..self.source.feeds().end).contains"),
     "a source in a concurrent table keeps the old route": (".put(self.source.feed_of(prefix)", ".add(self.source.feed_of(prefix)"),
     "a source in a concurrent table counts its last purge": ("                count += removed;\n            }\n        }\n        Ok(count)\n    }\n\n    /// Returns the routes of the source in one",
@@ -486,7 +493,7 @@ PYTHON = noticed_by({
         "differences skip an address",
     ),
     "test_calls.Conventions.test_a_source_of_more_routes_than_a_feed_may_have": (
-        "a purge counts the table", "a source deals by chance", "a source deals otherwise", "a source uses one feed",
+        "a purge counts the table", "put of a source raises for a prefix that is there", "a source deals by chance", "a source deals otherwise", "a source uses one feed",
     ),
     "test_calls.Given.test_buffers_in_another_order_of_bytes": (
         "big-endian buffers are read as they lie",
@@ -623,13 +630,16 @@ RUST = noticed_by({
     "concurrent tables_are_freed": (
         "nothing is freed", "a concurrent table isn't freed", "every table is followed",
     ),
+    "concurrent a_purge_of_a_source_is_published_once": (
+        "a source in a concurrent table is purged feed by feed",
+    ),
     "concurrent a_source_is_the_same_in_both_tables": (
         "a source in a concurrent table purges its first feed", "a source in a concurrent table lists other feeds",
         "a source in a concurrent table keeps the old route", "a source in a concurrent table counts its last purge",
     ),
     "model faulty_lines_are_named": (
         "load skips a last line without its end", "load counts lines from 0", "load accepts long comments",
-        "load accepts other forms of a preference", "load accepts discard in version 1",
+        "load accepts other forms of a preference", "load accepts discard in version 1", "a refusal lacks its reason",
     ),
     "model feeds_of_a_source": (
         "a source uses one feed", "a source deals otherwise",

@@ -619,11 +619,16 @@ class Conventions(Limited):
         source = yarib.Source(table, 3, 3)
         one_feed = lambda route: route and route._replace(feed=3 if route.feed in (3, 4, 5) else route.feed)
         for _ in range(300):
-            name = draw.choice(("add", "add", "replace", "withdraw"))
+            name = draw.choice(("add", "add", "put", "put", "replace", "withdraw"))
             prefix, (pref, via) = draw.prefix(), draw.put()
             words = (pref, via) if name != "withdraw" else ()
             given = (draw.given_prefix(prefix), *(words and (via, pref)))
-            if error := ERRORS.get(model.apply(3, name, prefix, *words).said):
+            if name == "put":
+                is_there = model.apply(3, "replace", prefix, *words).said == "replaced"
+                self.assertIs(source.put(*given), not is_there)
+                if not is_there:
+                    model.apply(3, "add", prefix, *words)
+            elif error := ERRORS.get(model.apply(3, name, prefix, *words).said):
                 self.assertRaises(error, getattr(source, name), *given)
             else:
                 getattr(source, name)(*given)

@@ -334,3 +334,36 @@ fn a_source_is_the_same_in_both_tables() {
     }
     assert!(seen[..4].iter().all(|count| *count > 5), "{seen:?}");
 }
+
+/// A purge of a source is published once: a reader finds all of its routes or none.
+#[test]
+fn a_purge_of_a_source_is_published_once() {
+    let table = ConcurrentTable::new(50).unwrap();
+    let source = Source::new(1, PREFIXES).unwrap().of(&table);
+    let adds: Vec<_> = (1..=PREFIXES)
+        .map(|feed| (feed, Command::Add(prefix(feed, 8), 0, via(feed))))
+        .collect();
+    // How often the reader has found another number of routes than before: the threads did meet.
+    let (is_done, changes) = (AtomicBool::new(false), AtomicU32::new(0));
+    thread::scope(|scope| {
+        let reader = scope.spawn(|| {
+            let (mut seen, mut before) = ([0; 1 + PREFIXES as usize], 0);
+            while !is_done.load(Ordering::SeqCst) {
+                let count = table.count().unwrap();
+                seen[count] += 1;
+                if count != before {
+                    changes.fetch_add(1, Ordering::SeqCst);
+                    before = count;
+                }
+            }
+            seen
+        });
+        while changes.load(Ordering::SeqCst) < CHANGES {
+            table.apply_each(&adds).unwrap();
+            assert_eq!(source.purge(), Ok(PREFIXES));
+        }
+        is_done.store(true, Ordering::SeqCst);
+        let seen = reader.join().unwrap();
+        assert!(seen[1..PREFIXES as usize].iter().all(|count| *count == 0));
+    });
+}

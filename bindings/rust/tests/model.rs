@@ -879,6 +879,19 @@ fn faulty_lines_are_named() {
         said(table.load(1, &b"add 1.0.0.0/7 0 0.0.0.0"[..])),
         "line 1: a bit past the length is set: \"add 1.0.0.0/7 0 0.0.0.0\""
     );
+    let more = &b"add 1.0.0.0/8 0 0.0.0.0\nadd 2.0.0.0/8 0 0.0.0.0\nadd 3.0.0.0/8 0 0.0.0.0"[..];
+    let full = table.load(1, more).unwrap_err();
+    assert_eq!(
+        full.to_string(),
+        "line 3: the feed is at its limit: \"add 3.0.0.0/8 0 0.0.0.0\""
+    );
+    // Its reason is an error of its own, for programs that print or compare each error of a chain.
+    let reason = |error: &FileError| std::error::Error::source(error).map(ToString::to_string);
+    assert_eq!(reason(&full), Some(Error::Full.to_string()));
+    let wrong = table.load(0, more).unwrap_err();
+    assert_eq!(reason(&wrong), Some(Error::Number.to_string()));
+    let other = table.load(1, &b"add x"[..]).unwrap_err();
+    assert_eq!(reason(&other), None);
     assert!(matches!(
         table.load(1, &b"add \xff 1 2"[..]),
         Err(FileError::Line { line: 1, .. })
