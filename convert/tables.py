@@ -44,8 +44,10 @@ def route_of(line):
     --json it is an object."""
     if line.startswith("{"):
         route = json.loads(line)
-        prefix, hop = feeds.member(route, "prefix", str), route.get("via")
-        return prefix, feeds.DISCARD if hop is None and feeds.member(route, "discard", bool) else hop
+        prefix = feeds.member(route, "prefix", str)
+        if route.get("via") is None and feeds.member(route, "discard", bool):
+            return prefix, feeds.DISCARD
+        return prefix, feeds.member(route, "via", str)
     found = ROW.fullmatch(line)
     if found is None:
         raise ValueError
@@ -96,7 +98,11 @@ def kinds(devices, onlink):
 
 def devices_of(connected, named):
     """The interface of each connected network: `PREFIX=NAME`, or `NAME` if there is only one."""
-    devices = dict(word.split("=", 1) for word in named if "=" in word)
+    pairs = [word.split("=", 1) for word in named if "=" in word]
+    devices = dict(pairs)
+    for prefix, name in pairs:
+        if devices[prefix] != name:
+            raise feeds.Refused(f"--device {prefix}={name} and --device {prefix}={devices[prefix]}: give its interface once")
     plain = [word for word in named if "=" not in word]
     if len(plain) > 1:
         raise feeds.Refused(f"--device {plain[0]} and --device {plain[1]}: give each with its network, PREFIX=NAME")
@@ -106,6 +112,8 @@ def devices_of(connected, named):
     left = [prefix for prefix in connected if prefix not in devices]
     if not plain and left:
         raise feeds.Refused(f"{left[0]} is a connected network: name its interface with --device")
+    if plain and connected and not left:
+        raise feeds.Refused(f"--device {plain[0]}: each connected network of the table has an interface already")
     if len(left) > 1:
         several = ", ".join(left)
         raise feeds.Refused(f"several connected networks ({several}): name each interface with --device PREFIX=NAME")

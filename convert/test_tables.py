@@ -61,6 +61,55 @@ def check_interfaces():
             raise Failed(f"table-to-ip --onlink={name} has status {status}, writes {written} and says {said}")
 
 
+# Two connected networks, one in the other, and a route by a router in both; the interfaces that are given; and of each form
+# the line of that route, or the beginning of the message.
+NESTED = "".join(row_text(*route) + "\n" for route in (
+    ("10.0.0.0/8", "0.0.0.0"), ("10.1.0.0/16", "0.0.0.0"), ("192.0.2.0/24", "10.1.0.1"), ("198.51.100.0/24", "10.2.0.1"))).encode()
+BOTH = "--device 10.0.0.0/8=outer --device 10.1.0.0/16=inner"
+TWICE = "--device 10.0.0.0/8=outer --device 10.0.0.0/8=other --device 10.1.0.0/16=inner"
+
+
+def check_nested_networks():
+    """A router is reached by the longest connected network that contains it, and each --device counts."""
+    status, written, said = run(f"table-to-bird {BOTH}", NESTED)
+    wanted = ['10.0.0.0/8 via "outer"', '10.1.0.0/16 via "inner"', "192.0.2.0/24 via 10.1.0.1%'inner' onlink",
+              "198.51.100.0/24 via 10.2.0.1%'outer' onlink"]
+    if (status, said) != (0, "") or [line[8:-1] for line in written.splitlines() if line.startswith("  route ")] != wanted:
+        raise Failed(f"table-to-bird {BOTH} has status {status}, writes {written} and says {said}")
+    for form in ("bird", "frr", "ip"):
+        status, written, said = run(f"table-to-{form} {BOTH}", NESTED)
+        if status != 0 or "inner" not in written or "outer" not in written:
+            raise Failed(f"table-to-{form} {BOTH} has status {status}, writes {written} and says {said}")
+        for given, message in ((TWICE, "--device 10.0.0.0/8=outer and --device 10.0.0.0/8=other: give its interface once"),
+                               ("--device 10.1.0.0/16=inner", "10.0.0.0/8 is a connected network: name its interface"),
+                               (f"{BOTH} --device more", "--device more: each connected network of the table has an interface")):
+            status, written, said = run(f"table-to-{form} {given}", NESTED)
+            if (status, written, message in said) != (1, "", True):
+                raise Failed(f"table-to-{form} {given} has status {status}, writes {written} and says {said}")
+
+
+# Routes in JSON: what is written for each by `table-to-ip`, or a part of the message.
+JSON_HOPS = (
+    ({"via": None, "discard": True}, "route replace blackhole 10.0.0.0/8 proto 121\n", ""),
+    ({"discard": True}, "route replace blackhole 10.0.0.0/8 proto 121\n", ""),
+    ({"via": "192.0.2.1"}, "route replace 10.0.0.0/8 via 192.0.2.1 dev uplink onlink proto 121\n", ""),
+    ({"via": None}, "", "the member 'discard' is missing or of another kind"),
+    ({"via": None, "discard": False}, "", "the member 'via' is missing or of another kind"),
+    ({"via": None, "discard": 1}, "", "the member 'discard' is missing or of another kind"),
+    ({"via": 7}, "", "the member 'via' is missing or of another kind"), ({}, "", "the member 'discard' is missing"),
+)
+
+
+def check_json_hops():
+    """In JSON a route without a next hop is a discard only if it says so."""
+    for members, wanted, part in JSON_HOPS:
+        table = json.dumps({"prefix": "10.0.0.0/8", "feed": 1, "pref": 1} | members).encode() + b"\n"
+        status, written, said = run("table-to-ip --onlink uplink", table)
+        is_so = written == wanted if wanted else (status, written, part in said, said.count("\n")) == (1, "", True, 1)
+        if not is_so:
+            raise Failed(f"table-to-ip of {table} has status {status}, writes {written!r} and says {said!r}")
+
+
 def check_short_write(made):
     """An output that is full in the middle of the last write ends with status 1, also if Python doesn't buffer its output."""
     table = "".join(row_text(f"10.{number >> 8}.{number & 255}.0/24", "192.0.2.1") + "\n" for number in range(2000)).encode()
@@ -78,4 +127,6 @@ def check_short_write(made):
 def check(made):
     check_replace_file(made)
     check_interfaces()
+    check_nested_networks()
+    check_json_hops()
     check_short_write(made)
