@@ -22,7 +22,7 @@ import time
 from common.built import LOGIC
 from common.calls import help_texts
 from common.checks import TOP, chosen, compiled, end, expect, library_stub, run, run_case, text_of
-from common.crates import all_crates, below
+from common.crates import all_crates, below, needs
 from common.prover import kit
 
 # The stub of `rt` prints the toolchain's path and version.
@@ -55,7 +55,9 @@ case $made in
     ;;
   *) cp "$ARCHIVE" "$made" ;;
 esac
-if [ "$crate" != "$SILENT" ]; then echo "logic=proved functions=1 sum=$LOGIC"; fi
+if [ "$crate" = "$STRANGE" ]; then echo "logic=proved functions=1 sum=0123456789abcdef"
+elif [ "$crate" = "$HOLED" ]; then echo "logic=holes functions=1 sum=$LOGIC"
+elif [ "$crate" != "$SILENT" ]; then echo "logic=proved functions=1 sum=$LOGIC"; fi
 echo "end $crate" >>"$NOTES"
 """
 # The stub of the linker writes the program to the path after -o.
@@ -97,7 +99,7 @@ class Copy:
 
     def names(self, path="with:without"):
         """The environment of a call."""
-        none = dict.fromkeys(("FAILS", "CHANGES", "HANGS", "DIES", "SILENT", "LINKER_FAILS"), "")
+        none = dict.fromkeys(("FAILS", "CHANGES", "HANGS", "DIES", "SILENT", "STRANGE", "HOLED", "LINKER_FAILS"), "")
         return none | {"PATH": ":".join(f"{self.tools}/{one}" for one in path.split(":")), "NOTES": self.notes,
                        "STARTED": self.tools / "started", "ARCHIVE": self.tools / "kit/c/stub.a", "TOP": self.top,
                        "VERSION": "1", "KIT": self.tools / "kit", "LOGIC": LOGIC, "TMPDIR": self.folder,
@@ -181,7 +183,8 @@ def what_it_is_given(copy):
 # differently`, `.. has another name`, `.. names another crate`.
 # Catches a build for a changed edit that the prover must refuse, or for a crate on which the program doesn't depend:
 # `not built where crates/walkthrough/src/lib.rt is another`.
-# Catches a build that uses a library of another toolchain: `built where the toolchain is another`.
+# Catches a build that uses a library of another toolchain or logic: `built where the toolchain is another`.
+# Catches a build that keeps each older product, or removes a program that may be starting: `how many of each are kept`.
 # Catches a build that makes only the missing library again: `built where a library is gone`.
 def what_is_built_anew(copy):
     whole = below(["rt_app"])
@@ -215,6 +218,15 @@ def what_is_built_anew(copy):
     copy.change("crates/rt_app/src/main.rt")
     copy.start("run", "x", names={"VERSION": "2"})
     expect("built where the toolchain is another", begun(copy.built()), whole)
+    rule, other = copy.top / "common/built.py", "0123456789abcdef"
+    rule.write_text(rule.read_text().replace(LOGIC, other))
+    expect("built where the logic is another", copy.start("run", "x", names={"LOGIC": other})[0], 0)
+    expect("what is built where the logic is another", begun(copy.built()), whole)
+    # A program that is replaced may just be starting; of a library only the last is needed.
+    kept = [path.name.rpartition("-")[0] if path.suffix == ".tar" else path.name for path in (copy.top / "out/build").glob("*-*")
+            if path.suffix != ".sha256"]
+    numbers = {crate: sum(name.startswith(f"{crate}-") for name in kept) for crate in whole}
+    expect("how many of each are kept", numbers, {crate: 2 if crate == "rt_app" else 1 for crate in whole})
 
 
 # Catches a launcher that starts a program that is empty, cut or changed: `not started where the program is ..`.
@@ -446,6 +458,16 @@ def words_for_the_prover(copy):
                ("build", set()))
         expect("the logic that is named", words[words.index("--antt-project") + 1],
                f"{copy.tools}/kit/rattle/logic/antt-project.json")
+    copy.start("yarib_c", by=copy.top / "tools/build")
+    for line in pathlib.Path(f"{copy.notes}.words").read_text().splitlines():
+        words = line.split()
+        crate = words[words.index("--crate-name") + 1]
+        # A program and an archive are compiled; of a library only the statements are needed.
+        kind = [word in words for word in ("--statements", "--backend", "--crate-type", "staticlib")]
+        expect(f"how {crate} is built", kind, [False, True] + [crate == "yarib_c"] * 2 if crate in ("rt_app", "yarib_c") else
+               [True, False, False, False])
+        externs = [word.partition("=")[0] for at, word in enumerate(words) if words[at - 1] == "--extern"]
+        expect(f"what {crate} is built with", sorted(externs), sorted({"std", *needs()[crate]}))
 
 
 def begun(notes):
@@ -496,7 +518,9 @@ def failed_builds(copy):
         expect(f"rt_app is not built where {crate} fails", "end rt_app" in copy.built(), False)
     expect("built when nothing fails any more", copy.built_by_call().count("end rt_app"), 1)
     for how, names in (("a prover is killed", {"DIES": "rt_app"}), ("the linker fails", {"LINKER_FAILS": "1"}),
-                       ("a prover says of nothing that it is proved", {"SILENT": "rt_app"})):
+                       ("a prover says of nothing that it is proved", {"SILENT": "rt_app"}),
+                       ("a prover says so by another logic", {"STRANGE": "rt_app"}),
+                       ("a prover says that there are holes", {"HOLED": "rt_app"})):
         copy.change("crates/rt_app/src/main.rt")
         expect(f"{how}: no program", copy.start("run", "x", names=names)[:2], (126, ""))
         copy.built()
