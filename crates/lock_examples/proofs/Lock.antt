@@ -4,3 +4,4 @@ pub mod LockState
 pub mod Rule
 pub mod Passes
 pub mod Steps
+pub mod Bells

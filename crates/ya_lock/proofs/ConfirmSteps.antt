@@ -9,9 +9,10 @@ use Rattle.atomic_table.specs.Table.{State, Me, Allows, Joins}
 use Rattle.atomic_table.proofs.Lists.{at_set}
 use Rattle.ya_core.specs.declared.process.Process.TheVariants.{Idle, Inside}
 use Rattle.ya_lock.specs.declared.rule.View.{View}
-use Rattle.ya_lock.specs.declared.rule.View.TheVariants.{Unused, Making, Filling, HandingOut, Seated, Joining, Spent}
+use Rattle.ya_lock.specs.declared.rule.View.TheVariants.{Unused, Making, Filling, HandingOut, Seated, Watching, Owes, Joining, Spent}
 use Rattle.ya_lock.specs.Rule.{making_index, GlobalView, ViewFits, Rule}
 use Rattle.ya_lock.specs.StepEffects.{LearnsSince}
+use Rattle.ya_lock.proofs.Rings.{set_quiet}
 use Rattle.ya_lock.proofs.Frames.{refits, sees, sits_still, sits_else}
 
 module _ {V : Type 0} (since : ℕ → V → V → Type 0) (levels : ℕ) where
@@ -92,6 +93,22 @@ module _ {V : Type 0} (since : ℕ → V → V → Type 0) (levels : ℕ) where
     f.4,
     f.5,
   )
+  freed_fits s t x id place here words homes seat (Watching p process value count) ne f = (
+    subst (λ (r : List ℕ). slice_index r (making_index levels) ≢ 0) (sym words) f.0,
+    freed_else x place p (other_place x place id p seat here f.1 ne) ∙ f.1,
+    f.2,
+    f.3,
+    f.4,
+    f.5,
+  )
+  freed_fits s t x id place here words homes seat (Owes p process value count debt) ne f = (
+    subst (λ (r : List ℕ). slice_index r (making_index levels) ≢ 0) (sym words) f.0,
+    freed_else x place p (other_place x place id p seat here f.1 ne) ∙ f.1,
+    f.2,
+    f.3,
+    f.4,
+    f.5,
+  )
   freed_fits s t x id place here words homes seat (Joining p value other seen count) ne f = (
     subst (λ (r : List ℕ). slice_index r (making_index levels) ≢ 0) (sym words) f.0,
     freed_else x place p (other_place x place id p seat here f.1 ne) ∙ f.1,
@@ -146,6 +163,8 @@ module _ {V : Type 0} (since : ℕ → V → V → Type 0) (levels : ℕ) where
               (at_set s.views id seat w view q.1))
               (at_set (set s.views id w) rival seat Spent view there);
         },
+        set_quiet levels s.words (set s.views id w) rival (Seated other Idle seen last) Spent at' (λ p h. h) (λ p y h. h)
+            (set_quiet levels s.words s.views id (Seated place Inside value count) w at (λ p h. h) (λ p y h. h) rule.2),
       )
 
   -- it learns what others may have made of the value that the other has seen
@@ -173,6 +192,8 @@ module _ {V : Type 0} (since : ℕ → V → V → Type 0) (levels : ℕ) where
               (λ p. refits since levels s t x (λ b. b) seat view (λ _. refl) (o.fits seat view p.1))
               (at_set s.views id seat w view there);
         },
+        set_quiet levels s.words s.views id (Joining place value other seen count) w (at ∙ ap some is) (λ p h. h) (λ p y h. h)
+            rule.2,
       )
       (subst (λ (v : View V). LearnsSince since v me.1 (w, me.1)) (sym is)
       (subst (λ (now : V). since other seen now) (some-injective _ _ (sym f.4.1 ∙ f.3)) f.4.2, refl))

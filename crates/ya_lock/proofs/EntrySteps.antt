@@ -17,7 +17,8 @@ use Rattle.ya_core.specs.Steps.{entry_access, exit_access, entry_next, next_of, 
 use Rattle.ya_core.specs.WalkerModel.{Walk, walk, walk_after, op_of, op_of_access, is_waiting}
 use Rattle.ya_core.specs.inside.Ahead.{points_of, points_ahead, ComesNearer}
 use Rattle.ya_lock.specs.declared.rule.View.{View}
-use Rattle.ya_lock.specs.inside.Lock.{HasWon, HasPassed, HasLooked, IsAtFoot, OnWay, SeatOf}
+use Rattle.ya_lock.specs.Rule.{Quiet, Vain, free, bell_after}
+use Rattle.ya_lock.specs.inside.Lock.{HasWon, HasPassed, HasLooked, IsAtFoot, OnWay, SeatOf, is_to_ring, is_vain}
 
 -- the request is an access
 abbrev IsAccess : Op → Type 0
@@ -50,6 +51,41 @@ pub due_leaving : (w : Walk) (level : ℕ) (point : ExitPoint) → w.process ≡
     → (op_of w ≢ op.Idle) × (op_of w ≢ op.Inside)
 due_leaving w level point at =
     due_where w (Leaving level point) at (is_access w.levels (exit_access level w.place point))
+
+-- and it is no store in a rival's spin word
+pub plain_entering : (w : Walk) (level : ℕ) (point : EntryPoint) → w.process ≡ Entering level point
+    → is_to_ring (Entering level point) ≡ false
+    → (op_of w ≢ op.Idle) × (op_of w ≢ op.Inside) × (is_to_ring w.process ≡ false)
+plain_entering w level point at plain =
+    let d = due_entering w level point at in (d.0, d.1, ap is_to_ring at ∙ plain)
+
+pub plain_leaving : (w : Walk) (level : ℕ) (point : ExitPoint) → w.process ≡ Leaving level point
+    → is_to_ring (Leaving level point) ≡ false
+    → (op_of w ≢ op.Idle) × (op_of w ≢ op.Inside) × (is_to_ring w.process ≡ false)
+plain_leaving w level point at plain =
+    let d = due_leaving w level point at in (d.0, d.1, ap is_to_ring at ∙ plain)
+
+-- a wait that is over is over
+not_waiting : (more : Bool) (level : ℕ) → is_waiting (if more then Entering (level + 1) E1 else Inside) ≡ false
+not_waiting true level = refl
+not_waiting false level = refl
+
+-- a look after which the process waits was in vain
+vain_e8 : (b : Bool) (level : ℕ) → is_waiting (if b then Entering level E8 else Entering level E9) ≡ true
+    → is_vain (free b) ≡ true
+vain_e8 true level waits = refl
+vain_e8 false level waits = absurd (false≢true waits)
+
+vain_e10 : (b : Bool) (levels level : ℕ) → is_waiting (if b then after_entry levels level else Entering level E10) ≡ true
+    → is_vain (if b then Quiet else Vain) ≡ true
+vain_e10 true levels level waits = absurd (false≢true (sym (not_waiting (nat_lt level levels) level) ∙ waits))
+vain_e10 false levels level waits = refl
+
+pub looks_vain : (levels place found : ℕ) (process : Process) → is_waiting process ≡ true
+    → is_waiting (next_of levels place process found) ≡ true → is_vain (bell_after process found) ≡ true
+looks_vain levels place found (Entering level E8) waited waits = vain_e8 (found == 0) level waits
+looks_vain levels place found (Entering level E10) waited waits = vain_e10 (found == 2) levels level waits
+looks_vain levels place found process waited waits = absurd (false≢true waited)
 
 -- the walk has the process that a match found
 pub found_at : {V : Type 0} {seen at : OnWay V} {A : Type 0} {point is : A} (process_at : A → Process) → seen ≡ at
@@ -149,11 +185,6 @@ looked_e10 levels level found w new tree at goes =
     (subst (λ (l : ℕ). HasLooked l (Entering level E10) new) tree
     (looked_at_e10 (found == 2) w.levels level new (leads w new level found E10 at goes) (ap (λ (v : Walk). v.begun) goes)))
 
--- a wait that is over is over
-not_waiting : (more : Bool) (level : ℕ) → is_waiting (if more then Entering (level + 1) E1 else Inside) ≡ false
-not_waiting true level = refl
-not_waiting false level = refl
-
 passed_waits : (levels : ℕ) (before : Process) (after : Walk) → HasPassed levels before after
     → is_waiting after.process ≡ false
 passed_waits levels (Entering level E8) after passed = ap is_waiting passed.0
@@ -206,6 +237,10 @@ due_at_foot w (inl idle) =
     let access : P Idle true = is_access w.levels (entry_access 1 w.place E1) in
     is_due w (subst (λ (b : Bool). P w.process b) (sym idle.1) (subst (λ (p : Process). P p true) (sym idle.0) access))
 due_at_foot w (inr entering) = due_entering w entering.0 E1 entering.1
+
+pub plain_at_foot : (w : Walk) → IsAtFoot w → (op_of w ≢ op.Idle) × (op_of w ≢ op.Inside) × (is_to_ring w.process ≡ false)
+plain_at_foot w (inl idle) = let d = due_at_foot w (inl idle) in (d.0, d.1, ap is_to_ring idle.0)
+plain_at_foot w (inr entering) = let d = due_at_foot w (inr entering) in (d.0, d.1, ap is_to_ring entering.1)
 
 pub from_foot : (w new : Walk) (found : ℕ) → IsAtFoot w → new ≡ walk_after w found
     → (level : ℕ) × (new.process ≡ Entering level E2)

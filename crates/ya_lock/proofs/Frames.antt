@@ -1,5 +1,5 @@
 -- A step of one process leaves the rule to the other seats.
-use Rattle.std.proofs.Common.{◌≡◌, ◌≢◌, ℕ, zero, suc, ◌≤◌, eqb, Bool, true, false, cond, List, [], ◌∷◌, ◌++◌, length, set}
+use Rattle.std.proofs.Common.{◌≡◌, ◌≢◌, ℕ, ◌≤◌, eqb, Bool, true, false, cond, List, [], ◌∷◌, ◌++◌, length, set}
 use Rattle.std.proofs.Common.{sym, refl, ap, ◌∙◌, subst, slice_index, ⊎_elim, eq-eqb, ne_eqb}
 use Rattle.std.specs.Prelude as std
 use mathlib.Core.Option.{Option, none, some, some-injective, some-ne-none}
@@ -10,17 +10,12 @@ use Rattle.atomic_table.proofs.Lists.{at_set, set_else, at_longer}
 use Rattle.ya_core.specs.declared.process.Process.{Process}
 use Rattle.ya_core.specs.Soundness.{IsSoundState}
 use Rattle.ya_lock.specs.declared.rule.View.{View}
-use Rattle.ya_lock.specs.declared.rule.View.TheVariants.{Unused, Making, Filling, HandingOut, Seated, Joining, Spent}
+use Rattle.ya_lock.specs.declared.rule.View.TheVariants.{Unused, Making, Filling, HandingOut, Seated, Watching, Owes, Joining, Spent}
 use Rattle.ya_lock.specs.Rule.{Slots, making_index, words_in, place_of_view, GlobalView, KnowsValue, ValueInSlot, least_count, ViewFits, Obeys, Rule}
-use Rattle.ya_lock.proofs.WordsInRow.{word_kept}
+use Rattle.ya_lock.specs.Rule.{BellKnowledge, Quiet, Vain, Debt, view_at, IsWatching}
+use Rattle.ya_lock.proofs.WordsInRow.{word_kept, set_at}
+use Rattle.ya_lock.proofs.Rings.{OnlyHere}
 use Rattle.ya_core.specs.Worlds.{is_inside}
-
--- the view of a seat after it was set
-pub set_at : {A : Type 0} (l : List A) (i : ℕ) (old new : A) → get_elem? l i ≡ some old
-    → get_elem? (set l i new) i ≡ some new
-set_at [] i old new e = absurd (some-ne-none old (sym e))
-set_at (x ∷ xs) zero old new e = refl
-set_at (x ∷ xs) (suc i) old new e = set_at xs i old new e
 
 -- the processes after one place's process is replaced
 abbrev pub moved : (ℕ → Process) → ℕ → Process → ℕ → Process
@@ -118,6 +113,24 @@ module _ {V : Type 0} (since : ℕ → V → V → Type 0) (levels : ℕ) where
         f.4,
         f.5,
       )
+  other_fits s t x id place process content now is word here later seat (Watching k p value count) ne f =
+      let other = other_place x place id k seat here f.1 ne in (
+        (λ e. f.0 (sym word ∙ e)),
+        f.1,
+        moved_else x.processes place process k other ∙ f.2,
+        knows_later x place content k value (is_inside p) later other (ap is_inside f.2) f.3,
+        f.4,
+        f.5,
+      )
+  other_fits s t x id place process content now is word here later seat (Owes k p value count debt) ne f =
+      let other = other_place x place id k seat here f.1 ne in (
+        (λ e. f.0 (sym word ∙ e)),
+        f.1,
+        moved_else x.processes place process k other ∙ f.2,
+        knows_later x place content k value (is_inside p) later other (ap is_inside f.2) f.3,
+        f.4,
+        f.5,
+      )
   other_fits s t x id place process content now is word here later seat (Joining k value j seen count) ne f =
       let other = other_place x place id k seat here f.1 ne in
       let both = inside_later x place content k j value seen later other (ap is_inside f.2) f.3 f.4 in (
@@ -168,11 +181,54 @@ module _ {V : Type 0} (since : ℕ → V → V → Type 0) (levels : ℕ) where
       → Sits (views ++ new ∷ []) place seat
   sits_longer views new place seat sits = (sits.0, at_longer views (new ∷ []) seat sits.0 sits.1, sits.2)
 
+  -- the view of a process has its place, whatever its seat knows of bells
+  pub place_at : (b : BellKnowledge) (place : ℕ) (process : Process) (value : V) (count : ℕ)
+      → place_of_view (view_at b place process value count) ≡ some place
+  place_at Quiet place process value count = refl
+  place_at Vain place process value count = refl
+  place_at (Debt rival) place process value count = refl
+
+  -- and fits the global view as any other of the process
+  pub fits_at : (s : St) (x : GlobalView V) (seat : ℕ) (b : BellKnowledge) (place : ℕ) (process : Process) (value : V) (count : ℕ)
+      → ViewFits since levels s x seat (Seated place process value count)
+      → ViewFits since levels s x seat (view_at b place process value count)
+  fits_at s x seat Quiet place process value count f = f
+  fits_at s x seat Vain place process value count f = f
+  fits_at s x seat (Debt rival) place process value count f = f
+
+  pub fits_of : (s : St) (x : GlobalView V) (seat : ℕ) (b : BellKnowledge) (place : ℕ) (process : Process) (value : V) (count : ℕ)
+      → ViewFits since levels s x seat (view_at b place process value count)
+      → ViewFits since levels s x seat (Seated place process value count)
+  fits_of s x seat Quiet place process value count f = f
+  fits_of s x seat Vain place process value count f = f
+  fits_of s x seat (Debt rival) place process value count f = f
+
+  -- the place of a seat that watches
+  watches_from : (s : St) (x : GlobalView V) (seat : ℕ) (view : View V) (p : ℕ) (y : Process) → IsWatching view p y
+      → ViewFits since levels s x seat view → x.seat_of p ≡ some seat
+  watches_from s x seat Unused p y h f = absurd h
+  watches_from s x seat Making p y h f = absurd h
+  watches_from s x seat Filling p y h f = absurd h
+  watches_from s x seat (HandingOut first value) p y h f = absurd h
+  watches_from s x seat (Seated place process value count) p y h f = absurd h
+  watches_from s x seat (Watching place process value count) p y h f = ap x.seat_of (sym h.0) ∙ f.1
+  watches_from s x seat (Owes place process value count rival) p y h f = absurd h
+  watches_from s x seat (Joining place value other seen count) p y h f = absurd h
+  watches_from s x seat Spent p y h f = absurd h
+
+  -- so no other seat watches for the place of a seat
+  pub only_here : (s : St) (x : GlobalView V) → Obeys since levels s x → (id place : ℕ) → x.seat_of place ≡ some id
+      → OnlyHere levels s.views id place
+  only_here s x o id place here seat view p y ne at watches same =
+      ne (some-injective seat id
+      (sym (watches_from s x seat view p y watches (o.fits seat view at)) ∙ (ap x.seat_of same ∙ here)))
+
   -- a process goes on, and its seat knows the value next
   pub goes_on : (s : St) (x : GlobalView V) → Obeys since levels s x
-      → (id place : ℕ) (before process : Process) (value next now then' : V) (count total : ℕ) (content : Option V) (row : List ℕ)
+      → (id place : ℕ) (old new : BellKnowledge) (before process : Process) (value next now then' : V) (count total : ℕ)
+      (content : Option V) (row : List ℕ)
       (homes : List (Option (std.Option V)))
-      → get_elem? s.views id ≡ some (Seated place before value count)
+      → get_elem? s.views id ≡ some (view_at old place before value count)
       → slice_index s.words (making_index levels) ≢ 0 → x.seat_of place ≡ some id → x.content ≡ some now
       → content ≡ some then'
       → length row ≡ length s.words → slice_index row (making_index levels) ≡ slice_index s.words (making_index levels)
@@ -180,32 +236,35 @@ module _ {V : Type 0} (since : ℕ → V → V → Type 0) (levels : ℕ) where
       → ValueInSlot since (moved x.processes place process) homes content
       → KnowsValue since content place (is_inside process) next → least_count levels process ≤ total
       → Later x place content
-      → Obeys since levels record { words = row; homes = homes; views = set s.views id (Seated place process next total) }
+      → Obeys since levels
+      record { words = row; homes = homes; views = set s.views id (view_at new place process next total) }
       (gone_on x place process content)
-  goes_on s x o id place before process value next now then' count total content row homes at' begun here was is long word sound
+  goes_on s x o id place old new before process value next now then' count total content row homes at' begun here was is long word sound
       lies knows least later =
-      let t : St = record { words = row; homes = homes; views = set s.views id (Seated place process next total) } in
+      let t : St = record { words = row; homes = homes; views = set s.views id (view_at new place process next total) } in
       record {
         wide = long ∙ o.wide;
         unmade = λ e. absurd (begun (sym word ∙ e));
         before = λ e. absurd (some-ne-none then' (sym is ∙ e));
-        seated = λ k seat e. sits_still s.views id (Seated place before value count)
-            (Seated place process next total) at' refl k seat (o.seated k seat e);
+        seated = λ k seat e. sits_still s.views id (view_at old place before value count)
+            (view_at new place process next total) at'
+            (place_at new place process next total ∙ sym (place_at old place before value count)) k seat (o.seated k seat e);
         absent = λ k e. moved_else x.processes place process k (no_place x place id k here e) ∙ o.absent k e;
         sound = sound;
         lies = lies;
         fits = λ seat view at. ⊎_elim
-            (λ p. subst (λ (y : View V). ViewFits since levels t (gone_on x place process content) seat y) p.1 (
+            (λ p. subst (λ (y : View V). ViewFits since levels t (gone_on x place process content) seat y) p.1
+            (fits_at t (gone_on x place process content) seat new place process next total (
               (λ e. begun (sym word ∙ e)),
               here ∙ ap some (sym p.0),
               moved_here x.processes place process,
               knows,
               least,
-              (o.fits id (Seated place before value count) at').5,
-            ))
+              (fits_of s x id old place before value count (o.fits id (view_at old place before value count) at')).5,
+            )))
             (λ p. other_fits s t x id place process content now was word here later seat view p.0
             (o.fits seat view p.1))
-            (at_set s.views id seat (Seated place process next total) view at);
+            (at_set s.views id seat (view_at new place process next total) view at);
       }
 
   -- the same global view fits if the making word stays set, and the slot stays while the maker waits for it
@@ -218,6 +277,8 @@ module _ {V : Type 0} (since : ℕ → V → V → Type 0) (levels : ℕ) where
   refits s t x begun seat Filling slot f = (begun f.0, f.1, f.2, ap length (slot f.1) ∙ f.3)
   refits s t x begun seat (HandingOut first value) slot f = (begun f.0, f.1, f.2, f.3)
   refits s t x begun seat (Seated place process value count) slot f = (begun f.0, f.1, f.2, f.3, f.4, f.5)
+  refits s t x begun seat (Watching place process value count) slot f = (begun f.0, f.1, f.2, f.3, f.4, f.5)
+  refits s t x begun seat (Owes place process value count debt) slot f = (begun f.0, f.1, f.2, f.3, f.4, f.5)
   refits s t x begun seat (Joining place value other seen count) slot f = (begun f.0, f.1, f.2, f.3, f.4, f.5, f.6)
   refits s t x begun seat Spent slot f = begun f
 

@@ -1,5 +1,6 @@
 pub mod WordsInRow
 pub mod LeastCounts
+pub mod Rings
 pub mod Frames
 pub mod ProcessSteps
 pub mod DueSteps
@@ -13,6 +14,8 @@ pub mod Slots
 pub mod RuleMeaning
 pub mod OnlyDueStep
 pub mod OtherKinds
+pub mod DebtsKept
 pub mod EntryAccesses
 pub mod EntrySteps
 pub mod PassageSteps
+pub mod DueAccesses

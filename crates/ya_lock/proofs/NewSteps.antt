@@ -15,13 +15,16 @@ use Rattle.ya_core.specs.declared.word.Word.{Word}
 use Rattle.ya_core.specs.declared.process.Process.TheVariants.{Idle}
 use Rattle.ya_core.specs.Soundness.{IsSoundState}
 use Rattle.ya_lock.specs.declared.rule.View.{View}
-use Rattle.ya_lock.specs.declared.rule.View.TheVariants.{Unused, Making, Filling, HandingOut, Seated, Joining, Spent}
+use Rattle.ya_lock.specs.declared.rule.View.TheVariants.{Unused, Making, Filling, HandingOut, Seated, Watching, Owes, Joining, Spent}
 use Rattle.ya_lock.specs.Rule.{making_index, row_length, GlobalView, ValueInSlot, ViewFits, Obeys, Rule, Slots}
 use Rattle.ya_core.specs.Worlds.{is_inside}
 use Rattle.ya_lock.specs.StepEffects.{BeginsMaking, TakesSlot, GivesValue, HandsOutLast}
 use Rattle.ya_core.proofs.Promised.{opens as opens_sound}
-use Rattle.ya_lock.proofs.WordsInRow.{words_zero, words_behind}
-use Rattle.ya_lock.proofs.Frames.{refits, looks, sees, Sits, sits_still, sits_else, sits_longer, set_at}
+use Rattle.ya_lock.proofs.WordsInRow.{words_zero, words_behind, set_at}
+use Rattle.ya_lock.specs.Rule.{IsWatching}
+use Rattle.ya_core.specs.declared.process.Process.{Process}
+use Rattle.ya_lock.proofs.Rings.{set_quiet, add_quiet, set_making}
+use Rattle.ya_lock.proofs.Frames.{refits, looks, sees, Sits, sits_still, sits_else, sits_longer}
 
 -- an element of the longer list is the last one, or was there before
 pub at_end : {A : Type 0} (l : List A) (a b : A) (j : ℕ) → get_elem? (l ++ a ∷ []) j ≡ some b
@@ -63,6 +66,13 @@ module _ {V : Type 0} (since : ℕ → V → V → Type 0) (since_same : (place 
   first_fits s zero view at = subst (λ (v : View V). ViewFits since levels s nothing zero v) (some-injective _ _ at) tt
   first_fits s (suc j) view at = absurd (some-ne-none view (sym at))
 
+  -- it doesn't watch
+  first_watches : (seat : ℕ) (view : View V) (place : ℕ) (process : Process) → get_elem? (Unused ∷ []) seat ≡ some view
+      → ¬ IsWatching view place process
+  first_watches zero view place process at h =
+      subst (λ (v : View V). IsWatching v place process) (sym (some-injective Unused view at)) h
+  first_watches (suc j) view place process at h = some-ne-none view (sym at)
+
   -- a new table, whose words are 0 and whose slot is empty
   pub opens : (n : ℕ) → n ≡ row_length levels → Rule since levels (opening (replicate n 0) (None ∷ []) Unused)
   unfolding nothing
@@ -79,6 +89,7 @@ module _ {V : Type 0} (since : ℕ → V → V → Type 0) (since_same : (place 
       lies = tt;
       fits = first_fits (opening (replicate n 0) (None ∷ []) Unused);
     },
+    λ seat place process view at watches. absurd (first_watches seat view place process at watches),
   )
 
   -- while the making word is 0, all seats are unused
@@ -89,6 +100,8 @@ module _ {V : Type 0} (since : ℕ → V → V → Type 0) (since_same : (place 
   unused_fits s t x y seat Filling e f = absurd (f.0 e)
   unused_fits s t x y seat (HandingOut first value) e f = absurd (f.0 e)
   unused_fits s t x y seat (Seated place process value count) e f = absurd (f.0 e)
+  unused_fits s t x y seat (Watching place process value count) e f = absurd (f.0 e)
+  unused_fits s t x y seat (Owes place process value count debt) e f = absurd (f.0 e)
   unused_fits s t x y seat (Joining place value other seen count) e f = absurd (f.0 e)
   unused_fits s t x y seat Spent e f = absurd (f e)
 
@@ -144,6 +157,7 @@ module _ {V : Type 0} (since : ℕ → V → V → Type 0) (since_same : (place 
                     (λ p. subst (λ (v : View V). ViewFits since levels t y seat v) p.1
                     (begun_by_swap s Making o.wide, ap some (sym p.0), (o.unmade z).0, (o.unmade z).1))
                     (at_end s.views Making view seat at)),
+                add_quiet levels t.words s.views Making (λ p y h. h) (set_making levels s.words s.views 1 rule.2),
               ),
               ((λ _. refl), (λ other. absurd (other z)), refl),
             )
@@ -159,6 +173,7 @@ module _ {V : Type 0} (since : ℕ → V → V → Type 0) (since_same : (place 
                     (o.fits seat view there))
                     (λ p. subst (λ (v : View V). ViewFits since levels t x seat v) p.1 tt)
                     (at_end s.views Unused view seat at)),
+                add_quiet levels t.words s.views Unused (λ p y h. h) (set_making levels s.words s.views 1 rule.2),
               ),
               ((λ z. absurd (other z)), (λ _. refl), refl),
             )
@@ -205,6 +220,7 @@ module _ {V : Type 0} (since : ℕ → V → V → Type 0) (since_same : (place 
                 (λ p. refits since levels s t x (λ b. b) seat view (λ m. absurd (other_maker x id seat f.1 m p.0))
                 (o.fits seat view p.1)) (at_set s.views id seat Filling view there);
           },
+          set_quiet levels s.words s.views id Making Filling (at ∙ ap some is) (λ p h. h) (λ p y h. h) rule.2,
         ),
         subst (λ (v : View V). TakesSlot v (Filling, (0, None) ∷ me.1)) (sym is)
             (ap (λ (l : Slots V). (Filling, (0, None) ∷ l)) none'),
@@ -219,6 +235,10 @@ module _ {V : Type 0} (since : ℕ → V → V → Type 0) (since_same : (place 
   given_fits s t x y id o m c begun seat Filling ne f = absurd (other_maker x id seat m f.1 ne)
   given_fits s t x y id o m c begun seat (HandingOut first value) ne f = absurd (other_maker x id seat m f.1 ne)
   given_fits s t x y id o m c begun seat (Seated place process value count) ne f =
+      absurd (some-ne-none seat (sym f.1 ∙ o.before c place))
+  given_fits s t x y id o m c begun seat (Watching place process value count) ne f =
+      absurd (some-ne-none seat (sym f.1 ∙ o.before c place))
+  given_fits s t x y id o m c begun seat (Owes place process value count debt) ne f =
       absurd (some-ne-none seat (sym f.1 ∙ o.before c place))
   given_fits s t x y id o m c begun seat (Joining place value other seen count) ne f =
       absurd (some-ne-none seat (sym f.1 ∙ o.before c place))
@@ -263,6 +283,7 @@ module _ {V : Type 0} (since : ℕ → V → V → Type 0) (since_same : (place 
                 (λ p. given_fits s t x y id o f.1 f.2 f.0 seat view p.0 (o.fits seat view p.1))
                 (at_set s.views id seat (HandingOut 0 value) view there);
           },
+          set_quiet levels s.words s.views id Filling (HandingOut 0 value) (at ∙ ap some is) (λ p h. h) (λ p y h. h) rule.2,
         ),
         subst (λ (v : View V). GivesValue v me.1 (HandingOut 0 value, carried_after me.1 gives)) (sym is)
             (λ other e. let same : value ≡ other = one_value value other (sym has ∙ e) in
@@ -304,6 +325,22 @@ module _ {V : Type 0} (since : ℕ → V → V → Type 0) (since_same : (place 
   handed_fits s t x id place number m free words homes seat (HandingOut first value) ne f =
       absurd (other_maker x id seat m f.1 ne)
   handed_fits s t x id place number m free words homes seat (Seated p process value count) ne f = (
+    subst (λ (r : List ℕ). slice_index r (making_index levels) ≢ 0) (sym words) f.0,
+    seated_else x place number p (unseated x place p seat free f.1) ∙ f.1,
+    f.2,
+    f.3,
+    f.4,
+    f.5,
+  )
+  handed_fits s t x id place number m free words homes seat (Watching p process value count) ne f = (
+    subst (λ (r : List ℕ). slice_index r (making_index levels) ≢ 0) (sym words) f.0,
+    seated_else x place number p (unseated x place p seat free f.1) ∙ f.1,
+    f.2,
+    f.3,
+    f.4,
+    f.5,
+  )
+  handed_fits s t x id place number m free words homes seat (Owes p process value count debt) ne f = (
     subst (λ (r : List ℕ). slice_index r (making_index levels) ≢ 0) (sym words) f.0,
     seated_else x place number p (unseated x place p seat free f.1) ∙ f.1,
     f.2,
@@ -406,6 +443,9 @@ module _ {V : Type 0} (since : ℕ → V → V → Type 0) (since_same : (place 
               (f.0, seated_here x place (length views) ∙ ap some (sym p.0), o.absent place here.0, here.1, nothing_yet, f.2))
               (at_end views (Seated place Idle value 0) view seat there);
         },
+        add_quiet levels s.words views (Seated place Idle value 0) (λ p y h. h)
+            (set_quiet levels s.words s.views id (HandingOut place value) (HandingOut (place + 1) value) at (λ p h. h)
+            (λ p y h. h) rule.2),
       )
 
   -- the dealer becomes the pass of its last place
@@ -434,5 +474,6 @@ module _ {V : Type 0} (since : ℕ → V → V → Type 0) (since_same : (place 
               (λ p. handed_fits s t x id place id f.1 here.0 refl refl seat view p.0 (o.fits seat view p.1))
               (at_set s.views id seat w view there);
         },
+        set_quiet levels s.words s.views id (HandingOut place value) w (at ∙ ap some is) (λ p h. h) (λ p y h. h) rule.2,
       )
       (subst (λ (v : View V). HandsOutLast v me.1 (w, me.1)) (sym is) refl)

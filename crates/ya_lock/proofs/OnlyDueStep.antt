@@ -19,15 +19,15 @@ use Rattle.ya_core.proofs.Promised.{within_access, is_inside_is}
 use Rattle.ya_lock.specs.declared.rule.View.{View}
 use Rattle.ya_lock.specs.declared.rule.View.TheVariants.{Seated}
 use Rattle.ya_lock.specs.Rule.{Slots, KnowsValue, ValueInSlot, index_of, making_index, words_in, count_after, Rule}
+use Rattle.ya_lock.specs.Rule.{BellKnowledge, free, view_at, bell_after}
+use Rattle.ya_lock.proofs.Frames.{fits_of}
 use Rattle.ya_lock.specs.LockState.{HasProcess, IsOf, NoneInside}
 use Rattle.ya_lock.specs.DueStep.{process_after, MovesValue, TakesStep}
 use Rattle.ya_lock.specs.StepEffects.{CarriesValue}
 use Rattle.ya_lock.specs.StepKinds.{MakesDueAccess, IsContent, SameContent}
-use Rattle.ya_lock.proofs.WordsInRow.{index_below}
-use Rattle.ya_lock.proofs.Frames.{set_at}
-use Rattle.ya_lock.proofs.ProcessSteps.{value_is, accesses}
+use Rattle.ya_lock.proofs.WordsInRow.{index_below, set_at, value_is, accesses}
 use Rattle.ya_lock.proofs.DueSteps.{word_within}
-use Rattle.ya_lock.proofs.RuleMeaning.{in_slot, one_inside}
+use Rattle.ya_lock.proofs.RuleMeaning.{in_slot, one_inside, is_of, of_seated, seated_of}
 use Rattle.ya_lock.proofs.Slots.{Homes, given, was_home, same_homes, home_is, home_not}
 
 module _ {V : Type 0} (since : ℕ → V → V → Type 0) (levels : ℕ) (least : 1 ≤ levels) where
@@ -62,7 +62,8 @@ module _ {V : Type 0} (since : ℕ → V → V → Type 0) (levels : ℕ) (least
     words : Accesses (access_of levels place process) (words_in levels s.words) (words_in levels row)
     words =
         let a : Access = access_of levels place process in
-        let f = old.1.fits seat (Seated place process seen count) k.view in
+        let f = fits_of since levels s old.0 seat (free k.vain) place process seen count
+        (old.1.fits seat (view_at (free k.vain) place process seen count) k.view) in
         let word : IsWord levels (word_of a) = word_within levels a (within_access levels place process least f.5
         (subst (λ (x : Process). IsProper levels place x) f.2 (old.1.sound.proper place))) in
         let i : ℕ = index_of levels (word_of a) in let m : ℕ = making_index levels in
@@ -75,15 +76,20 @@ module _ {V : Type 0} (since : ℕ → V → V → Type 0) (levels : ℕ) (least
 
     -- the view of the seat afterwards
     own : get_elem? t.views seat
-        ≡ some (Seated place (process_after levels s place process) k.told.1.0 (count_after levels place process count))
+        ≡ some (view_at (bell_after process found) place (process_after levels s place process) k.told.1.0
+        (count_after levels place process count))
     own =
         ap (λ (u : State (std.Option V) (View V)). get_elem? u.views seat) k.steps.leads
-        ∙ (set_at s.views seat (Seated place process seen count) k.after.0 k.view ∙ ap some k.told.1.1)
+        ∙ (set_at s.views seat (view_at (free k.vain) place process seen count) k.after.0 k.view ∙ ap some k.told.1.1)
+
+    abbrev own_view : View V
+    own_view = view_at (bell_after process found) place after k.told.1.0 (count_after levels place process count)
 
     -- if it is inside afterwards, the slot is out
     out : is_inside after ≡ true → t.homes ≡ none ∷ []
     out e =
-        let f = new.1.fits seat (Seated place after k.told.1.0 (count_after levels place process count)) own in
+        let f = fits_of since levels t new.0 seat (bell_after process found) place after k.told.1.0
+        (count_after levels place process count) (new.1.fits seat own_view own) in
         let knows : new.0.content ≡ some k.told.1.0 =
         subst (λ (b : Bool). KnowsValue since new.0.content place b k.told.1.0) e f.3 in
         (subst (λ (c : Option V). ValueInSlot since new.0.processes t.homes c) knows new.1.lies).1 place (ap is_inside f.2 ∙ e)
@@ -104,19 +110,37 @@ module _ {V : Type 0} (since : ℕ → V → V → Type 0) (levels : ℕ) (least
     -- a process that comes inside finds the slot at home: no other process was inside
     not_gone : is_inside process ≡ false → is_inside after ≡ true → s.homes ≡ none ∷ [] → ⊥
     not_gone outside inside gone =
-        let now = (in_slot since levels s old).1
-        (seat, place, (seen, inl (process, (Seated place process seen count, k.view, (refl, refl, refl))))) nobody in
+        let now = (in_slot since levels s old).1 (
+          seat,
+          place,
+          (
+            seen,
+            inl (
+              process,
+              (
+                view_at (free k.vain) place process seen count,
+                k.view,
+                is_of (free k.vain) place process seen count,
+              ),
+            ),
+          ),
+        ) nobody in
         home_not now.0 (sym gone ∙ now.1)
       where
         nobody : NoneInside s
         nobody seat' place' value h =
             let apart : seat' ≢ seat = λ is.
-            let of : IsOf (Seated place process seen count) place' Inside value = subst (λ (u : View V). IsOf u place' Inside value)
-            (some-injective _ _ (sym h.1 ∙ (ap (λ (j : ℕ). get_elem? s.views j) is ∙ k.view))) h.2 in
+            let of : IsOf (Seated place process seen count) place' Inside value = of_seated (free k.vain) place process seen count
+            place' Inside value (subst (λ (u : View V). IsOf u place' Inside value)
+            (some-injective _ _ (sym h.1 ∙ (ap (λ (j : ℕ). get_elem? s.views j) is ∙ k.view))) h.2) in
             let both : true ≡ false = sym (ap is_inside of.1) ∙ outside in cc in
             apart (one_inside since levels least t new seat' seat place' place value k.told.1.0
-            (h.0, others seat' apart ∙ h.1, h.2)
-            (Seated place after k.told.1.0 (count_after levels place process count), own, (refl, is_inside_is after inside, refl)))
+            (h.0, others seat' apart ∙ h.1, h.2) (
+              own_view,
+              own,
+              seated_of (bell_after process found) place after k.told.1.0 (count_after levels place process count)
+                  place Inside k.told.1.0 (refl, is_inside_is after inside, refl),
+            ))
 
     -- so it is the due step
     pub only_due : TakesStep since levels seat place process seen count slots s t
@@ -140,12 +164,12 @@ module _ {V : Type 0} (since : ℕ → V → V → Type 0) (levels : ℕ) (least
         }
 
   -- by cases: a process that isn't inside leaves the content as it is, whether it comes inside or not
-  keeps_content : (s t : State (std.Option V) (View V)) (seat place : ℕ) (process : Process) (seen : V) (count : ℕ)
-      (slots : Slots V) → get_elem? s.views seat ≡ some (Seated place process seen count)
+  keeps_content : (s t : State (std.Option V) (View V)) (seat place : ℕ) (vain : Bool) (process : Process) (seen : V)
+      (count : ℕ) (slots : Slots V) → get_elem? s.views seat ≡ some (view_at (free vain) place process seen count)
       → (step : TakesStep since levels seat place process seen count slots s t) → is_inside process ≡ false
       → (b : Bool) → is_inside (process_after levels s place process) ≡ b
       → MovesValue since false b place seen step.value slots s.homes t.homes → SameContent s t
-  keeps_content s t seat place process seen count slots at step outside b e moved value = (
+  keeps_content s t seat place vain process seen count slots at step outside b e moved value = (
     (λ c. ⊎_elim (stays_home b moved e) (λ h. inr (kept_inside h)) c),
     (λ c. ⊎_elim (was_at_home b moved) (λ h. was_inside b moved e h (ℕ_discrete h.0 seat)) c),
   )
@@ -153,8 +177,11 @@ module _ {V : Type 0} (since : ℕ → V → V → Type 0) (levels : ℕ) (least
       after : Process
       after = process_after levels s place process
 
+      own_bell : BellKnowledge
+      own_bell = bell_after process (value_of (words_in levels s.words) (access_of levels place process))
+
       own_view : View V
-      own_view = Seated place after step.value (count_after levels place process count)
+      own_view = view_at own_bell place after step.value (count_after levels place process count)
 
       not_own : (place' : ℕ) → IsOf (Seated place process seen count) place' Inside value → ⊥
       not_own place' h = let both : true ≡ false = sym (ap is_inside h.1) ∙ outside in cc
@@ -162,15 +189,27 @@ module _ {V : Type 0} (since : ℕ → V → V → Type 0) (levels : ℕ) (least
       kept_inside : (seat' : ℕ) × ((place' : ℕ) × HasProcess s seat' place' Inside value)
           → (seat' : ℕ) × ((place' : ℕ) × HasProcess t seat' place' Inside value)
       kept_inside h =
-          let apart : h.0 ≢ seat = λ is. not_own h.1.0 (subst (λ (u : View V). IsOf u h.1.0 Inside value)
-          (some-injective _ _ (sym h.1.1.1 ∙ (ap (λ (j : ℕ). get_elem? s.views j) is ∙ at))) h.1.1.2) in
+          let apart : h.0 ≢ seat = λ is. not_own h.1.0 (of_seated (free vain) place process seen count h.1.0 Inside value
+          (subst (λ (u : View V). IsOf u h.1.0 Inside value)
+          (some-injective _ _ (sym h.1.1.1 ∙ (ap (λ (j : ℕ). get_elem? s.views j) is ∙ at))) h.1.1.2)) in
           (h.0, (h.1.0, (h.1.1.0, step.others h.0 apart ∙ h.1.1.1, h.1.1.2)))
 
       stays_home : (b : Bool) → MovesValue since false b place seen step.value slots s.homes t.homes
           → is_inside after ≡ b → s.homes ≡ some (Some value) ∷ [] → IsContent t value
       stays_home true m e h =
           let same : step.value ≡ value = home_is step.value value (sym m.1 ∙ h) in
-          inr (seat, (place, (own_view, step.own, (refl, is_inside_is after e, same))))
+          inr (
+            seat,
+            (
+              place,
+              (
+                own_view,
+                step.own,
+                seated_of own_bell place after step.value (count_after levels place process count)
+                    place Inside value (refl, is_inside_is after e, same),
+              ),
+            ),
+          )
       stays_home false m e h = inl (m.1 ∙ h)
 
       was_at_home : (b : Bool) → MovesValue since false b place seen step.value slots s.homes t.homes
@@ -184,20 +223,22 @@ module _ {V : Type 0} (since : ℕ → V → V → Type 0) (levels : ℕ) (least
       was_inside b m e h (no apart) =
           inr (h.0, (h.1.0, (h.1.1.0, sym (step.others h.0 apart) ∙ h.1.1.1, h.1.1.2)))
       was_inside b m e h (yes is) =
-          let of : IsOf own_view h.1.0 Inside value = subst (λ (u : View V). IsOf u h.1.0 Inside value)
-          (some-injective _ _ (sym h.1.1.1 ∙ (ap (λ (j : ℕ). get_elem? t.views j) is ∙ step.own))) h.1.1.2 in
+          let of = of_seated own_bell place after step.value (count_after levels place process count) h.1.0 Inside value
+          (subst (λ (u : View V). IsOf u h.1.0 Inside value)
+          (some-injective _ _ (sym h.1.1.1 ∙ (ap (λ (j : ℕ). get_elem? t.views j) is ∙ step.own))) h.1.1.2) in
           own_numbers b m e of
         where
           own_numbers : (b : Bool) → MovesValue since false b place seen step.value slots s.homes t.homes
-              → is_inside after ≡ b → IsOf own_view h.1.0 Inside value → IsContent s value
+              → is_inside after ≡ b
+              → IsOf (Seated place after step.value (count_after levels place process count)) h.1.0 Inside value → IsContent s value
           own_numbers true m e of = inl (m.1 ∙ ap (λ (v : V). some (Some v) ∷ []) of.2)
           own_numbers false m e of = let both : true ≡ false = sym (ap is_inside of.1) ∙ e in cc
 
   -- so each due step of such a process keeps the content
-  pub due_keeps_content : (s t : State (std.Option V) (View V)) (seat place : ℕ) (process : Process) (seen : V) (count : ℕ)
-      (slots : Slots V) → get_elem? s.views seat ≡ some (Seated place process seen count)
+  pub due_keeps_content : (s t : State (std.Option V) (View V)) (seat place : ℕ) (vain : Bool) (process : Process) (seen : V)
+      (count : ℕ) (slots : Slots V) → get_elem? s.views seat ≡ some (view_at (free vain) place process seen count)
       → TakesStep since levels seat place process seen count slots s t → is_inside process ≡ false → SameContent s t
-  due_keeps_content s t seat place process seen count slots at step outside =
+  due_keeps_content s t seat place vain process seen count slots at step outside =
       let b : Bool = is_inside (process_after levels s place process) in
-      keeps_content s t seat place process seen count slots at step outside b refl
+      keeps_content s t seat place vain process seen count slots at step outside b refl
       (subst (λ (a : Bool). MovesValue since a b place seen step.value slots s.homes t.homes) outside step.moves)

@@ -1,7 +1,8 @@
 -- Every kind of step except the step of a process leaves words and processes as they are, and every kind except the
 -- gift also leaves the content.
 use Rattle.std.proofs.Common.{◌≡◌, ◌≢◌, ◌↔◌, ℕ, ◌+◌, ◌<◌, ◌≤◌, List, [], ◌∷◌, ◌++◌, set, sym, refl, ap, ◌∙◌, subst, arith}
-use Rattle.std.proofs.Common.{inl, inr, ⊎_elim, slice_index, Some, None}
+use Rattle.std.proofs.Common.{inl, inr, ⊎_elim, ◌⊎◌, slice_index, Some, None}
+use Rattle.ya_lock.specs.StepEffects.{awake, paid}
 use Rattle.std.specs.Prelude as std
 use mathlib.Core.Option.{Option, none, some, some-injective}
 use native.Mathlib.Decide.{ℕ_discrete}
@@ -12,14 +13,13 @@ use Rattle.ya_core.specs.declared.word.Word.{Word}
 use Rattle.ya_core.specs.declared.process.Process.{Process}
 use Rattle.ya_core.specs.declared.process.Process.TheVariants.{Idle, Inside}
 use Rattle.ya_lock.specs.declared.rule.View.{View}
-use Rattle.ya_lock.specs.declared.rule.View.TheVariants.{Unused, Making, Filling, HandingOut, Seated, Joining, Spent}
+use Rattle.ya_lock.specs.declared.rule.View.TheVariants.{Unused, Making, Filling, HandingOut, Seated, Watching, Owes, Joining, Spent}
 use Rattle.ya_lock.specs.Rule.{Slots, making_index, words_in, Rule}
 use Rattle.ya_lock.specs.LockState.{IsOf}
 use Rattle.ya_lock.specs.StepKinds.{SeatSteps, SwapsToMake, GivesHome, SplitsOff, JoinsPass, LearnsOfPass}
-use Rattle.ya_lock.specs.StepKinds.{StoresInBell, IsOtherStep, Swap, MakerLoad, Split, Join, Learn, Bell}
+use Rattle.ya_lock.specs.StepKinds.{AccessesBell, IsOtherStep, Swap, MakerLoad, Split, Join, Learn, Bell}
 use Rattle.ya_lock.specs.StepKinds.{LeavesProcesses, IsContent, SameContent, MakerIsTold}
-use Rattle.ya_lock.proofs.WordsInRow.{word_kept, words_behind}
-use Rattle.ya_lock.proofs.Frames.{set_at}
+use Rattle.ya_lock.proofs.WordsInRow.{word_kept, words_behind, set_at}
 use Rattle.ya_lock.proofs.NewSteps.{at_end}
 use Rattle.ya_lock.proofs.RuleMeaning.{made_by_one}
 use Rattle.ya_lock.proofs.Slots.{one_slot, no_slot, given, same_homes, home_not, home_empty, empty_is_home}
@@ -196,6 +196,8 @@ module _ {V : Type 0} where
     maker_load s t seat word Unused slots after rule at step told = absurd told
     maker_load s t seat word Filling slots after rule at step told = absurd told
     maker_load s t seat word (Seated place process value count) slots after rule at step told = absurd told
+    maker_load s t seat word (Watching place process value count) slots after rule at step told = absurd told
+    maker_load s t seat word (Owes place process value count rival) slots after rule at step told = absurd told
     maker_load s t seat word (Joining place value other seen count) slots after rule at step told = absurd told
     maker_load s t seat word Spent slots after rule at step told = absurd told
 
@@ -236,14 +238,42 @@ module _ {V : Type 0} where
         (subst (λ (u : View V). ShowsSame both u) (sym (ap (λ (me : Me (std.Option V) (View V)). me.0) k.told.1))
         (λ p x y busy. ((λ h. h), (λ h. h))))
 
-    -- the store in a bell
-    bell : (s t : State (std.Option V) (View V)) → StoresInBell s t levels → Leaves s t
+    -- what a seat knows of bells doesn't change its process
+    awake_shows : (v : View V) → ShowsSame v (awake v)
+    awake_shows Unused p x y busy = ((λ h. h), (λ h. h))
+    awake_shows Making p x y busy = ((λ h. h), (λ h. h))
+    awake_shows Filling p x y busy = ((λ h. h), (λ h. h))
+    awake_shows (HandingOut first value) p x y busy = ((λ h. h), (λ h. h))
+    awake_shows (Seated place process value count) p x y busy = ((λ h. h), (λ h. h))
+    awake_shows (Watching place process value count) p x y busy = ((λ h. h), (λ h. h))
+    awake_shows (Owes place process value count rival) p x y busy = ((λ h. h), (λ h. h))
+    awake_shows (Joining place value other seen count) p x y busy = ((λ h. h), (λ h. h))
+    awake_shows Spent p x y busy = ((λ h. h), (λ h. h))
+
+    paid_shows : (v : View V) → ShowsSame v (paid v)
+    paid_shows Unused p x y busy = ((λ h. h), (λ h. h))
+    paid_shows Making p x y busy = ((λ h. h), (λ h. h))
+    paid_shows Filling p x y busy = ((λ h. h), (λ h. h))
+    paid_shows (HandingOut first value) p x y busy = ((λ h. h), (λ h. h))
+    paid_shows (Seated place process value count) p x y busy = ((λ h. h), (λ h. h))
+    paid_shows (Watching place process value count) p x y busy = ((λ h. h), (λ h. h))
+    paid_shows (Owes place process value count rival) p x y busy = ((λ h. h), (λ h. h))
+    paid_shows (Joining place value other seen count) p x y busy = ((λ h. h), (λ h. h))
+    paid_shows Spent p x y busy = ((λ h. h), (λ h. h))
+
+    bell_shows : (v w : View V) → (w ≡ v) ⊎ ((w ≡ awake v) ⊎ (w ≡ paid v)) → ShowsSame v w
+    bell_shows v w (inl e) = subst (λ (u : View V). ShowsSame v u) (sym e) (λ p x y busy. ((λ h. h), (λ h. h)))
+    bell_shows v w (inr (inl e)) = subst (λ (u : View V). ShowsSame v u) (sym e) (awake_shows v)
+    bell_shows v w (inr (inr e)) = subst (λ (u : View V). ShowsSame v u) (sym e) (paid_shows v)
+
+    -- an access of a bell
+    bell : (s t : State (std.Option V) (View V)) → AccessesBell s t levels → Leaves s t
     bell s t k =
         let m : ℕ = making_index levels in let behind : m < k.word = k.behind in
-        keeps_slots s t k.seat k.word k.number k.slots k.before (k.before, k.slots) k.view
+        keeps_slots s t k.seat k.word k.number k.slots k.before (k.after, k.slots) k.view
         (λ w. ap (λ (f : Word → ℕ). f w)
         (words_behind levels k.word s.words k.number (let le : m ≤ k.word = omega arith in le)))
-        k.steps refl (λ p x y busy. ((λ h. h), (λ h. h)))
+        k.steps refl (bell_shows k.before k.after k.known)
 
     -- so every other kind leaves words, processes and content as they are
     pub other_leaves : (s t : State (std.Option V) (View V)) → Rule since levels s → IsOtherStep s t since levels → Leaves s t

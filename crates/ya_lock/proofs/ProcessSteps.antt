@@ -7,7 +7,6 @@ use mathlib.Core.Option.{Option, none, some, some-injective}
 use lib.ListN.{get_elem?}
 use Rattle.atomic_table.specs.Table.{State, Me, Act, keeps, takes, gives, Valid, stepped, carried_after, homes_after}
 use Rattle.atomic_table.specs.Table.{Allows}
-use Rattle.ya_core.specs.declared.word.Word.{Word}
 use Rattle.ya_core.specs.declared.word.Access.{Access}
 use Rattle.ya_core.specs.declared.word.Access.TheVariants.{Load, Store}
 use Rattle.ya_core.specs.declared.process.Process.{Process}
@@ -20,38 +19,22 @@ use Rattle.ya_core.specs.WalkerModel.{CanStand, MayBeTold, MayFind}
 use Rattle.ya_core.specs.Machines.{word_of}
 use Rattle.ya_lock.specs.declared.rule.View.{View}
 use Rattle.ya_lock.specs.declared.rule.View.TheVariants.{Seated}
+use Rattle.ya_lock.specs.Rule.{NoneIsForgotten, BellKnowledge, free, view_at, bell_after}
+use Rattle.ya_lock.proofs.Rings.{due_rung}
 use Rattle.ya_lock.specs.Rule.{index_of, making_index, words_in, GlobalView, KnowsValue, ValueInSlot, ViewFits, Obeys, Rule, Slots, count_after}
 use Rattle.ya_core.specs.Worlds.{is_inside}
 use Rattle.ya_lock.specs.inside.Lock.{HasMade}
-use Rattle.ya_lock.specs.StepEffects.{CarriesValue, ProcessSteps}
+use Rattle.ya_lock.specs.StepEffects.{CarriesValue, TakesDueStep, ProcessSteps}
 use Rattle.ya_lock.specs.inside.Rule.{value_after}
 use Rattle.ya_lock.specs.DueStep.{IsReady, MovesValue}
 use Rattle.ya_core.proofs.Promised.{keeps as kept_by_step, finds, is_inside_is, excludes}
-use Rattle.ya_lock.proofs.WordsInRow.{index_below, word_in, word_set, word_set_other, word_kept}
-use Rattle.ya_lock.proofs.Frames.{moved, moved_here, moved_else, Same, Changed, gone_on, goes_on}
+use Rattle.ya_lock.proofs.WordsInRow.{index_below, value_is, accesses}
+use Rattle.ya_lock.proofs.Frames.{moved, moved_here, moved_else, Same, Changed, gone_on, goes_on, fits_of, only_here}
 use Rattle.ya_lock.proofs.LeastCounts.{least_kept}
 
 -- a process that leaves the inside isn't inside
 leaves : (levels place n : ℕ) (p : Process) → p ≡ Inside → is_inside (next_of levels place p n) ≡ false
 leaves levels place n p e = subst (λ (p : Process). is_inside (next_of levels place p n) ≡ false) (sym e) refl
-
--- the core's value of an access is the word's value after it
-pub value_is : (levels i : ℕ) (row : List ℕ) (a : Access) → IsWord levels (word_of a) → i ≡ index_of levels (word_of a)
-    → value_of (words_in levels row) a ≡ value_after a (slice_index row i)
-value_is levels i row (Load w) h e = word_in levels row w h ∙ ap (λ (j : ℕ). slice_index row j) (sym e)
-value_is levels i row (Store w m) h e = refl
-
--- and the words after it are the core's
-pub accesses : (levels i : ℕ) (row : List ℕ) (a : Access) → IsWord levels (word_of a) → i ≡ index_of levels (word_of a)
-    → i < length row
-    → Accesses a (words_in levels row) (words_in levels (set row i (value_after a (slice_index row i))))
-accesses levels i row (Load w) h e l = λ other. ap (λ (r : List ℕ). words_in levels r other) (word_kept row i)
-accesses levels i row (Store w m) h e l =
-    let P : ℕ → Type 0 =
-    λ j. j < length row
-    → (words_in levels (set row j m) w ≡ m)
-    × ((other : Word) → other ≢ w → words_in levels (set row j m) other ≡ words_in levels row other) in
-    subst P (sym e) (λ below. (word_set levels row w m h below, λ other ne. word_set_other levels row w other m h ne)) l
 
 -- a test that cannot hold is false
 pub none_true : (b : Bool) → (b ≡ true → ⊥) → b ≡ false
@@ -60,11 +43,12 @@ none_true false h = refl
 
 -- the view of a process has some count
 pub counted : {V : Type 0} (place : ℕ) (value : V) (process : Process) (remote : ℕ) (view : View V)
-    → HasMade place value process remote view → (count : ℕ) × (view ≡ Seated place process value count)
-counted place value Idle remote view h = (h.0, h.1)
-counted place value (Entering level point) remote view h = (remote, h)
-counted place value Inside remote view h = (remote, h)
-counted place value (Leaving level point) remote view h = (remote, h)
+    → HasMade place value process remote view
+    → (vain : Bool) × ((count : ℕ) × (view ≡ view_at (free vain) place process value count))
+counted place value Idle remote view h = (false, (h.0, h.1))
+counted place value (Entering level point) remote view h = (h.0, (remote, h.1))
+counted place value Inside remote view h = (h.0, (remote, h.1))
+counted place value (Leaving level point) remote view h = (h.0, (remote, h.1))
 
 module _ {V : Type 0} (since done : ℕ → V → V → Type 0) (since_same : (place : ℕ) (a : V) → since place a a)
     (since_done : (place other : ℕ) (a b c : V) → other ≢ place → since place a b → done other b c → since place a c)
@@ -142,13 +126,20 @@ module _ {V : Type 0} (since done : ℕ → V → V → Type 0) (since_same : (p
   abbrev Answer : St → GlobalView V → ℕ → ℕ → V → ℕ → ℕ → ℕ → Slots V → Type 0
   Answer s x id place value count i n slots =
       (w : View V) × (a : Act (std.Option V)) × Valid s.homes slots a × Rule since levels (stepped s i n id slots w a)
-      × ProcessSteps since levels n (Seated place (x.processes place) value count) slots (w, carried_after slots a)
+      × TakesDueStep since levels n place (x.processes place) value count slots (w, carried_after slots a)
+
+  -- a seat that owes no ring steps as its process does
+  steps_free : (vain : Bool) (n place : ℕ) (process : Process) (value : V) (count : ℕ) (slots : Slots V)
+      (me : Me (std.Option V) (View V)) → TakesDueStep since levels n place process value count slots me
+      → ProcessSteps since levels n (view_at (free vain) place process value count) slots me
+  steps_free true n place process value count slots me h = h
+  steps_free false n place process value count slots me h = h
 
   -- and its result in the view and the slot
   abbrev Moved : St → GlobalView V → ℕ → V → ℕ → ℕ → Slots V → View V → Act (std.Option V) → Type 0
   Moved s x place value count n slots w a =
-      let p' : Process = next_of levels place (x.processes place) n in
-      (next : V) × (w ≡ Seated place p' next (total x place count))
+      let p' : Process = next_of levels place (x.processes place) n in let b : BellKnowledge = bell_after (x.processes place) n in
+      (next : V) × (w ≡ view_at (bell_after (x.processes place) n) place p' next (total x place count))
       × MovesValue since (is_inside (x.processes place)) (is_inside p') place value next slots s.homes (homes_after s.homes slots a)
 
   -- both together
@@ -160,12 +151,16 @@ module _ {V : Type 0} (since done : ℕ → V → V → Type 0) (since_same : (p
   -- the core goes on with n
   record IsDueAt (s : St) (x : GlobalView V) (id place i n : ℕ) (value : V) (count : ℕ) : Type 0 where
     obeys : Obeys since levels s x
-    view : get_elem? s.views id ≡ some (Seated place (x.processes place) value count)
+    vain : Bool
+    view : get_elem? s.views id ≡ some (view_at (free vain) place (x.processes place) value count)
     fits : ViewFits since levels s x id (Seated place (x.processes place) value count)
     long : length (set s.words i n) ≡ length s.words
     word : slice_index (set s.words i n) (making_index levels) ≡ slice_index s.words (making_index levels)
     sound : IsSoundState levels (core_after s x place i n)
     found : MayBeTold (Some (due x place)) n
+    rung : (next : V) → NoneIsForgotten levels (set s.words i n)
+        (set s.views id (view_at (bell_after (x.processes place) n) place (next_of levels place (x.processes place) n) next
+        (total x place count)))
 
   -- the process goes inside: it takes the value
   wins : (s : St) (x : GlobalView V) (id place i n : ℕ) (value : V) (count : ℕ) (slots : Slots V)
@@ -174,7 +169,7 @@ module _ {V : Type 0} (since done : ℕ → V → V → Type 0) (since_same : (p
       → KnowsValue since x.content place false value → slots ≡ [] → Whole s x id place value count i n slots
   wins s x id place i n value count slots step was is knows ready =
       let o = step.obeys in let f = step.fits in
-      let p' : Process = next_of levels place (x.processes place) n in
+      let p' : Process = next_of levels place (x.processes place) n in let b : BellKnowledge = bell_after (x.processes place) n in
       let now : V = knows.0 in
       let there : is_inside (moved x.processes place p' place) ≡ true =
       ap is_inside (moved_here x.processes place p') ∙ is in
@@ -191,15 +186,16 @@ module _ {V : Type 0} (since done : ℕ → V → V → Type 0) (since_same : (p
       subst (λ (c : Option V). ValueInSlot since (moved x.processes place p') (set s.homes 0 none) c) (sym knows.1)
       ((λ away. let both : true ≡ false = sym there ∙ away place in cc), λ k e. out) in
       let answer : Answer s x id place value count i n slots = (
-        Seated place p' now (total x place count),
+        view_at b place p' now (total x place count),
         takes 0 (Some now),
         ap (λ (h : List (Option (std.Option V))). get_elem? h 0) home,
         (
           gone_on since levels x place p' x.content,
-          goes_on since levels s x o id place (x.processes place) p' value now now now count (total x place count) x.content (set s.words i n)
+          goes_on since levels s x o id place (free step.vain) b (x.processes place) p' value now now now count (total x place count) x.content (set s.words i n)
               (set s.homes 0 none) step.view f.0 f.1 knows.1 knows.1 step.long step.word step.sound after
               (subst (λ (b : Bool). KnowsValue since x.content place b now) (sym is) knows.1)
               (least_kept levels place (x.processes place) n count f.4) (Same refl),
+          step.rung now,
         ),
         (
           step.found,
@@ -239,18 +235,19 @@ module _ {V : Type 0} (since done : ℕ → V → V → Type 0) (since_same : (p
       → KnowsValue since x.content place false value → Whole s x id place value count i n slots
   passes s x id place i n value count slots step was is knows =
       let o = step.obeys in let f = step.fits in
-      let p' : Process = next_of levels place (x.processes place) n in
+      let p' : Process = next_of levels place (x.processes place) n in let b : BellKnowledge = bell_after (x.processes place) n in
       let answer : Answer s x id place value count i n slots = (
-        Seated place p' value (total x place count),
+        view_at b place p' value (total x place count),
         keeps,
         tt,
         (
           gone_on since levels x place p' x.content,
-          goes_on since levels s x o id place (x.processes place) p' value value knows.0 knows.0 count (total x place count) x.content
+          goes_on since levels s x o id place (free step.vain) b (x.processes place) p' value value knows.0 knows.0 count (total x place count) x.content
               (set s.words i n) s.homes step.view f.0 f.1 knows.1 knows.1 step.long step.word step.sound
               (same_lies x place p' s.homes x.content was is o.lies)
               (subst (λ (b : Bool). KnowsValue since x.content place b value) (sym is) knows)
               (least_kept levels place (x.processes place) n count f.4) (Same refl),
+          step.rung value,
         ),
         (
           step.found,
@@ -279,7 +276,7 @@ module _ {V : Type 0} (since done : ℕ → V → V → Type 0) (since_same : (p
       → Whole s x id place value count i n slots
   releases s x id place i n value count slots step was knows ready =
       let o = step.obeys in let f = step.fits in
-      let p' : Process = next_of levels place (x.processes place) n in
+      let p' : Process = next_of levels place (x.processes place) n in let b : BellKnowledge = bell_after (x.processes place) n in
       let next : V = ready.0 in
       let is : is_inside p' ≡ false = leaves levels place n (x.processes place) (is_inside_is _ was) in
       let lies = subst (λ (c : Option V). ValueInSlot since x.processes s.homes c) knows o.lies in
@@ -293,12 +290,12 @@ module _ {V : Type 0} (since done : ℕ → V → V → Type 0) (since_same : (p
         (λ k e. absurd (alone k (stays_inside x place p' k is e) (inside x place p' k is e))),
       ) in
       let answer : Answer s x id place value count i n slots = (
-        Seated place p' next (total x place count),
+        view_at b place p' next (total x place count),
         gives,
         tt,
         (
           gone_on since levels x place p' (some next),
-          goes_on since levels s x o id place (x.processes place) p' value next value next count (total x place count) (some next)
+          goes_on since levels s x o id place (free step.vain) b (x.processes place) p' value next value next count (total x place count) (some next)
               (set s.words i n) homes step.view f.0 f.1 knows refl step.long step.word step.sound after
               (subst (λ (b : Bool). KnowsValue since (some next) place b next) (sym is) (next, refl, since_same place next))
               (least_kept levels place (x.processes place) n count f.4)
@@ -309,6 +306,7 @@ module _ {V : Type 0} (since done : ℕ → V → V → Type 0) (since_same : (p
                 since_done other place v value next (λ e. ne (sym e))
                     (subst (λ (y : V). since other v y) (some-injective _ _ (sym k.1 ∙ knows)) k.2) ready.2,
               ))),
+          step.rung next,
         ),
         (
           step.found,
@@ -344,13 +342,15 @@ module _ {V : Type 0} (since done : ℕ → V → V → Type 0) (since_same : (p
       passes s x id place i n value count slots step e h knows
 
   -- the due step keeps the rule, and moves the value
-  pub moves_value : (s : St) (x : GlobalView V) → Obeys since levels s x → (id place i : ℕ) (value : V) (count : ℕ) (slots : Slots V)
-      → get_elem? s.views id ≡ some (Seated place (x.processes place) value count)
+  pub moves_value : (s : St) (x : GlobalView V) → Obeys since levels s x → NoneIsForgotten levels s.words s.views
+      → (id place i : ℕ) (vain : Bool) (value : V) (count : ℕ) (slots : Slots V)
+      → get_elem? s.views id ≡ some (view_at (free vain) place (x.processes place) value count)
       → place < 2 ^ levels → IsWord levels (word_of (due x place)) → i ≡ index_of levels (word_of (due x place))
       → IsReady done (is_inside (x.processes place)) place value slots
       → Whole s x id place value count i (value_after (due x place) (slice_index s.words i)) slots
-  moves_value s x o id place i value count slots at room word index ready =
-      let f = o.fits id (Seated place (x.processes place) value count) at in
+  moves_value s x o rung id place i vain value count slots at room word index ready =
+      let f = fits_of since levels s x id (free vain) place (x.processes place) value count
+      (o.fits id (view_at (free vain) place (x.processes place) value count) at) in
       let n : ℕ = value_after (due x place) (slice_index s.words i) in
       let m : ℕ = making_index levels in
       let long : ℕ = length s.words in
@@ -360,6 +360,7 @@ module _ {V : Type 0} (since done : ℕ → V → V → Type 0) (since_same : (p
       let index' : i ≡ j = index in
       by_case s x id place i n value count slots record {
         obeys = o;
+        vain = vain;
         view = at;
         fits = f;
         long = length-set s.words i n;
@@ -367,28 +368,42 @@ module _ {V : Type 0} (since done : ℕ → V → V → Type 0) (since_same : (p
         sound = kept_by_step levels place (core_of s x) (core_after s x place i n) least o.sound
             (steps_to s x place i room word index (let l : i < long = omega arith in l));
         found = may_find s x place i o.sound (due x place) refl word index;
+        rung = λ next. due_rung levels s.words s.views id place i n vain (x.processes place) value next count (total x place count)
+            at word index (let l : i < long = omega arith in l) refl (only_here since levels s x o id place f.1) rung;
       } _ _ refl refl f.3 ready
 
-  -- in any table, the seat of a process may make the due access
-  pub allows : (slots id i place : ℕ) (process : Process) (value : V) (count : ℕ) (me : Me (std.Option V) (View V)) (a : Access)
+  -- in any table, the seat of a process that owes no ring may make the due access
+  pub allows : (slots id i place : ℕ) (process : Process) (vain : Bool) (value : V) (count : ℕ)
+      (me : Me (std.Option V) (View V)) (a : Access)
       → access_of levels place process ≡ a → place < 2 ^ levels
-      → IsWord levels (word_of a) → i ≡ index_of levels (word_of a) → me.0 ≡ Seated place process value count
+      → IsWord levels (word_of a) → i ≡ index_of levels (word_of a)
+      → me.0 ≡ view_at (free vain) place process value count
       → IsReady done (is_inside process) place value me.1
       → Allows (Rule since levels) slots id me i (value_after a)
       (λ n then'. ProcessSteps since levels (value_after a n) me.0 me.1 then')
-  allows slots id i place process value count me a is room word index e ready s rule wide at small =
+  allows slots id i place process vain value count me a is room word index e ready s rule wide at small =
       let x : GlobalView V = rule.0 in
       let n : ℕ = slice_index s.words i in
-      let f : x.processes place ≡ process = (rule.1.fits id (Seated place process value count) (at ∙ ap some e)).2 in
-      let e' : me.0 ≡ Seated place (x.processes place) value count =
-      e ∙ ap (λ (p : Process). Seated place p value count) (sym f) in
+      let f : x.processes place ≡ process =
+      (fits_of since levels s x id (free vain) place process value count
+      (rule.1.fits id (view_at (free vain) place process value count) (at ∙ ap some e))).2 in
+      let e' : me.0 ≡ view_at (free vain) place (x.processes place) value count =
+      e ∙ ap (λ (p : Process). view_at (free vain) place p value count) (sym f) in
       let is' : due x place ≡ a = ap (λ (p : Process). access_of levels place p) f ∙ is in
       let G : View V → Access → Type 0 = λ v b.
       (w : View V) × (t : Act (std.Option V)) × Valid s.homes me.1 t
       × Rule since levels (stepped s i (value_after b n) id me.1 w t)
       × ProcessSteps since levels (value_after b n) v me.1 (w, carried_after me.1 t) in
-      subst (λ (v : View V). G v a) (sym e') (subst (λ (b : Access). G (Seated place (x.processes place) value count) b) is'
-      (moves_value s x rule.1 id place i value count me.1 (at ∙ ap some e') room
+      let whole = (moves_value s x rule.1 rule.2 id place i vain value count me.1 (at ∙ ap some e') room
       (subst (λ (b : Access). IsWord levels (word_of b)) (sym is') word)
       (index ∙ ap (λ (b : Access). index_of levels (word_of b)) (sym is'))
-      (subst (λ (p : Process). IsReady done (is_inside p) place value me.1) (sym f) ready)).0)
+      (subst (λ (p : Process). IsReady done (is_inside p) place value me.1) (sym f) ready)).0 in
+      subst (λ (v : View V). G v a) (sym e')
+      (subst (λ (b : Access). G (view_at (free vain) place (x.processes place) value count) b) is' (
+        whole.0,
+        whole.1,
+        whole.2,
+        whole.3,
+        steps_free vain (value_after (due x place) n) place (x.processes place) value count me.1
+            (whole.0, carried_after me.1 whole.1) whole.4,
+      ))

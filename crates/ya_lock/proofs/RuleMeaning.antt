@@ -8,13 +8,32 @@ use Rattle.ya_core.specs.declared.process.Process.{Process}
 use Rattle.ya_core.specs.declared.process.Process.TheVariants.{Idle, Inside}
 use Rattle.ya_core.proofs.Promised.{is_inside_is, excludes, someone_goes_on}
 use Rattle.ya_lock.specs.declared.rule.View.{View}
-use Rattle.ya_lock.specs.declared.rule.View.TheVariants.{Unused, Making, Filling, HandingOut, Seated, Joining, Spent}
+use Rattle.ya_lock.specs.declared.rule.View.TheVariants.{Unused, Making, Filling, HandingOut, Seated, Watching, Owes, Joining, Spent}
 use Rattle.ya_lock.specs.Rule.{making_index, words_in, place_of_view, GlobalView, KnowsValue, ValueInSlot, ViewFits, Rule}
+use Rattle.ya_lock.specs.Rule.{BellKnowledge, Quiet, Vain, Debt, view_at}
 use Rattle.ya_core.specs.Worlds.{is_inside}
 use Rattle.ya_lock.specs.LockState.{IsOf, IsFilling, IsMaking, HasProcess, IsAway, NoneInside, ShowsCore, GoesOn}
 use Rattle.ya_lock.specs.LockState.{SomeSeatGoesOn, EachInTree, OneSeatAPlace, OneInside, IsToMake, IsGiven, IsInSlot, IsFresh, IsMadeByOne}
 use Rattle.ya_lock.proofs.ProcessSteps.{none_true}
 use Rattle.ya_lock.proofs.Slots.{home_is, home_not}
+
+module _ {V : Type 0} where
+  -- the view of a seat shows its process, whatever the seat knows of bells
+  pub of_seated : (b : BellKnowledge) (place : ℕ) (process : Process) (value : V) (count p : ℕ) (x : Process) (v : V)
+      → IsOf (view_at b place process value count) p x v → IsOf (Seated place process value count) p x v
+  of_seated Quiet place process value count p x v h = h
+  of_seated Vain place process value count p x v h = h
+  of_seated (Debt rival) place process value count p x v h = h
+
+  pub seated_of : (b : BellKnowledge) (place : ℕ) (process : Process) (value : V) (count p : ℕ) (x : Process) (v : V)
+      → IsOf (Seated place process value count) p x v → IsOf (view_at b place process value count) p x v
+  seated_of Quiet place process value count p x v h = h
+  seated_of Vain place process value count p x v h = h
+  seated_of (Debt rival) place process value count p x v h = h
+
+  pub is_of : (b : BellKnowledge) (place : ℕ) (process : Process) (value : V) (count : ℕ)
+      → IsOf (view_at b place process value count) place process value
+  is_of b place process value count = seated_of b place process value count place process value (refl, refl, refl)
 
 module _ {V : Type 0} (since : ℕ → V → V → Type 0) (levels : ℕ) where
   -- a state of the table
@@ -36,6 +55,22 @@ module _ {V : Type 0} (since : ℕ → V → V → Type 0) (levels : ℕ) where
   shown_by s x seat place process value Filling e f = absurd e
   shown_by s x seat place process value (HandingOut first v) e f = absurd e
   shown_by s x seat place process value (Seated p y v count) e f = record {
+    sits = ap x.seat_of (sym e.0) ∙ f.1;
+    is = ap x.processes (sym e.0) ∙ (f.2 ∙ e.1);
+    knows = subst (λ (k : ℕ). KnowsValue since x.content k (is_inside process) value) e.0
+        (subst (λ (z : Process). KnowsValue since x.content p (is_inside z) value) e.1
+        (subst (λ (w : V). KnowsValue since x.content p (is_inside y) w) e.2 f.3));
+    below = subst (λ (k : ℕ). k < 2 ^ levels) e.0 f.5;
+  }
+  shown_by s x seat place process value (Watching p y v count) e f = record {
+    sits = ap x.seat_of (sym e.0) ∙ f.1;
+    is = ap x.processes (sym e.0) ∙ (f.2 ∙ e.1);
+    knows = subst (λ (k : ℕ). KnowsValue since x.content k (is_inside process) value) e.0
+        (subst (λ (z : Process). KnowsValue since x.content p (is_inside z) value) e.1
+        (subst (λ (w : V). KnowsValue since x.content p (is_inside y) w) e.2 f.3));
+    below = subst (λ (k : ℕ). k < 2 ^ levels) e.0 f.5;
+  }
+  shown_by s x seat place process value (Owes p y v count debt) e f = record {
     sits = ap x.seat_of (sym e.0) ∙ f.1;
     is = ap x.processes (sym e.0) ∙ (f.2 ∙ e.1);
     knows = subst (λ (k : ℕ). KnowsValue since x.content k (is_inside process) value) e.0
@@ -66,6 +101,8 @@ module _ {V : Type 0} (since : ℕ → V → V → Type 0) (levels : ℕ) where
   of_place Filling place e = absurd (some-ne-none place (sym e))
   of_place (HandingOut first v) place e = absurd (some-ne-none place (sym e))
   of_place (Seated p y v count) place e = (y, (v, (some-injective p place e, refl, refl)))
+  of_place (Watching p y v count) place e = (y, (v, (some-injective p place e, refl, refl)))
+  of_place (Owes p y v count debt) place e = (y, (v, (some-injective p place e, refl, refl)))
   of_place (Joining p v other seen count) place e = (Inside, (v, (some-injective p place e, refl, refl)))
   of_place Spent place e = absurd (some-ne-none place (sym e))
 
@@ -191,6 +228,8 @@ module _ {V : Type 0} (since : ℕ → V → V → Type 0) (levels : ℕ) where
   only_unused s x seat Filling zero f = absurd (f.0 zero)
   only_unused s x seat (HandingOut first value) zero f = absurd (f.0 zero)
   only_unused s x seat (Seated place process value count) zero f = absurd (f.0 zero)
+  only_unused s x seat (Watching place process value count) zero f = absurd (f.0 zero)
+  only_unused s x seat (Owes place process value count debt) zero f = absurd (f.0 zero)
   only_unused s x seat (Joining place value other seen count) zero f = absurd (f.0 zero)
   only_unused s x seat Spent zero f = absurd (f zero)
 
@@ -202,6 +241,8 @@ module _ {V : Type 0} (since : ℕ → V → V → Type 0) (levels : ℕ) where
   makes s x seat Filling h f = f.1
   makes s x seat (HandingOut first value) h f = f.1
   makes s x seat (Seated place process value count) h f = absurd h
+  makes s x seat (Watching place process value count) h f = absurd h
+  makes s x seat (Owes place process value count debt) h f = absurd h
   makes s x seat (Joining place value other seen count) h f = absurd h
   makes s x seat Spent h f = absurd h
 
@@ -213,6 +254,8 @@ module _ {V : Type 0} (since : ℕ → V → V → Type 0) (levels : ℕ) where
   fills s x seat Filling h f = f.2
   fills s x seat (HandingOut first value) h f = absurd h
   fills s x seat (Seated place process value count) h f = absurd h
+  fills s x seat (Watching place process value count) h f = absurd h
+  fills s x seat (Owes place process value count debt) h f = absurd h
   fills s x seat (Joining place value other seen count) h f = absurd h
   fills s x seat Spent h f = absurd h
 

@@ -4,8 +4,7 @@ use Rattle.ya_core.specs.declared.limits.TheConstants.{MAX_LEVELS}
 use Rattle.ya_core.specs.ArbitrationTree.{count_of_words}
 use Rattle.ya_lock.specs.Lock.{LockId}
 use Rattle.ya_lock.specs.inside.Lock.{HasTree, HasPlace}
-use Rattle.ya_lock.specs.inside.Rule.{bell_index}
-use Rattle.ya_lock.specs.Rule.{making_index, row_length}
+use Rattle.ya_lock.specs.Rule.{making_index, row_length, bell_index}
 use Rattle.ya_lock.proofs.WordsInRow.{same_height, bell_within, making_is, making_small}
 
 -- two trees with the words of the same lock have the same height

@@ -1,6 +1,13 @@
 -- The words of the tree in the table's row.
 use Rattle.std.proofs.Common.{◌≡◌, ◌≢◌, ℕ, ◌+◌, ◌*◌, ◌^◌, ◌<◌, ◌≤◌, Bool, true, false, List, length, get_or, set, refl}
-use Rattle.std.proofs.Common.{◌∙◌, arith, get_or-set_other, get_or-set_same, replicate, slice_index}
+use Rattle.std.proofs.Common.{◌∙◌, arith, get_or-set_other, get_or-set_same, replicate, slice_index, zero, suc, [], ◌∷◌, ap, sym, subst}
+use mathlib.Core.Option.{some, some-ne-none}
+use lib.ListN.{get_elem?}
+use Rattle.ya_core.specs.declared.word.Access.{Access}
+use Rattle.ya_core.specs.declared.word.Access.TheVariants.{Load, Store}
+use Rattle.ya_core.specs.Machines.{word_of}
+use Rattle.ya_core.specs.Steps.{Accesses, value_of}
+use Rattle.ya_lock.specs.inside.Rule.{value_after}
 use Rattle.std.proofs.Math.Decide.{dec_lt}
 use Rattle.std.proofs.Math.Nat.{mul-le-mul_left, mul-le-mul_right}
 use Rattle.std.proofs.Math.Pow.{pow-lt}
@@ -12,8 +19,7 @@ use Rattle.ya_core.specs.declared.limits.TheConstants.{MAX_LEVELS, MAX_PLACES}
 use Rattle.ya_core.specs.declared.word.Word.{Word}
 use Rattle.ya_core.specs.ArbitrationTree.{IsWord, number_of, count_of_words}
 use Rattle.ya_core.specs.FlatRow.{is_word}
-use Rattle.ya_lock.specs.Rule.{index_of, making_index, row_length, words_in}
-use Rattle.ya_lock.specs.inside.Rule.{bell_index}
+use Rattle.ya_lock.specs.Rule.{index_of, making_index, row_length, words_in, bell_index}
 use Rattle.ya_core.proofs.Promised.{is_word_true, word_is}
 
 -- the words of the tree are before the making word, each in its own cache line
@@ -144,3 +150,28 @@ same_by a b e (no h) (no k) = omega arith
 -- trees whose rows have the same length have the same height
 pub same_height : (a b : ℕ) → row_length a ≡ row_length b → a ≡ b
 same_height a b e = same_by a b e (dec_lt a b) (dec_lt b a)
+
+-- the view of a seat after it was set
+pub set_at : {A : Type 0} (l : List A) (i : ℕ) (old new : A) → get_elem? l i ≡ some old
+    → get_elem? (set l i new) i ≡ some new
+set_at [] i old new e = absurd (some-ne-none old (sym e))
+set_at (x ∷ xs) zero old new e = refl
+set_at (x ∷ xs) (suc i) old new e = set_at xs i old new e
+
+-- the core's value of an access is the word's value after it
+pub value_is : (levels i : ℕ) (row : List ℕ) (a : Access) → IsWord levels (word_of a) → i ≡ index_of levels (word_of a)
+    → value_of (words_in levels row) a ≡ value_after a (slice_index row i)
+value_is levels i row (Load w) h e = word_in levels row w h ∙ ap (λ (j : ℕ). slice_index row j) (sym e)
+value_is levels i row (Store w m) h e = refl
+
+-- and the words after it are the core's
+pub accesses : (levels i : ℕ) (row : List ℕ) (a : Access) → IsWord levels (word_of a) → i ≡ index_of levels (word_of a)
+    → i < length row
+    → Accesses a (words_in levels row) (words_in levels (set row i (value_after a (slice_index row i))))
+accesses levels i row (Load w) h e l = λ other. ap (λ (r : List ℕ). words_in levels r other) (word_kept row i)
+accesses levels i row (Store w m) h e l =
+    let P : ℕ → Type 0 =
+    λ j. j < length row
+    → (words_in levels (set row j m) w ≡ m)
+    × ((other : Word) → other ≢ w → words_in levels (set row j m) other ≡ words_in levels row other) in
+    subst P (sym e) (λ below. (word_set levels row w m h below, λ other ne. word_set_other levels row w other m h ne)) l

@@ -8,8 +8,7 @@ use Rattle.ya_core.specs.declared.process.Process.{Process}
 use Rattle.ya_core.specs.Steps.{Accesses, access_of, next_of, value_of}
 use Rattle.ya_core.specs.Worlds.{is_inside}
 use Rattle.ya_lock.specs.declared.rule.View.{View}
-use Rattle.ya_lock.specs.declared.rule.View.TheVariants.{Seated}
-use Rattle.ya_lock.specs.Rule.{Slots, count_after, words_in, Rule}
+use Rattle.ya_lock.specs.Rule.{Slots, count_after, words_in, Rule, free, view_at, bell_after}
 
 module _ {V : Type 0} where
   -- a process that is to leave the inside has put a value in the slot that its place may leave after the value it
@@ -43,16 +42,17 @@ module _ {V : Type 0} where
     pub access : Accesses (access_of levels place process) (words_in levels s.words) (words_in levels t.words)
     pub value : V
     pub own : get_elem? t.views seat
-        ≡ some (Seated place (process_after levels s place process) value (count_after levels place process count))
+        ≡ some (view_at (bell_after process (value_of (words_in levels s.words) (access_of levels place process))) place
+        (process_after levels s place process) value (count_after levels place process count))
     pub moves : MovesValue since (is_inside process) (is_inside (process_after levels s place process)) place seen value slots
         s.homes t.homes
     pub others : (other : ℕ) → other ≢ seat → get_elem? t.views other ≡ get_elem? s.views other
     pub rule : Rule since levels t
 
-  -- each seat of a process that is ready may take its due step
+  -- each seat of a process that is ready and owes no ring may take its due step
   abbrev pub EachMayStep : (since done : ℕ → V → V → Type 0) → ℕ → State (std.Option V) (View V) → Type 0
   EachMayStep since done levels s =
-      (seat place : ℕ) (process : Process) (value : V) (count : ℕ) (slots : Slots V)
-      → get_elem? s.views seat ≡ some (Seated place process value count)
+      (seat place : ℕ) (vain : Bool) (process : Process) (value : V) (count : ℕ) (slots : Slots V)
+      → get_elem? s.views seat ≡ some (view_at (free vain) place process value count)
       → IsReady done (is_inside process) place value slots
       → (t : State (std.Option V) (View V)) × TakesStep since levels seat place process value count slots s t

@@ -2,6 +2,7 @@ pub mod Rule
 pub mod Lock
 pub mod GuardLends
 pub mod LockState
+pub mod WakeUps
 pub mod StepEffects
 pub mod DueStep
 pub mod StepKinds

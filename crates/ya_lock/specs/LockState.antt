@@ -7,16 +7,17 @@ use lib.ListN.{get_elem?}
 use Rattle.atomic_table.specs.Table.{State}
 use Rattle.ya_core.specs.declared.process.Process.{Process}
 use Rattle.ya_core.specs.declared.process.Process.TheVariants.{Idle, Inside}
-use Rattle.ya_core.specs.Steps.{access_of, next_of, value_of}
 use Rattle.ya_core.specs.Soundness.{IsSoundState}
 use Rattle.ya_lock.specs.declared.rule.View.{View}
-use Rattle.ya_lock.specs.declared.rule.View.TheVariants.{Unused, Making, Filling, HandingOut, Seated, Joining}
-use Rattle.ya_lock.specs.Rule.{words_in, making_index}
+use Rattle.ya_lock.specs.declared.rule.View.TheVariants.{Unused, Making, Filling, HandingOut, Seated, Watching, Owes, Joining}
+use Rattle.ya_lock.specs.Rule.{words_in, making_index, CanGoOn}
 
 module _ {V : Type 0} where
   -- the view has the place's process, which has seen the value or, inside, found it
   abbrev pub IsOf : View V → ℕ → Process → V → Type 0
   IsOf (Seated place process value count) p x v = (place ≡ p) × (process ≡ x) × (value ≡ v)
+  IsOf (Watching place process value count) p x v = (place ≡ p) × (process ≡ x) × (value ≡ v)
+  IsOf (Owes place process value count rival) p x v = (place ≡ p) × (process ≡ x) × (value ≡ v)
   IsOf (Joining place value other seen count) p x v = (place ≡ p) × (Inside ≡ x) × (value ≡ v)
   IsOf _ p x v = ⊥
 
@@ -56,8 +57,7 @@ module _ {V : Type 0} where
 
     -- with the words as they are, a step of the place's process leads to another process
     abbrev pub GoesOn : ℕ → ℕ → Process → Type 0
-    GoesOn levels place process =
-        next_of levels place process (value_of (words_in levels s.words) (access_of levels place process)) ≢ process
+    GoesOn levels place process = CanGoOn levels (words_in levels s.words) place process
 
     -- if some seat's process takes part, some seat has a process that takes part and goes on
     abbrev pub SomeSeatGoesOn : ℕ → Type 0

@@ -1,24 +1,25 @@
 -- The rule of the running lock: the words, the lent value and all seats' views between any two atomic steps.
-use Rattle.std.specs.Prelude.{◌≡◌, ◌≢◌, ℕ, ◌+◌, ◌-◌, ◌*◌, ◌^◌, ◌<◌, ◌≤◌, Bool, true, false, if◌then◌else◌, List, [], ◌∷◌}
-use Rattle.std.specs.Prelude.{length, slice_index, None, Some}
+use Rattle.std.specs.Prelude.{◌≡◌, ◌≢◌, ◌⊎◌, ℕ, ◌+◌, ◌-◌, ◌*◌, ◌^◌, ◌<◌, ◌≤◌, ◌==◌, Bool, true, false, if◌then◌else◌}
+use Rattle.std.specs.Prelude.{List, [], ◌∷◌, length, slice_index, None, Some}
 use Rattle.std.specs.Prelude as std
 use mathlib.Core.Option.{Option, none, some}
 use lib.ListN.{get_elem?}
 use Rattle.atomic_table.specs.Table.{State}
 use Rattle.ya_core.specs.declared.word.Word.{Word}
 use Rattle.ya_core.specs.declared.process.EntryPoint.{EntryPoint}
-use Rattle.ya_core.specs.declared.process.EntryPoint.TheVariants.{E1, E2, E3, E4}
+use Rattle.ya_core.specs.declared.process.EntryPoint.TheVariants.{E1, E2, E3, E4, E7, E8, E10}
+use Rattle.ya_core.specs.declared.process.ExitPoint.TheVariants.{X3}
 use Rattle.ya_core.specs.declared.process.Process.{Process}
 use Rattle.ya_core.specs.declared.process.Process.TheVariants.{Idle, Entering, Inside, Leaving}
 use Rattle.ya_core.specs.ArbitrationTree.{number_of, count_of_words}
 use Rattle.ya_core.specs.Soundness.{IsSoundState}
-use Rattle.ya_core.specs.Steps.{access_of}
-use Rattle.ya_core.specs.WalkerModel.{cost_of}
+use Rattle.ya_core.specs.Steps.{access_of, next_of, value_of}
+use Rattle.ya_core.specs.WalkerModel.{cost_of, is_waiting}
 use Rattle.ya_core.specs.FlatRow.{is_word}
 use Rattle.ya_core.specs.Worlds.{is_inside}
 use Rattle.ya_lock.specs.declared.rule.TheConstants.{SPACING}
 use Rattle.ya_lock.specs.declared.rule.View.{View}
-use Rattle.ya_lock.specs.declared.rule.View.TheVariants.{Unused, Making, Filling, HandingOut, Seated, Joining, Spent}
+use Rattle.ya_lock.specs.declared.rule.View.TheVariants.{Unused, Making, Filling, HandingOut, Seated, Watching, Owes, Joining, Spent}
 
 -- the index of a word of the tree: in the order of the words' numbers, a cache line apart
 unfoldable pub index_of : ℕ → Word → ℕ
@@ -27,6 +28,10 @@ index_of levels word = SPACING * number_of levels word
 -- the index of the making word, after all words of the tree
 unfoldable pub making_index : ℕ → ℕ
 making_index levels = SPACING * count_of_words levels
+
+-- the index of the bell of a place: after the making word, a cache line apart as well
+unfoldable pub bell_index : ℕ → ℕ → ℕ
+bell_index levels place = making_index levels + SPACING * (1 + place)
 
 -- the length of the row: a cache line for each word of the tree, for the making word, and for the bell of each place
 abbrev pub row_length : ℕ → ℕ
@@ -39,6 +44,8 @@ words_in levels row word = if is_word levels word then slice_index row (index_of
 -- the place of a process's view
 abbrev pub place_of_view : {V : Type 0} → View V → Option ℕ
 place_of_view (Seated place process value count) = some place
+place_of_view (Watching place process value count) = some place
+place_of_view (Owes place process value count rival) = some place
 place_of_view (Joining place value other seen count) = some place
 place_of_view _ = none
 
@@ -66,6 +73,67 @@ count_from _ count = count
 abbrev pub count_after : ℕ → ℕ → Process → ℕ → ℕ
 count_after levels place process count =
     count_from process count + cost_of place (access_of levels place process)
+
+-- what the seat of a process knows of bells
+pub data BellKnowledge : Type 0 where
+  -- nothing
+  Quiet : BellKnowledge
+  -- its process waits: the seat has looked at its spin word in vain since it last stored in its own bell
+  Vain : BellKnowledge
+  -- it owes this place a ring: it has stored in the place's spin word, and since then it has neither found the place's
+  -- bell other than 1 nor stored 0 there
+  Debt : ℕ → BellKnowledge
+
+-- the knowledge of a seat that owes no ring: whether it has looked in vain
+abbrev pub free : Bool → BellKnowledge
+free true = Vain
+free false = Quiet
+
+-- the view of a process whose seat knows this of bells
+abbrev pub view_at : {V : Type 0} → BellKnowledge → ℕ → Process → V → ℕ → View V
+view_at Quiet place process value count = Seated place process value count
+view_at Vain place process value count = Watching place process value count
+view_at (Debt rival) place process value count = Owes place process value count rival
+
+-- the knowledge after the due access, which found or stored this number. After the stores of e7 and x3 the seat owes a
+-- ring to the place in whose spin word it has stored. A load at e8 or e10 was in vain if the process still waits
+abbrev pub bell_after : Process → ℕ → BellKnowledge
+bell_after (Entering level (E7 rival)) found = Debt rival
+bell_after (Entering level E8) found = free (found == 0)
+bell_after (Entering level E10) found = if found == 2 then Quiet else Vain
+bell_after (Leaving level (X3 rival)) found = Debt rival
+bell_after _ found = Quiet
+
+-- the seat owes this place a ring
+abbrev pub OwesRing : {V : Type 0} → View V → ℕ → Type 0
+OwesRing (Owes place process value count rival) other = rival ≡ other
+OwesRing _ other = ⊥
+
+-- the seat has the place's process, and has looked in vain
+abbrev pub IsWatching : {V : Type 0} → View V → ℕ → Process → Type 0
+IsWatching (Watching place process value count) p x = (place ≡ p) × (process ≡ x)
+IsWatching _ p x = ⊥
+
+-- some seat owes the place a ring
+abbrev pub IsOwedRing : {V : Type 0} → List (View V) → ℕ → Type 0
+IsOwedRing {V} views place =
+    (seat : ℕ) × ((view : View V) × (get_elem? views seat ≡ some view) × OwesRing view place)
+
+-- with these words, a step of the place's process leads to another process
+abbrev pub CanGoOn : ℕ → (Word → ℕ) → ℕ → Process → Type 0
+CanGoOn levels words place process =
+    next_of levels place process (value_of words (access_of levels place process)) ≢ process
+
+-- the place's bell isn't 1, or some seat owes the place a ring
+abbrev pub IsRung : {V : Type 0} → ℕ → List ℕ → List (View V) → ℕ → Type 0
+IsRung levels row views place = (slice_index row (bell_index levels place) ≢ 1) ⊎ IsOwedRing views place
+
+-- no wake-up is lost: a process that has looked in vain waits, and if it can go on, its place is rung
+abbrev pub NoneIsForgotten : {V : Type 0} → ℕ → List ℕ → List (View V) → Type 0
+NoneIsForgotten {V} levels row views =
+    (seat place : ℕ) (process : Process) (view : View V) → get_elem? views seat ≡ some view → IsWatching view place process
+    → (is_waiting process ≡ true)
+    × (CanGoOn levels (words_in levels row) place process → IsRung levels row views place)
 
 -- the slots that a seat has taken, each with its value
 abbrev pub Slots : Type 0 → Type 0
@@ -97,6 +165,13 @@ module _ {V : Type 0} (since : ℕ → V → V → Type 0) where
     abbrev pub IsBegun : Type 0
     IsBegun = slice_index s.words (making_index levels) ≢ 0
 
+    -- the place's process, with what its seat has seen and its count, fits the global view
+    abbrev pub ProcessFits : ℕ → ℕ → Process → V → ℕ → Type 0
+    ProcessFits seat place process value count =
+        IsBegun × (x.seat_of place ≡ some seat) × (x.processes place ≡ process)
+        × KnowsValue x.content place (is_inside process) value × (least_count levels process ≤ count)
+        × (place < 2 ^ levels)
+
     -- the view of a seat fits the global view
     abbrev pub ViewFits : ℕ → View V → Type 0
     ViewFits seat Unused = Unit {0}
@@ -105,10 +180,9 @@ module _ {V : Type 0} (since : ℕ → V → V → Type 0) where
     ViewFits seat (HandingOut first value) =
         IsBegun × (x.maker ≡ some seat) × (first < 2 ^ levels)
         × ((place : ℕ) → first ≤ place → (x.seat_of place ≡ none) × KnowsValue x.content place false value)
-    ViewFits seat (Seated place process value count) =
-        IsBegun × (x.seat_of place ≡ some seat) × (x.processes place ≡ process)
-        × KnowsValue x.content place (is_inside process) value × (least_count levels process ≤ count)
-        × (place < 2 ^ levels)
+    ViewFits seat (Seated place process value count) = ProcessFits seat place process value count
+    ViewFits seat (Watching place process value count) = ProcessFits seat place process value count
+    ViewFits seat (Owes place process value count rival) = ProcessFits seat place process value count
     ViewFits seat (Joining place value other seen count) =
         IsBegun × (x.seat_of place ≡ some seat) × (x.processes place ≡ Inside) × KnowsValue x.content place true value
         × KnowsValue x.content other false seen × (least_count levels Inside ≤ count) × (place < 2 ^ levels)
@@ -130,6 +204,6 @@ module _ {V : Type 0} (since : ℕ → V → V → Type 0) where
       pub lies : ValueInSlot x.processes s.homes x.content
       pub fits : (seat : ℕ) (view : View V) → get_elem? s.views seat ≡ some view → ViewFits seat view
 
-  -- some global view agrees with the words, the value and the views
+  -- some global view agrees with the words, the value and the views, and no wake-up is lost
   abbrev pub Rule : ℕ → State (std.Option V) (View V) → Type 0
-  Rule levels s = (x : GlobalView V) × Obeys levels s x
+  Rule levels s = (x : GlobalView V) × Obeys levels s x × NoneIsForgotten levels s.words s.views

@@ -6,9 +6,10 @@ use Rattle.ya_core.specs.declared.process.Process.TheVariants.{Idle, Inside}
 use Rattle.ya_core.specs.Steps.{access_of, next_of}
 use Rattle.ya_core.specs.WalkerModel.{MayBeTold}
 use Rattle.ya_lock.specs.declared.rule.View.{View}
-use Rattle.ya_lock.specs.declared.rule.View.TheVariants.{Unused, Making, Filling, HandingOut, Seated, Joining}
+use Rattle.ya_lock.specs.declared.rule.View.TheVariants.{Unused, Making, Filling, HandingOut, Seated, Watching, Owes, Joining}
 use Rattle.ya_core.specs.Worlds.{is_inside}
-use Rattle.ya_lock.specs.Rule.{Slots, count_after}
+use Rattle.ya_core.specs.declared.process.Process.{Process}
+use Rattle.ya_lock.specs.Rule.{Slots, count_after, view_at, bell_after}
 
 module _ {V : Type 0} where
   -- the swap that begins to make the passes: the seat is the maker if it found 0, and else unused
@@ -45,6 +46,20 @@ module _ {V : Type 0} where
   joined_view (Seated place process value count) (Seated other process' seen last) = Joining place value other seen count
   joined_view view other = view
 
+  -- a seat that stores in its own bell has not looked since
+  abbrev pub awake : View V → View V
+  awake (Watching place process value count) = Seated place process value count
+  awake view = view
+
+  -- a seat that has found its rival's bell other than 1, or has stored 0 there, owes no ring
+  abbrev pub paid : View V → View V
+  paid (Owes place process value count rival) = Seated place process value count
+  paid view = view
+
+  -- a seat that owes a ring loads the bell
+  abbrev pub FindsBell : ℕ → Me (std.Option V) (View V) → Me (std.Option V) (View V) → Type 0
+  FindsBell found before after = (found ≡ 1 → after ≡ before) × (found ≢ 1 → after ≡ (paid before.0, before.1))
+
   module _ (since : ℕ → V → V → Type 0) where
     -- the change of the seat's slots in a step, by whether the process was inside before it and is inside after it. The
     -- step out gives the slot home with the value in it, the step in takes the slot with the value found, and every
@@ -54,13 +69,22 @@ module _ {V : Type 0} where
     CarriesValue false true place value slots next slots' = since place value next × (slots' ≡ (0, Some next) ∷ [])
     CarriesValue false false place value slots next slots' = (next ≡ value) × (slots' ≡ slots)
 
-    -- a process takes its due step: it finds a value that its word can hold, goes on as the core says, and its remote
-    -- accesses are counted
+    -- a process takes its due step: it finds a value that its word can hold, goes on as the core says, its remote
+    -- accesses are counted, and its seat knows of bells what the access says
+    abbrev pub TakesDueStep : ℕ → ℕ → ℕ → Process → V → ℕ → Slots V → Me (std.Option V) (View V) → Type 0
+    TakesDueStep levels found place process value count slots me =
+        MayBeTold (Some (access_of levels place process)) found
+        × ((next : V)
+        × (me.0 ≡ view_at (bell_after process found) place (next_of levels place process found) next
+        (count_after levels place process count))
+        × CarriesValue (is_inside process) (is_inside (next_of levels place process found)) place value slots next me.1)
+
+    -- unless the seat owes a ring
     abbrev pub ProcessSteps : ℕ → ℕ → View V → Slots V → Me (std.Option V) (View V) → Type 0
     ProcessSteps levels found (Seated place process value count) slots me =
-        MayBeTold (Some (access_of levels place process)) found
-        × ((next : V) × (me.0 ≡ Seated place (next_of levels place process found) next (count_after levels place process count))
-        × CarriesValue (is_inside process) (is_inside (next_of levels place process found)) place value slots next me.1)
+        TakesDueStep levels found place process value count slots me
+    ProcessSteps levels found (Watching place process value count) slots me =
+        TakesDueStep levels found place process value count slots me
     ProcessSteps levels found _ slots me = Unit {0}
 
     -- the process inside learns that others may have made its value of the value that the other process has seen

@@ -1,6 +1,6 @@
 -- The kinds of step that the seats of a lock's table take, each with its effect on the seat, and the parts of the state
 -- that a step leaves as they are.
-use Rattle.std.specs.Prelude.{◌≡◌, ◌≢◌, ◌↔◌, ℕ, ◌<◌, false, List, [], ◌∷◌, ◌++◌, slice_index, slice_set, Some, ◌⊎◌}
+use Rattle.std.specs.Prelude.{◌≡◌, ◌≢◌, ◌↔◌, ℕ, ◌<◌, Bool, false, List, [], ◌∷◌, ◌++◌, slice_index, slice_set, Some, ◌⊎◌}
 use Rattle.std.specs.Prelude as std
 use mathlib.Core.Option.{Option, none, some}
 use lib.ListN.{get_elem?}
@@ -13,11 +13,11 @@ use Rattle.ya_core.specs.Steps.{access_of, value_of}
 use Rattle.ya_core.specs.Worlds.{is_inside}
 use Rattle.ya_lock.specs.declared.rule.View.{View}
 use Rattle.ya_lock.specs.declared.rule.View.TheVariants.{Making, Filling, HandingOut, Seated, Joining, Spent}
-use Rattle.ya_lock.specs.Rule.{Slots, index_of, making_index, words_in}
+use Rattle.ya_lock.specs.Rule.{Slots, index_of, making_index, words_in, free, view_at}
 use Rattle.ya_lock.specs.LockState.{HasProcess}
-use Rattle.ya_lock.specs.StepEffects.{BeginsMaking, TakesSlot, GivesValue, HandsOutLast, ProcessSteps, LearnsSince}
+use Rattle.ya_lock.specs.StepEffects.{BeginsMaking, TakesSlot, GivesValue, HandsOutLast, TakesDueStep, LearnsSince}
+use Rattle.ya_lock.specs.StepEffects.{handed_out, rest_to_hand_out, joined_view, awake, paid}
 use Rattle.ya_lock.specs.DueStep.{TakesStep}
-use Rattle.ya_lock.specs.StepEffects.{handed_out, rest_to_hand_out, joined_view}
 
 module _ {V : Type 0} where
   -- a seat has no slot, or the one slot of the lock, which is then out
@@ -46,12 +46,13 @@ module _ {V : Type 0} where
     -- the seat of a process makes its due access, with the effect of such a step
     pub record MakesDueAccess (since : ℕ → V → V → Type 0) (levels seat place : ℕ) (process : Process) (seen : V)
         (count : ℕ) (slots : Slots V) : Type 0 where
-      pub view : get_elem? s.views seat ≡ some (Seated place process seen count)
+      pub vain : Bool
+      pub view : get_elem? s.views seat ≡ some (view_at (free vain) place process seen count)
       pub after : Me (std.Option V) (View V)
       pub steps : SeatSteps seat (index_of levels (word_of (access_of levels place process)))
           (value_of (words_in levels s.words) (access_of levels place process)) slots after
-      pub told : ProcessSteps since levels (value_of (words_in levels s.words) (access_of levels place process))
-          (Seated place process seen count) slots after
+      pub told : TakesDueStep since levels (value_of (words_in levels s.words) (access_of levels place process)) place process
+          seen count slots after
 
     -- a new seat swaps 1 into the making word
     pub record SwapsToMake (levels : ℕ) : Type 0 where
@@ -131,16 +132,18 @@ module _ {V : Type 0} where
       pub steps : SeatLoads seat word slots after
       pub told : LearnsSince since (Joining place found other seen count) slots after
 
-    -- a seat stores in a bell, after the making word, and learns nothing
-    pub record StoresInBell (levels : ℕ) : Type 0 where
+    -- a seat accesses a bell, after the making word: its view changes at most in what it knows of bells
+    pub record AccessesBell (levels : ℕ) : Type 0 where
       pub seat : ℕ
       pub word : ℕ
       pub number : ℕ
       pub before : View V
+      pub after : View V
       pub slots : Slots V
       pub behind : making_index levels < word
       pub view : get_elem? s.views seat ≡ some before
-      pub steps : SeatSteps seat word number slots (before, slots)
+      pub known : (after ≡ before) ⊎ ((after ≡ awake before) ⊎ (after ≡ paid before))
+      pub steps : SeatSteps seat word number slots (after, slots)
 
     -- every kind of step except the step of a process and the gift
     pub data IsOtherStep (since : ℕ → V → V → Type 0) (levels : ℕ) : Type 0 where
@@ -149,7 +152,7 @@ module _ {V : Type 0} where
       Split : SplitsOff → IsOtherStep since levels
       Join : JoinsPass → IsOtherStep since levels
       Learn : LearnsOfPass since → IsOtherStep since levels
-      Bell : StoresInBell levels → IsOtherStep since levels
+      Bell : AccessesBell levels → IsOtherStep since levels
 
     -- no word of the tree changes, and no process that isn't idle
     pub record LeavesProcesses (levels : ℕ) : Type 0 where

@@ -1,15 +1,17 @@
-//! Bells: the words on which places sleep that wait for long. A bell is 1 while its place sleeps or is about to. Bells
-//! are tuning, as `Backoff` is: the table's rule reads none, and no contract depends on one.
+//! Bells: the words on which places sleep that wait for long. A bell is 1 while its place sleeps or is about to. No
+//! wake-up is lost: the table's rule says that a place that has looked in vain and could go on now has a bell other than
+//! 1, or is owed a ring.
 ghost use Rattle.std.specs.Prelude.{◌≡◌, ◌^◌, ◌<◌, ◌≤◌, true};
 ghost use Rattle.ya_core.specs.ArbitrationTree.{HasShape};
 ghost use Rattle.ya_core.specs.WalkerModel.{is_waiting};
-ghost use Rattle.ya_lock.specs.inside.Rule.{bell_index};
-ghost use Rattle.ya_lock.specs.inside.Lock.{HasLooked, HasStoredFor};
+ghost use Rattle.ya_lock.specs.Rule.{bell_index, OwesRing};
+ghost use Rattle.ya_lock.specs.StepEffects.{awake, paid};
+ghost use Rattle.ya_lock.specs.inside.Lock.{HasLooked, IsFreeSeat, has_looked_in_vain};
 
 use crate::kept::Kept;
 use crate::passage::{Passage, waits};
 use crate::rule::{LockSeat, SPACING};
-use crate::step_effects::SetBell;
+use crate::step_effects::{ClearBell, FindBell, SetBell};
 use crate::tree_lock::TreeLock;
 use std::sync::Wait;
 
@@ -29,16 +31,44 @@ impl<V: Kept + Drop, const L: u32> TreeLock<V, L> {
         SPACING * (Self::shape().words() + 1 + place)
     }
 
-    /// Stores that value in the bell of a place.
+    /// Stores that value in the bell of the seat's own place.
     #[inline(always)]
     fn set_bell(&self, seat: &mut LockSeat<V>, place: usize, value: u64)
         requires lock { seat.old.table_id ≡ self.now }
         requires place { place < 2 ^ L }
+        requires own { IsFreeSeat place seat.old.me.0 }
         ensures lock { seat.new.table_id ≡ seat.old.table_id }
-        ensures same { seat.new.me ≡ seat.old.me }
+        ensures me { seat.new.me ≡ (awake seat.old.me.0, seat.old.me.1) }
     {
         let shared = &self.table.shared;
         shared.store::<SetBell>(seat, Self::bell(place), value);
+    }
+
+    /// Sleeps until a rival rings, if the bell of the place is 1. Its seat has looked at the spin word in vain since it
+    /// last stored in its bell.
+    #[inline(always)]
+    fn park<R: Wait>(&self, rt: &R, seat: &LockSeat<V>, place: usize)
+        requires place { place < 2 ^ L }
+        requires vain { has_looked_in_vain seat.now.me.0 ≡ true }
+    {
+        self.table.shared.park(rt, Self::bell(place), 1);
+    }
+
+    /// Wakes a rival that sleeps, to which the seat owes a ring.
+    #[inline(always)]
+    pub(crate) fn ring(&self, seat: &mut LockSeat<V>, rival: usize)
+        requires lock { seat.old.table_id ≡ self.now }
+        requires rival { rival < 2 ^ L }
+        requires owes { OwesRing seat.old.me.0 rival }
+        ensures lock { seat.new.table_id ≡ seat.old.table_id }
+        ensures me { seat.new.me ≡ (paid seat.old.me.0, seat.old.me.1) }
+    {
+        let shared = &self.table.shared;
+        if shared.load::<FindBell>(seat, Self::bell(rival)) == 1 {
+            // The 0 in its bell keeps the rival awake if it is about to sleep.
+            shared.store::<ClearBell>(seat, Self::bell(rival), 0);
+            self.wake(rival);
+        }
     }
 
     /// Wakes that rival.
@@ -52,8 +82,7 @@ impl<V: Kept + Drop, const L: u32> TreeLock<V, L> {
 }
 
 impl<'a, V: Kept + Drop, const L: u32> Passage<'a, V, L> {
-    /// Sleeps until a rival rings. No wake is lost: a rival stores in the spin word before it looks at the bell, and
-    /// the place stores 1 in its bell before it looks at its spin word. So one of the two sees the other's store.
+    /// Sleeps until a rival rings.
     #[inline(never)]
     pub(crate) fn sleep<R: Wait>(self, rt: &R) -> Self
         requires { is_waiting self.walk.process ≡ true }
@@ -66,26 +95,10 @@ impl<'a, V: Kept + Drop, const L: u32> Passage<'a, V, L> {
         lock.set_bell(&mut passage.seat, place, 1);
         let mut passage = passage.look();
         if waits(&passage.walker) {
-            lock.table.shared.park(rt, TreeLock::<V, L>::bell(place), 1);
+            lock.park(rt, &passage.seat, place);
         } else {
             lock.set_bell(&mut passage.seat, place, 0);
         }
         passage
-    }
-
-    /// Wakes a rival that sleeps. It must directly follow the store in the rival's spin word: the rival might set its
-    /// bell after an earlier look at the bell, and then no place would ring it.
-    #[inline(always)]
-    pub(crate) fn ring(&mut self, rival: usize)
-        requires rival { rival < 2 ^ L }
-        requires stored { HasStoredFor L rival self.old.walk }
-        ensures { self.new ≡ self.old }
-    {
-        let lock = self.lock;
-        if lock.table.shared.peek(TreeLock::<V, L>::bell(rival)) == 1 {
-            // The 0 in its bell keeps the rival awake if it is about to sleep.
-            lock.set_bell(&mut self.seat, rival, 0);
-            lock.wake(rival);
-        }
     }
 }

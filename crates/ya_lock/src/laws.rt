@@ -1,6 +1,7 @@
 //! The meaning of the rule of the lock's table, as contracts of functions with empty bodies.
 ghost use Rattle.std.specs.Prelude.{ℕ, ◌≤◌};
 ghost use Rattle.ya_lock.specs.LockState.{IsLockState};
+ghost use Rattle.ya_lock.specs.WakeUps.{EachSleeperIsRung, SomeSeatIsAwake, IsStep, OwesOrHasPaid};
 ghost use Rattle.ya_lock.specs.DueStep.{EachMayStep};
 ghost use Rattle.ya_lock.specs.StepKinds.{IsDueStepAlone, IsOtherStep, LeavesProcesses, SameContent, GivesHome, IsGift};
 
@@ -20,11 +21,11 @@ pub fn rule<V: Kept, const L: u32>()
         → IsLockState V.since L s }
 {}
 
-/// At each such moment, each seat of a process may take its due step, one load or store, whatever the words and all
-/// other views are. The seat's view goes on as in the core, no other view changes, and the rule is kept. A process that
-/// leaves the inside needs a value that `done` allows after the value it found; the step puts it in the slot, and its
-/// place has seen it. A process that comes inside takes the value from the slot. [`kinds`] bounds the steps of all
-/// other seats.
+/// At each such moment, each seat of a process that owes no ring may take its due step, one load or store, whatever the
+/// words and all other views are. The seat's view goes on as in the core, no other view changes, and the rule is kept.
+/// A process that leaves the inside needs a value that `done` allows after the value it found; the step puts it in the
+/// slot, and its place has seen it. A process that comes inside takes the value from the slot. [`kinds`] bounds the
+/// steps of all other seats.
 pub fn steps<V: Kept, const L: u32>()
     requires { 1 ≤ L }
     ensures { (s : _) → ⟦<LockTable<V> as Ruled<Option<V>, View<V>, u32>>⟧.rule L s
@@ -34,7 +35,7 @@ pub fn steps<V: Kept, const L: u32>()
 /// Between two moments at which the rule holds, each kind of step has only these effects. If a seat makes the due
 /// access of its process, this is the step of [`steps`]; it changes the content only if its process was inside. Every
 /// other kind changes no word of the tree and no process that isn't idle: the steps that make the passes, the two that
-/// join a pass to a guard, and a store in a bell. They don't change the content either, except for the gift, before
+/// join a pass to a guard, and an access of a bell. They don't change the content either, except for the gift, before
 /// which there was no content.
 pub fn kinds<V: Kept, const L: u32>()
     requires { 1 ≤ L }
@@ -45,4 +46,18 @@ pub fn kinds<V: Kept, const L: u32>()
         → IsOtherStep s t V.since L → LeavesProcesses s t L × SameContent s t }
     ensures gift { (s t : _) (value : _) → ⟦<LockTable<V> as Ruled<Option<V>, View<V>, u32>>⟧.rule L s
         → GivesHome s t value → IsGift L s t value }
+{}
+
+/// No wake-up is lost. Only a seat that has looked at its spin word in vain since it last stored in its own bell parks,
+/// and the kernel lets it sleep only while this bell is 1: its view is `Watching`. At each such moment, if its process can
+/// go on with the words as they are, its bell isn't 1, or some seat owes its place a ring (`rung`). Hence if some process
+/// takes part, some process that takes part can go on, and isn't asleep or is rung (`awake`). A seat that owes a ring
+/// takes no step of its process before it has paid: it has found the bell other than 1, or has stored 0 there (`owing`).
+pub fn no_lost_wakeup<V: Kept, const L: u32>()
+    requires { 1 ≤ L }
+    ensures rung { (s : _) → ⟦<LockTable<V> as Ruled<Option<V>, View<V>, u32>>⟧.rule L s
+        → EachSleeperIsRung s L }
+    ensures awake { (s : _) → ⟦<LockTable<V> as Ruled<Option<V>, View<V>, u32>>⟧.rule L s
+        → SomeSeatIsAwake s L }
+    ensures owing { (s t : _) → IsStep s t V.since L → OwesOrHasPaid s t }
 {}

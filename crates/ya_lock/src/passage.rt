@@ -5,7 +5,8 @@ ghost use Rattle.ya_core.specs.declared.process.EntryPoint.TheVariants.{E5};
 ghost use Rattle.ya_core.specs.declared.process.ExitPoint.TheVariants.{X2};
 ghost use Rattle.ya_core.specs.WalkerModel.{BeginsEntry, BeginsExit, op_of, walk, walk_after, most_remote, is_waiting};
 ghost use Rattle.ya_core.specs.inside.Ahead.{points_ahead, ComesNearer};
-ghost use Rattle.ya_lock.specs.inside.Lock.{way_of, HasWon, HasPassed, HasLooked, HasReleased};
+ghost use Rattle.ya_lock.specs.Rule.{bell_after};
+ghost use Rattle.ya_lock.specs.inside.Lock.{way_of, HasWon, HasPassed, HasLooked, HasReleased, StoresFor, is_to_ring, is_vain};
 
 use crate::bell::SPIN_LIMIT;
 use crate::ghost_value::GhostValue;
@@ -31,13 +32,14 @@ pub(crate) struct Passage<'a, V: Kept + Drop, const L: u32> {
 }
 
 impl<'a, V: Kept + Drop, const L: u32> Model for Passage<'a, V, L> {
-    ghost use Rattle.ya_lock.specs.inside.Lock.{OnWay, IsOnWay};
+    ghost use Rattle.ya_lock.specs.inside.Lock.{OnWay, IsOnWay, has_looked_in_vain};
 
     ghost Value = { OnWay V };
 
     ghost view = { λ p. record {
       of = record { lock = p.lock.now; place = p.place; seen = p.seen.value };
       walk = p.walker;
+      vain = has_looked_in_vain p.seat.me.0;
     } };
 
     ghost invariant = { λ p. IsOnWay V.since V.done L p.lock.now p.seat.table_id p.place p.seen.value p.walker p.seat.me };
@@ -127,8 +129,7 @@ impl<'a, V: Kept + Drop, const L: u32> Passage<'a, V, L> {
         }
         passage.step();
         if let Process::Entering(_, EntryPoint::E7(rival)) = passage.walker.process() {
-            passage.step();
-            passage.ring(rival);
+            passage.step_for(rival);
         }
         let mut passage = passage.spin(rt);
         passage.write_out(EntryPoint::E9);
@@ -174,6 +175,7 @@ impl<'a, V: Kept + Drop, const L: u32> Passage<'a, V, L> {
         requires { is_waiting self.walk.process ≡ true }
         ensures of { result.of ≡ self.entry.of }
         ensures looked { HasLooked L self.entry.walk.process result.walk }
+        ensures vain { is_waiting result.walk.process ≡ true → result.vain ≡ true }
     {
         let mut passage = self;
         match passage.walker.process() {
@@ -230,8 +232,7 @@ impl<'a, V: Kept + Drop, const L: u32> Passage<'a, V, L> {
     {
         self.step();
         if let Process::Leaving(_, ExitPoint::X3(rival)) = self.walker.process() {
-            self.step();
-            self.ring(rival);
+            self.step_for(rival);
         }
     }
 
@@ -263,12 +264,14 @@ impl<'a, V: Kept + Drop, const L: u32> Passage<'a, V, L> {
         self.walker = Walker::entering(shape, self.place, level, point, remote);
     }
 
-    /// Makes the due access.
+    /// Makes the due access, which is no store in a rival's spin word.
     #[inline(always)]
     pub(crate) fn step(&mut self)
-        requires { (op_of self.old.walk ≢ Op.Idle) × (op_of self.old.walk ≢ Op.Inside) }
+        requires { (op_of self.old.walk ≢ Op.Idle) × (op_of self.old.walk ≢ Op.Inside)
+            × (is_to_ring self.old.walk.process ≡ false) }
         ensures of { self.new.of ≡ self.old.of }
-        ensures goes { (found : ℕ) × (self.new.walk ≡ walk_after self.old.walk found) }
+        ensures goes { (found : ℕ) × (self.new.walk ≡ walk_after self.old.walk found)
+            × (self.new.vain ≡ is_vain (bell_after self.old.walk.process found)) }
         ensures onward { ComesNearer self.old.walk self.new.walk }
         ensures count { self.new.walk.remote + most_remote self.old.walk
             ≤ self.old.walk.remote + most_remote self.new.walk }
@@ -286,5 +289,27 @@ impl<'a, V: Kept + Drop, const L: u32> Passage<'a, V, L> {
             }
             Op::Inside | Op::Idle => unreachable!(),
         }
+    }
+
+    /// Makes the due access, the store in the spin word of that rival, and wakes the rival if it sleeps. Between the two
+    /// the seat owes the rival a ring, and may take no other step.
+    #[inline(always)]
+    pub(crate) fn step_for(&mut self, rival: usize)
+        requires { StoresFor rival self.old.walk.process }
+        ensures of { self.new.of ≡ self.old.of }
+        ensures goes { (found : ℕ) × (self.new.walk ≡ walk_after self.old.walk found) }
+        ensures onward { ComesNearer self.old.walk self.new.walk }
+        ensures count { self.new.walk.remote + most_remote self.old.walk
+            ≤ self.old.walk.remote + most_remote self.new.walk }
+    {
+        let lock = self.lock;
+        let Op::Store(number, value) = self.walker.op() else {
+            unreachable!()
+        };
+        lock.table
+            .shared
+            .store::<ProcessStep<L>>(&mut self.seat, SPACING * number, value);
+        self.walker.done();
+        lock.ring(&mut self.seat, rival);
     }
 }

@@ -28,6 +28,12 @@ pub enum View<V> {
     /// A process: its place, its state, the value that it has seen (inside: that it found), and the number of remote
     /// accesses since its last entry began.
     Seated(usize, Process, V, u64),
+    /// The same, and its process waits: since the seat last stored in its own bell, it has looked at its spin word in
+    /// vain. Only such a seat parks.
+    Watching(usize, Process, V, u64),
+    /// The same as `Seated`, and it owes this rival a ring: it has stored in the rival's spin word, and since then it has
+    /// neither found the rival's bell other than 1 nor stored 0 there.
+    Owes(usize, Process, V, u64, usize),
     /// A process inside that has joined an idle one: its place, the value that it found, the other's place, the value
     /// that the other has seen, and the number of remote accesses of the process inside.
     Joining(usize, V, usize, V, u64),

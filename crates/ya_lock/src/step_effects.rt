@@ -2,7 +2,7 @@
 ghost use Rattle.std.specs.Prelude.{◌≡◌};
 ghost use Rattle.ya_lock.specs.declared.rule.View.TheVariants.{Spent};
 ghost use Rattle.ya_lock.specs.StepEffects.{BeginsMaking, TakesSlot, GivesValue, HandsOutLast, ProcessSteps, LearnsSince};
-ghost use Rattle.ya_lock.specs.StepEffects.{handed_out, rest_to_hand_out, joined_view};
+ghost use Rattle.ya_lock.specs.StepEffects.{handed_out, rest_to_hand_out, joined_view, awake, paid, FindsBell};
 
 use crate::kept::Kept;
 use crate::rule::View;
@@ -52,11 +52,25 @@ impl<V: Kept, const L: u32> Play<Option<V>, View<V>> for ProcessStep<L> {
     ghost then = { λ step before found after. ProcessSteps V.since L found before.0 before.1 after };
 }
 
-/// The store in a bell, which changes no knowledge.
+/// The store of a place in its own bell: it has not looked at its spin word since.
 pub struct SetBell;
 
 impl<V> Play<Option<V>, View<V>> for SetBell {
-    ghost then = { λ step before found after. after ≡ before };
+    ghost then = { λ step before found after. after ≡ (awake before.0, before.1) };
+}
+
+/// The load of the bell of a rival that is owed a ring: if it isn't 1, the rival is owed none.
+pub struct FindBell;
+
+impl<V> Play<Option<V>, View<V>> for FindBell {
+    ghost then = { λ step before found after. FindsBell found before after };
+}
+
+/// The store of 0 in the bell of a rival that is owed a ring.
+pub struct ClearBell;
+
+impl<V> Play<Option<V>, View<V>> for ClearBell {
+    ghost then = { λ step before found after. after ≡ (paid before.0, before.1) };
 }
 
 /// The load with which a process inside takes in an idle one.

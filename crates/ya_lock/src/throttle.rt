@@ -1,7 +1,7 @@
 //! The door: if the root is contended (a crowd), a place naps before its first access, so that the place that is
 //! awake goes in and out without a competitor. Dice and Kogan, *Avoiding Scalability Collapse by Restricting
-//! Concurrency*, Euro-Par 2019. A nap is tuning, as a bell is: it ends by itself, so no wake can be lost, and no
-//! contract depends on it.
+//! Concurrency*, Euro-Par 2019. A nap is tuning, and no contract depends on it: no place has to end it, since it ends when
+//! its time is over, if the clock goes on.
 ghost use Rattle.std.specs.Prelude.{◌^◌, ◌<◌, ◌≤◌};
 
 use crate::kept::Kept;
@@ -112,7 +112,7 @@ impl<V: Kept + Drop, const L: u32> TreeLock<V, L> {
         shared.peek(SPACING * Self::shape().c(L, 0, side)) != 0
     }
 
-    /// Sleeps for the shares of all places, or until a rival rings.
+    /// Sleeps for the shares of all places. The place isn't in the tree, so no rival has to wake it.
     #[cold]
     #[inline(never)]
     fn nap<R: Wait>(&self, rt: &R, place: usize)

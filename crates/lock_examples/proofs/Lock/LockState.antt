@@ -1,5 +1,5 @@
 -- Examples of what the rule means at a moment between two steps.
-use Rattle.std.proofs.Common.{◌≡◌, ◌≢◌, ℕ, zero, suc, ◌+◌, ◌≤◌, inl, inr, List, [], ◌∷◌, ◌++◌, ◌∙◌, refl, sym, ap, subst, arith, None, Some, replicate, set}
+use Rattle.std.proofs.Common.{◌≡◌, ◌≢◌, ℕ, zero, suc, ◌≤◌, inl, inr, List, [], ◌∷◌, ◌++◌, ◌∙◌, refl, sym, ap, subst, arith, None, Some, replicate, set}
 use Rattle.std.specs.Prelude as std
 use Rattle.std.specs.Prelude.{IsTrue, ◌-◌}
 use mathlib.Core.Option.{Option, none, some, some-injective, some-ne-none}
@@ -14,7 +14,7 @@ use Rattle.ya_core.specs.ArbitrationTree.{node_of, side_of, number_of, count_of_
 use Rattle.ya_core.specs.Soundness.{IsSoundState, claims, phase_of}
 use Rattle.ya_core.proofs.Promised.{opens}
 use Rattle.ya_lock.specs.declared.rule.View.{View}
-use Rattle.ya_lock.specs.declared.rule.View.TheVariants.{Unused, Making, Filling, HandingOut, Seated, Joining, Spent}
+use Rattle.ya_lock.specs.declared.rule.View.TheVariants.{Unused, Making, Filling, HandingOut, Seated, Watching, Owes, Joining, Spent}
 use Rattle.ya_lock.specs.Rule.{index_of, making_index, words_in}
 use Rattle.ya_lock.specs.LockState.{IsOf, IsFilling, IsMaking, HasProcess, IsAway, NoneInside, ShowsCore, GoesOn, SomeSeatGoesOn}
 use Rattle.ya_lock.specs.LockState.{EachInTree, OneSeatAPlace, OneInside, IsToMake, IsGiven, IsInSlot, IsFresh, IsMadeByOne, IsLockState}
@@ -313,6 +313,8 @@ filling_is_making Filling filling = tt
 filling_is_making Unused filling = absurd filling
 filling_is_making (HandingOut first value) filling = tt
 filling_is_making (Seated place process value count) filling = absurd filling
+filling_is_making (Watching place process value count) filling = absurd filling
+filling_is_making (Owes place process value count rival) filling = absurd filling
 filling_is_making (Joining place value other seen count) filling = absurd filling
 filling_is_making Spent filling = absurd filling
 

@@ -1,5 +1,5 @@
 -- Examples of the rule of the lock.
-use Rattle.std.proofs.Common.{◌≡◌, ℕ, zero, suc, ◌+◌, ◌<◌, ◌≤◌, [], ◌∷◌, ◌++◌, ◌∙◌, refl, sym, subst, arith, Some, replicate, set}
+use Rattle.std.proofs.Common.{◌≡◌, ℕ, zero, suc, ◌<◌, ◌≤◌, [], ◌∷◌, ◌++◌, ◌∙◌, refl, sym, subst, arith, Some, replicate, set}
 use Rattle.std.specs.Prelude as std
 use Rattle.std.specs.Prelude.{◌-◌}
 use mathlib.Core.Option.{Option, none, some, some-injective, some-ne-none}
@@ -9,6 +9,7 @@ use Rattle.ya_core.specs.declared.word.Word.{Word}
 use Rattle.ya_core.specs.declared.word.Word.TheVariants.{C, P}
 use Rattle.ya_core.specs.declared.process.EntryPoint.TheVariants.{E1, E2, E3, E4, E8}
 use Rattle.ya_core.specs.declared.process.ExitPoint.TheVariants.{X1}
+use Rattle.ya_core.specs.declared.process.Process.{Process}
 use Rattle.ya_core.specs.declared.process.Process.TheVariants.{Idle, Entering, Inside, Leaving}
 use Rattle.ya_core.specs.ArbitrationTree.{number_of, count_of_words}
 use Rattle.ya_core.specs.Soundness.{IsSoundState}
@@ -16,7 +17,7 @@ use Rattle.ya_core.proofs.Promised.{opens}
 use Rattle.ya_lock.specs.declared.rule.View.{View}
 use Rattle.ya_lock.specs.declared.rule.View.TheVariants.{HandingOut, Seated, Joining, Spent}
 use Rattle.ya_lock.specs.Rule.{index_of, making_index, words_in, row_length, place_of_view, least_at, least_count, count_from, count_after}
-use Rattle.ya_lock.specs.Rule.{GlobalView, IsBegun, ViewFits, Rule}
+use Rattle.ya_lock.specs.Rule.{GlobalView, IsBegun, IsWatching, ViewFits, Rule}
 use Rattle.ya_lock.proofs.WordsInRow.{words_zero, words_behind}
 use Rattle.lock_examples.proofs.Lock.LockState.{both_away, raised, unmade}
 
@@ -96,6 +97,14 @@ module _ {V : Type 0} (since : ℕ → V → V → Type 0) (first second now : V
       (making_has_begun, refl, refl, (now, refl, from_second), (let none : 0 ≤ 0 = omega arith in none), (let in_tree : 1 < 2 = omega arith in in_tree))
   view_of_each (suc (suc seat)) view at = absurd (some-ne-none view (sym at))
 
+  neither_watches : (seat : ℕ) (view : View V) (place : ℕ) (process : Process) → get_elem? state.views seat ≡ some view
+      → ¬ IsWatching view place process
+  neither_watches zero view place process at watches =
+      subst (λ v. IsWatching v place process) (sym (some-injective (Seated 0 Idle first 0) view at)) watches
+  neither_watches (suc zero) view place process at watches =
+      subst (λ v. IsWatching v place process) (sym (some-injective (Seated 1 Idle second 0) view at)) watches
+  neither_watches (suc (suc seat)) view place process at watches = some-ne-none view (sym at)
+
   both_passes_seen : Rule since 1 state
   unfolding making_index count_of_words
   both_passes_seen = (
@@ -112,6 +121,7 @@ module _ {V : Type 0} (since : ℕ → V → V → Type 0) (first second now : V
       lies = (λ away. refl, λ place is. cc);
       fits = view_of_each;
     },
+    λ seat place process view at watches. absurd (neither_watches seat view place process at watches),
   )
 
 -- Rule

@@ -5,16 +5,12 @@ use Rattle.std.specs.Prelude.{◌-◌, Bool, true, false, nat_lt, if◌then◌el
 use mathlib.Core.Option.{Option, none, some, some-injective}
 use lib.ListN.{get_elem?}
 use Rattle.atomic_table.specs.Table.{State, Me}
-use Rattle.ya_core.specs.declared.process.EntryPoint.TheVariants.{E2, E7, E8}
-use Rattle.ya_core.specs.declared.process.ExitPoint.TheVariants.{X1, X3}
-use Rattle.ya_core.specs.declared.process.Process.{Process}
-use Rattle.ya_core.specs.declared.process.Process.TheVariants.{Idle, Entering, Inside, Leaving}
-use Rattle.ya_core.specs.WalkerModel.{walk}
+use Rattle.ya_core.specs.declared.process.EntryPoint.TheVariants.{E2}
+use Rattle.ya_core.specs.declared.process.Process.TheVariants.{Idle, Entering, Inside}
 use Rattle.ya_lock.specs.declared.rule.View.{View}
 use Rattle.ya_lock.specs.declared.rule.View.TheVariants.{Unused, Making, Seated}
 use Rattle.ya_lock.specs.DueStep.{IsReady, process_after, MovesValue, TakesStep, EachMayStep}
 use Rattle.ya_lock.specs.StepEffects.{BeginsMaking}
-use Rattle.ya_lock.specs.inside.Lock.{HasStoredFor}
 use Rattle.ya_lock.specs.StepKinds.{HasSlot, IsContent, LeavesProcesses, IsGift}
 use Rattle.ya_lock.proofs.DueSteps.{each_may_step}
 use Rattle.lock_examples.proofs.Lock.LockState.{both_away, none_where_both_are_away, one_inside, raised}
@@ -105,27 +101,3 @@ not_where_one_comes_inside h =
 -- IsGift
 not_where_there_was_content : (s t : State (std.Option ℕ) (View ℕ)) → IsContent s 7 → ¬ IsGift 1 s t 8
 not_where_there_was_content s t content gift = gift.1 7 content
-
--- behind the last store of a level no store is due there
-no_store_behind : (level : ℕ) (upper : Bool) → ◌≡◌ {A = Process} (Leaving 1 (X3 0)) (if upper then Leaving (level - 1) X1 else Idle) → ⊥
-no_store_behind level true is = cc
-no_store_behind level false is = cc
-
-no_wake_behind : (level : ℕ) (upper : Bool) → ◌≡◌ {A = Process} (Entering 1 (E7 0)) (if upper then Leaving (level - 1) X1 else Idle) → ⊥
-no_wake_behind level true is = cc
-no_wake_behind level false is = cc
-
--- HasStoredFor
-after_the_store_that_wakes : HasStoredFor 1 0 (walk 1 1 (Entering 1 E8) false 5)
-after_the_store_that_wakes = (1, 0, inl refl)
-
-after_the_store_that_lets_in : HasStoredFor 1 0 (walk 1 1 Idle false 9)
-after_the_store_that_lets_in = (1, 0, inr refl)
-
-not_before_the_store_that_wakes : ¬ HasStoredFor 1 0 (walk 1 1 (Entering 1 (E7 0)) false 4)
-not_before_the_store_that_wakes (level, found, inl is) = let past : Entering 1 (E7 0) ≡ Entering level E8 = is in cc
-not_before_the_store_that_wakes (level, found, inr is) = no_wake_behind level (nat_lt 1 level) is
-
-not_before_the_store_that_lets_in : ¬ HasStoredFor 1 0 (walk 1 1 (Leaving 1 (X3 0)) false 8)
-not_before_the_store_that_lets_in (level, found, inl is) = let past : Leaving 1 (X3 0) ≡ Entering level E8 = is in cc
-not_before_the_store_that_lets_in (level, found, inr is) = no_store_behind level (nat_lt 1 level) is

@@ -3,16 +3,16 @@ use Rattle.std.specs.Prelude.{◌≡◌, ℕ, ◌*◌, ◌^◌, ◌<◌, ◌≤�
 use Rattle.std.specs.Prelude as std
 use Rattle.atomic_table.specs.Table.{Me}
 use Rattle.ya_core.specs.declared.limits.TheConstants.{MAX_LEVELS}
-use Rattle.ya_core.specs.declared.process.Process.{Process}
-use Rattle.ya_core.specs.declared.process.Process.TheVariants.{Idle, Inside, Entering, Leaving}
-use Rattle.ya_core.specs.WalkerModel.{Walk}
-use Rattle.ya_lock.specs.declared.rule.View.{View}
-use Rattle.ya_lock.specs.declared.rule.View.TheVariants.{Seated}
-use Rattle.ya_lock.specs.Rule.{row_length}
-use Rattle.ya_lock.specs.Lock.{LockId, IdlePass, OpenGuard}
 use Rattle.ya_core.specs.declared.process.EntryPoint.TheVariants.{E1, E7, E8, E9, E10}
 use Rattle.ya_core.specs.declared.process.ExitPoint.TheVariants.{X1, X3}
-use Rattle.ya_core.specs.Steps.{after_entry, next_of}
+use Rattle.ya_core.specs.declared.process.Process.{Process}
+use Rattle.ya_core.specs.declared.process.Process.TheVariants.{Idle, Inside, Entering, Leaving}
+use Rattle.ya_core.specs.Steps.{after_entry}
+use Rattle.ya_core.specs.WalkerModel.{Walk}
+use Rattle.ya_lock.specs.declared.rule.View.{View}
+use Rattle.ya_lock.specs.declared.rule.View.TheVariants.{Seated, Watching}
+use Rattle.ya_lock.specs.Rule.{row_length, BellKnowledge, Vain, free, view_at}
+use Rattle.ya_lock.specs.Lock.{LockId, IdlePass, OpenGuard}
 
 -- the table has the words of a tree of this many levels, the making word, and the bells
 abbrev pub HasTree : LockId → ℕ → Type 0
@@ -25,10 +25,12 @@ pub record WayOf (V : Type 0) : Type 0 where
   pub place : ℕ
   pub seen : V
 
--- a place on its way: its constant parts and its walk
+-- a place on its way: its constant parts, its walk, and whether it has looked in vain since it last stored in its own
+-- bell
 pub record OnWay (V : Type 0) : Type 0 where
   pub of : WayOf V
   pub walk : Walk
+  pub vain : Bool
 
 -- the constant parts of a pass
 abbrev pub way_of : {V : Type 0} → IdlePass V → WayOf V
@@ -64,7 +66,7 @@ module _ {V : Type 0} where
   -- entry began. An idle process has made none of the next entry, and any number in its last passage
   abbrev pub HasMade : ℕ → V → Process → ℕ → View V → Type 0
   HasMade place value Idle remote view = (last : ℕ) × (view ≡ Seated place Idle value last) × (remote ≡ 0)
-  HasMade place value process remote view = view ≡ Seated place process value remote
+  HasMade place value process remote view = (vain : Bool) × (view ≡ view_at (free vain) place process value remote)
 
   -- the seat of a pass: its process is idle, its last passage made `remote` remote accesses, and it has no slot
   pub record SeatIdle (lock : LockId) (place : ℕ) (seen : V) (remote : ℕ)
@@ -90,6 +92,8 @@ module _ {V : Type 0} where
       (found : V) × done place found seen × (me ≡ (Seated place Inside found remote, (0, Some seen) ∷ []))
   SeatAt since done place seen Inside false remote me =
       (found : V) × since place seen found × (me ≡ (Seated place Inside found remote, (0, Some found) ∷ []))
+  SeatAt since done place seen (Entering level point) begun remote me =
+      (begun ≡ false) × ((vain : Bool) × (me ≡ (view_at (free vain) place (Entering level point) seen remote, [])))
   SeatAt since done place seen process begun remote me = (begun ≡ false) × (me ≡ (Seated place process seen remote, []))
 
   -- the seat of a walk: it has the walk's process and number of remote accesses
@@ -134,9 +138,28 @@ IsReleased _ = ⊥
 abbrev pub HasReleased : Walk → Type 0
 HasReleased w = IsReleased w.process × (w.begun ≡ false)
 
--- the walk is just after the store in the spin word of the rival: after e7, or after x3
-abbrev pub HasStoredFor : ℕ → ℕ → Walk → Type 0
-HasStoredFor levels rival w =
-    (level found : ℕ)
-    × ((w.process ≡ next_of levels w.place (Entering level (E7 rival)) found)
-    ⊎ (w.process ≡ next_of levels w.place (Leaving level (X3 rival)) found))
+-- the due access is the store in the spin word of the rival: e7, or x3
+abbrev pub StoresFor : ℕ → Process → Type 0
+StoresFor rival process = (level : ℕ) × ((process ≡ Entering level (E7 rival)) ⊎ (process ≡ Leaving level (X3 rival)))
+
+-- the due access is such a store
+abbrev pub is_to_ring : Process → Bool
+is_to_ring (Entering level (E7 rival)) = true
+is_to_ring (Leaving level (X3 rival)) = true
+is_to_ring _ = false
+
+-- this knowledge is that the seat has looked in vain
+abbrev pub is_vain : BellKnowledge → Bool
+is_vain Vain = true
+is_vain _ = false
+
+-- a seat of this view has looked in vain
+abbrev pub has_looked_in_vain : {V : Type 0} → View V → Bool
+has_looked_in_vain (Watching place process value count) = true
+has_looked_in_vain _ = false
+
+-- the seat is that of the place's process, and owes no ring
+abbrev pub IsFreeSeat : {V : Type 0} → ℕ → View V → Type 0
+IsFreeSeat {V} place view =
+    (vain : Bool)
+    × ((process : Process) × ((value : V) × ((count : ℕ) × (view ≡ view_at (free vain) place process value count))))

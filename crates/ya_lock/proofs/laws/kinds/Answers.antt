@@ -5,7 +5,7 @@ use Rattle.ya_lock.proofs.laws.kinds.Goals as goal
 pub returns-clause-due : goal.returns-clause-due
 returns-clause-due g c = λ s t old new seat place process seen count slots k.
     let step = only_due g.V.Kept.since g.row.L c.requires s t old new seat place process seen count slots k in
-    (step, due_keeps_content g.V.Kept.since g.row.L c.requires s t seat place process seen count slots k.view step)
+    (step, due_keeps_content g.V.Kept.since g.row.L c.requires s t seat place k.vain process seen count slots k.view step)
 
 pub returns-clause-others : goal.returns-clause-others
 returns-clause-others g c = λ s t old k. other_leaves g.V.Kept.since g.row.L s t old k

@@ -1,10 +1,10 @@
-use Rattle.std.proofs.Common.{◌≡◌, Bool, false, lit<, sym, ap, ◌∙◌, rules, subst}
+use Rattle.std.proofs.Common.{◌≡◌, Bool, false, lit<, refl, sym, ap, ◌∙◌, rules, subst}
 use Rattle.ya_core.specs.declared.process.Process.TheVariants.{Entering, Inside}
 use Rattle.ya_core.specs.declared.process.EntryPoint.TheVariants.{E2, E3, E4}
 use Rattle.ya_core.specs.WalkerModel.{Walk}
 use Rattle.ya_lock.specs.inside.Lock.{HasWon, OnWay}
 use Rattle.ya_lock.proofs.EntryAccesses.{at_next}
-use Rattle.ya_lock.proofs.EntrySteps.{due_entering, due_at_foot, from_foot, leads, rests_inside}
+use Rattle.ya_lock.proofs.EntrySteps.{plain_entering, plain_at_foot, from_foot, leads, rests_inside}
 use Rattle.ya_lock.proofs.passage.Passage.acquire.Goals as goal
 use Rattle.ya_lock.proofs.passage.Passage.acquire.Goals.{then-not-has_won, else-not-has_won}
 
@@ -22,20 +22,20 @@ write_out-requires g c =
     )
 
 pub step-requires : goal.step-requires
-step-requires g c = (lit< tt, due_at_foot c.loop-passage.passage.walk c.loop-passage.invariant.foot)
+step-requires g c = (lit< tt, plain_at_foot c.loop-passage.passage.walk c.loop-passage.invariant.foot)
 
 pub step-requires-in-loop-passage : goal.step-requires-in-loop-passage
 step-requires-in-loop-passage g c =
     let goes = c.step.ensures.goes in
     let e2 = from_foot c.loop-passage.passage.walk c.step.new.self.walk goes.0 c.loop-passage.invariant.foot goes.1 in
-    (lit< tt, due_entering c.step.new.self.walk e2.0 E2 e2.1)
+    (lit< tt, plain_entering c.step.new.self.walk e2.0 E2 e2.1 refl)
 
 pub step-requires-in-loop-passage-2 : goal.step-requires-in-loop-passage-2
 step-requires-in-loop-passage-2 g c =
     let goes = c.step.ensures.goes in let on = c.step-in-loop-passage.ensures.goes in
     let second = c.step-in-loop-passage.new.self.walk in
     let e2 = from_foot c.loop-passage.passage.walk c.step.new.self.walk goes.0 c.loop-passage.invariant.foot goes.1 in
-    (lit< tt, due_entering second e2.0 E3 (leads c.step.new.self.walk second e2.0 on.0 E2 e2.1 on.1))
+    (lit< tt, plain_entering second e2.0 E3 (leads c.step.new.self.walk second e2.0 on.0 E2 e2.1 on.1) refl)
 
 pub step-requires-in-loop-passage-3 : goal.step-requires-in-loop-passage-3
 step-requires-in-loop-passage-3 g c =
@@ -44,7 +44,7 @@ step-requires-in-loop-passage-3 g c =
     let second = c.step-in-loop-passage.new.self.walk in let third = c.step-in-loop-passage-2.new.self.walk in
     let e2 = from_foot c.loop-passage.passage.walk c.step.new.self.walk goes.0 c.loop-passage.invariant.foot goes.1 in
     let e3 : second.process ≡ Entering e2.0 E3 = leads c.step.new.self.walk second e2.0 on.0 E2 e2.1 on.1 in
-    (lit< tt, due_entering third e2.0 E4 (leads second third e2.0 last.0 E3 e3 last.1))
+    (lit< tt, plain_entering third e2.0 E4 (leads second third e2.0 last.0 E3 e3 last.1) refl)
 
 pub returns-in-Inside-clause-inside : goal.returns-in-Inside-clause-inside
 returns-in-Inside-clause-inside g c =

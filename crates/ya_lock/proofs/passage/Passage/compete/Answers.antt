@@ -2,33 +2,21 @@ use Rattle.std.proofs.Common.{ℕ, ◌≡◌, ◌≢◌, ◌<◌, ◌≤◌, ◌
 use Rattle.std.proofs.lemmas.Bool.{false≢true}
 use Rattle.ya_core.specs.declared.process.Process.{Process}
 use Rattle.ya_core.specs.declared.process.Process.TheVariants.{Entering}
-use Rattle.ya_core.specs.Steps.{next_of}
 use Rattle.ya_core.specs.declared.process.EntryPoint.TheVariants.{E5, E6, E7, E9}
 use Rattle.ya_core.specs.WalkerModel.{Walk, is_waiting}
 use Rattle.ya_core.specs.inside.Ahead.{points_ahead}
 use Rattle.ya_lock.specs.inside.Lock.{OnWay, WayOf}
-use Rattle.ya_lock.proofs.EntryAccesses.{woken_in_tree}
-use Rattle.ya_lock.proofs.EntrySteps.{due_entering, found_at, found_entering, leads, lost_e5, lost_e9, comes_nearer, waits_behind}
+use Rattle.ya_lock.proofs.EntrySteps.{plain_entering, found_at, found_entering, leads, lost_e5, lost_e9, comes_nearer, waits_behind}
 use Rattle.ya_lock.proofs.EntrySteps.{passed_e8, passed_e10, passed_begun, passed_nearer}
 use Rattle.ya_lock.proofs.passage.Passage.compete.Given.{Over}
 use Rattle.ya_lock.proofs.passage.Passage.compete.Goals as goal
 use Rattle.ya_lock.proofs.passage.Passage.compete.Goals.{After-step-3, in-Entering-default-E7, in-Entering-process-3+in-E1-1, in-Idle-1}
 
-pub ring-requires : goal.ring-requires
-ring-requires g c =
-    let e7 = c.in-Entering-default-E7 in let before = c.passage-2.inside.walker in let old = c.step-2.new.self.walk in
-    let goes = c.step-in-Entering-default-E7.ensures.goes in
-    let is = sym e7.ensures.value ∙ ap (λ point. Entering e7.field-0 point) e7.field-1-is in
-    let was = sym (ap (λ (p : OnWay g.row.V.Denot). p.walk.process) c.passage-2.view_is) ∙ is in (
+pub step_for-requires : goal.step_for-requires
+step_for-requires g c =
+    let e7 = c.in-Entering-default-E7 in (
       lit< tt,
-      (
-        woken_in_tree before g.row.L e7.field-0 e7.rival e7.ensures.proper c.passage-2.invariant.tree is,
-        (
-          e7.field-0,
-          goes.0,
-          inl (ap (λ (w : Walk). w.process) goes.1 ∙ ap (λ (p : Process). next_of old.levels old.place p goes.0) was),
-        ),
-      ),
+      (e7.field-0, inl (found_at (λ point. Entering e7.field-0 point) c.passage-2.view_is e7.ensures.value e7.field-1-is)),
     )
 
 pub write_out-requires : goal.write_out-requires
@@ -38,7 +26,7 @@ write_out-requires g c =
 pub step-requires : goal.step-requires
 step-requires g c =
     let at = c.write_out.ensures.at in
-    (lit< tt, due_entering c.write_out.new.self.walk at.0 (E5 c.in-Entering-default-E5.rival) at.1)
+    (lit< tt, plain_entering c.write_out.new.self.walk at.0 (E5 c.in-Entering-default-E5.rival) at.1 refl)
 
 pub returns-then-has_won-clause-won : goal.returns-then-has_won-clause-won
 returns-then-has_won-clause-won g c = c.if-has_won.ensures.0 refl
@@ -57,22 +45,14 @@ step-requires-2 g c =
     let at = c.write_out.ensures.at in let goes = c.step.ensures.goes in
     let rival = c.in-Entering-default-E5.rival in (
       lit< tt,
-      due_entering c.step.new.self.walk at.0 (E6 rival)
+      plain_entering c.step.new.self.walk at.0 (E6 rival)
           (lost_e5 c.write_out.new.self.walk c.step.new.self.walk at.0 rival goes.0 at.1 goes.1
-          (λ won. false≢true (c.if-has_won.ensures.1 won))),
-    )
-
-pub step-requires-in-Entering-default-E7 : goal.step-requires-in-Entering-default-E7
-step-requires-in-Entering-default-E7 g c =
-    let e7 = c.in-Entering-default-E7 in (
-      lit< tt,
-      due_entering c.step-2.new.self.walk e7.field-0 (E7 e7.rival)
-          (found_at (λ point. Entering e7.field-0 point) c.passage-2.view_is e7.ensures.value e7.field-1-is),
+          (λ won. false≢true (c.if-has_won.ensures.1 won))) refl,
     )
 
 pub step-requires-3 : goal.step-requires-3
 step-requires-3 g c =
-    let at = c.write_out-2.ensures.at in (lit< tt, due_entering c.write_out-2.new.self.walk at.0 E9 at.1)
+    let at = c.write_out-2.ensures.at in (lit< tt, plain_entering c.write_out-2.new.self.walk at.0 E9 at.1 refl)
 
 pub returns-then-has_won-2-clause-won : goal.returns-then-has_won-2-clause-won
 returns-then-has_won-2-clause-won g c = c.if-has_won-2.ensures.0 refl
@@ -94,10 +74,10 @@ write_out-requires-2 g c =
     let e9 : (l : ℕ) × (after.process ≡ Entering l E9) =
     elim c.match-process-3.branch [
       | in-Entering-default-E7 w ↦
-          let e7 = w.in-Entering-default-E7 in let wakes = w.step-in-Entering-default-E7 in let told = wakes.ensures.goes in
+          let e7 = w.in-Entering-default-E7 in let wakes = w.step_for in let told = wakes.ensures.goes in
           let is = found_at (λ point. Entering e7.field-0 point) c.passage-2.view_is e7.ensures.value e7.field-1-is in
           let e8 = leads c.step-2.new.self.walk wakes.new.self.walk e7.field-0 told.0 (E7 e7.rival) is told.1 in
-          (e7.field-0, passed_e8 false g.row.L e7.field-0 0 p.walk.process after (ap process (w.passage-is ∙ w.ring.ensures) ∙ e8) passed)
+          (e7.field-0, passed_e8 false g.row.L e7.field-0 0 p.walk.process after (ap process w.passage-is ∙ e8) passed)
       | in-Entering-process-3+in-E1-1 w ↦ (at.0, unwoken w.passage-is)
       | in-Idle-1 w ↦ (at.0, unwoken w.passage-is)
     ] in (lit< tt, e9)
@@ -134,7 +114,7 @@ past_e9_of g c =
     let on = c.step-2.ensures.of ∙ (c.step.ensures.of ∙ ap of c.write_out.ensures.same) in
     let met : p.of ≡ c.args.self.of =
     elim c.match-process-3.branch [
-      | in-Entering-default-E7 w ↦ ap of (w.passage-is ∙ w.ring.ensures) ∙ (w.step-in-Entering-default-E7.ensures.of ∙ on)
+      | in-Entering-default-E7 w ↦ ap of w.passage-is ∙ (w.step_for.ensures.of ∙ on)
       | in-Entering-process-3+in-E1-1 w ↦ ap of w.passage-is ∙ on
       | in-Idle-1 w ↦ ap of w.passage-is ∙ on
     ] in c.step-3.ensures.of ∙ (ap of c.write_out-2.ensures.same ∙ (c.spin-passage.ensures.of ∙ met))
@@ -162,10 +142,10 @@ past_e9_onward g c =
     let met : (points_ahead p.walk ≤ points_ahead second.walk) × (p.walk.levels ≡ g.row.L) =
     elim c.match-process-3.branch [
       | in-Entering-default-E7 w ↦
-          let e7 = w.in-Entering-default-E7 in let wakes = w.step-in-Entering-default-E7 in
+          let e7 = w.in-Entering-default-E7 in let wakes = w.step_for in
           let is = found_at (λ point. Entering e7.field-0 point) c.passage-2.view_is e7.ensures.value e7.field-1-is in
           let near = comes_nearer second.walk wakes.new.self.walk (ap is_waiting is) wakes.ensures.onward in
-          let same = w.passage-is ∙ w.ring.ensures in
+          let same = w.passage-is in
           let below : points_ahead wakes.new.self.walk ≤ points_ahead second.walk = omega (arith, near) in (
             subst within (sym same) below,
             ap levels same ∙ (ap (λ (v : Walk). v.levels) wakes.ensures.goes.1 ∙ tree),
@@ -205,10 +185,10 @@ spin-passage-requires g c =
     let waits : is_waiting p.walk.process ≡ true =
     elim c.match-process-3.branch [
       | in-Entering-default-E7 w ↦
-          let e7 = w.in-Entering-default-E7 in let wakes = w.step-in-Entering-default-E7 in let told = wakes.ensures.goes in
+          let e7 = w.in-Entering-default-E7 in let wakes = w.step_for in let told = wakes.ensures.goes in
           let is = found_at (λ point. Entering e7.field-0 point) c.passage-2.view_is e7.ensures.value e7.field-1-is in
           let e8 = leads second wakes.new.self.walk e7.field-0 told.0 (E7 e7.rival) is told.1 in
-          ap is_waiting (ap process (w.passage-is ∙ w.ring.ensures) ∙ e8)
+          ap is_waiting (ap process w.passage-is ∙ e8)
       | in-Entering-process-3+in-E1-1 w ↦ unwoken w.passage-is (λ e. search rules)
       | in-Idle-1 w ↦ unwoken w.passage-is (λ e. search rules)
     ] in (lit< tt, waits)

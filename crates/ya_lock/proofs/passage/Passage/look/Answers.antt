@@ -1,8 +1,9 @@
-use Rattle.std.proofs.Common.{ℕ, lit<, sym, ap, ◌∙◌, subst}
+use Rattle.std.proofs.Common.{◌≡◌, ℕ, true, lit<, refl, sym, ap, ◌∙◌, subst}
 use Rattle.ya_core.specs.declared.process.Process.{Process}
 use Rattle.ya_core.specs.declared.process.EntryPoint.TheVariants.{E8, E10}
+use Rattle.ya_core.specs.WalkerModel.{Walk, is_waiting}
 use Rattle.ya_lock.specs.inside.Lock.{HasLooked, OnWay, WayOf}
-use Rattle.ya_lock.proofs.EntrySteps.{due_entering, found_entering, looked_e8, looked_e10}
+use Rattle.ya_lock.proofs.EntrySteps.{plain_entering, found_entering, looked_e8, looked_e10, looks_vain}
 use Rattle.ya_lock.proofs.passage.Passage.look.Goals as goal
 use Rattle.ya_lock.proofs.passage.Passage.look.Goals.{in-Entering-default-E8, in-Entering-default-E10}
 
@@ -17,10 +18,10 @@ step-requires g c =
       lit< tt,
       elim c.match-process-2.branch [
         | in-Entering-default-E8 w ↦
-            let at = w.write_out.ensures.at in due_entering old at.0 E8 (ap process w.passage-is ∙ at.1)
+            let at = w.write_out.ensures.at in plain_entering old at.0 E8 (ap process w.passage-is ∙ at.1) refl
         | in-Entering-default-E10 w ↦
             let at = w.write_out-in-Entering-default-E10.ensures.at in
-            due_entering old at.0 E10 (ap process w.passage-is ∙ at.1)
+            plain_entering old at.0 E10 (ap process w.passage-is ∙ at.1) refl
       ],
     )
 
@@ -49,3 +50,16 @@ returns-clause-looked g c =
           subst Looked same (looked_e10 g.row.L at.0 goes.0 old new
           (ap levels (same ∙ sym c.passage.view_is) ∙ c.passage.invariant.tree) (ap process w.passage-is ∙ at.1) goes.1)
     ]
+
+pub returns-clause-vain : goal.returns-clause-vain
+returns-clause-vain g c = λ waits.
+    let process : OnWay g.row.V.Denot → Process = λ p. p.walk.process in
+    let goes = c.step.ensures.goes in let old = c.match-process-2.passage.walk in
+    let waited : is_waiting old.process ≡ true =
+    elim c.match-process-2.branch [
+      | in-Entering-default-E8 w ↦ ap is_waiting (ap process w.passage-is ∙ w.write_out.ensures.at.1)
+      | in-Entering-default-E10 w ↦
+          ap is_waiting (ap process w.passage-is ∙ w.write_out-in-Entering-default-E10.ensures.at.1)
+    ] in
+    goes.2 ∙ looks_vain old.levels old.place goes.0 old.process waited
+    (ap (λ (w : Walk). is_waiting w.process) (sym goes.1) ∙ waits)
