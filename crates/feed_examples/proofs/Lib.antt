@@ -1,4 +1,5 @@
 pub mod Shared
+pub mod WakeUps
 pub mod Feed
 pub mod Print
 pub mod Replay

@@ -5,3 +5,4 @@ pub mod Passes
 pub mod UncutVisits
 pub mod RunJournals
 pub mod TwoPasses
+pub mod Debts

@@ -3,4 +3,5 @@ pub mod SharedTable
 pub mod Laws
 pub mod Headline
 pub mod Moments
+pub mod WakeUps
 pub mod inside

@@ -6,15 +6,17 @@ ghost use Rattle.rt_rib.specs.Table.{IsTable};
 ghost use Rattle.ya_core.specs.Worlds.{World};
 ghost use Rattle.rt_shared.specs.Headline.{Act, IsRunTo, journal_of, NoTwoInside, HasAllMade, FindsBest};
 ghost use Rattle.ya_lock.specs.Rule.{Rule};
+ghost use Rattle.ya_lock.specs.WakeUps.{IsStep, OwesOrHasPaid};
 ghost use Rattle.rt_shared.specs.SharedTable.{GrowsByOthers};
 ghost use Rattle.rt_shared.specs.Moments.{Moment, MeetsHeadline};
+ghost use Rattle.rt_shared.specs.WakeUps.{NobodyIsForgotten};
 ghost use Rattle.rt_shared.specs.Laws.{SinceAgain, AnsweredInPieces, UncutAtFirst, UncutSince, UncutByVisit, EntriesOfVisits, EntriesSince, PassesKept};
 
 use crate::lent::Lent;
 use crate::sequential::SequentialTable;
 use rt_rib::laws::{lawful_by_entry, look_up_finds_best, table_by_entry};
 use ya_core::laws::content;
-use ya_lock::laws::rule;
+use ya_lock::laws::{no_lost_wakeup, rule};
 
 /// The visits of a feed are uncut in the journal that its pass has seen: each in one piece, in order, without another
 /// entry of the feed. At first there is no visit; each call that serves commands adds one; and all remain uncut in any
@@ -90,4 +92,18 @@ pub fn running<const L: u32>()
     rule::<Lent, L>();
     table_by_entry();
     look_up_finds_best();
+}
+
+/// Nobody is forgotten. At each moment between two atomic steps, a feed that may be asleep and could go on has its bell
+/// off, or another feed owes it a ring (`rung`). A feed that owes a ring makes no step of its process before it has
+/// paid: it has found the other's bell off, or has put it off (`owing`).
+///
+/// That the ring then wakes the other rests on the kernel, and on two lines of the lock that no clause reads.
+pub fn nobody_is_forgotten<const L: u32>()
+    requires { 1 ≤ L }
+    ensures rung { (s : Moment) → Rule GrowsByOthers L s → NobodyIsForgotten L s }
+    ensures owing { (s t : Moment) → IsStep s t GrowsByOthers L → OwesOrHasPaid s t }
+{
+    rule::<Lent, L>();
+    no_lost_wakeup::<Lent, L>();
 }
