@@ -636,6 +636,19 @@ def feeds_run_at_the_same_time(yarib):
     expect("a dump of feed 1 met both routes of feed 2", " dumped 2\n" in out, True)
 
 
+# Catches a runner that ends one feed, whichever, before it starts the other: no dump meets a route.
+def feeds_meet_without_a_schedule(yarib):
+    """Runs two long texts until a dump of the second meets the route of the first, at most 100 times."""
+    pathlib.Path("1.feed").write_text("add 10.0.0.0/8 1 192.0.2.1\nwithdraw 10.0.0.0/8\n" * 10_000)
+    pathlib.Path("2.feed").write_text("dump\n" * 20_000)
+    for _ in range(100):
+        status, out, err = yarib("run", "--limit", "1", "--batch", "1", "1.feed", "2.feed")
+        expect("the status, the table and the messages", (status, out.splitlines()[-1:], err), (0, ["table 0"], ""))
+        if re.search(r"^2:\d+ dumped 1$", out, re.MULTILINE):
+            return
+    expect("whether some dump met the route, in 100 runs", False, True)
+
+
 # Runs of random texts, each explained by some order of its feeds' visits; and outputs that no order explains
 
 # Few prefixes, so that feeds meet, and addresses that they cover.
@@ -808,7 +821,8 @@ CASES = (
     every_byte_at_every_place, a_byte_more_or_less_at_every_place, lines_about_128_bytes, forty_thousand_hostile_lines,
     feeds_meet_in_one_table, a_place_for_each_feed, tables_of_each_size,
     changes_of_one_feed, each_address_of_a_small_universe,
-    a_thousand_routes_of_two_feeds, feeds_run_at_the_same_time, some_order_explains_each_run,
+    a_thousand_routes_of_two_feeds, feeds_run_at_the_same_time, feeds_meet_without_a_schedule,
+    some_order_explains_each_run,
     no_order_explains_what_was_changed, the_judge_tells_what_an_order_explains, replays,
 )
 
