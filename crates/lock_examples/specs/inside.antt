@@ -1,0 +1,2 @@
+-- Definitions that no public clause uses.
+pub mod MarkLaws
