@@ -13,6 +13,7 @@ import threading
 import traceback
 
 from .crates import TOP, cache
+from .optimizing import without_sanitizer
 from .workspaces import add, lay_out
 
 # The setting that the launchers make before the program starts, as in ./yarib's own line: one arena of large pages.
@@ -113,19 +114,33 @@ def is_unproved(case):
     return "YARIB_UNPROVED" in os.environ
 
 
-def built_benches(*words):
-    """The program of bench/benches, in a workspace outside the repository, which is proved and built first and run with
-    these words."""
-    room = cache("benches-" + hashlib.sha256(str(TOP).encode()).hexdigest()[:12])
+def lay_out_benches(room):
+    """Copies bench/benches and the crates that it uses into the directory, and returns the crate's directory."""
     lines = (TOP / "bench/benches/crates.txt.in").read_text().splitlines()
     lay_out(room, [word for line in lines for word in line.partition(":")[2].split()], lines)
     for folder in ("bench/benches", *(f"tests/libraries/{name}" for name in ("lent_number", "recording_gate", "test_routes"))):
         add(room, TOP / folder)
-    crate = room / "crates/benches"
+    return room / "crates/benches"
+
+
+def built_benches(*words):
+    """The program of bench/benches, in a workspace outside the repository, which is proved and built first and run with
+    these words."""
+    crate = lay_out_benches(cache("benches-" + hashlib.sha256(str(TOP).encode()).hexdigest()[:12]))
     ended = subprocess.run(["rt", "run", "--", *words], cwd=crate, capture_output=True, text=True)
     if ended.returncode != 0 or not (crate / "out/benches").exists():
         sys.exit(f"{sys.argv[0]}: bench/benches was not built\n" + ended.stdout[-2000:] + ended.stderr[-2000:])
     return crate / "out/benches"
+
+
+def unproved_benches(folder, *words):
+    """The same program, built in the directory without proofs, and run with these words."""
+    program = folder / "benches"
+    rt = without_sanitizer(folder / "kit", program)
+    ended = subprocess.run([rt, "try", "--", *words], cwd=lay_out_benches(folder), capture_output=True, text=True)
+    if ended.returncode != 0 or not program.exists():
+        sys.exit(f"{sys.argv[0]}: bench/benches was not built\n" + ended.stdout[-2000:] + ended.stderr[-2000:])
+    return program
 
 
 def run(words, **how):

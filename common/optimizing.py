@@ -2,6 +2,7 @@
 times faster with it. It depends on the layout of the toolchain. Its prover does nothing: `rt try` has the prover look for
 reserved names meanwhile, which takes a third of the time, and the gate finds such a name anyway."""
 import shutil
+import subprocess
 
 from .prover import kit
 
@@ -37,3 +38,36 @@ def optimizing(made):
         path.write_text(text)
         path.chmod(0o755)
     return made / "bin/rt"
+
+
+# The compiler without its sanitizer, and the linker, which also copies the program.
+PLAIN_COMPILER = """#!/bin/sh
+for word; do
+  shift
+  case $word in -O0) word=-O2 ;; -fsanitize=address) continue ;; esac
+  set -- "$@" "$word"
+done
+exec '{}' "$@"
+"""
+LINKER = """#!/bin/sh
+'{}' "$@" || exit
+while [ $# -gt 1 ]; do
+  if [ "$1" = -o ]; then cp "$2" '{}'; fi
+  shift
+done
+"""
+
+
+def without_sanitizer(made, program):
+    """The same toolchain without AddressSanitizer, whose memory no library can refuse. Its `rt try` leaves the program in
+    that file."""
+    rt = optimizing(made)
+    (made / "c").unlink()
+    links(made / "c", kit() / "c", ("asan.a",))
+    subprocess.run(["ar", "rc", made / "c/asan.a"], check=True)
+    for name, script, words in (("clang", PLAIN_COMPILER, ()), ("ld.lld", LINKER, (program,))):
+        path = made / "toolchain/bin" / name
+        path.unlink()
+        path.write_text(script.format(kit() / "toolchain/bin" / name, *words))
+        path.chmod(0o755)
+    return rt

@@ -5,8 +5,8 @@ tests/refused_few.py [PROGRAM [CASE..]], or --list for the names of the cases. N
 
 Each case is run with its 1st, 2nd, 3rd, 4th, 6th, 9th, 12th, .. request refused, a replay with each, until no request of that
 number comes. Each is refused first by itself, then with all later ones. A run requests memory in TreeLock::new, in
-SharedRib (new, apply or with batches apply_batch), in run_feed and in run_texts. tests/refused_growth.py
-refuses each request, of more cases.
+SharedRib (new, and apply or with batches apply_batch), in run_feed and in run_texts. tests/refused_calls.py refuses each
+request of the libraries' calls, and tests/refused_growth.py each of more runs.
 """
 import itertools
 import pathlib

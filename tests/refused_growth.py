@@ -9,7 +9,8 @@ once more with all requests after the refused one refused as well. The cases are
 (the lock, the shared table, feeds on gates), and runs and replays of the program. After each run the answers, the
 journal, the routes and the output are compared whole with a model that leaves out what was refused. No run may end by a
 signal. All cases together must have met each kind of refusal. The requests are refused before the C library sees them.
-So the launchers' settings change nothing here, and each case is run once.
+So the launchers' settings change nothing here, and each case is run once. The gate runs the cases of bench/benches
+unproved (tests/refused_calls.py), and a few requests of some runs (tests/refused_few.py).
 """
 import collections
 import pathlib
@@ -308,11 +309,14 @@ def cases_of(name, texts):
     yield of_yarib(f"a comparison of {name} with one", compared, check_shown)
 
 
-CASES = [
+OF_BENCHES = [
     of_benches("the lock", "lock", check_lock),
     of_benches("the shared table", "table", check_table),
     of_benches("a feed", "feed", check_feeds),
     of_benches("three feeds", "feeds", check_feeds),
+]
+CASES = [
+    *OF_BENCHES,
     *cases_of("one file", [SIX_COMMANDS]),
     *cases_of("three files", [own_text(feed) for feed in range(1, 4)]),
     *cases_of("MAX_FEEDS files", [own_text(feed) for feed in range(1, MAX_FEEDS + 1)]),
@@ -322,11 +326,13 @@ CASES = [
     of_yarib("a refused command line", lambda: ["walk"], check_refused_words),
 ]
 
-KINDS = {
+KINDS_OF_CALLS = {
     "TreeLock::new", "SharedRib::new", "SharedRib::apply_batch", "SharedRib::routes", "a command of a batch",
-    "Book::reserve", "Book::routes", "lookup or table", "a command of a look-up or list", "run_feed", "run_feeds",
-    "a command of a feed", "run_texts", "a line of a run", "fault F3", "fault P3",
+    "Book::reserve", "Book::routes", "run_feed", "run_feeds", "a command of a feed",
 } | {"SharedRib::apply " + name for name in ("Add", "Replace", "Withdraw", "Lookup", "Dump", "Purge")}
+KINDS = KINDS_OF_CALLS | {
+    "lookup or table", "a command of a look-up or list", "run_texts", "a line of a run", "fault F3", "fault P3",
+}
 
 
 def main():
