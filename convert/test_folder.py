@@ -11,7 +11,7 @@ import subprocess
 import tempfile
 import time
 
-from trial import MAX_FEED_FILES, Failed, files_of, run, words
+from trial import MAX_FEED_FILES, Failed, expect, files_of, run, words
 
 LINE = "TABLE_DUMP2|1|B|127.0.{}.{}|1|10.0.0.0/8|1|IGP|192.0.2.1|0|0||NAG||\n"
 DUMP = LINE.format(0, 1).encode()
@@ -20,11 +20,6 @@ BIRD = b"""Table master4:
 10.0.0.0/8           unicast [mine 09:20:39.677] * (150)
 	via 192.0.2.1 on uplink
 """
-
-
-def expect(what, found, expected):
-    if found != expected:
-        raise Failed(f"{what}: {found!r} in place of {expected!r}")
 
 
 def names_in(folder):

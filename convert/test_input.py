@@ -6,7 +6,7 @@ import random
 import re
 import subprocess
 
-from trial import MAX_FEED_FILES, SAMPLES, Failed, files_of, run, run_here, table_of, text_of, words
+from trial import MAX_FEED_FILES, SAMPLES, Failed, expect, files_of, run, run_here, table_of, text_of, words
 
 CUTS = 3
 # the converters that read lines, each with a sample
@@ -101,11 +101,6 @@ def check_cut_attributes(made):
         # an input that ends after the first route is complete
         if (status == 0) != (number in (len(lines) // 2 + 1, len(lines))):
             raise Failed(f"what is cut behind {lines[number - 1]!r} has status {status} and says {said}")
-
-
-def expect(what, found, expected):
-    if found != expected:
-        raise Failed(f"{what}: {str(found)[:1000]!r} in place of {str(expected)[:1000]!r}")
 
 
 def check_last_line(made):

@@ -2,11 +2,12 @@
 import json
 import os
 import resource
+import subprocess
 
 from rows import row_text
-from trial import Failed, run
+from trial import Failed, expect, printed, run
 
-TABLE = f"{row_text('10.0.0.0/8', '192.0.2.1')}\n".encode()
+TABLE = printed([row_text("10.0.0.0/8", "192.0.2.1")])
 OWN = {"dst": "10.1.0.0/16", "gateway": "192.0.2.1", "dev": "uplink", "flags": []}
 # a command of its own for `ip -batch`
 COMMAND = "\nroute flush table main\n"
@@ -63,8 +64,8 @@ def check_interfaces():
 
 # Two connected networks, one in the other, and a route by a router in both; the interfaces that are given; and of each form
 # the line of that route, or the beginning of the message.
-NESTED = "".join(row_text(*route) + "\n" for route in (
-    ("10.0.0.0/8", "0.0.0.0"), ("10.1.0.0/16", "0.0.0.0"), ("192.0.2.0/24", "10.1.0.1"), ("198.51.100.0/24", "10.2.0.1"))).encode()
+NESTED = printed([row_text(*route) for route in (
+    ("10.0.0.0/8", "0.0.0.0"), ("10.1.0.0/16", "0.0.0.0"), ("192.0.2.0/24", "10.1.0.1"), ("198.51.100.0/24", "10.2.0.1"))])
 BOTH = "--device 10.0.0.0/8=outer --device 10.1.0.0/16=inner"
 TWICE = "--device 10.0.0.0/8=outer --device 10.0.0.0/8=other --device 10.1.0.0/16=inner"
 
@@ -90,9 +91,9 @@ def check_nested_networks():
 
 # Routes in JSON: what is written for each by `table-to-ip`, or a part of the message.
 JSON_HOPS = (
-    ({"via": None, "discard": True}, "route replace blackhole 10.0.0.0/8 proto 121\n", ""),
-    ({"discard": True}, "route replace blackhole 10.0.0.0/8 proto 121\n", ""),
-    ({"via": "192.0.2.1"}, "route replace 10.0.0.0/8 via 192.0.2.1 dev uplink onlink proto 121\n", ""),
+    ({"via": None, "discard": True}, "route replace blackhole 10.0.0.0/8 metric 121 proto 121\n", ""),
+    ({"discard": True}, "route replace blackhole 10.0.0.0/8 metric 121 proto 121\n", ""),
+    ({"via": "192.0.2.1"}, "route replace 10.0.0.0/8 via 192.0.2.1 dev uplink onlink metric 121 proto 121\n", ""),
     ({"via": None}, "", "the member 'discard' is missing or of another kind"),
     ({"via": None, "discard": False}, "", "the member 'via' is missing or of another kind"),
     ({"via": None, "discard": 1}, "", "the member 'discard' is missing or of another kind"),
@@ -103,7 +104,7 @@ JSON_HOPS = (
 def check_json_hops():
     """In JSON a route without a next hop is a discard only if it says so."""
     for members, wanted, part in JSON_HOPS:
-        table = json.dumps({"prefix": "10.0.0.0/8", "feed": 1, "pref": 1} | members).encode() + b"\n"
+        table = printed([json.dumps({"prefix": "10.0.0.0/8", "feed": 1, "pref": 1} | members)])
         status, written, said = run("table-to-ip --onlink uplink", table)
         is_so = written == wanted if wanted else (status, written, part in said, said.count("\n")) == (1, "", True, 1)
         if not is_so:
@@ -112,7 +113,7 @@ def check_json_hops():
 
 def check_short_write(made):
     """An output that is full in the middle of the last write ends with status 1, also if Python doesn't buffer its output."""
-    table = "".join(row_text(f"10.{number >> 8}.{number & 255}.0/24", "192.0.2.1") + "\n" for number in range(2000)).encode()
+    table = printed([row_text(f"10.{number >> 8}.{number & 255}.0/24", "192.0.2.1") for number in range(2000)])
     for form in ("bird", "frr", "ip"):
         whole = len(run(f"table-to-{form} --onlink uplink", table)[1])
         limited = lambda: resource.setrlimit(resource.RLIMIT_FSIZE, (whole - 10,) * 2)
@@ -124,9 +125,77 @@ def check_short_write(made):
                 raise Failed(f"table-to-{form} {unbuffered and 'without a buffer'} on a full disk has status {status} and says {said}")
 
 
+# a host with an address, a default and a route of its own
+HOST = """
+ip link add uplink type veth peer name far
+ip link set far up
+ip addr add 192.0.2.254/24 dev uplink
+ip link set uplink up
+ip route add default via 192.0.2.1
+ip route add 10.1.0.0/16 via 192.0.2.2
+"""
+KERNEL = printed([row_text(prefix, hop) for prefix, hop in (
+    ("0.0.0.0/0", "192.0.2.9"), ("10.0.0.0/8", "192.0.2.3"), ("10.1.0.0/16", "192.0.2.9"), ("10.2.0.0/16", "discard"),
+    ("192.0.2.0/24", "0.0.0.0"), ("198.51.100.0/24", "192.0.2.4"))])
+FEWER = printed([row_text(prefix, hop) for prefix, hop in (
+    ("10.0.0.0/8", "192.0.2.5"), ("10.2.0.0/16", "192.0.2.6"), ("192.0.2.0/24", "0.0.0.0"))])
+
+
+def routes_of(printed_routes):
+    """The routes that `ip -j route` prints, each as its prefix, protocol, metric and next hop."""
+    return [(route["dst"], route.get("protocol", "boot"), route.get("metric", 0), route.get("gateway", route.get("type")))
+            for route in json.loads(printed_routes)]
+
+
+def after(made, commands):
+    """What the kernel of a new host has after these commands: the output of each `ip -j route` in them."""
+    done = subprocess.run(["unshare", "--net", "sh", "-ec", HOST + commands], cwd=made, capture_output=True, text=True)
+    if done.returncode:
+        raise Failed(f"{commands} has status {done.returncode} and says {done.stderr}")
+    return [routes_of(line) for line in done.stdout.splitlines()]
+
+
+def check_kernel(made):
+    """The kernel with the commands of table-to-ip: a flush of their protocol leaves the host as it was before, unless
+    --take-over was given."""
+    if subprocess.run(["unshare", "--net", "ip", "link"], capture_output=True).returncode:
+        print("convert: no network namespace can be made: table-to-ip was not tested with the kernel")
+        return
+    for name, table, options in (("all", KERNEL, ""), ("fewer", FEWER, ""), ("over", KERNEL, "--take-over")):
+        status, written, said = run(f"table-to-ip --device uplink {options}", table)
+        (made / name).write_text(written)
+        expect(f"table-to-ip {options} of {name}", (status, said), (0, ""))
+    show, flush = "ip -j route; ", "ip route flush proto 121; "
+    before, full, flushed = after(made, f"{show} ip -batch all; {show} {flush} {show}")
+    own = [("default", "121", 121, "192.0.2.9"), ("10.0.0.0/8", "121", 121, "192.0.2.3"), ("10.1.0.0/16", "121", 121, "192.0.2.9"),
+           ("10.2.0.0/16", "121", 121, "blackhole"), ("192.0.2.0/24", "121", 121, None), ("198.51.100.0/24", "121", 121, "192.0.2.4")]
+    expect("the kernel's routes", sorted(full, key=str), sorted(before + own, key=str))
+    expect("what is left after a flush", flushed, before)
+    # the routes of the host itself are gone with those that took them over
+    over, flushed = after(made, f"ip -batch over; {show} {flush} {show}")
+    expect("who has the default", [route for route in over if route[0] == "default"], [("default", "121", 0, "192.0.2.9")])
+    expect("what is left after a flush", flushed, [route for route in before if route[1] == "kernel"])
+    for first in ("all", "over"):
+        check_replaced(made, first, before if first == "all" else [route for route in before if route[1] == "kernel"])
+
+
+def check_replaced(made, first, others):
+    """--replace leaves only the routes of the new table, also after --take-over."""
+    listed, = subprocess.run(["unshare", "--net", "sh", "-ec", f"{HOST} ip -batch {first}; ip -j route show proto 121"], cwd=made,
+                             capture_output=True, text=True, check=True).stdout.splitlines()
+    (made / "listed").write_text(listed)
+    status, written, said = run("table-to-ip --device uplink --replace", FEWER, made / "listed")
+    expect("table-to-ip --replace", (status, said), (0, ""))
+    (made / "replacing").write_text(written)
+    (replaced,) = after(made, f"ip -batch {first}; ip -batch replacing; ip -j route")
+    own = [("10.0.0.0/8", "121", 121, "192.0.2.5"), ("10.2.0.0/16", "121", 121, "192.0.2.6"), ("192.0.2.0/24", "121", 121, None)]
+    expect(f"the kernel's routes after those of {first} are replaced", sorted(replaced, key=str), sorted(others + own, key=str))
+
+
 def check(made):
     check_replace_file(made)
     check_interfaces()
     check_nested_networks()
     check_json_hops()
     check_short_write(made)
+    check_kernel(made)

@@ -29,6 +29,11 @@ class Failed(Exception):
     """A test failed; the text says how."""
 
 
+def expect(what, found, expected):
+    if found != expected:
+        raise Failed(f"{what}: {str(found)[:1000]!r} in place of {str(expected)[:1000]!r}")
+
+
 def words(command, constants=""):
     """The command of a converter's call, which may change constants of feeds.py. Python without installed packages starts
     in a third of the time."""
@@ -90,10 +95,14 @@ def run_in_child(words, constants):
     os._exit(status)
 
 
+def printed(rows):
+    """The output of `yarib table` with these rows."""
+    return "".join(f"{row}\n" for row in rows).encode()
+
+
 def table_of(sample):
     """The table with the routes of a sample, which has a prefix and a next hop on each line."""
-    rows = map(str.split, (SAMPLES / sample).read_text().splitlines())
-    return "".join(f"{row_text(prefix, hop)}\n" for prefix, hop in rows).encode()
+    return printed([row_text(*line.split()) for line in (SAMPLES / sample).read_text().splitlines()])
 
 
 def state(files):
