@@ -86,6 +86,8 @@ class Offer(typing.NamedTuple):
     wish: int | None = None
     # the address that the daemon looked up among its routes to find the hop
     sought: str | None = None
+    # the option that would give the next hop, and the interface, if the feed doesn't show the interface
+    over: tuple | None = None
 
 
 class Notes:
@@ -452,13 +454,55 @@ def is_address(text):
         raise Wrong(f"{text!r} is not an address") from None
 
 
-def hop_of(prefix, address, arguments):
+def hop_of(prefix, address, arguments, interface=""):
     """The next hop that is written for an address of the daemon's."""
     if is_address(address):
-        return arguments.connected if address == CONNECTED else address
-    if arguments.ipv6_hop is None:
+        return arguments.connected.of(interface) if address == CONNECTED else address
+    hop = arguments.ipv6_hop.of(interface)
+    if hop is None:
         raise Wrong(f"{prefix} has an IPv6 next hop ({address}): give an IPv4 address for such hops with --ipv6-hop")
-    return arguments.ipv6_hop
+    return hop
+
+
+def over(address, arguments, interface):
+    """The option that would give the next hop, and the interface, if the next hop is the same over each interface."""
+    option = arguments.ipv6_hop if ":" in address else arguments.connected
+    if not interface or interface in option.given or ":" not in address and address != CONNECTED:
+        return None
+    return option, interface
+
+
+class Addresses:
+    """The next hops that an option gives for those that have none in IPv4: one for each interface that it names, and one
+    for all others. `name` is the option's."""
+
+    def __init__(self, name, what, other=None):
+        self.name, self.what, self.other = name, what, other
+        self.given, self.is_other_given = {}, False
+
+    def give(self, interface, address):
+        if interface is None:
+            self.other, self.is_other_given = address, True
+        else:
+            self.given[interface] = address
+
+    def of(self, interface):
+        return self.given.get(interface, self.other)
+
+    def tell(self, counts, notes):
+        """Reports the numbers of routes over interfaces without an address of their own. Of several interfaces a
+        comparison of tables can't tell one from the other."""
+        if counts and (len(counts) > 1 or not self.is_other_given):
+            named = ", ".join(f"{number} over {interface}" for interface, number in counts.items())
+            notes.tell(f"routes {self.what} ({named}), and the next hop {self.other} in the feeds: use {self.name} IFACE=ADDRESS",
+                       sum(counts.values()), differs=len(counts) > 1)
+
+
+class GiveAddress(argparse.Action):
+    """Adds an address to those of an option."""
+
+    def __call__(self, parser, arguments, values, option=None):
+        getattr(arguments, self.dest).give(*values)
 
 
 def is_usable(path, valid):
@@ -511,9 +555,11 @@ def preference_of(prefix, offer):
 def add_lines(files, prefix, offers, by_rank, notes):
     """Adds the offers of a prefix, best first, to the feeds of their sources."""
     for rank, offer in enumerate(one_each(offers, notes) if len(offers) > 1 else offers, 1):
-        source, hop, _, sought = offer
+        source, hop, _, sought, over_interface = offer
         if sought:
             files.sought.add((source, sought))
+        if over_interface:
+            files.over[over_interface] = files.over.get(over_interface, 0) + 1
         preference = rank if by_rank else preference_of(prefix, offer)
         lines = files.waiting.get(source) or files.lines(source)
         lines.append(f"add {prefix} {preference} {hop}\n")
@@ -545,6 +591,8 @@ class FeedFiles:
         self.waiting, self.counts = {}, []
         # the sources with the addresses that the daemon looked up for them
         self.sought = set()
+        # by option and interface, the number of routes whose interface the feeds don't show
+        self.over = {}
         self.taken = 0
         PROGRESS.files = self
 
@@ -686,6 +734,8 @@ def convert_table(arguments, given, read):
                 met.add(prefix)
                 add_lines(files, prefix, offers, arguments.by == "rank", notes)
         tell_of_finders(files, met, notes)
+        for option in (arguments.connected, arguments.ipv6_hop):
+            option.tell({interface: number for (given, interface), number in files.over.items() if given is option}, notes)
         return files.finish(notes, len(met))
 
 
@@ -733,8 +783,12 @@ def parser(documentation, numbers=("local-pref",)):
         default="rank",
         help="the source of preferences: the daemon's order (1 is its choice), or its number p as 4294967295 - p",
     )
-    made.add_argument("--connected", default=CONNECTED, metavar="ADDRESS", type=ipv4, help="the next hop of connected networks")
-    made.add_argument("--ipv6-hop", metavar="ADDRESS", type=ipv4, help="the next hop written for IPv6 next hops")
+    for name, what, other, about in (
+        ("--connected", "have no next hop but an interface", CONNECTED, "connected networks and of routes over an interface only"),
+        ("--ipv6-hop", "have an IPv6 next hop", None, "routes with an IPv6 next hop"),
+    ):
+        made.add_argument(name, default=Addresses(name, what, other), metavar="[IFACE=]ADDRESS", type=of_interface, action=GiveAddress,
+                          help=f"the next hop of {about}, or of those over an interface; can be repeated")
     made.add_argument("--merge", metavar="N", type=count,
                       help="write at most N feeds: merge the best routes of the sources with the fewest routes")
     return made
@@ -784,6 +838,12 @@ def plain_parser(documentation):
 def ipv4(text):
     """An address of the command line."""
     return str(ipaddress.IPv4Address(text))
+
+
+def of_interface(text):
+    """An interface of the command line, or None, and its address."""
+    interface, equals, address = text.rpartition("=")
+    return interface if equals else None, ipv4(address)
 
 
 def count(text):

@@ -183,7 +183,7 @@ def start_frr(daemons, folder, names, more=""):
     """FRR's daemons, zebra first, each with its part of that folder. Their user is frr, which writes to this folder."""
     shutil.copytree(HERE / "frr" / folder, folder)
     os.chmod(".", 0o755)
-    shutil.chown(".", "frr", "frr")
+    say("chown frr:frr .")
     for name in names:
         options = {"zebra": more, "bgpd": "-l 192.0.2.254"}.get(name, "")
         daemons.start(name, f"/usr/lib/frr/{name} -i {name}.pid -z zserv --vty_socket . -A 127.0.0.1 "
