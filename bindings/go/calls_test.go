@@ -722,3 +722,8 @@ func TestMemoryIsFreed(t *testing.T) {
 		t.Fatal(grown)
 	}
 }
+
+func TestVersions(t *testing.T) {
+	same(t, "a version", strings.Count(Version(), "."), 2)
+	same(t, "a build", strings.HasPrefix(Build(), "sources "), true)
+}

@@ -18,6 +18,12 @@ import (
 	"unsafe"
 )
 
+// Version returns the version of the library, such as "0.3.0".
+func Version() string { return C.GoString(C.yarib_version()) }
+
+// Build returns what the library was made of: the sum of the proved sources, the logic that proves them, and the sum of the C files.
+func Build() string { return C.GoString(C.yarib_build()) }
+
 // The reasons why a call did nothing. A call's error may name the value that is wrong: test it with errors.Is.
 var (
 	ErrClosed  = errors.New("yarib: the table is closed")

@@ -648,6 +648,9 @@ class Conventions(Limited):
         feeds = list(map(yarib.Source(table, 1, yarib.MAX_FEED).feed_of, prefixes))
         self.assertEqual(feeds, [1, 11, 38, 2, 11, 8])
 
+    def test_what_the_library_was_made_of(self):
+        self.assertRegex(yarib.build(), r"^sources [0-9a-f]{32} logic [0-9a-f]{16} layer [0-9a-f]{12}$")
+
     def test_a_source_spreads_its_prefixes(self):
         """Prefixes of every length, one after another, come near equal numbers for each feed; a full feed is an error."""
         source = yarib.Source(yarib.Table(1000), 1, 2)

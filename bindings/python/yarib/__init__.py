@@ -18,7 +18,9 @@ Several threads may use a Table or a Forwarding, also in a Python without a glob
 same time; a change waits until it is alone. Long calls (look_up_each, apply_each, follow, forward) let other threads run.
 One thread may change a ConcurrentTable while others read it without waiting.
 """
-from ._library import MAX_FEED, MAX_LENGTH, MAX_LIMIT, STATUS, VERSION, Error, Invalid, OutOfMemory, Refused
+from ._library import (
+    MAX_FEED, MAX_LENGTH, MAX_LIMIT, STATUS, VERSION, Error, Invalid, OutOfMemory, Refused, build,
+)
 from ._tables import (
     Answers, ConcurrentTable, Difference, Entry, Exists, Forwarding, Full, Missing, Outcome, Route, Source, Table,
     prefix_of, address_of,
@@ -28,5 +30,5 @@ __version__ = VERSION
 __all__ = [
     "Answers", "ConcurrentTable", "Difference", "Entry", "Error", "Exists", "Forwarding", "Full", "Invalid", "MAX_FEED",
     "MAX_LENGTH", "MAX_LIMIT", "Missing", "OutOfMemory", "Outcome", "Refused", "Route", "STATUS", "Source", "Table",
-    "address_of", "prefix_of",
+    "address_of", "build", "prefix_of",
 ]

@@ -98,6 +98,15 @@ def load(kind: Callable[[str], Any]) -> Any:
 # Neither needs that lock: the library returns BUSY from a call that can't run beside another one on its handle.
 held, freed = load(ctypes.PyDLL), load(ctypes.CDLL)
 
+
+def build() -> str:
+    """Returns what the library was made of: "sources", the sum of the proved sources, "logic", and that of the unproved C files."""
+    call = held.yarib_build
+    call.restype = ctypes.c_char_p
+    made: bytes = call()
+    return made.decode()
+
+
 class Concurrent:
     """The calls of a library for concurrent tables, by the names of the calls for tables."""
 

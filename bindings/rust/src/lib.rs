@@ -108,6 +108,19 @@ impl std::error::Error for Error {}
 /// The result of a call.
 pub type Result<T> = std::result::Result<T, Error>;
 
+/// Returns the version of the library, such as `0.3.0`.
+#[must_use]
+pub fn version() -> &'static str {
+    raw::version()
+}
+
+/// Returns what the library was made of: the sum of the proved sources, the logic that proves them, and the sum of the C
+/// files.
+#[must_use]
+pub fn build() -> &'static str {
+    raw::build()
+}
+
 /// An IPv4 prefix: no bit of the base past the length is set.
 #[derive(Clone, Copy, Debug, PartialEq, Eq, PartialOrd, Ord, Hash)]
 pub struct Prefix {

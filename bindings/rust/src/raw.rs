@@ -5,7 +5,7 @@
 //! free takes `&mut`: the library keeps its other calls apart. References and slices are never null.
 #![allow(unsafe_code)]
 
-use std::ffi::c_void;
+use std::ffi::{c_char, c_void, CStr};
 use std::fmt::Debug;
 use std::ptr::null_mut;
 use std::sync::atomic::AtomicPtr;
@@ -94,6 +94,8 @@ pub struct Concurrent {
 }
 
 extern "C" {
+    fn yarib_version() -> *const c_char;
+    fn yarib_build() -> *const c_char;
     fn yarib_new(table: *mut Handle, limit: u32, kind: u32) -> u32;
     fn yarib_free(table: *mut Handle) -> u32;
     fn yarib_apply(table: *mut Handle, command: *const Command, reply: *mut Reply) -> u32;
@@ -224,6 +226,22 @@ extern "C" {
     fn yarib_concurrent_count(table: *const Concurrent, total: *mut usize) -> u32;
     fn yarib_concurrent_memory(table: *const Concurrent, bytes: *mut usize) -> u32;
     fn yarib_prefix_parse(text: *const u8, size: usize, prefix: *mut Prefix) -> u32;
+}
+
+/// Returns a text of the library's own, which it never frees.
+fn own_text(call: unsafe extern "C" fn() -> *const c_char) -> &'static str {
+    // SAFETY: both calls return a string that stays.
+    unsafe { CStr::from_ptr(call()) }
+        .to_str()
+        .unwrap_or_default()
+}
+
+pub fn version() -> &'static str {
+    own_text(yarib_version)
+}
+
+pub fn build() -> &'static str {
+    own_text(yarib_build)
 }
 
 // A handle is `Send` and `Sync` by its one field. What it holds may go to another thread, and several threads may read it: the

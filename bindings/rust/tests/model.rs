@@ -1022,3 +1022,10 @@ fn feeds_of_a_source() {
     );
     assert_eq!(table.look_up(zero.base()).unwrap().unwrap().feed, 7);
 }
+
+/// The crate and the library have the same version.
+#[test]
+fn versions() {
+    assert_eq!(yarib::version(), env!("CARGO_PKG_VERSION"));
+    assert!(yarib::build().starts_with("sources "));
+}
