@@ -33,7 +33,7 @@ CALLS = f"""set -e
 cd /tmp
 test "$(yarib --version | head -n 1)" = "yarib {VERSION}"
 yarib run row.feed
-echo '{ROUTES}' | yarib-ip-to-feeds feeds
+echo '{ROUTES}' | yarib-ip-to-feeds feeds 2>/dev/null
 yarib table --best feeds/*.feed | yarib-table-to-map >map.html
 grep -q '</html>' map.html
 """
