@@ -19,12 +19,20 @@ import time
 from common.checks import TOP, chosen, end, expect, of_thread, run, run_case
 
 LISTED = {"mutants": 4, "definitions": 2}
-QUICK = ["tests/launcher.py", "tests/libraries.py", "tools/unproved", "convert/test", "map/test", "tools/check",
-         "tests/installed.py", "tests/rows.py", "tests/command_line.py"]
-# The scripts that ./test runs by tools/once, and all others.
-ONCE_RUN = [f"tests/{name}.py" for name in re.findall(r"^  once (\w+) ", (TOP / "test").read_text(), re.M)]
-SCRIPTS = sorted({*QUICK, *ONCE_RUN, "tools/mutants", "tools/definitions", "tools/archive", "bindings/test",
-                  *(f"tests/{name}.py" for name in ("hostile", "sizes", "allocations", "refused_few", "costs"))})
+# The lines of ./test, without comments and without the files that tools/once copies for a script.
+TEXT = re.sub(r"^( *)#.*\n| : .*", "", (TOP / "test").read_text().replace("\\\n", ""), flags=re.M)
+TEXT = re.sub(r"^  once (\w+) .*$", r"  tests/\1.py", TEXT, flags=re.M)
+REAL = {"tools/once", "tools/progress", "tools/verdict"}
+
+
+def scripts_in(text):
+    """Returns the scripts that a part of ./test calls."""
+    words = re.findall(r"(?<![\w$/.])((?:\{[\w,]+\}|\w+)/(?:\{[\w,]+\}|\w+)(?:\.py)?)(?=[\s;)]|$)", text)
+    named = subprocess.run(["bash", "-c", f"echo {' '.join(words)}"], stdout=subprocess.PIPE, text=True, check=True).stdout.split()
+    return sorted({name for name in named if (TOP / name).is_file() and os.access(TOP / name, os.X_OK)} - REAL)
+
+
+SCRIPTS, QUICK = scripts_in(TEXT), scripts_in(re.search(r"^quick\(\) \{\n(.*?)^\}$", TEXT, re.M | re.S)[1])
 # What a stub prints last, and its status, by its end.
 STUB = """#!/usr/bin/env bash
 name="NAME"
