@@ -17,9 +17,9 @@ MAX_FEED, MAX_LIMIT, MAX_LENGTH = 64, 1_000_000, 32
 
 # Of the header: what a call returns, by its number.
 STATUS = ("done", "nothing", "bad number", "bad command", "no memory", "bad size", "none left", "bad text",
-          "bad length", "bad bits", "wrong kind", "busy")
+          "bad length", "bad bits", "wrong kind", "busy", "bad file", "not added", "no barrier", "forked")
 (DONE, NOTHING, BAD_NUMBER, BAD_COMMAND, NO_MEMORY, BAD_SIZE, NONE_LEFT, BAD_TEXT, BAD_LENGTH, BAD_BITS,
- WRONG_KIND, BUSY) = range(len(STATUS))
+ WRONG_KIND, BUSY, BAD_FILE, NOT_ADDED, NO_BARRIER, FORKED) = range(len(STATUS))
 ADD, REPLACE, WITHDRAW, LOOKUP, DUMP, PURGE = range(1, 7)
 ALL, WITHIN, COVERING, EXACT = range(4)
 NO_ROUTE, VIA, DISCARD = range(3)
@@ -85,9 +85,13 @@ def file_of_library() -> str:
 
 
 def load(kind: Callable[[str], Any]) -> Any:
-    library = kind(file_of_library())
-    for name, types in CALLS.items():
-        call = getattr(library, name)
+    file = file_of_library()
+    try:
+        library = kind(file)
+        calls = [(name, types, getattr(library, name)) for name, types in CALLS.items()]
+    except (OSError, AttributeError) as error:
+        raise ImportError(f"yarib: cannot load {NAME} ({error}): set YARIB_LIBRARY to the path of version {VERSION}", path=file) from None
+    for name, types, call in calls:
         if name.replace("concurrent_", "") not in PLAIN:
             call.argtypes = types
         call.restype = NUMBER
@@ -148,7 +152,7 @@ class OutOfMemory(Error, MemoryError):
 
 
 class Refused(Error, RuntimeError):
-    """The table is closed, or doesn't support the call."""
+    """The table is closed, or doesn't support the call; or the system doesn't allow it."""
 
 
 def check(status: int, value: object = None) -> None:
@@ -157,11 +161,19 @@ def check(status: int, value: object = None) -> None:
         fail(status, value)
 
 
+REFUSALS = {
+    NOTHING: "the table is closed",
+    WRONG_KIND: "the table doesn't support this call",
+    NO_BARRIER: "the kernel refuses membarrier, which a change needs once other threads have read: allow it in the sandbox",
+    FORKED: "a thread of the parent process was changing the table at the fork: make another one",
+}
+
+
 def fail(status: int, value: object) -> NoReturn:
     if status == NO_MEMORY:
         raise OutOfMemory("yarib: out of memory")
-    if status in (NOTHING, WRONG_KIND):
-        raise Refused("the table is closed" if status == NOTHING else "the table doesn't support this call")
+    if status in REFUSALS:
+        raise Refused(REFUSALS[status])
     raise Invalid(f"yarib: {STATUS[status]}" + ("" if value is None else f": {value!r}"))
 
 

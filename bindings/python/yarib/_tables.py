@@ -186,21 +186,24 @@ def outcome_of(code: int, count: int, *route: int) -> Outcome:
 OPERATIONS = {"add": c.ADD, "replace": c.REPLACE, "withdraw": c.WITHDRAW, "lookup": c.LOOKUP, "dump": c.DUMP,
               "purge": c.PURGE}
 NAMES = {number: name for name, number in OPERATIONS.items()}
+# What a command takes after its feed and its name.
+TAKES: Dict[int, Tuple[str, ...]] = {
+    c.ADD: ("a prefix", "a preference", "a next hop"), c.REPLACE: ("a prefix", "a preference", "a next hop"),
+    c.WITHDRAW: ("a prefix",), c.LOOKUP: ("an address",), c.DUMP: (), c.PURGE: ()}
 
 
 def command_of(feed: int, name: str, *words: Any) -> bytes:
     """Returns a command from its arguments, such as ("add", prefix, pref, via) or ("lookup", address)."""
-    operation = OPERATIONS[name]
+    operation = OPERATIONS.get(name)
+    if operation is None:
+        raise Invalid(f"yarib: {name!r} is not {', '.join(map(repr, OPERATIONS))}")
+    if len(words) != len(TAKES[operation]):
+        raise Invalid(f"yarib: {name!r} takes {' and '.join(TAKES[operation]) or 'nothing else'}, not {words!r}")
     if operation == c.LOOKUP:
-        address, = map(address_of, words)
-        return packed(operation, feed, address)
+        return packed(operation, feed, address_of(words[0]))
     if operation in (c.DUMP, c.PURGE):
-        if words:
-            raise TypeError(f"{name} takes no argument")
         return packed(operation, feed, 0)
     if operation == c.WITHDRAW:
-        if len(words) != 1:
-            raise TypeError(f"{name} takes a prefix")
         return packed(operation, feed, *prefix_of(words[0]))
     prefix, pref, via = words
     room = room_of_call()
@@ -219,6 +222,14 @@ def put_in(room: Room, operation: int, feed: int, prefix: Prefix, pref: int, via
         return COMMAND.pack(operation, feed, base, pref, router, length, VIA)
     except struct.error:
         return packed(operation, feed, base, length, pref, address_of(via), VIA)
+
+
+def check_command(status: int, command: bytes) -> None:
+    """Raises the error that the status of a command means, with its feed or its prefix."""
+    _, feed, base, _, _, length, _ = COMMAND.unpack(command)
+    if status == c.BAD_NUMBER:
+        raise Invalid(f"yarib: feed {feed} is not 1 to {c.MAX_FEED}")
+    check(status, (base, length))
 
 
 def packed(operation: int, feed: int, base: int, length: int = 0, pref: int = 0, via: int = 0, hop: int = 0) -> bytes:
@@ -307,7 +318,8 @@ def bytes_of(handle: Any, calls: Any = held) -> int:
 class Handle:
     """A handle of the C library, freed with this object."""
 
-    # The library's calls for such a handle: short calls that read, long calls, and changes.
+    # The library's calls for such a handle: short calls that read, long calls, and changes. A call that may take over a few
+    # milliseconds is a long one.
     _held: Any = held
     _freed: Any = freed
     _changing: Any = held
@@ -315,15 +327,20 @@ class Handle:
     def __init__(self) -> None:
         self._handle = ctypes.c_void_p()
         self._at = ctypes.byref(self._handle)
-        # Held by a change that waits for the calls under way: long calls that only read let it go first.
-        self._turn = threading.Lock()
+        # Held by a change that waits for the calls under way: long calls that only read let it go first. A signal handler of the
+        # thread that holds it may make any call.
+        self._turn = threading.RLock()
 
     def _change(self, call: Callable[..., int], *words: Any) -> None:
         """Makes a call that changes the handle, once no other call is on it."""
+        check(self._status(call, *words))
+
+    def _status(self, call: Callable[..., int], *words: Any) -> int:
+        """Makes a call that changes the handle, once no other call is on it, and returns its status."""
         if (status := call(*words)) == c.BUSY:
             with self._turn:
                 status = status_of(call, *words)
-        check(status)
+        return status
 
     def close(self) -> None:
         """Frees the handle's contents, once no other thread's call uses them. Closing twice is harmless."""
@@ -351,7 +368,7 @@ class Handle:
 
     def __del__(self) -> None:
         if hasattr(self, "_at"):
-            self._held.yarib_free(self._at)
+            self._freed.yarib_free(self._at)
 
     def __exit__(self, *_: object) -> None:
         self.close()
@@ -370,9 +387,10 @@ class Routes(Handle):
 
     def _execute(self, room: Room, command: bytes) -> bytearray:
         """Executes a command and returns its reply."""
-        if self._changing.yarib_apply(self._at, command, room.at):
+        apply = (self._freed if command[0] == c.PURGE else self._changing).yarib_apply
+        if apply(self._at, command, room.at):
             # After a status that isn't 0 nothing has changed, so the call can be made again.
-            self._change(self._changing.yarib_apply, self._at, command, room.at)
+            check_command(self._status(apply, self._at, command, room.at), command)
         return room.bytes
 
     def apply_each(self, commands: Iterable[Sequence[Any]]) -> List[Outcome]:
@@ -455,7 +473,7 @@ class Routes(Handle):
         best of each prefix; with a feed, only those best routes that belong to the feed."""
         if feed is not None or best:
             return self._select(c.ALL, (0, 0), feed, best)
-        found = self._pages(ROUTE.size, len(self) + 1, lambda *place: self._held.yarib_routes(self._at, *place))
+        found = self._pages(ROUTE.size, len(self) + 1, lambda *place: self._freed.yarib_routes(self._at, *place))
         return routes_of(found)
 
     def exact(self, prefix: Prefix, feed: Optional[int] = None, best: bool = False) -> List[Route]:
@@ -475,7 +493,9 @@ class Routes(Handle):
             c.fail(c.BAD_NUMBER, feed)
         base, length = prefix
         asked = c.RawSelection(part, number(feed or 0, "a feed"), base, length, int(bool(best)))
-        found = self._pages(ROUTE.size, 64, lambda *place: self._held.yarib_select(self._at, ctypes.byref(asked), *place))
+        # At most the routes to 511 prefixes, or else any number.
+        calls = self._held if part in (c.EXACT, c.COVERING) or part == c.WITHIN and length >= 24 else self._freed
+        found = self._pages(ROUTE.size, 64, lambda *place: calls.yarib_select(self._at, ctypes.byref(asked), *place))
         return routes_of(found)
 
     def routes_from(self, prefix: Prefix, pref: int = 0, feed: int = 0) -> Iterator[Route]:
@@ -615,12 +635,12 @@ class Table(Routes):
 
     def journal(self) -> List[Entry]:
         """Returns each answered command with its outcome. Raises Refused if the table keeps no journal."""
-        block = self._pages(ENTRY.size, ENTRIES, lambda *place: held.yarib_journal(self._at, *place))
+        block = self._pages(ENTRY.size, ENTRIES, lambda *place: freed.yarib_journal(self._at, *place))
         return [Entry(words_of(*fields[:7]), outcome_of(*fields[7:])) for fields in ENTRY.iter_unpack(block)]
 
     def reserve(self, entries: int) -> None:
         """Reserves capacity for this many journal entries, if there is a journal."""
-        self._change(held.yarib_reserve, self._at, number(entries, "a size", ctypes.sizeof(ctypes.c_size_t) * 8))
+        self._change(freed.yarib_reserve, self._at, number(entries, "a size", ctypes.sizeof(ctypes.c_size_t) * 8))
 
     def differences(self, other: Table, by: str = "hop") -> Iterator[Difference]:
         """Iterates over the ranges for which this table and another give different answers, by "hop" or by "route"."""
@@ -634,7 +654,7 @@ class Table(Routes):
         kind, told = kinds[by]
         raw, place = ctypes.create_string_buffer(c.DIFFERENCE.size), 0
         while place <= LAST:
-            status = status_of(held.yarib_first_difference, self._at, other._at, kind, place, raw)
+            status = status_of(freed.yarib_first_difference, self._at, other._at, kind, place, raw)
             if status == c.NONE_LEFT:
                 return
             check(status)
@@ -651,6 +671,8 @@ class Table(Routes):
         look-ups use it. If a command finds no memory for the update, the forwarding table is freed until this is called
         again. Raises Refused if the table keeps a journal."""
         self._change(freed.yarib_follow, self._at)
+        # A command may rewrite many entries.
+        self._changing = freed
 
     def memory(self) -> int:
         """Returns an estimate of its size in bytes, including an attached forwarding table."""
