@@ -40,6 +40,8 @@ var (
 	ErrMissing = errors.New("yarib: the feed has no route to this prefix")
 	ErrBusy    = errors.New("yarib: another call uses the table")
 	ErrLine    = errors.New("yarib: not an add line of a feed file")
+	ErrBarrier = errors.New("yarib: the kernel refuses membarrier, which a change needs once other threads have read")
+	ErrForked  = errors.New("yarib: a thread of the parent process was changing the table at the fork")
 )
 
 func failed(status uint32) error {
@@ -64,6 +66,10 @@ func failed(status uint32) error {
 		return ErrKind
 	case C.YARIB_BUSY:
 		return ErrBusy
+	case C.YARIB_NO_BARRIER:
+		return ErrBarrier
+	case C.YARIB_FORKED:
+		return ErrForked
 	}
 	return ErrNumber
 }
@@ -71,7 +77,7 @@ func failed(status uint32) error {
 // about adds the value that is wrong to an error, unless the error doesn't depend on a value.
 func about(err error, format string, values ...any) error {
 	switch err {
-	case nil, ErrClosed, ErrMemory, ErrKind, ErrBusy:
+	case nil, ErrClosed, ErrMemory, ErrKind, ErrBusy, ErrBarrier, ErrForked:
 		return err
 	}
 	return fmt.Errorf("%w: "+format, append([]any{err}, values...)...)

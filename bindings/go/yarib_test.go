@@ -437,3 +437,14 @@ func readOneTable(t *testing.T, table, other *Table, address netip.Addr, ended c
 		}
 	}
 }
+
+func TestRefusalsOfTheSystemAreErrorsOfTheirOwn(t *testing.T) {
+	for status, expected := range map[uint32]error{0: nil, 11: ErrBusy, 14: ErrBarrier, 15: ErrForked, 2: ErrNumber} {
+		if err := failed(status); err != expected {
+			t.Errorf("status %d is %v", status, err)
+		}
+		if err := about(failed(status), "%d", 5); status > 2 && err != expected {
+			t.Errorf("status %d is %v", status, err)
+		}
+	}
+}

@@ -41,7 +41,7 @@ pub const MAX_LIMIT: u32 = 1_000_000;
 /// The largest length of a prefix.
 pub const MAX_LENGTH: u8 = 32;
 
-/// The reason why a call did nothing.
+/// The reason why a call did nothing. Any call may return [`Error::Forked`], and any change [`Error::Barrier`].
 #[derive(Clone, Copy, Debug, PartialEq, Eq, Hash)]
 #[non_exhaustive]
 pub enum Error {
@@ -65,9 +65,12 @@ pub enum Error {
     Size,
     /// The call needs a table with a journal, or one without.
     Kind,
-    /// Another call uses the table. This occurs only in a forked process, if another thread was using the table when the process
-    /// was forked.
+    /// Another call uses the table. This occurs only while 1,024 calls that read run in threads after the 256th.
     Busy,
+    /// The kernel refuses the call `membarrier`, which a change needs once other threads have read: a sandbox forbids it.
+    Barrier,
+    /// A thread of the parent process was changing the table when this process was forked.
+    Forked,
 }
 
 impl Error {
@@ -80,6 +83,8 @@ impl Error {
             9 => Error::Bits,
             10 => Error::Kind,
             11 => Error::Busy,
+            14 => Error::Barrier,
+            15 => Error::Forked,
             _ => Error::Number,
         }
     }
@@ -99,6 +104,8 @@ impl fmt::Display for Error {
             Error::Size => "two lists differ in length",
             Error::Kind => "the table doesn't support this call",
             Error::Busy => "another call uses the table",
+            Error::Barrier => "the kernel refuses membarrier, which a change needs",
+            Error::Forked => "another thread was changing the table at the fork",
         })
     }
 }
@@ -1131,5 +1138,20 @@ impl Forwarding {
     /// [`Error::Busy`].
     pub fn memory(&self) -> Result<usize> {
         self.0.memory().map_err(Error::of)
+    }
+}
+
+#[cfg(test)]
+mod tests {
+    use super::Error;
+
+    #[test]
+    fn refusals_of_the_system_are_errors_of_their_own() {
+        assert_eq!(Error::of(11), Error::Busy);
+        assert_eq!(Error::of(14), Error::Barrier);
+        assert_eq!(Error::of(15), Error::Forked);
+        assert_eq!(Error::of(2), Error::Number);
+        assert!(Error::Barrier.to_string().contains("membarrier"));
+        assert!(Error::Forked.to_string().contains("fork"));
     }
 }

@@ -78,8 +78,8 @@ pub struct Difference {
     pub after: Route,
 }
 
-/// What C calls a handle: it owns what it holds, and is the one pointer to it. It is atomic, since calls that read may
-/// count themselves in it.
+/// What C calls a handle: it owns what it holds, and is the one pointer to it. It is atomic, since calls that read it see
+/// whether a change is under way.
 #[repr(C)]
 #[derive(Debug)]
 pub struct Handle {
