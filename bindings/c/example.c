@@ -34,7 +34,7 @@ static void show(const char *said, const yarib_route *route)
 
 int main(void)
 {
-    yarib before = YARIB_EMPTY, after = YARIB_EMPTY;
+    yarib before = YARIB_INIT, after = YARIB_INIT;
     yarib_command commands[] = {add(1, "10.0.0.0/8", "192.0.2.1"), add(2, "10.1.0.0/16", "192.0.2.2")};
     yarib_command withdrawal = {.operation = YARIB_WITHDRAW, .feed = 2, .base = 0x0a010000, .len = 16};
     yarib_reply replies[2], reply;

@@ -3,7 +3,7 @@
 #include "layer.h"
 
 #include <inttypes.h>
-#include <stdbool.h>
+#include <pthread.h>
 #include <stdlib.h>
 #include <string.h>
 
@@ -60,10 +60,14 @@ static enum yarib_status save(const yarib *table, const yarib_concurrent *concur
     size_t total;
     enum yarib_status status = list(table, concurrent, feed, &routes, &total);
     if (status != YARIB_DONE) return status;
+    int before;
+    pthread_setcancelstate(PTHREAD_CANCEL_DISABLE, &before);
     bool is_written = fputs(VERSION "\n", file) >= 0;
     for (size_t k = 0; k < total && is_written; k++) is_written = write_route(file, &routes[k]);
     if (routes) rattle_dealloc(routes);
-    return is_written && fflush(file) == 0 ? YARIB_DONE : YARIB_BAD_FILE;
+    is_written = is_written && fflush(file) == 0;
+    pthread_setcancelstate(before, NULL);
+    return is_written ? YARIB_DONE : YARIB_BAD_FILE;
 }
 
 enum yarib_status yarib_save(const yarib *table, uint32_t feed, FILE *file)
@@ -166,11 +170,14 @@ enum yarib_status add_lines(FILE *file, uint32_t feed, const struct adder *adder
     enum yarib_status status = YARIB_DONE;
     bool has_discard = false;
     struct line line;
-    *loaded = (yarib_loaded){0};
+    int before;
+    /* A thread that is cancelled as it reads would leave its change for good. */
+    pthread_setcancelstate(PTHREAD_CANCEL_DISABLE, &before);
     flockfile(file);
     /* A read error ends a line like the end of the file, so it is looked for first. */
     while (status == YARIB_DONE && read_line(file, &line) && !ferror(file)) status = add_line(&line, feed, adder, &has_discard, loaded);
     if (status == YARIB_DONE && ferror(file)) status = YARIB_BAD_FILE;
     funlockfile(file);
+    pthread_setcancelstate(before, NULL);
     return status;
 }

@@ -16,9 +16,9 @@
  *
  * With YARIB_NO_SLABS all blocks come from malloc, so that valgrind and sanitizers see them. */
 #define _GNU_SOURCE
+#include "layer.h"
+
 #include <pthread.h>
-#include <stdbool.h>
-#include <stdint.h>
 #include <stdlib.h>
 #include <string.h>
 #include <sys/mman.h>
@@ -49,11 +49,8 @@ static const char __libc_single_threaded = 0;
 /* The size of the head of a slab or a mapping, so that its first block is at a multiple of 16. */
 #define HEAD ((size_t)64)
 #define PAGE ((size_t)1 << 12)
-
-struct tried {
-    bool ok;
-    void *block;
-};
+/* So much of a chunk is open at first. */
+#define OPEN (4 * SLAB)
 
 /* The head of a slab. `free` leads through the blocks that were freed; those from `fresh` on were never used. A slab with room is in
  * its part's list of this size. */
@@ -71,9 +68,11 @@ struct part {
 } __attribute__((aligned(64)));
 
 /* Slabs come from chunks of the address space, which the heap keeps. The first slab of a chunk lists those that are unused, and counts
- * those in the place of each huge page. */
+ * those in the place of each huge page. A chunk is opened by and by, twice as much each time: in a program that locks its memory
+ * (mlockall) the kernel gives all of it that is open. */
 struct chunk {
     struct chunk *next;
+    size_t open;
     size_t unused;
     uint16_t numbers[CHUNK / SLAB];
     uint16_t unused_within[CHUNK / HUGE_PAGE];
@@ -88,11 +87,8 @@ static unsigned char begins[((uintptr_t)1 << 47) / CHUNK];
 static unsigned threads;
 static __thread struct part *mine;
 
-/* The blocks that this thread keeps to free them together. */
-enum { KEPT = 64 };
-static __thread void *kept_blocks[KEPT];
-static __thread size_t kept;
-static __thread bool is_keeping;
+/* The blocks that this thread keeps to free them together, if it does. */
+static __thread struct frees *kept;
 static char nothing;
 
 /* Locks a part, unless there is only one thread: only a call of this thread could start another one. */
@@ -134,10 +130,16 @@ static void set_beginning(const void *at, unsigned char what)
     __atomic_store_n(&begins[(uintptr_t)at / CHUNK], what, __ATOMIC_RELAXED);
 }
 
-/* Maps whole pages at a multiple of CHUNK, or returns null. */
-static void *map_pages(size_t size, int flags)
+/* Opens pages that are reserved. Returns false if the kernel refuses their memory. */
+static bool open_pages(void *at, size_t size)
 {
-    char *mapped = mmap(NULL, size + CHUNK, PROT_READ | PROT_WRITE, MAP_PRIVATE | MAP_ANONYMOUS | flags, -1, 0);
+    return mprotect(at, size, PROT_READ | PROT_WRITE) == 0;
+}
+
+/* Reserves whole pages at a multiple of CHUNK, or returns null. */
+static void *reserve(size_t size)
+{
+    char *mapped = mmap(NULL, size + CHUNK, PROT_NONE, MAP_PRIVATE | MAP_ANONYMOUS, -1, 0);
     if (mapped == MAP_FAILED) return NULL;
     char *at = (char *)(((uintptr_t)mapped + CHUNK - 1) & ~(CHUNK - 1));
     if (at > mapped) munmap(mapped, at - mapped);
@@ -147,9 +149,14 @@ static void *map_pages(size_t size, int flags)
 
 static struct chunk *new_chunk(void)
 {
-    struct chunk *chunk = map_pages(CHUNK, MAP_NORESERVE);
+    struct chunk *chunk = reserve(CHUNK);
     if (!chunk) return NULL;
+    if (!open_pages(chunk, OPEN)) {
+        munmap(chunk, CHUNK);
+        return NULL;
+    }
     madvise((char *)chunk + FEW, CHUNK - FEW, MADV_HUGEPAGE);
+    chunk->open = OPEN;
     for (size_t k = CHUNK / SLAB - 1; k > 0; k--) {
         chunk->numbers[chunk->unused++] = k;
         chunk->unused_within[k * SLAB / HUGE_PAGE]++;
@@ -158,16 +165,26 @@ static struct chunk *new_chunk(void)
     return chunk;
 }
 
+/* Opens a slab of a chunk, if it isn't: a slab is first used after those before it. */
+static bool is_open(struct chunk *chunk, uintptr_t offset)
+{
+    if (offset < chunk->open) return true;
+    if (!open_pages((char *)chunk + chunk->open, chunk->open)) return false;
+    chunk->open *= 2;
+    return true;
+}
+
 static struct slab *new_slab(void)
 {
     pthread_mutex_lock(&lock);
-    struct chunk *chunk = with_unused ? with_unused : new_chunk();
     struct slab *slab = NULL;
-    if (chunk) {
-        uintptr_t offset = SLAB * chunk->numbers[--chunk->unused];
+    if (!with_unused) with_unused = new_chunk();
+    struct chunk *chunk = with_unused;
+    uintptr_t offset = chunk ? SLAB * chunk->numbers[chunk->unused - 1] : 0;
+    if (chunk && is_open(chunk, offset)) {
         slab = (struct slab *)((char *)chunk + offset);
         chunk->unused_within[offset / HUGE_PAGE]--;
-        with_unused = chunk->unused > 0 ? chunk : chunk->next;
+        if (--chunk->unused == 0) with_unused = chunk->next;
     }
     pthread_mutex_unlock(&lock);
     return slab;
@@ -276,27 +293,29 @@ static void free_small(struct slab *slab, void *block)
 static void free_kept(void)
 {
     struct part *locked = NULL;
-    for (size_t k = 0; k < kept; k++) {
-        struct slab *slab = slab_of(kept_blocks[k]);
+    for (size_t k = 0; k < kept->size; k++) {
+        struct slab *slab = slab_of(kept->blocks[k]);
         if (slab->part != locked) {
             if (locked) unlock_part(locked);
             lock_part(locked = slab->part);
         }
-        put_back(slab, kept_blocks[k]);
+        put_back(slab, kept->blocks[k]);
     }
     if (locked) unlock_part(locked);
-    kept = 0;
+    kept->size = 0;
 }
 
 static void keep(void *block)
 {
-    kept_blocks[kept++] = block;
-    if (kept == KEPT) free_kept();
+    kept->blocks[kept->size++] = block;
+    if (kept->size == KEPT_BLOCKS) free_kept();
 }
 
-void begin_frees(void)
+void begin_frees(struct frees *frees)
 {
-    is_keeping = !__libc_single_threaded;
+    if (kept || __libc_single_threaded) return;
+    frees->size = 0;
+    kept = frees;
 }
 
 /* Gives the unused slabs back that wait for the next block of their size: each may keep a huge page. */
@@ -318,8 +337,8 @@ static void give_back_waiting(void)
 
 void end_frees(void)
 {
-    if (kept > 0) free_kept();
-    is_keeping = false;
+    if (kept) free_kept();
+    kept = NULL;
     give_back_waiting();
 }
 
@@ -371,9 +390,13 @@ static void *alloc_mapped(size_t size)
 {
     if (size > SIZE_MAX / 4) return NULL;
     size_t whole = size_of_mapping(size);
-    struct mapping *mapping = map_pages(whole, 0);
+    struct mapping *mapping = reserve(whole);
     if (!mapping) return NULL;
     madvise(mapping, whole, MADV_HUGEPAGE);
+    if (!open_pages(mapping, whole)) {
+        munmap(mapping, whole);
+        return NULL;
+    }
     void *block = block_of(mapping, whole);
     fill_from(mapping, 0);
     return block;
@@ -392,7 +415,7 @@ static struct mapping *moved(struct mapping *mapping, size_t whole)
 {
     size_t before = mapping->size;
     if (mremap(mapping, before, whole, 0) != MAP_FAILED) return mapping;
-    void *place = map_pages(whole, 0);
+    void *place = reserve(whole);
     if (!place) return NULL;
     set_beginning(mapping, OTHERS);
     if (mremap(mapping, before, whole, MREMAP_MAYMOVE | MREMAP_FIXED, place) != MAP_FAILED) return place;
@@ -428,7 +451,7 @@ void rattle_dealloc(void *block)
 {
     struct slab *slab = slab_of(block);
     struct mapping *mapping = mapping_of(block);
-    if (slab && is_keeping) keep(block);
+    if (slab && kept) keep(block);
     else if (slab) free_small(slab, block);
     else if (mapping) free_mapped(mapping);
     else free(block);
@@ -443,7 +466,6 @@ static struct tried moved_to(void *place, void *block, size_t kept)
     return (struct tried){true, place};
 }
 
-/* The first `kept` bytes stay, which are at most `size`. */
 struct tried rattle_realloc(void *block, size_t kept, size_t size, size_t alignment)
 {
     struct slab *slab = slab_of(block);

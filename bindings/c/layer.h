@@ -1,5 +1,5 @@
-/* What the unproved layer of C shares: the proved calls that its files pass arguments on to, and the places of the threads that read.
- * It isn't installed, and the library exports none of it. */
+/* What the unproved layer of C shares: the proved calls that its files pass arguments on to, and the places of the calls that read. It
+ * isn't installed, and the library exports none of it. */
 #ifndef YARIB_LAYER_H
 #define YARIB_LAYER_H
 
@@ -9,57 +9,76 @@
 
 #pragma GCC visibility push(hidden)
 
-/* The library's heap. A refusal isn't `ok`. */
+/* The library's heap. A refusal isn't `ok`. The first `kept` bytes of a block that is resized stay, which are at most `size`. */
 struct tried {
     bool ok;
     void *block;
 };
 struct tried rattle_alloc(size_t size, size_t alignment);
+struct tried rattle_realloc(void *block, size_t kept, size_t size, size_t alignment);
 void rattle_dealloc(void *block);
 
-/* From begin_frees to end_frees the library's heap keeps some of the blocks that this thread frees, and then frees them together. A heap
- * that replaces it may lack these. */
-void begin_frees(void) __attribute__((weak));
-void end_frees(void) __attribute__((weak));
+/* Blocks that a thread frees together. */
+enum { KEPT_BLOCKS = 64 };
+struct frees {
+    size_t size;
+    void *blocks[KEPT_BLOCKS];
+};
 
-/* From begin_filling to end_filling the library's heap has the kernel find the memory of the large blocks that this thread allocates,
- * so that later writes don't wait for it. A heap that replaces it may lack these. */
-void begin_filling(void) __attribute__((weak));
-void end_filling(void) __attribute__((weak));
+/* What a heap that replaces the library's may lack. From begin_frees to end_frees the heap keeps some of the blocks that this thread
+ * frees. From begin_filling to end_filling it has the kernel find the memory of the large blocks that this thread allocates, so that
+ * later writes don't wait for it. */
+#pragma weak begin_frees
+#pragma weak end_frees
+#pragma weak begin_filling
+#pragma weak end_filling
+void begin_frees(struct frees *frees);
+void end_frees(void);
+void begin_filling(void);
+void end_filling(void);
 
 /* Attaches a forwarding table to a table, as proved_yarib_follow does. */
 enum yarib_status attach(yarib *table);
 
 /* Frees what a handle holds, as proved_yarib_free does. */
-void free_contents(yarib *table);
+enum yarib_status free_contents(yarib *table);
+
+/* The reading calls that plain and concurrent tables have: the name, the parameters after the handle, and the arguments for them. The
+ * proved call of the name takes the handle first. */
+#define READING_CALLS(CALL) \
+    CALL(look_up, (const uint32_t *addresses, size_t size, yarib_route *answers, size_t room), (addresses, size, answers, room)) \
+    CALL(look_up_one, (uint32_t address, yarib_route *answer), (address, answer)) \
+    CALL(hops, (const uint32_t *addresses, size_t size, uint32_t no_route, uint32_t discard, uint32_t *hops, size_t room), \
+        (addresses, size, no_route, discard, hops, room)) \
+    CALL(look_up_all, (uint32_t address, size_t skip, yarib_route *routes, size_t room, size_t *total), \
+        (address, skip, routes, room, total)) \
+    CALL(routes, (size_t skip, yarib_route *routes, size_t room, size_t *total), (skip, routes, room, total)) \
+    CALL(routes_from, (const yarib_route *from, yarib_route *routes, size_t room, size_t *used), (from, routes, room, used)) \
+    CALL(select, (const yarib_selection *asked, size_t skip, yarib_route *routes, size_t room, size_t *total), \
+        (asked, skip, routes, room, total)) \
+    CALL(count, (size_t *total), (total)) \
+    CALL(fib_is_attached, (uint32_t *attached), (attached)) \
+    CALL(view_sizes, (size_t *blocks, size_t *routers), (blocks, routers))
+
+/* What is in the brackets. */
+#define LIST(...) __VA_ARGS__
 
 /* bindings/build renames the proved calls of these names, and hides them. A proved call must be the only one that uses its handle. */
+#define DECLARE_PROVED(name, parameters, arguments) uint32_t proved_yarib_##name(yarib *table, LIST parameters);
+READING_CALLS(DECLARE_PROVED)
 uint32_t proved_yarib_new(yarib *table, uint32_t limit, uint32_t kind);
 void proved_yarib_free(yarib *table);
 uint32_t proved_yarib_apply(yarib *table, const yarib_command *command, yarib_reply *reply);
 uint32_t proved_yarib_apply_each(yarib *table, const yarib_command *commands, size_t size, yarib_reply *replies, size_t room);
 uint32_t proved_yarib_reserve(yarib *table, size_t entries);
-uint32_t proved_yarib_look_up(yarib *table, const uint32_t *addresses, size_t size, yarib_route *answers, size_t room);
-uint32_t proved_yarib_look_up_one(yarib *table, uint32_t address, yarib_route *answer);
-uint32_t proved_yarib_hops(yarib *table, const uint32_t *addresses, size_t size, uint32_t no_route, uint32_t discard, uint32_t *hops,
-    size_t room);
-uint32_t proved_yarib_look_up_all(yarib *table, uint32_t address, size_t skip, yarib_route *routes, size_t room, size_t *total);
-uint32_t proved_yarib_routes(yarib *table, size_t skip, yarib_route *routes, size_t room, size_t *total);
-uint32_t proved_yarib_routes_from(yarib *table, const yarib_route *from, yarib_route *routes, size_t room, size_t *used);
-uint32_t proved_yarib_select(yarib *table, const yarib_selection *asked, size_t skip, yarib_route *routes, size_t room,
-    size_t *total);
-uint32_t proved_yarib_count(yarib *table, size_t *total);
 uint32_t proved_yarib_journal(yarib *table, size_t skip, yarib_entry *entries, size_t room, size_t *total);
-uint32_t proved_yarib_first_difference(yarib *old_table, yarib *new_table, uint32_t by, uint32_t from,
-    yarib_difference *difference);
+uint32_t proved_yarib_memory(yarib *table, size_t *bytes);
+uint32_t proved_yarib_first_difference(yarib *old_table, yarib *new_table, uint32_t by, uint32_t from, yarib_difference *difference);
 uint32_t proved_yarib_forward(yarib *table, yarib *forwarding);
 uint32_t proved_yarib_share(yarib *forwarding, yarib *other);
 uint32_t proved_yarib_follow(yarib *table);
-uint32_t proved_yarib_fib_is_attached(yarib *table, uint32_t *attached);
-uint32_t proved_yarib_view_sizes(yarib *table, size_t *blocks, size_t *routers);
 uint32_t proved_yarib_view_write(yarib *table, uint32_t *entries, size_t entry_count, uint32_t *blocks, size_t block_count,
     uint32_t *routers, size_t router_count, size_t *used);
-uint32_t proved_yarib_memory(yarib *table, size_t *bytes);
 
 /* Executes an add in a table, during a change of it. */
 struct adder {
@@ -67,34 +86,89 @@ struct adder {
     void *table;
 };
 
-/* Adds the routes of a feed file, as yarib_load does. */
+/* Adds the routes of a feed file, as yarib_load does. `loaded` is zero before. */
 enum yarib_status add_lines(FILE *file, uint32_t feed, const struct adder *adder, yarib_loaded *loaded);
 
-/* The place of a thread, with a cache line of its own: the handle that a call of the thread reads. A reader of a concurrent table also
- * writes the number of publications that it saw before. */
+/* A place, with a cache line of its own: the handle that a call of its owner reads, and the number of publications that the call saw
+ * before it. The owner is a thread, by the address of what is its own. */
 struct place {
     const void *reading;
     uint64_t since;
-    int is_taken;
-    char apart[64 - sizeof(void *) - sizeof(uint64_t) - sizeof(int)];
+    const void *owner;
+    char apart[64 - 2 * sizeof(void *) - sizeof(uint64_t)];
 };
 
-#define PLACES 256
+/* What is a thread's own: its place, if it has one; the place that was last lent to it, and how many are; whether it has requested a
+ * place of its own. */
+struct thread {
+    struct place *place, *lent;
+    unsigned lent_places;
+    bool is_known;
+};
 
-extern struct place places[PLACES];
+/* bindings/build puts what is a thread's own into the memory that it begins with. Other such memory is allocated when it is first used. */
+extern __thread struct thread this_thread;
 
-/* The number of places in use, and the number of the first places that were ever in use. */
-extern int taken, used;
+/* The mark of a handle's word that a change, or an end, has under way. Its upper 16 bits then tell a child of a fork from its parent. */
+#define CHANGING ((uintptr_t)1)
+#define CONTENTS (((uintptr_t)1 << 48) - 1 - CHANGING)
 
-/* The thread's place. `is_known` is 1 after the thread has requested a place: not every thread gets one. */
-extern __thread struct place *my_place;
-extern __thread int is_known;
+/* A reading call's entry and exit have no calls and few stores of their own: the processor has the next look-up under way only as far as
+ * there is room for both. */
+#define SHORT static inline __attribute__((always_inline))
 
-/* Takes a place for this thread until it ends, if there is one and the kernel has the barrier. */
-void take_place(void);
+/* Enters a reading call with a place that is lent to it, or with one that its thread has from now on. */
+struct place *enter_lent_place(const void *handle, uint64_t since);
 
-/* Executes a barrier in every running thread of the process. Returns 0 if the kernel doesn't. */
-int barrier_everywhere(void);
+/* Enters a reading call of a handle, and returns its place, or null if all are taken. Of a plain table `since` is 0. */
+SHORT struct place *enter_place(const void *handle, uint64_t since)
+{
+    struct place *place = this_thread.place;
+    if (!place || place->reading) return enter_lent_place(handle, since);
+    if (since > 0) __atomic_store_n(&place->since, since, __ATOMIC_RELAXED);
+    __atomic_store_n(&place->reading, handle, __ATOMIC_RELEASE);
+    /* Keeps the compiler from reading the word first; the barrier of a change keeps the processor from it. */
+    __atomic_signal_fence(__ATOMIC_SEQ_CST);
+    return place;
+}
+
+SHORT void leave_place(struct place *place)
+{
+    __atomic_store_n(&place->reading, NULL, __ATOMIC_RELEASE);
+    if (place == this_thread.place) return;
+    this_thread.lent_places--;
+    __atomic_store_n(&place->owner, NULL, __ATOMIC_RELEASE);
+}
+
+/* Marks a handle's word for a change and writes what it was to `found`, or returns why not. */
+enum yarib_status mark(void **word, void **found);
+
+SHORT bool is_marked(const void *word)
+{
+    return ((uintptr_t)word & CHANGING) != 0;
+}
+
+/* Returns a word with these contents and the mark of a change. */
+void *marked(const void *contents);
+
+/* Says why a call finds a word marked: YARIB_BUSY, or YARIB_FORKED if the thread that marked it isn't in this process. */
+enum yarib_status status_of_mark(const void *word);
+
+/* Has every reader that entered before seen in its place. Returns YARIB_NO_BARRIER if the kernel refuses it. */
+enum yarib_status see_readers(void);
+
+/* The publication that all calls under way came before. */
+#define NEVER UINT64_MAX
+
+/* Returns true if a call is under way that reads the handle and may have read its word before this publication: one of this thread, or
+ * any, of which it knows only after see_readers. */
+bool is_read(const void *handle, uint64_t published, bool is_here);
+
+/* Waits until no such call is left. Returns YARIB_BUSY if one is this thread's, and YARIB_NO_BARRIER if it can't know of all. */
+enum yarib_status wait_for_readers(const void *handle, uint64_t published);
+
+/* Rests before the next attempt. `times` is 0 at first. */
+void rest(unsigned *times);
 
 #pragma GCC visibility pop
 

@@ -349,7 +349,8 @@ static void names(void)
     CHECK(strcmp(yarib_status_text(YARIB_DONE), "done") == 0 && strcmp(yarib_status_text(YARIB_BUSY), "busy") == 0);
     CHECK(strcmp(yarib_status_text(YARIB_WRONG_KIND), "wrong kind") == 0);
     CHECK(strcmp(yarib_status_text(YARIB_BAD_FILE), "bad file") == 0 && strcmp(yarib_status_text(YARIB_NOT_ADDED), "not added") == 0);
-    CHECK(strcmp(yarib_status_text((enum yarib_status)14), "unknown status") == 0);
+    CHECK(strcmp(yarib_status_text(YARIB_NO_BARRIER), "no barrier") == 0 && strcmp(yarib_status_text(YARIB_FORKED), "forked") == 0);
+    CHECK(strcmp(yarib_status_text((enum yarib_status)16), "unknown status") == 0);
 }
 
 /* The feeds of these prefixes are the same in each language's package. */

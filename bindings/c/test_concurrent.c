@@ -23,9 +23,14 @@ static yarib_concurrent table = YARIB_CONCURRENT_EMPTY;
 /* The same routes as the published table, by a table of its own. */
 static yarib model = YARIB_EMPTY;
 
-/* What this thread does during its next call for memory. */
+/* What this thread does during its next call for memory, and whether that is refused. */
 static __thread void (*inside)(void);
+static __thread bool is_refused;
 static int entered;
+
+/* The block of this size or a larger one that was given last, until it is given back. */
+enum { LARGE = 100000 };
+static void *large;
 
 static void meet(void)
 {
@@ -38,7 +43,10 @@ struct tried rattle_alloc(size_t size, size_t alignment)
 {
     (void)alignment;
     meet();
-    return (struct tried){true, malloc(size ? size : 1)};
+    if (is_refused) return (struct tried){false, &large};
+    void *block = malloc(size ? size : 1);
+    if (size >= LARGE) large = block;
+    return (struct tried){true, block};
 }
 
 struct tried rattle_realloc(void *block, size_t kept, size_t size, size_t alignment)
@@ -51,6 +59,7 @@ struct tried rattle_realloc(void *block, size_t kept, size_t size, size_t alignm
 
 void rattle_dealloc(void *block)
 {
+    if (block == large) large = NULL;
     free(block);
 }
 
@@ -256,10 +265,86 @@ static void change_many(void)
     }
 }
 
+/* The list of a large batch is used for smaller ones if there is no memory for another one, and else given back. */
+static void keep_lists(void)
+{
+    enum { MANY = 5000 };
+    static yarib_command batch[MANY];
+    static yarib_reply replies[MANY];
+    begin();
+    for (uint32_t k = 0; k < MANY; k++) batch[k] = command(YARIB_REPLACE, 1, k % 20 << 24, 8, k);
+    CHECK(yarib_concurrent_apply_each(&table, batch, MANY, replies, MANY) == YARIB_DONE && large != NULL);
+    CHECK(yarib_apply_each(&model, batch, MANY, replies, MANY) == YARIB_DONE);
+    is_refused = true;
+    for (uint32_t k = 0; k < 3; k++) change(command(YARIB_REPLACE, 1, k << 24, 8, 7));
+    is_refused = false;
+    CHECK(large != NULL);
+    change(command(YARIB_REPLACE, 1, 0, 8, 8));
+    CHECK(large == NULL);
+    compare_both();
+}
+
+/* An end of the table inside a reading call of its own thread is busy. A new table is published, and the call goes on with its own. */
+static void end_in_own_call(void)
+{
+    size_t total;
+    CHECK(yarib_concurrent_free(&table) == YARIB_BUSY && yarib_concurrent_fib_attach(&table) == YARIB_BUSY);
+    CHECK(yarib_concurrent_count(&table, &total) == YARIB_DONE && total == 20);
+    CHECK(yarib_concurrent_new(&table, LIMIT) == YARIB_DONE && yarib_concurrent_count(&table, &total) == YARIB_DONE && total == 0);
+    CHECK(yarib_concurrent_new(&table, LIMIT) == YARIB_BUSY);
+    entered++;
+}
+
+static void reader_meets_end(void)
+{
+    static yarib_route found[ROOM], expected[ROOM];
+    const yarib_command one = add(7, 7);
+    yarib_reply reply;
+    size_t total, right;
+    begin();
+    change(command(YARIB_DUMP, 1, 0, 0, 0));
+    CHECK(yarib_routes(&model, 0, expected, ROOM, &right) == YARIB_DONE);
+    entered = 0;
+    inside = end_in_own_call;
+    CHECK(yarib_concurrent_routes(&table, 0, found, ROOM, &total) == YARIB_DONE && total == right && entered == 1);
+    CHECK(memcmp(found, expected, sizeof found) == 0);
+    for (int k = 0; k < 2; k++) CHECK(yarib_concurrent_apply(&table, &one, &reply) == YARIB_DONE);
+    CHECK(reply.code == YARIB_EXISTS && yarib_concurrent_count(&table, &total) == YARIB_DONE && total == 1);
+    entered = 0;
+}
+
+/* A table grows between the calls of a save, which list its routes: the file has those of one table. */
+static bool is_plain;
+
+static void grow(void)
+{
+    const yarib_command one = add(150, 1);
+    yarib_reply reply;
+    enum yarib_status status = is_plain ? yarib_apply(&model, &one, &reply) : yarib_concurrent_apply(&table, &one, &reply);
+    if (status == YARIB_BUSY) inside = grow;
+    else CHECK(status == YARIB_DONE && reply.code == YARIB_ADDED);
+}
+
+static void save_meets_changes(void)
+{
+    for (int k = 0; k < 2; k++) {
+        FILE *file = tmpfile();
+        yarib copy = YARIB_EMPTY;
+        yarib_loaded loaded;
+        is_plain = k;
+        begin();
+        inside = grow;
+        CHECK(file && (is_plain ? yarib_save(&model, 1, file) : yarib_concurrent_save(&table, 1, file)) == YARIB_DONE);
+        rewind(file);
+        CHECK(yarib_new(&copy, LIMIT, YARIB_PLAIN) == YARIB_DONE && yarib_load(&copy, 1, file, &loaded) == YARIB_DONE);
+        CHECK(inside == NULL && loaded.routes == 21 && yarib_free(&copy) == YARIB_DONE && fclose(file) == 0);
+    }
+}
+
 static sem_t is_inside, may_leave;
 static atomic_int is_over, is_held;
 static yarib other = YARIB_EMPTY;
-static bool is_counted;
+static bool is_lent;
 
 static void stop(void)
 {
@@ -275,13 +360,13 @@ static void read_held(void)
     CHECK(yarib_concurrent_routes(&table, 0, held_routes, ROOM, &held_total) == YARIB_DONE);
 }
 
-/* A reading call that stops where it is: with a place, or inside another call of its thread, so that it is counted. */
+/* A reading call that stops where it is: with its thread's place, or inside another call of it, so with a place that is lent. */
 static void *reader(void *unused)
 {
     yarib_route route;
     size_t total;
     inside = read_held;
-    if (is_counted) CHECK(yarib_routes(&other, 0, &route, 1, &total) == YARIB_DONE);
+    if (is_lent) CHECK(yarib_routes(&other, 0, &route, 1, &total) == YARIB_DONE);
     else read_held();
     return unused;
 }
@@ -321,8 +406,6 @@ static void reader_is_held(void)
     pthread_t threads[2];
     size_t right, total;
     begin();
-    /* A change waits also for a counted reader that began after the previous publication: so let no publication be unfinished. */
-    if (is_counted) change(command(YARIB_DUMP, 1, 0, 0, 0));
     CHECK(yarib_routes(&model, 0, expected, ROOM, &right) == YARIB_DONE);
     CHECK(pthread_create(&threads[0], NULL, reader, NULL) == 0 && sem_wait(&is_inside) == 0);
     if (way == CHANGE) change(add(70, 70));
@@ -411,7 +494,7 @@ static void reader_is_held_in_each_way(void)
 {
     for (int k = 0; k < 2 * WAYS; k++) {
         way = k % WAYS;
-        is_counted = k >= WAYS;
+        is_lent = k >= WAYS;
         reader_is_held();
     }
 }
@@ -421,7 +504,8 @@ static const struct {
     const char *name;
     void (*run)(void);
 } tests[] = {{"statuses", statuses}, {"change_meets_readers", change_meets_readers}, {"reader_meets_changes", reader_meets_changes},
-    {"change_at_random", change_at_random}, {"change_many", change_many}, {"reader_is_held", reader_is_held_in_each_way}};
+    {"change_at_random", change_at_random}, {"change_many", change_many}, {"keep_lists", keep_lists},
+    {"reader_meets_end", reader_meets_end}, {"save_meets_changes", save_meets_changes}, {"reader_is_held", reader_is_held_in_each_way}};
 
 /* With a word, only the test of this name is run; the status is 2 if there is none. */
 int main(int size, char **words)

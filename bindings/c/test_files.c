@@ -327,10 +327,13 @@ static void refuse(void)
     FILE *file = opened(&stream, "w"), *from = opened(&lines, "r");
     yarib_loaded loaded = {77, 78, 79};
     CHECK(save(0, file) == YARIB_NOTHING && load(YARIB_MAX_FEED + 1, from, &loaded) == YARIB_NOTHING);
+    CHECK(loaded.routes == 0 && loaded.line == 0 && loaded.code == 0);
     CHECK(new_table(3) == YARIB_DONE);
-    for (uint32_t k = 0; k < 3; k++) {
-        const uint32_t feeds[] = {0, YARIB_MAX_FEED + 1, 0xffffffff};
+    for (uint32_t k = 0; k < 5; k++) {
+        const uint32_t feeds[] = {0, YARIB_MAX_FEED + 1, 0xffffffff, 257, 65537};
+        loaded = (yarib_loaded){77, 78, 79};
         CHECK(save(feeds[k], file) == YARIB_BAD_NUMBER && load(feeds[k], from, &loaded) == YARIB_BAD_NUMBER);
+        CHECK(loaded.routes == 0 && loaded.line == 0 && loaded.code == 0);
     }
     if (!is_concurrent) {
         CHECK(yarib_fib_new(&plain, &other) == YARIB_DONE);
@@ -338,11 +341,9 @@ static void refuse(void)
         CHECK(yarib_save(&other, 1, file) == YARIB_WRONG_KIND && yarib_load(&other, 1, from, &loaded) == YARIB_WRONG_KIND);
         CHECK(yarib_new(&other, 3, YARIB_JOURNALED) == YARIB_DONE);
         CHECK(loaded_from("add 1.0.0.0/8 1 2.2.2.2", 23, YARIB_MAX_FEED, &loaded) == YARIB_DONE && loaded.routes == 1);
-        loaded = (yarib_loaded){77, 78, 79};
         CHECK(yarib_free(&other) == YARIB_DONE);
     }
     CHECK(fflush(file) == 0 && stream.at == 0 && lines.at == 0);
-    CHECK(loaded.routes == 77 && loaded.line == 78 && loaded.code == 79);
     CHECK(fclose(file) == 0 && fclose(from) == 0);
     free_table();
 }

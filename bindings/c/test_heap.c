@@ -2,10 +2,9 @@
  * the time of the program's next allocation; and the state after a refusal and after a fork. */
 #define _DEFAULT_SOURCE
 #include "check.h"
+#include "layer.h"
 
 #include <pthread.h>
-#include <stdbool.h>
-#include <stdint.h>
 #include <string.h>
 #include <sys/mman.h>
 #include <sys/prctl.h>
@@ -13,18 +12,6 @@
 #include <sys/wait.h>
 #include <time.h>
 #include <unistd.h>
-
-struct tried {
-    bool ok;
-    void *block;
-};
-struct tried rattle_alloc(size_t size, size_t alignment);
-struct tried rattle_realloc(void *block, size_t kept, size_t size, size_t alignment);
-void rattle_dealloc(void *block);
-void begin_frees(void);
-void end_frees(void);
-void begin_filling(void);
-void end_filling(void);
 
 enum { THREADS = 4, SHELVES = 512, CALLS = 200000 };
 
@@ -88,12 +75,13 @@ static void visit(struct held *one, uint64_t *last)
 
 static void *work(void *seed)
 {
+    static __thread struct frees frees;
     uint64_t last = (uintptr_t)seed;
     for (int k = 0; k < (is_watched ? CALLS / 5 : CALLS); k++) {
         uint32_t shelf = draw(&last, SHELVES), end = draw(&last, 400);
         /* Half of the time blocks are kept to be freed together. */
         if (end == 0) end_frees();
-        if (end == 1) begin_frees();
+        if (end == 1) begin_frees(&frees);
         pthread_mutex_lock(&locks[shelf]);
         visit(&shelves[shelf], &last);
         pthread_mutex_unlock(&locks[shelf]);
@@ -174,6 +162,19 @@ static size_t space_bytes(void)
     return pages * 4096;
 }
 
+/* Returns the size of what the process may write to, which the kernel gives at once if memory is locked. */
+static size_t writable_bytes(void)
+{
+    char line[256];
+    size_t kilobytes = 0;
+    FILE *file = fopen("/proc/self/status", "r");
+    CHECK(file);
+    while (fgets(line, sizeof line, file) && sscanf(line, "VmData: %zu", &kilobytes) != 1) continue;
+    fclose(file);
+    CHECK(kilobytes > 0);
+    return kilobytes * 1024;
+}
+
 /* Returns true if the kernel gives huge pages to a process that asks for them by madvise. */
 static bool has_huge_pages(void)
 {
@@ -199,6 +200,7 @@ static void *many[MANY];
  * given back. */
 static void give_back_many(bool is_kept)
 {
+    struct frees frees;
     uint64_t last = 5;
     for (size_t k = 0; k < MANY; k++) many[k] = NULL;
     size_t before = resident_bytes();
@@ -215,7 +217,7 @@ static void give_back_many(bool is_kept)
     }
     size_t full = resident_bytes();
     if (has_huge_pages()) CHECK(huge_bytes() >= 32 << 20);
-    if (is_kept) begin_frees();
+    if (is_kept) begin_frees(&frees);
     for (size_t k = 0; k < MANY; k++) {
         CHECK(*(unsigned char *)many[k] == 1);
         rattle_dealloc(many[k]);
@@ -247,6 +249,32 @@ static void take_few(void)
     }
     CHECK(resident_bytes() <= before + (1 << 18));
     for (size_t k = 0; k < 1000; k++) rattle_dealloc(many[k]);
+}
+
+/* The heap may write to little more than what it has given out, and so takes no more if memory is locked: a small table takes less than
+ * a MiB, and a large one no more than twice its size. */
+static void open_in_steps(void)
+{
+    struct tried one = rattle_alloc(2000, 8), other = rattle_alloc(2000, 8);
+    size_t before = writable_bytes(), resident = resident_bytes();
+    CHECK(one.ok && other.ok);
+    bool is_locked = mlockall(MCL_FUTURE) == 0;
+    for (size_t k = 0; k < MANY; k++) {
+        struct tried made = rattle_alloc(40, 8);
+        CHECK(made.ok);
+        many[k] = made.block;
+        size_t given = 40 * (k + 1), most = 2 * given + (1 << 20);
+        if ((k & (k + 1)) != 0) continue;
+        CHECK(writable_bytes() <= before + most);
+        if (is_locked) CHECK(resident_bytes() <= resident + most);
+    }
+    struct tried large = rattle_alloc(8 << 20, 8);
+    CHECK(large.ok && writable_bytes() <= before + 2 * 40 * (size_t)MANY + (10 << 20));
+    rattle_dealloc(large.block);
+    CHECK(munlockall() == 0);
+    for (size_t k = 0; k < MANY; k++) rattle_dealloc(many[k]);
+    rattle_dealloc(one.block);
+    rattle_dealloc(other.block);
 }
 
 static void give_back(void)
@@ -438,7 +466,7 @@ static void call_and_fork(void)
 static const struct {
     const char *name;
     void (*run)(void);
-} tests[] = {{"few", take_few}, {"calls", call_threads}, {"forks", call_and_fork}, {"give_back", give_back},
+} tests[] = {{"steps", open_in_steps}, {"few", take_few}, {"calls", call_threads}, {"forks", call_and_fork}, {"give_back", give_back},
     {"give_back_together", give_back_together}, {"resizes", resize_large}, {"large", map_large}, {"fills", fill_large}, {"large_refused", map_refused}, {"refuse", refuse}};
 
 /* With a word, only the test of this name is run; the status is 2 if there is none. With a second word, a sanitizer or valgrind runs

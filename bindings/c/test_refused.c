@@ -218,6 +218,12 @@ static int refuse_concurrent(long number, int is_attached, int *late)
         ask_concurrent(&table, 0, none);
         refused++;
     }
+    /* Both sides have a forwarding table, also after a refusal. */
+    for (uint32_t k = 0; k < 2 && is_attached && refused_call == 0; k++) {
+        uint32_t attached = 0;
+        CHECK(yarib_concurrent_fib_is_attached(&table, &attached) == YARIB_DONE && attached == 1);
+        apply_concurrent(&table, put_command(k ? YARIB_WITHDRAW : YARIB_ADD, 1, 9u << 24, 8, 0, 9), 0, none);
+    }
     for (uint32_t k = 0; k < first; k++) {
         yarib_command command = put_command(YARIB_ADD, 1, k << 24, k % 3 ? 8 : 25, k, k);
         apply_concurrent(&table, command, k, none);

@@ -5,7 +5,7 @@
  *
  *     #include <yarib.h>
  *
- *     yarib table = YARIB_EMPTY;
+ *     yarib table = YARIB_INIT;
  *     if (yarib_new(&table, 1000000, YARIB_PLAIN) != YARIB_DONE) return 1;
  *     yarib_command add = {.operation = YARIB_ADD, .feed = 1, .base = 0x0a000000, .len = 8, .pref = 10,
  *                          .hop = YARIB_VIA, .via = 0xc0000201};
@@ -21,10 +21,10 @@
  * Statuses. Every call returns an enum yarib_status, except yarib_version, yarib_build and yarib_status_text, which return strings, and
  * yarib_view_look_up. YARIB_DONE
  * is 0. If a call returns another status, the handles are unchanged and nothing was written, except by yarib_save, yarib_load and
- * the same calls of a concurrent table. If several statuses apply, the call returns the first of them in this order: YARIB_BUSY (any
- * call with a handle), then the call's Errors as they are listed, from left to right.
+ * the same calls of a concurrent table. If several statuses apply, the call returns the first of them in this order: YARIB_FORKED,
+ * YARIB_NO_BARRIER and YARIB_BUSY (any call with a handle), then the call's Errors as they are listed, from left to right.
  *
- * Ownership. Initialize a handle with YARIB_EMPTY, fill it with yarib_new, yarib_fib_new or yarib_fib_clone, and release it with yarib_free;
+ * Ownership. Initialize a handle with YARIB_INIT, fill it with yarib_new, yarib_fib_new or yarib_fib_clone, and release it with yarib_free;
  * a second yarib_free is harmless. Never copy a handle: both copies would own its contents. Passing a pointer to it is
  * fine. No call keeps a pointer to your arrays, strings or structs.
  *
@@ -33,10 +33,43 @@
  * YARIB_BUSY and does nothing. If any call begins while a change uses the handle, that call returns YARIB_BUSY and does nothing. The
  * call that was there first isn't affected; if two begin at the same time, both may return YARIB_BUSY. Nothing waits, and no call can
  * damage what a handle holds. So call again later; or protect the handle with a read-write lock of your own, and no call is ever
- * busy. While it runs, a reading call may count itself in the handle, so don't declare a handle const. After a fork, a handle that
- * another thread was using stays busy in the child.
+ * busy. While 1,024 reading calls in threads after the 256th are under way, the next one in such a thread is busy too.
  * Only a concurrent table (yarib_concurrent_new) is different: its readers are never busy and never wait, and a change of it may wait
  * for readers. It takes twice the memory.
+ *
+ * Daemons. In the child of a fork, every handle works that no other thread was changing. One that was being changed returns
+ * YARIB_FORKED, except from the reading calls of a concurrent table. Changes need the kernel's call membarrier, if other threads have read
+ * before: a sandbox that forbids it later makes every change YARIB_NO_BARRIER. No call is a point where its thread is cancelled.
+ * docs/DAEMON.md of the repository says more.
+ *
+ * Costs. n is the number of routes, k that of the elements which the call is given, writes or removes. Each route that is looked up, added,
+ * changed or withdrawn takes at most 33 steps down a tree. F is the work for the entries of an attached forwarding table that a prefix
+ * covers: 2 to the power of 24 less the prefix's length, at least 1, and rarely all of them. The last column says whether a signal
+ * handler may make the call, also during any other call of its thread.
+ *
+ *     Call                                           Cost           Allocates    Waits             In a handler
+ *     yarib_new                                      1, n to free   yes          no                no
+ *     yarib_free                                     n              no           no                no
+ *     yarib_apply, yarib_apply_each                  k (1 + F)      for adds     no                no
+ *     yarib_reserve                                  n              yes          no                no
+ *     yarib_load                                     k (1 + F)      yes          for the file      no
+ *     yarib_save                                     n              yes          for the file      no
+ *     yarib_look_up, yarib_hops                      k              no           no                yes
+ *     yarib_look_up_one, yarib_look_up_text          1              no           no                yes
+ *     yarib_look_up_all, yarib_select                k              yes          no                no
+ *     yarib_routes                                   n              yes          no                no
+ *     yarib_routes_from, yarib_journal               k              no           no                yes
+ *     yarib_count, yarib_memory                      1              no           no                yes
+ *     yarib_fib_is_attached, yarib_view_sizes        1              no           no                yes
+ *     yarib_first_difference                         n              no           no                yes
+ *     yarib_fib_new, yarib_fib_attach                n + 2^24       yes          no                no
+ *     yarib_fib_clone                                1              yes          no                no
+ *     yarib_view_write                               n + 2^24       yes          no                no
+ *     yarib_view_look_up, yarib_view_look_up_each    k              no           no                yes
+ *     yarib_prefix_parse and the other texts         1              no           no                yes
+ *
+ * Each call of a concurrent table costs what the same call of a table does, and may be made in a handler if that may. A change takes
+ * twice as long, and waits for readers; so do yarib_concurrent_new and yarib_concurrent_free.
  *
  * Pointers must not be null, even for arrays without elements. No memory that a call writes may overlap other memory that is
  * passed to it. If a call takes two handles, they must be different. Define YARIB_CHECK to have these rules tested by
@@ -67,8 +100,10 @@ typedef struct yarib {
     void *inside;
 } yarib;
 
-/* An empty handle, for initialization and assignment. Don't assign it to a handle that holds something, since its contents would
- * leak: call yarib_free. A static handle is empty without it. */
+/* The initializer of an empty handle, also of a static one, in C and C++. */
+#define YARIB_INIT {NULL}
+
+/* An empty handle, for assignment. Don't assign it to a handle that holds something, since its contents would leak: call yarib_free. */
 #ifdef __cplusplus
 #define YARIB_EMPTY (yarib())
 #else
@@ -97,7 +132,9 @@ enum yarib_status {
     YARIB_WRONG_KIND = 10,  /* the handle holds something that doesn't support this call */
     YARIB_BUSY = 11,        /* another call uses the handle */
     YARIB_BAD_FILE = 12,    /* the file can't be read or written */
-    YARIB_NOT_ADDED = 13    /* a file's route isn't added: its feed has one to this prefix, or is at its limit */
+    YARIB_NOT_ADDED = 13,   /* a file's route isn't added: its feed has one to this prefix, or is at its limit */
+    YARIB_NO_BARRIER = 14,  /* the kernel refuses the call membarrier, which it allowed before */
+    YARIB_FORKED = 15       /* a thread of the parent process was changing the handle when this process was forked */
 };
 
 /* The compiler warns of a call whose status isn't used. */
@@ -220,7 +257,7 @@ typedef struct yarib_difference {
 YARIB_STATUS yarib_new(yarib *table, uint32_t limit, uint32_t kind);
 
 /* Frees the contents of the handle, which is empty then. A handle that is empty already, even one that was never filled, stays empty.
- * Returns YARIB_DONE or YARIB_BUSY. */
+ * Returns YARIB_DONE, YARIB_BUSY, YARIB_NO_BARRIER or YARIB_FORKED. */
 enum yarib_status yarib_free(yarib *table);
 
 /* Executes a command, writes its reply, and appends both to the journal if there is one. For a table without a journal, only an
@@ -396,7 +433,7 @@ YARIB_STATUS yarib_memory(const yarib *table, size_t *bytes);
  * written; errno says why). */
 YARIB_STATUS yarib_save(const yarib *table, uint32_t feed, FILE *file);
 
-/* The result of yarib_load. */
+/* The result of yarib_load. It is written by every call, also by one that fails: then with zeros, unless a line was read. */
 typedef struct yarib_loaded {
     size_t routes; /* the number of routes that were added */
     size_t line;   /* the number of the last line that was read, from 1: if a line's route can't be added, the number of this line */
@@ -406,7 +443,7 @@ typedef struct yarib_loaded {
 /* Adds the routes of a feed file to the feed, from the current position of the file to its end, and writes what it did to `loaded`. Each
  * line that isn't empty or a comment must be an add. It stops at the first line that can't be added, after which it doesn't read on;
  * the routes of the lines before it stay. The whole call is one change: meanwhile other calls on the handle are busy, however long the
- * file takes. Don't cancel its thread. Memory is allocated only for routes, and by the C library for the file.
+ * file takes. Its thread isn't cancelled meanwhile. Memory is allocated only for routes, and by the C library for the file.
  * Errors, without a result: YARIB_NOTHING, YARIB_BAD_NUMBER (the feed), YARIB_WRONG_KIND.
  * Errors, with a result: YARIB_BAD_FILE (the file can't be read, or its error indicator was set before), YARIB_BAD_TEXT (the line isn't an
  * add), YARIB_BAD_LENGTH, YARIB_BAD_BITS, YARIB_NO_MEMORY, YARIB_NOT_ADDED. */
@@ -420,33 +457,36 @@ YARIB_STATUS yarib_load(yarib *table, uint32_t feed, FILE *file, yarib_loaded *l
  * returns: reading calls that begin later see it.
  *
  * Only one change runs at a time: during another change, or during yarib_concurrent_new or yarib_concurrent_free, it returns
- * YARIB_BUSY. A change waits for each reading call that began before the previous publication and still runs. While over 256
- * threads that have called this library exist, it also waits for every reading call under way in the threads after the 256th.
+ * YARIB_BUSY. A change waits for each reading call that began before the previous publication and still runs. While 1,024 reading
+ * calls in threads after the 256th are under way, the next one in such a thread waits for one of them.
  *
  * It takes twice the memory of a table, since it holds two: readers use one while a change is made in the other. It also holds the
  * commands of the last change, 24 bytes each. If a change returns YARIB_NO_MEMORY, it is not made, and readers have the
  * published table. This may happen to every change, also to a withdrawal, as long as no memory is found for the previous one
  * in the second table.
  *
- * Initialize a handle with YARIB_CONCURRENT_EMPTY, never copy it, and don't declare it const. It must exist as long as a call may use it.
- * In the child of a fork, don't use a handle that another thread was using. */
+ * Initialize a handle with YARIB_CONCURRENT_INIT and never copy it. It must exist as long as a call may use it. In the child of a fork,
+ * after a change of another thread was under way, its reading calls go on with the published table, and its changes return YARIB_FORKED. */
 typedef struct yarib_concurrent {
     void *inside;
 } yarib_concurrent;
 
+/* As YARIB_INIT and YARIB_EMPTY. */
+#define YARIB_CONCURRENT_INIT {NULL}
 #ifdef __cplusplus
 #define YARIB_CONCURRENT_EMPTY (yarib_concurrent())
 #else
 #define YARIB_CONCURRENT_EMPTY ((yarib_concurrent){NULL})
 #endif
 
-/* Creates an empty table that allows each feed up to `limit` routes. If it succeeds, the handle's previous contents are freed, as by
- * yarib_concurrent_free.
+/* Creates an empty table that allows each feed up to `limit` routes. If it succeeds, the handle's previous contents are freed after the last
+ * reading call that uses them: it waits for those calls, except for one of its own thread, which the next change waits for.
  * Errors: YARIB_BAD_NUMBER, YARIB_NO_MEMORY. */
 YARIB_STATUS yarib_concurrent_new(yarib_concurrent *table, uint32_t limit);
 
 /* Frees the contents of the handle, which is empty then: reading calls that begin later return YARIB_NOTHING. Any thread may call it at
- * any time. It waits for the reading calls that run. Returns YARIB_DONE, or YARIB_BUSY during a change. */
+ * any time. It waits for the reading calls that run. Returns YARIB_DONE; YARIB_BUSY during a change, or a reading call of its own
+ * thread; YARIB_NO_BARRIER; or YARIB_FORKED. */
 enum yarib_status yarib_concurrent_free(yarib_concurrent *table);
 
 /* Executes a command, writes its reply, and publishes the table.
@@ -460,7 +500,7 @@ YARIB_STATUS yarib_concurrent_apply_each(yarib_concurrent *table, const yarib_co
     yarib_reply *replies, size_t room);
 
 /* Attaches a forwarding table to each of the two tables, 128 MiB or more together, as yarib_fib_attach does. It waits for the reading
- * calls that run. If it returns YARIB_NO_MEMORY, one of the two may have a forwarding table. If a later change finds no memory to
+ * calls that run. If it returns YARIB_NO_MEMORY or YARIB_NO_BARRIER, one of the two may have a forwarding table. If a later change finds no memory to
  * update one of them, that one is freed, and look-ups in its table are slower until this is called again; the answers stay right.
  * Errors: YARIB_NOTHING, YARIB_NO_MEMORY. */
 YARIB_STATUS yarib_concurrent_fib_attach(yarib_concurrent *table);
@@ -468,7 +508,7 @@ YARIB_STATUS yarib_concurrent_fib_attach(yarib_concurrent *table);
 /* Adds the routes of a feed file, as yarib_load does. It publishes the table at the end, and after each 1,024 routes before. The
  * whole call is one change: meanwhile other changes are busy. Its errors are those of yarib_load except YARIB_WRONG_KIND. If it returns
  * YARIB_NO_MEMORY, the line that it reports may be the first one, since no memory is found for the previous change.
- * YARIB_BUSY comes with a result if a reading call of this thread began before the call. */
+ * YARIB_BUSY comes with a result if a reading call of this thread began before the call, and YARIB_NO_BARRIER if it is refused meanwhile. */
 YARIB_STATUS yarib_concurrent_load(yarib_concurrent *table, uint32_t feed, FILE *file, yarib_loaded *loaded);
 
 /* The reading calls. Each does what the call without `concurrent` in its name does to a table, and has its errors except YARIB_BUSY and
