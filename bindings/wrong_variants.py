@@ -287,7 +287,7 @@ C = {f"{file.partition('.')[0]}: {name}": (file, *texts) for file, wrong in {
         "readers aren't waited for": ("    while (is_read(handle, published, false)) rest(&times);\n", "    (void)times;\n"),
         "a change that waits is cancelled": ("        syscall(SYS_nanosleep, &nap, NULL);\n", "        nanosleep(&nap, NULL);\n"),
         "a change that waits yields": ("        syscall(SYS_nanosleep, &nap, NULL);\n", "        sched_yield();\n"),
-        "a change that waits spins": ("    if (*times >= SPINS) {", "    if (*times >= 99 * SPINS) {"),
+        "a change that waits spins": ("    if (*times < SPINS) {", "    if (*times < 99 * SPINS) {"),
         "a busy handle is taken twice": ("    if (is_marked(*found)) return status_of_mark(*found);\n",
                                          "    *found = (void *)((uintptr_t)*found & CONTENTS);\n    *word = *found;\n"),
         "a change of the parent is busy for ever": ("return (uintptr_t)word >> 48 == forks ? YARIB_BUSY : YARIB_FORKED;",

@@ -28,8 +28,9 @@ enum { PLACES = 1024, OWN_PLACES = 256 };
 /* glibc keeps the values of so many keys in the thread itself, and allocates memory for those of others. */
 enum { KEYS_OF_THREAD = 32 };
 
-/* A change that waits spins this often before it naps, twice as long each time. */
-enum { SPINS = 7 };
+/* A change that waits spins so often, twice as long each time, and then naps, twice as long after so many naps: so a nap takes about a
+ * tenth of the time that it has waited. */
+enum { SPINS = 7, NAPS = 8, NAPS_THAT_GROW = 12 * NAPS };
 
 __thread struct thread this_thread;
 
@@ -168,13 +169,13 @@ bool is_read(const void *handle, uint64_t published, bool is_here)
  * C library's call would be a point where the thread may be cancelled, and would leave its change for good. */
 void rest(unsigned *times)
 {
-    const struct timespec nap = {.tv_nsec = 50000};
-    if (*times >= SPINS) {
+    if (*times < SPINS) {
+        for (unsigned k = 0; k < 1u << *times; k++) __builtin_ia32_pause();
+    } else {
+        const struct timespec nap = {.tv_nsec = 50000L << (*times - SPINS) / NAPS};
         syscall(SYS_nanosleep, &nap, NULL);
-        return;
     }
-    for (unsigned k = 0; k < 1u << *times; k++) __builtin_ia32_pause();
-    ++*times;
+    if (*times < SPINS + NAPS_THAT_GROW) ++*times;
 }
 
 enum yarib_status wait_for_readers(const void *handle, uint64_t published)
