@@ -13,9 +13,16 @@ PYTHON = {
     "a call's room is given back too early": (TABLES, "            if self._held.yarib_look_up_one(self._at, asked, room.at):\n",
                                               "            rooms.append(room)\n"
                                               "            if self._held.yarib_look_up_one(self._at, asked, room.at):\n"),
-    "a command's room is given back too early": (TABLES, "        if self._changing.yarib_apply(self._at, command, room.at):\n",
-                                                 "        rooms.append(room)\n"
-                                                 "        if self._changing.yarib_apply(self._at, command, room.at):\n"),
+    "a command's room is given back too early": (TABLES, "        if apply(self._at, command, room.at):\n",
+                                                 "        rooms.append(room)\n        if apply(self._at, command, room.at):\n"),
+    "a signal handler waits for its thread": (TABLES, "threading.RLock()", "threading.Lock()"),
+    "a purge keeps the global lock": (TABLES, "(self._freed if command[0] == c.PURGE else self._changing)", "self._changing"),
+    "a followed table keeps the global lock": (TABLES, "        self._changing = freed\n", ""),
+    "an end keeps the global lock": (TABLES, "            self._freed.yarib_free(self._at)\n", "            self._held.yarib_free(self._at)\n"),
+    "a wide selection keeps the global lock": (TABLES, "part == c.WITHIN and length >= 24 else self._freed", "part == c.ALL else self._freed"),
+    "a refused barrier is an invalid value": (LIBRARY, "    if status in REFUSALS:\n", "    if status in (NOTHING, WRONG_KIND):\n"),
+    "a feed out of range isn't named": (TABLES, "    if status == c.BAD_NUMBER:\n", "    if status == c.BAD_SIZE:\n"),
+    "any number of arguments is a command": (TABLES, "    if len(words) != len(TAKES[operation]):\n", "    if operation == c.LOOKUP and len(words) != 1:\n"),
     "a full feed is overlooked": (TABLES, "{c.EXISTS: Exists, c.FULL: Full, c.MISSING: Missing}", "{c.EXISTS: Exists, c.MISSING: Missing}"),
     **{f"{forgotten[0]} is forgotten in {call}": (TABLES, f"self._select(c.{call.upper()}, prefix_of(prefix), feed, best)",
                                                   f"self._select(c.{call.upper()}, prefix_of(prefix), {forgotten[1]})")
@@ -65,7 +72,8 @@ PYTHON = {
     "numpy's length and hop are exchanged": (TABLES, '"names": ["base", "pref", "via", "feed", "len", "hop"]',
                                              '"names": ["base", "pref", "via", "feed", "hop", "len"]'),
     "reasons are exchanged": (LIBRARY, '"bad text",\n          "bad length"', '"bad length",\n          "bad text"'),
-    "closed and unsupported are exchanged": (LIBRARY, "if status == NOTHING else", "if status != NOTHING else"),
+    "closed and unsupported are exchanged": (LIBRARY, "    NOTHING: \"the table is closed\",\n    WRONG_KIND:",
+                                             "    WRONG_KIND: \"the table is closed\",\n    NOTHING:"),
     "the size without what is attached": (TABLES, '        """Returns an estimate of its size in bytes, including an attached forwarding table."""\n',
                                           '        return bytes_of(self._at) % (1 << 26)\n'),
     "another library is loaded": (LIBRARY, "        return named\n", '        return named.replace(".so.0", ".so")\n'),
@@ -496,6 +504,19 @@ PYTHON = noticed_by({
     ),
     "test_yarib.Threads.test_they_meet_without_the_global_lock": (
         "a command's room is given back too early", "a busy call isn't made again",
+    ),
+    "test_yarib.Daemons.test_a_signal_handler_may_make_any_call": (
+        "a signal handler waits for its thread",
+    ),
+    "test_yarib.Daemons.test_calls_that_keep_the_global_lock_are_short": (
+        "a purge keeps the global lock", "a followed table keeps the global lock", "an end keeps the global lock",
+        "a wide selection keeps the global lock",
+    ),
+    "test_yarib.Daemons.test_a_refusal_of_the_system_is_an_error": (
+        "a refused barrier is an invalid value",
+    ),
+    "test_yarib.Daemons.test_commands_that_are_none": (
+        "a feed out of range isn't named", "any number of arguments is a command",
     ),
     "test_calls.Conventions.test_copies_are_tables_of_their_own": (
         "a full feed is overlooked", "a copy without the limit", "a copy without the journal",

@@ -53,7 +53,10 @@ class Daemons(unittest.TestCase):
                 busy.clear()
                 signal.raise_signal(signal.SIGUSR1)
 
-            old = signal.signal(signal.SIGUSR1, handler)
+            def end(*_):
+                raise TimeoutError("the handler waits")
+
+            old, before = signal.signal(signal.SIGUSR1, handler), signal.signal(signal.SIGALRM, end)
             signal.alarm(20)
             try:
                 with mock.patch.object(c.time, "sleep", pause):
@@ -62,6 +65,7 @@ class Daemons(unittest.TestCase):
             finally:
                 signal.alarm(0)
                 signal.signal(signal.SIGUSR1, old)
+                signal.signal(signal.SIGALRM, before)
             self.assertEqual((handled, len(table)), ([(False, 5)], 2))
 
     def in_child(self, call):
@@ -173,9 +177,17 @@ class Daemons(unittest.TestCase):
                 "yarib_reserve": lambda: table.reserve(5), "yarib_journal": lambda: table.journal(),
                 "yarib_first_difference": lambda: list(table.differences(other)), "yarib_free": yarib.Table,
                 "yarib_apply": lambda: (table.purge(1), other.put("10.0.0.0/24", 1), other.withdraw("10.0.0.0/24"))}
+        keeping = []
+
+        def keep(*words):
+            # What an end raises isn't seen.
+            keeping.append(words)
+            raise AssertionError("this call keeps the lock")
+
         for name, call in wide.items():
-            with mock.patch.object(c.held, name, lambda *_: self.fail(f"{name} keeps the lock")):
+            with mock.patch.object(c.held, name, keep):
                 call()
+        self.assertEqual(keeping, [])
 
     def test_commands_that_are_none(self):
         table = yarib.Table()
