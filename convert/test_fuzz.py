@@ -35,6 +35,8 @@ LINES = [
     ("bird-to-feeds", "bird/other.txt"),
     ("bgpdump-to-feeds", "bgpdump/rib.txt"),
     ("bgpdump-to-feeds", "bgpdump/updates.txt"),
+    ("text-to-feeds", "by-hand/outside.txt"),
+    ("text-to-feeds --separator ,", "by-hand/outside.txt"),
     ("table-to-ip --device 192.0.2.0/24=a --device 198.51.100.0/24=b", "table/run.txt"),
 ]
 # Options that name a file of JSON: the converter, what it reads on standard input, and the file that is changed.

@@ -45,6 +45,12 @@ def keep(name, text):
     path.write_text(text)
 
 
+def keep_file(name, file):
+    path = Kept.folder / name
+    path.parent.mkdir(parents=True, exist_ok=True)
+    path.write_bytes(pathlib.Path(file).read_bytes())
+
+
 def chosen(parts):
     """The names of the parts that the command line chooses, all if it names none; with --root in that directory."""
     reader = argparse.ArgumentParser()
