@@ -712,7 +712,7 @@ C = noticed_by({
     "test_busy": (
         "handles: a change begins beside a reader", "handles: a reader begins beside a change",
         "handles: a reader keeps its place", "handles: a handle is compared with itself", "places: a busy handle is taken twice",
-        "places: a lent place isn't read", "layer: a call inside another takes its place",
+        "places: a lent place isn't read", "layer: a call inside another takes its place", "layer: a lent place stays lent",
     ),
     "test_followed": (
         "handles: attach leaves its memory to changes", "handles: attach fills for good",
@@ -789,7 +789,7 @@ C = noticed_by({
         "places: a key's memory is allocated",
     ),
     "test_readers": (
-        "places: two calls have one place", "layer: a lent place stays lent",
+        "places: two calls have one place",
     ),
     "test_heap give_back": (
         "heap: a slab in use is given back", "heap: no slab is given back", "heap: a block ends after its slab",

@@ -86,7 +86,7 @@ class Copy:
         common = [f"common/{name}.py" for name in ("built", "building", "crates", "prover", "versions")]
         for name in ("yarib", "VERSION", "crates.txt", "tools/build", "tools/common.py", *common, "bindings/build",
                      "bindings/c/yarib.map", "bindings/c/yarib.h", "bindings/c/layer.h",
-                     "bindings/c/handles.c", "bindings/c/readers.c", "bindings/c/files.c", "bindings/c/about.c",
+                     "bindings/c/places.c", "bindings/c/handles.c", "bindings/c/readers.c", "bindings/c/files.c", "bindings/c/about.c",
                      "bindings/c/heap.c"):
             (self.top / name).parent.mkdir(parents=True, exist_ok=True)
             shutil.copy(TOP / name, self.top / name)

@@ -175,6 +175,8 @@ int main(void)
     /* One handle twice is busy with itself. */
     CHECK(yarib_first_difference(&table, &table, 0, 0, &range) == YARIB_BUSY && yarib_forward(&table, &table) == YARIB_BUSY);
     CHECK(yarib_share(&forwarding, &forwarding) == YARIB_BUSY);
+    /* A call inside another one has a place lent to it, which it gives back. */
+    for (int k = 0; k < 3000; k++) CHECK(yarib_first_difference(&table, &other, 0, 0, &range) == YARIB_DONE);
     inside = during_share;
     entered = 0;
     CHECK(yarib_share(&forwarding, &other) == YARIB_DONE && entered == 1);
