@@ -31,7 +31,7 @@ NUMBERS = ("pref",)
 NO_NUMBERS = (0,) * len(NUMBERS)
 # the characters that no feed's name may have: a blank, those that a terminal obeys, and those that change the direction of
 # the text around them
-NOT_IN_NAMES = r" \x00-\x1f\x7f-\x9f\u061c\u200e\u200f\u2028-\u202e\u2066-\u2069"
+NOT_IN_NAMES = r" \x00-\x1f\x7f-\x9f\u061c\u200e\u200f\u202a-\u202e\u2066-\u2069"
 # a route after its prefix, and a whole one
 ROUTE = re.compile(f"feed ([^{NOT_IN_NAMES}]+)" + "".join(f" {name} (0|[1-9][0-9]{{0,9}})" for name in NUMBERS)
                    + r" via (\S+)")
