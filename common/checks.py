@@ -98,7 +98,9 @@ def compiled(folder, source, *options):
 def library_stub(archive):
     """Makes an archive that replaces the one that the prover makes of crates/yarib_c: each of its calls returns 1. It has
     the calls that the layer of C replaces, and those of texts, which the layer uses as they are."""
-    calls = re.findall(r"^\w+ proved_(yarib_\w+)\(", (TOP / "bindings/c/layer.h").read_text(), re.M)
+    layer = (TOP / "bindings/c/layer.h").read_text()
+    calls = re.findall(r"^\w+ proved_(yarib_\w+)\(", layer, re.M)
+    calls += [f"yarib_{name}" for name in re.findall(r"^    CALL\((\w+), ", layer, re.M)]
     calls += set(re.findall(r"\b(yarib_(?:address|prefix)_\w+)\(", (TOP / "bindings/c/yarib.h").read_text()))
     source, compiled_to = archive.with_suffix(".c"), archive.with_suffix(".o")
     source.write_text("".join(f"int {name}(void) {{ return 1; }}\n" for name in calls))
