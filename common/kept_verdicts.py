@@ -13,10 +13,10 @@ import re
 
 from . import kept
 from .crates import CRATES, TOP, below, heads
-from .mutant_lists import bodies_of
+from .mutant_lists import bodies_of, controls_of
 from .rust_sources import Source
 
-SCRIPTS = ("tools/mutants", "common/mutant_lists.py", "common/prover.py", "common/mutant_copy.py", "common/rust_sources.py")
+SCRIPTS = ("tools/mutants", *(f"common/{name}.py" for name in ("mutant_lists", "prover", "mutant_copy", "rust_sources", "crates")))
 CITED = re.compile(r"\bproofs\.([\w.+']+)")
 
 
@@ -100,7 +100,7 @@ class Sums:
         read = [CRATES / body.crate / body.file, *own] if own is not None else [
             path for part in ("src", "specs", "proofs") for path in files(body.crate, part)]
         texts = [(str(path.relative_to(TOP)), self.text_of(path)) for path in read]
-        return self.shared(body.crate), texts, body.name, body.section
+        return self.shared(body.crate), texts, body.name, body.without_goal()
 
 
 def files(crate, part):
@@ -108,18 +108,22 @@ def files(crate, part):
 
 
 class Kept:
-    """What is kept of the bodies of one crate, for the sources as they are when this is made."""
+    """What is kept of the mutants and controls of one crate, for the sources as they are when this is made."""
 
     def __init__(self, crate):
         self.before, self.after = Sums(), None
         self.entries = {body.name: kept.Entry("bodies", lambda body=body: (self.after or self.before).of_body(body))
-                        for body in bodies_of(crate) if body.form}
+                        for body in bodies_of(crate) + controls_of(crate) if body.form}
 
     def said_of(self, body):
-        """Returns what was said of the body as it was refused, or None."""
-        return self.entries[body.name].said() if body.form else None
+        """Returns what was said of the body as it was refused, by the goal that it names, or of the control as it was
+        taken; or None."""
+        said = self.entries[body.name].said() if body.form else None
+        return said if said and (not body.goal or body.is_control or f"`{body.goal}`" in said) else None
 
-    def keep(self, body, said):
-        """Keeps that the body was refused, after all bodies of the crate were tried."""
-        self.after = self.after or Sums()
-        self.entries[body.name].keep(said)
+    def keep(self, results):
+        """Keeps what was said of each of these that are as they must be, unless something has changed since."""
+        self.after = Sums()
+        for body, (is_so, said) in results.items():
+            if is_so:
+                self.entries[body.name].keep(said)

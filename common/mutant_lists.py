@@ -1,11 +1,13 @@
-"""The mutants that crates list in must-fail/mutants.md, each with the function in which the prover refuses it."""
+"""The mutants that crates list in must-fail/mutants.md, each with the function in which the prover refuses it, and the
+controls of must-fail/controls.md, which mean the same as the text that they replace, so that the prover has to take them."""
 import re
 
 from .crates import CRATES
 from .rust_sources import Source
 
 FORM = re.compile(r"([\w-]+)\n\n```\nfile: (src/\S+\.rt)\n((?:old: .+\nnew:.*\n)+)"
-                  r"refused in: ([\w:]+?)(?:: ([\w-]+))?\n(searched: all goals\n)?```\n+")
+                  r"(?:refused|taken) in: ([\w:]+?)(?:: ([\w-]+))?\n(searched: all goals\n)?```\n+")
+NAMED = re.compile(r"^(refused in: [\w:]+?): [\w-]+$", re.M)
 
 
 class BadBody(Exception):
@@ -22,9 +24,13 @@ class Body:
         self.crate, self.section, self.name = crate, section, section.partition("\n")[0]
         self.form = FORM.fullmatch(section)
         _, self.file, pairs, self.function, self.goal, searched = self.form.groups() if self.form else ("",) * 6
-        self.is_searched_whole = bool(searched)
+        self.is_searched_whole, self.is_control = bool(searched), "\ntaken in: " in section
         self.pairs = [tuple(one.replace("⏎", "\n") for one in pair)
                       for pair in re.findall(r"^old: (.+)\nnew: ?(.*)$", pairs, re.M)]
+
+    def without_goal(self):
+        """Returns its text without the name of the goal: a verdict that reports this goal holds with and without it."""
+        return NAMED.sub(r"\1", self.section)
 
     def changed(self, text):
         """Returns the file's text after each pair was replaced, one after another."""
@@ -71,8 +77,29 @@ def listing_crates(crates=CRATES):
     return sorted(file.parent.parent.name for file in crates.glob("*/must-fail/mutants.md"))
 
 
-def bodies_of(crate, crates=CRATES):
-    """Returns the mutants that a crate lists, in order."""
-    file = crates / crate / "must-fail/mutants.md"
+def listed(crate, name, crates):
+    file = crates / crate / f"must-fail/{name}.md"
     return [Body(crate, section)
             for section in re.split(r"^## ", file.read_text(), flags=re.M)[1:]] if file.exists() else []
+
+
+def bodies_of(crate, crates=CRATES):
+    """Returns the mutants that a crate lists, in order."""
+    return listed(crate, "mutants", crates)
+
+
+def controls_of(crate, crates=CRATES):
+    """Returns the controls that a crate lists, in order."""
+    return listed(crate, "controls", crates)
+
+
+def name_goals(crate, goals, crates=CRATES):
+    """Writes these goals, by the names of mutants, into a crate's list; returns how many there are."""
+    file, found = crates / crate / "must-fail/mutants.md", 0
+    head, *sections = re.split(r"^(?=## )", file.read_text(), flags=re.M)
+    for at, section in enumerate(sections):
+        if goal := goals.get(section.partition("\n")[0].removeprefix("## ")):
+            sections[at], more = re.subn(r"^(refused in: [\w:]+)$", rf"\1: {goal}", section, flags=re.M)
+            found += more
+    file.write_text(head + "".join(sections))
+    return found

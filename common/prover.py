@@ -56,11 +56,3 @@ def linking_words(program):
     parts = [f"{program}.o", kit() / "c/libos_c.a", kit() / "c/liblibc_c.a"]
     return [kit() / "bin/rattle-link", "--target", "x86_64-unknown-linux-gnu", "--toolchain", kit() / "toolchain", "-o",
             program, *parts]
-
-
-def archive_built(name):
-    """Proves a static library and builds its archive; returns the status of the command, which keeps what it proves."""
-    words = [kit() / "bin/rattle", "build", *words_for(name, needs()[name], CRATES / name), "--jobs", "1",
-             "--toolchain", kit() / "toolchain", "--backend", "llvm", "-o", f"out/lib{name}.a"]
-    return subprocess.run([*words, "--incremental", "out/incremental"], cwd=CRATES / name, stdin=subprocess.DEVNULL,
-                          stderr=subprocess.STDOUT).returncode

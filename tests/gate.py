@@ -18,6 +18,7 @@ import time
 
 from common.checks import TOP, chosen, end, expect, of_thread, run, run_case
 
+# How many tests each tool lists; one of the mutants' is a control.
 LISTED = {"mutants": 4, "definitions": 2}
 # The lines of ./test, without comments and without the files that tools/once copies for a script.
 TEXT = re.sub(r"^( *)#.*\n| : .*", "", (TOP / "test").read_text().replace("\\\n", ""), flags=re.M)
@@ -105,7 +106,7 @@ class Repository:
         self.put("tools/progress", "#!/bin/sh\nexec cat\n")
         self.put("prog", "a program\n")
         self.put("changed.rt", "//\n")
-        for name, count in LISTED.items():
+        for name, count in {"mutants": LISTED["mutants"] - 1, "controls": 1, "definitions": LISTED["definitions"]}.items():
             self.put(f"crates/small/must-fail/{name}.md", "# A list\n" + "\n## one\n" * count)
         self.put("../bin/rt", RT)
         self.git("init", "--quiet", "--initial-branch=main")

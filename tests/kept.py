@@ -10,9 +10,11 @@ import os
 import pathlib
 import re
 import shutil
+import sys
 import tempfile
 
 from common.checks import TOP, chosen, end, expect, run, run_each
+from common.watched import WAITS, watched
 
 RT = """#!/bin/sh
 case $1 in
@@ -95,9 +97,12 @@ FILES = {
     "crates/small/proofs/helper/Cited.antt": "-- What the answer of twice cites.\n",
     "crates/small/proofs/same/Answers.antt": "-- An answer of same.\n",
     "crates/small/must-fail/mutants.md": "# Mutants\n\n" + "\n".join(
-        f"## {name}\n\n```\nfile: src/lib.rt\nold: {old}\nnew: {new}\nrefused in: {function}: returns\n```\n"
-        for name, old, new, function in (("one-wrong", "    n + n", "    wrong(n)", "twice"), ("other-wrong", "    n⏎", "    wrong⏎", "same"),
-                                         ("right", "    n + n", "    2 * n", "twice"))),
+        f"## {name}\n\n```\nfile: src/lib.rt\nold: {old}\nnew: {new}\nrefused in: {function}\n```\n"
+        for name, old, new, function in (
+            ("one-wrong", "    n + n", "    wrong(n)", "twice: returns"), ("other-wrong", "    n⏎", "    wrong⏎", "same"),
+            ("right", "    n + n", "    2 * n", "twice: returns"))),
+    "crates/small/must-fail/controls.md": "# Controls\n\n## the-same\n\n```\nfile: src/lib.rt\nold:     n⏎\nnew:     n + 0⏎\n"
+                                          "taken in: same\n```\n",
     "read.txt": "right\n",
     "other.txt": "other\n",
 }
@@ -282,13 +287,13 @@ def mutants(new):
     def gate(*words, **how):
         status, said, _ = one.call("tools/mutants", "--gate", "--crate", "small", *words, **how)
         tried = {line.split()[1].removesuffix("_mutant_2") for line in one.notes.read_text().splitlines()}
-        lines = dict(re.findall(r"^body small/([\w-]+): (refused, as it must be|NOT REFUSED)", said, re.M))
-        return status, said.splitlines()[-1], tried, sorted(name for name, verdict in lines.items() if verdict[0] == "r")
+        lines = re.findall(r"^(?:body|control) small/([\w-]+): (?:refused|taken), as it must be", said, re.M)
+        return status, said.splitlines()[-1], tried, sorted(lines)
 
-    whole, kept = (1, "2 passed, 1 failed", {"twice", "same"}, ["one-wrong", "other-wrong"]), {"twice"}
+    whole, kept = (1, "3 passed, 1 failed", {"twice", "same"}, ["one-wrong", "other-wrong", "the-same"]), {"twice"}
     expect("the first gate", gate(), whole)
     expect("the gate again: only the mutant that isn't refused", gate(), (*whole[:2], kept, whole[3]))
-    expect("the gate again: what it says", "small: 2 of 3 bodies were refused in earlier runs" in one.call(
+    expect("the gate again: what it says", "small: 3 of 4 bodies were as they must be in earlier runs" in one.call(
         "tools/mutants", "--gate", "--crate", "small")[1], True)
     expect("--anew", gate("--anew"), whole)
     expect("one mutant by its name", gate("--anew", "other-wrong"), (0, "1 passed, 0 failed", {"same"}, ["other-wrong"]))
@@ -311,13 +316,37 @@ def mutants(new):
         # Only the mutants of `twice` depend on these.
         one.put(one.top / f"crates/small/proofs/{name}.antt", FILES[f"crates/small/proofs/{name}.antt"] + "-- more\n")
         tried = one.call("tools/mutants", "--gate", "--crate", "small", "one-wrong", "other-wrong")
-        expect(f"{name} is changed: the mutants of twice", ("1 of 2 bodies" in tried[1], tried[2]), (True, 1))
+        expect(f"{name} is changed: the mutant of twice", ("1 of 2 bodies" in tried[1], tried[2]), (True, 1))
     is_changed(one.top / "crates/small/must-fail/mutants.md", "    wrong⏎", "    wrong + 1⏎", whole[2])
+    is_changed(one.top / "crates/small/must-fail/controls.md", "    n + 0⏎", "    0 + n⏎", whole[2])
+    # Verdicts report the goal, so that they hold for a mutant that names it, and only then.
+    for goal, tried in (("returns", kept), ("returns-in-Ok", whole[2])):
+        is_changed(one.top / "crates/small/must-fail/mutants.md", "in: same\n", f"in: same: {goal}\n", tried)
+    one.call("tools/mutants", "--crate", "small", "--goals")
+    expect("the goal of each kept verdict is named", re.findall(r"in: same(.*)", (
+        one.top / "crates/small/must-fail/mutants.md").read_text()), [": returns"])
+    expect("mutants with the named goals", gate(), (*whole[:2], kept, whole[3]))
+    is_changed(one.top / "crates/small/must-fail/controls.md", "    n + 0⏎", "    wrong⏎", whole[2])
+    one.put(one.top / "crates/small/must-fail/controls.md", FILES["crates/small/must-fail/controls.md"].replace("n + 0", "wrong"))
+    for _ in range(2):
+        expect("a control that isn't taken", gate(), (1, "2 passed, 2 failed", whole[2], whole[3][:2]))
+    one.put(one.top / "crates/small/must-fail/controls.md", FILES["crates/small/must-fail/controls.md"])
     gate("--anew", meanwhile=one.change("crates/small/specs/Small.antt", "small = 1", "small = 3"))
     expect("a definition is saved meanwhile", gate()[2], whole[2])
 
 
-CASES = (once, archive, libraries, definitions, mutants)
+# Catches a time limit that counts as a verdict, or a wait that doesn't: `.. that goes on`, `.. that waits`.
+def variants(new):
+    wait = "import threading; lock = threading.Lock(); lock.acquire(); lock.acquire()"
+    for name, words, wanted in (
+            ("that ends", ["sh", "-c", "exit 3"], 3), ("that passes after a while", ["sleep", "1"], 0),
+            ("that is killed", ["sh", "-c", "kill -9 $$"], -9), ("that waits", [sys.executable, "-c", wait], WAITS),
+            ("that goes on", ["sh", "-c", "while :; do :; done"], None),
+            ("whose child goes on", ["sh", "-c", "(while :; do :; done); exit 1"], None)):
+        expect(f"a wrong variant {name}", watched(words, seconds=8), wanted)
+
+
+CASES = (once, archive, libraries, definitions, mutants, variants)
 
 
 def main():

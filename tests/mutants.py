@@ -8,6 +8,7 @@ only then.
 """
 import os
 import pathlib
+import re
 import shutil
 import subprocess
 import sys
@@ -60,12 +61,19 @@ BODIES = {
     "standing-twice": ("n + n", "n", "twice", "BAD BODY: an 'old:' text is in src/lib.rt 4 times"),
     "unreadable": ("    n + n", "    n +", "twice", "BAD BODY: the prover gave no verdict"),
 }
+# For each control: its old and new text, its function, and the beginning of its line.
+CONTROLS = {
+    "four-times-by-steps": ("twice(twice(n))", "let two = twice(n); twice(two)", "four_times", "taken, as it must be"),
+    "two-of-it-turned": ("{⏎    n + n⏎}", "{⏎    let other = n; other + n⏎}", "twice", "taken, as it must be"),
+    "wrong-control": ("{⏎    n + n⏎}", "{⏎    n⏎}", "twice", "NOT TAKEN in twice: "),
+    "unfit-control": ("twice(n))", "twice(n)", "twice", "BAD BODY: "),
+}
 # The one that is also tried during an `rt ci` that has proved the crate.
 LATE = "answers-the-number"
 
 
-def listed(name, old, new, function):
-    return f"## {name}\n\n```\nfile: src/lib.rt\nold: {old}\nnew: {new}\nrefused in: {function}\n```\n"
+def listed(name, old, new, function, what="refused"):
+    return f"## {name}\n\n```\nfile: src/lib.rt\nold: {old}\nnew: {new}\n{what} in: {function}\n```\n"
 
 
 # Prints what is kept of two bodies of a crate, and keeps that the first was refused.
@@ -73,8 +81,8 @@ KEEPS = """
 from common.kept_verdicts import Kept
 from common.mutant_lists import bodies_of
 kept, (one, other, *_) = Kept("rt_cidr"), bodies_of("rt_cidr")
-print(kept.said_of(one), kept.said_of(other))
-kept.keep(one, "kept")
+print("kept" if kept.said_of(one) else None, kept.said_of(other))
+kept.keep({one: (True, f"`{one.goal}` kept")})
 """
 
 
@@ -159,21 +167,24 @@ def main():
         (folder / "proofs/four_times").mkdir(parents=True)
         (folder / "proofs/four_times/Answers.antt").write_text(ANSWERS)
         sections = [listed(name, *body[:3]) for name, body in sorted(BODIES.items())]
-        (folder / "must-fail/mutants.md").write_text("\n".join(["# Wrong bodies\n", *sections]))
+        (folder / "must-fail/mutants.md").write_text("\n".join(["# Mutants\n", *sections]))
+        sections = [listed(name, *body[:3], "taken") for name, body in sorted(CONTROLS.items())]
+        (folder / "must-fail/controls.md").write_text("\n".join(["# Controls\n", *sections]))
         ran = subprocess.run([TOP / "tools/mutants", "--of", room], stdout=subprocess.PIPE, text=True)
         early, late = during(room, ""), during(room, "rt: small proved\n", LATE)
-    lines = dict(line.removeprefix("body small/").split(": ", 1) for line in ran.stdout.splitlines()
-                 if line.startswith("body "))
-    wrong = [name for name, body in BODIES.items() if not lines.get(name, "").startswith(body[3])] + wrongly_kept()
-    if early.count("NOT TRIED") != len(BODIES) or not early.endswith(f"\n0 passed, {len(BODIES)} failed\n"):
+    lines = dict(re.sub("^(body|control) small/", "", line).split(": ", 1) for line in ran.stdout.splitlines()
+                 if line.startswith(("body ", "control ")))
+    listed_all = BODIES | CONTROLS
+    wrong = [name for name, body in listed_all.items() if not lines.get(name, "").startswith(body[3])] + wrongly_kept()
+    if early.count("NOT TRIED") != len(listed_all) or not early.endswith(f"\n0 passed, {len(listed_all)} failed\n"):
         wrong.append("bodies of a crate that isn't proved")
     if late != f"body small/{LATE}: {lines[LATE]}\n1 passed, 0 failed\n":
         wrong.append("bodies of a crate that `rt ci` has proved")
-    refused = sum(body[3].startswith("refused") for body in BODIES.values())
-    if wrong or ran.returncode != 1 or not ran.stdout.endswith(f"\n{refused} passed, {len(BODIES) - refused} failed\n"):
+    right = sum(body[3].startswith(("refused", "taken")) for body in listed_all.values())
+    if wrong or ran.returncode != 1 or not ran.stdout.endswith(f"\n{right} passed, {len(listed_all) - right} failed\n"):
         said = ", ".join(wrong) or "their number"
         sys.exit(f"tests/mutants.py: tools/mutants tells of {said} something else than is so\n{ran.stdout}")
-    print(f"tests/mutants.py: tools/mutants tells what is so of {len(BODIES)} bodies")
+    print(f"tests/mutants.py: tools/mutants tells what is so of {len(listed_all)} bodies")
 
 
 if __name__ == "__main__":
