@@ -88,6 +88,8 @@ class Offer(typing.NamedTuple):
     sought: str | None = None
     # the option that would give the next hop, and the interface, if the feed doesn't show the interface
     over: tuple | None = None
+    # the next hop by which the daemon reaches the address that it looked up, if it shows that
+    found: str | None = None
 
 
 class Notes:
@@ -555,9 +557,11 @@ def preference_of(prefix, offer):
 def add_lines(files, prefix, offers, by_rank, notes):
     """Adds the offers of a prefix, best first, to the feeds of their sources."""
     for rank, offer in enumerate(one_each(offers, notes) if len(offers) > 1 else offers, 1):
-        source, hop, _, sought, over_interface = offer
+        source, hop, _, sought, over_interface, found = offer
         if sought:
             files.sought.add((source, sought))
+            if found:
+                files.found[source, sought] = found
         if over_interface:
             files.over[over_interface] = files.over.get(over_interface, 0) + 1
         preference = rank if by_rank else preference_of(prefix, offer)
@@ -591,6 +595,8 @@ class FeedFiles:
         self.waiting, self.counts = {}, []
         # the sources with the addresses that the daemon looked up for them
         self.sought = set()
+        # the next hops that were found for them, if the daemon shows these
+        self.found = {}
         # by option and interface, the number of routes whose interface the feeds don't show
         self.over = {}
         self.taken = 0
@@ -766,7 +772,9 @@ def tell_of_finders(files, met, notes):
                  for route in sorted(routes[prefix])]
         _, finder, hop = order[0] if order else (0, source, "")
         others = [other for _, name, other in order if name != finder]
-        if finder != source and hop != CONNECTED and others[:1] != [hop]:
+        # if another next hop was found, it wasn't by that route
+        is_found_here = files.found.get((source, address), hop) == hop
+        if is_found_here and finder != source and hop != CONNECTED and others[:1] != [hop]:
             told.setdefault(finder, {})[address] = source
     for finder, found in told.items():
         notes.tell(f"next hops ({listed(list(found))}) of {listed(sorted(set(found.values())))} are found by routes of {finder}: "

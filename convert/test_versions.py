@@ -123,8 +123,21 @@ def check_gobgp_peers(made):
         raise Failed(f"GoBGP's own paths with an AS path have status {status}: {written[:100]}")
 
 
+def check_openbgpd_found(made):
+    """A next hop that OpenBGPD finds by another peer's route is reported. OpenBGPD 7 shows its own address for each next
+    hop on a network of its own, which isn't reported."""
+    told = "1 next hops (10.0.0.9) of 127.0.0.25 are found by routes of 127.0.0.21: without 127.0.0.21 the daemon finds others"
+    for release in ("debian-13", "debian-sid"):
+        status, said, _ = feeds_of(made, f"found-{release}", "openbgpd-to-feeds", read(f"{release}/ranks/openbgpd-found.json"))
+        if status or told not in said:
+            raise Failed(f"next hops that OpenBGPD finds by BGP have status {status} and it says {said}")
+    status, said, _ = feeds_of(made, "found-7", "openbgpd-to-feeds", read("openbgpd/rib.json"))
+    expect("OpenBGPD 7", (status, "found by" in said), (0, False))
+
+
 def check(made):
     folder = made / "versions"
     folder.mkdir()
-    for each in (check_frr_forms, check_frr_header, check_frr_stale, check_frr_aigp, check_frr_order, check_frr_few, check_gobgp_peers):
+    for each in (check_frr_forms, check_frr_header, check_frr_stale, check_frr_aigp, check_frr_order, check_frr_few, check_gobgp_peers,
+                 check_openbgpd_found):
         each(folder)
