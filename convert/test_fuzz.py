@@ -33,6 +33,7 @@ JSON = [
 LINES = [
     ("bird-to-feeds", "bird/bgp-routes-all.txt"),
     ("bird-to-feeds", "bird/other.txt"),
+    ("pmacct-to-feeds", "debian-sid/ranks/pmacct.json"),
     ("bgpdump-to-feeds", "bgpdump/rib.txt"),
     ("bgpdump-to-feeds", "bgpdump/updates.txt"),
     ("text-to-feeds", "by-hand/outside.txt"),
@@ -111,7 +112,7 @@ def check(made):
     table = "".join(row_text(f"10.{second}.0.0/16", "192.0.2.1") + "\n" for second in range(4)).encode()
     for number, (command, sample) in enumerate(JSON + LINES):
         text = (SAMPLES / sample).read_text()
-        change = changed_json if sample.endswith(".json") else changed_lines
+        change = changed_json if sample.endswith(".json") and command != "pmacct-to-feeds" else changed_lines
         more = [made / f"fuzz{number}"] if command.split()[0].endswith("feeds") else []
         for _ in range(TIMES):
             changed = change(text, draw)

@@ -1,4 +1,5 @@
-"""Tests of tables as text and CSV: the routes of a daemon's table give the same feeds as that table."""
+"""Tests of tables as text and CSV: the routes of a daemon's table give the same feeds as that table; and of pmacct's
+table dumps, whose ranks are FRR's."""
 import csv
 import io
 import json
@@ -6,6 +7,9 @@ import json
 from trial import SAMPLES, Failed, files_of, run, run_here, text_of
 
 COLUMNS = "--separator ; --header --prefix dst --next-hop gw --source peer"
+# the same as RANKS in `test`
+PMACCT = "debian-sid/ranks/pmacct.json"
+RANKS = [("pmacct-to-feeds", PMACCT, "debian-sid/ranks/frr-pmacct-answers", ("127.0.0.23", "127.0.0.21"), ())]
 REFUSED = (
     ("text-to-feeds", "10.0.0.0/8\n", "line 1: it has 1 columns"),
     ("text-to-feeds", "10.0.0.0/8 192.0.2\n", "line 1: '192.0.2' is not an address"),
@@ -54,8 +58,26 @@ def check_refused(made):
             raise Failed(f"text-to-feeds {options} has status {status} and says {said}")
 
 
+def check_pmacct(made):
+    """A dump without its end or its begin, two dumps of a peer, other records and other JSON are refused."""
+    text = (SAMPLES / PMACCT).read_text()
+    lines = text.splitlines(keepends=True)
+    for name, changed, told in (
+        ("cut", "".join(lines[:-1]), "the dumps of 127.0.0.25 have no end (dump_close), so the input is truncated"),
+        ("no begin", "".join(lines[1:]), "line 1: there is no begin of a dump of 127.0.0.21 before it"),
+        ("twice", text + text, "the peer 127.0.0.21 has a second dump"),
+        ("update", text.replace('"event_type": "dump",', '"event_type": "log",', 1), "line 2: it isn't of a table dump"),
+        ("BMP", text.replace('"event_type": "dump",', '"event_type": "dump", "bmp_msg_type": "route_monitor",', 1), "line 2: it isn't of"),
+        ("list", "[]\n", "line 1: it isn't of a table dump"), ("text", "x\n", "line 1: it isn't JSON of pmacct"),
+    ):
+        status, said = run_here("pmacct-to-feeds", changed.encode(), made / "pmacct")
+        if status != 1 or told not in said or said.count("\n") != 1:
+            raise Failed(f"pmacct's dumps ({name}) have status {status} and it says {said}")
+
+
 def check(made):
     folder = made / "text"
     folder.mkdir()
     check_same(folder)
     check_refused(folder)
+    check_pmacct(folder)
