@@ -23,14 +23,15 @@ LISTED = {"mutants": 4, "definitions": 2}
 # The lines of ./test, without comments and without the files that tools/once copies for a script.
 TEXT = re.sub(r"^( *)#.*\n| : .*", "", (TOP / "test").read_text().replace("\\\n", ""), flags=re.M)
 TEXT = re.sub(r"^  once (\w+) .*$", r"  tests/\1.py", TEXT, flags=re.M)
-REAL = {"tools/once", "tools/progress", "tools/verdict"}
+# Scripts that are real, or stubs of another kind; and a module that the scripts use.
+REAL = {"tools/once", "tools/progress", "tools/verdict", "tests/common.py"}
 
 
 def scripts_in(text):
     """Returns the scripts that a part of ./test calls."""
     words = re.findall(r"(?<![\w$/.])((?:\{[\w,]+\}|\w+)/(?:\{[\w,]+\}|\w+)(?:\.py)?)(?=[\s;)]|$)", text)
     named = subprocess.run(["bash", "-c", f"echo {' '.join(words)}"], stdout=subprocess.PIPE, text=True, check=True).stdout.split()
-    return sorted({name for name in named if (TOP / name).is_file() and os.access(TOP / name, os.X_OK)} - REAL)
+    return sorted({name for name in named if re.fullmatch(r"tests/\w+\.py|tools/\w+|(?:convert|map|bindings)/test", name)} - REAL)
 
 
 SCRIPTS, QUICK = scripts_in(TEXT), scripts_in(re.search(r"^quick\(\) \{\n(.*?)^\}$", TEXT, re.M | re.S)[1])
