@@ -4,15 +4,17 @@ The steps are those of RFC 4271, section 9.1.2.2, after the degree of preference
 steps before it are tied:
 
 1. The highest local preference.
-2. The shortest AS path: a set counts as one AS, a confederation's segment as none (RFC 5065, section 5.3).
-3. The lowest origin: IGP, EGP, INCOMPLETE.
-4. The lowest MED (a route without one has 0), only among routes from the same neighbouring AS.
-5. EBGP before IBGP; a peer of the same confederation counts as internal (RFC 5065, section 5.3).
-6. The lowest cost of the path to the next hop.
-7. The lowest BGP identifier of the speaker, or for a reflected route its ORIGINATOR_ID (RFC 4456, section 9).
-8. The shortest CLUSTER_LIST (RFC 4456, section 9).
-9. The lowest address of the peer.
-10. The lowest number among several paths of one peer (RFC 7911 leaves this open).
+2. The lowest accumulated IGP metric (AIGP), with the cost of the path to the next hop; a route that has one comes before
+   those without (RFC 7311, section 4.1).
+3. The shortest AS path: a set counts as one AS, a confederation's segment as none (RFC 5065, section 5.3).
+4. The lowest origin: IGP, EGP, INCOMPLETE.
+5. The lowest MED (a route without one has 0), only among routes from the same neighbouring AS.
+6. EBGP before IBGP; a peer of the same confederation counts as internal (RFC 5065, section 5.3).
+7. The lowest cost of the path to the next hop.
+8. The lowest BGP identifier of the speaker, or for a reflected route its ORIGINATOR_ID (RFC 4456, section 9).
+9. The shortest CLUSTER_LIST (RFC 4456, section 9).
+10. The lowest address of the peer.
+11. The lowest number among several paths of one peer (RFC 7911 leaves this open).
 
 An attribute that the input doesn't show counts as equal for all routes, so that the next step decides.
 
@@ -33,6 +35,8 @@ import typing
 GREATEST = 4294967295
 # the local preference of a route without one
 LOCAL_PREF = 100
+# the accumulated IGP metric of a route without one, which is also the maximum
+NO_AIGP = (1 << 64) - 1
 ORIGINS = {"IGP": 0, "EGP": 1, "INCOMPLETE": 2}
 # a confederation's segments of a path, as bgpdump and FRR print them or as BIRD does, and a set
 CONFEDERATION = re.compile(r"\([^)]*\)|\[[^]]*\]")
@@ -42,10 +46,12 @@ SET = re.compile(r"\{[^}]*\}")
 # the neighbouring AS of a path that names none
 OWN = ""
 # the bits at which the steps before MED begin in their number
-LENGTH_AT, PREFERENCE_AT, AHEAD_AT, MED_BITS = 2, 32, 64, 32
+LENGTH_AT, AIGP_AT, PREFERENCE_AT, AHEAD_AT, MED_BITS = 2, 32, 96, 128, 32
 # A candidate is a tuple of these: the values compared before MED and those compared after it, the number of a peer's
 # path, MED, the AS path, the source, and the route that it represents. The lowest of the first three is the best.
 BEFORE, BEHIND, NUMBER, MED, PATH, SOURCE, WHAT = range(7)
+# the places of two of the values that are compared after MED
+INTERNAL, IDENTIFIER = 0, 2
 
 
 class Attributes(typing.NamedTuple):
@@ -60,6 +66,7 @@ class Attributes(typing.NamedTuple):
     identifier: tuple = ()
     clusters: int = 0
     peer: tuple = ()
+    aigp: int = NO_AIGP
 
 
 class Standing(typing.NamedTuple):
@@ -88,9 +95,9 @@ def neighbour_of(path):
     return first
 
 
-def before_med(local_pref, length, origin, ahead=0):
+def before_med(local_pref, length, origin, ahead=0, aigp=NO_AIGP):
     """The steps before MED as one number: numbers are compared faster than tuples."""
-    return ahead << AHEAD_AT | (GREATEST - local_pref) << PREFERENCE_AT | length << LENGTH_AT | origin
+    return ahead << AHEAD_AT | (GREATEST - local_pref) << PREFERENCE_AT | aigp << AIGP_AT | length << LENGTH_AT | origin
 
 
 def with_med(before, med):
@@ -109,8 +116,8 @@ def address_order(text):
 
 
 def standing(attributes):
-    ahead, local_pref, origin, internal, *behind = attributes
-    return Standing(before_med(local_pref, 0, origin, ahead), (internal, *behind), (True, *behind))
+    ahead, local_pref, origin, internal, *behind, aigp = attributes
+    return Standing(before_med(local_pref, 0, origin, ahead, aigp), (internal, *behind), (True, *behind))
 
 
 def candidate(standing, path, med, number, source, what, always_compare_med=False):
@@ -146,6 +153,18 @@ def med_decides(candidates):
         if meds.setdefault((candidate[BEFORE], neighbour), candidate[MED]) != candidate[MED]:
             return True
     return False
+
+
+def is_tie(one, other):
+    """Returns True if all that is compared before the identifiers of speakers is equal, so that a daemon may prefer the
+    route that it has had for longer."""
+    is_equal = one[BEFORE] == other[BEFORE] and one[BEHIND][:IDENTIFIER] == other[BEHIND][:IDENTIFIER]
+    return is_equal and (one[MED] == other[MED] or neighbour_of(one[PATH]) != neighbour_of(other[PATH]))
+
+
+def is_by_arrival(candidates, one, other):
+    """Returns True if one of these routes may win over the other because routes compared in turn came in another order."""
+    return one[BEFORE] == other[BEFORE] and med_decides(sorted(candidates))
 
 
 def one_by_one(candidates, first):

@@ -11,6 +11,8 @@ from choice import ORIGINS
 STEPS = (
     ("the daemon's own", {"ahead": 0}, {"ahead": 1}),
     ("local preference", {"local_pref": 200}, {"local_pref": 100}),
+    ("AIGP", {"aigp": 10}, {"aigp": 20}),
+    ("AIGP that the other hasn't", {"aigp": choice.NO_AIGP - 1}, {}),
     ("length of the path", {"path": "65001 65008"}, {"path": "65001 65009 65010"}),
     ("origin IGP", {"origin": ORIGINS["IGP"]}, {"origin": ORIGINS["EGP"]}),
     ("origin EGP", {"origin": ORIGINS["EGP"]}, {"origin": ORIGINS["INCOMPLETE"]}),
@@ -212,13 +214,13 @@ def frr_path(peer, other=()):
 
 def behind_frr(name, standard, loses, wins, order="9 4 3", options=""):
     """FRR's choice is that of peer 9; after it peer 3 has the losing route and peer 4 the winning one."""
-    text = frr((9, {"bestpath": True}), (3, loses), (4, wins))
+    text = frr((9, CHOSEN), (3, loses), (4, wins))
     return Sample(f"FRR, behind its choice: {name}", standard, f"frr-to-feeds {options}".strip(), text, {"10.0.0.0/8": order})
 
 
 def behind_frr_in_detail(name, standard, loses, wins):
     """The same of `json detail`: the identifier of a peer, the cost of its next hop, and other members."""
-    chosen = ("192.0.2.9", 0, {"bestpath": {"overall": True}})
+    chosen = ("192.0.2.9", 0, {"bestpath": {"overall": True}, "weight": 65535})
     paths = [frr_detailed(peer, *path) for peer, path in ((9, chosen), (3, loses), (4, wins))]
     text = json.dumps({"vrfName": "default", "routes": {"10.0.0.0/8": [{"prefix": "10.0.0.0/8"}, *paths]}}) + "\n"
     return Sample(f"FRR in detail, behind its choice: {name}", standard, "frr-to-feeds", text, {"10.0.0.0/8": "9 4 3"})
@@ -230,7 +232,8 @@ def frr_detailed(peer, identifier, cost, other):
             "peer": {"peerId": f"127.0.0.{peer}", "routerId": identifier, "type": "external"}, **other}
 
 
-CHOSEN = {"bestpath": True}
+# FRR's choice, by its weight
+CHOSEN = {"bestpath": True, "weight": 65535}
 ABSENT = "`show bgp ipv4 unicast json`: a path without `locPrf` has the local preference `defaultLocPrf`"
 FEASIBLE = "RFC 4271, 9.1.2: a route whose NEXT_HOP isn't resolvable is excluded; FRR marks what it may choose `valid`"
 EXTERNAL = "RFC 4271, 9.1.2.2 d: if a route was received via EBGP, all that were received via IBGP are removed"
@@ -311,15 +314,20 @@ def bird_route(prefix, is_chosen, peer, behind="100", attributes=()):
     source, mark = f"peer{peer} 13:49:20.215 from 127.0.0.{peer}", "* " if is_chosen else ""
     shown = {} if attributes is None else {**usual, **dict(attributes)}
     return (f"{prefix:20} unicast [{source}] {mark}({behind}) [AS6501{peer}i]\n\tvia 192.0.2.{peer} on uplink\n"
-            + "".join(f"\tBGP.{name}: {value}\n" for name, value in shown.items()))
+            + ("\tType: BGP univ\n" if shown else "") + "".join(f"\tBGP.{name}: {value}\n" for name, value in shown.items()))
+
+
+# BIRD's choice, of a protocol with a higher preference
+BY_PREFERENCE = (9, "200")
 
 
 def behind_bird(name, standard, loses, wins, order="9 4 3", options="", costs=("100", "100")):
     """BIRD's choice is that of peer 9; after it peer 3 has the losing route and peer 4 the winning one."""
-    text = bird((9,), (3, costs[0], loses), (4, costs[1], wins))
+    text = bird(BY_PREFERENCE, (3, costs[0], loses), (4, costs[1], wins))
     return Sample(f"BIRD, behind its choice: {name}", standard, f"bird-to-feeds {options}".strip(), text, {"10.0.0.0/8": order})
 
 
+ACCUMULATED = "RFC 7311, 4.1: after the local preference, the lowest AIGP plus cost is preferred, and any AIGP to none"
 OWN_PREFERENCE = "BIRD compares the preference of protocols before all"
 NOTE = "1 prefixes have routes with the same preference after BIRD's choice, which are ranked as listed"
 LISTED = ((3, "100", {"as_path": "65010", "med": "20"}), (4, "100", {"as_path": "65020"}),
@@ -328,7 +336,15 @@ BIRD = (
     Sample("BIRD's way to a recursive next hop is the one that counts", "RFC 4271, 5.1.3: the immediate next hop is looked up",
            "bird-to-feeds", bird((2, "100/10", {"next_hop": "198.51.100.7"})), {"10.0.0.0/8": "2"}),
     behind_bird("preference", OWN_PREFERENCE, {"local_pref": "200"}, {}, costs=("100", "110")),
-    behind_bird("a next hop that is reached", FEASIBLE, {"local_pref": "200"}, {}, costs=("100/-", "100/?")),
+    Sample("BIRD, behind its choice: a next hop that is reached", FEASIBLE, "bird-to-feeds",
+           bird(BY_PREFERENCE, (3, "100", {"local_pref": "200"}), (4, "100/?"))
+           .replace("unicast [peer3", "unreachable [peer3").replace("\tvia 192.0.2.3 on uplink\n", ""), {"10.0.0.0/8": "9 4 discard"}),
+    behind_bird("AIGP", ACCUMULATED, {"aigp": "20"}, {"aigp": "10", "as_path": "65014 65015"}, costs=("100/25", "100/24")),
+    behind_bird("AIGP with the cost of the next hop", ACCUMULATED, {"aigp": "10"}, {"aigp": "20"}, costs=("100/25", "100/24")),
+    behind_bird("AIGP before none", ACCUMULATED, {"as_path": "65013"}, {"aigp": "20", "as_path": "65014 65015"},
+                costs=("100/5", "100/24")),
+    behind_bird("AIGP of a next hop with an unknown cost is none", ACCUMULATED, {"aigp": "10", "as_path": "65013 65015"}, {},
+                costs=("100/?", "100/?")),
     behind_bird("local preference", "RFC 4271, 5.1.5: the higher degree of preference is preferred",
                 {"local_pref": "50"}, {"as_path": "65014 65015"}),
     behind_bird("length of the path", LENGTH, {"as_path": "65013 65015"}, {"origin": "Incomplete"}),
@@ -338,9 +354,9 @@ BIRD = (
     behind_bird("MED", SAME_NEIGHBOUR, {"as_path": "65015", "med": "20"}, {"as_path": "65015", "med": "10"}),
     behind_bird("MED of others", SAME_NEIGHBOUR, {"med": "20"}, {"med": "10"}, "9 3 4"),
     behind_bird("MED of others that is compared", SAME_NEIGHBOUR, {"med": "20"}, {"med": "10"}, options="--always-compare-med"),
-    Sample("BIRD, behind its choice: in turn", IN_TURN_ALONE, "bird-to-feeds", bird((9,), *LISTED), {"10.0.0.0/8": "9 5 3 4"}),
+    Sample("BIRD, behind its choice: in turn", IN_TURN_ALONE, "bird-to-feeds", bird(BY_PREFERENCE, *LISTED), {"10.0.0.0/8": "9 5 3 4"}),
     Sample("BIRD, behind its choice: deterministic MED", SAME_NEIGHBOUR, "bird-to-feeds --deterministic-med",
-           bird((9,), *LISTED), {"10.0.0.0/8": "9 4 5 3"}),
+           bird(BY_PREFERENCE, *LISTED), {"10.0.0.0/8": "9 4 5 3"}),
     behind_bird("EBGP", EXTERNAL, {"originator_id": "10.0.0.1"}, {}),
     behind_bird("cost of the next hop", INTERIOR, {}, {}, costs=("100/20", "100/10")),
     behind_bird("a cost that isn't known", INTERIOR, {}, {}, costs=("100/?", "100/10")),
@@ -348,15 +364,15 @@ BIRD = (
     behind_bird("CLUSTER_LIST", REFLECTED, {"originator_id": "10.0.0.1", "cluster_list": "10.0.0.8 10.0.0.9"},
                 {"originator_id": "10.0.0.1", "cluster_list": "10.0.0.8"}),
     Sample("BIRD, behind its choice: address of the peer", ADDRESS, "bird-to-feeds",
-           bird((9,), (4,), (3,)), {"10.0.0.0/8": "9 3 4"}, "omitted nothing\n"),
+           bird(BY_PREFERENCE, (4,), (3,)), {"10.0.0.0/8": "9 3 4"}, "omitted nothing\n"),
     Sample("BIRD, behind its choice: the peer isn't its next hop", ADDRESS, "bird-to-feeds",
-           bird((9,), (4,), (3,)).replace("via 192.0.2.4", "via 192.0.2.1"), {"10.0.0.0/8": "9 3 1"}),
+           bird(BY_PREFERENCE, (4,), (3,)).replace("via 192.0.2.4", "via 192.0.2.1"), {"10.0.0.0/8": "9 3 1"}),
     Sample("BIRD, behind its choice: attributes that aren't shown", "none: `show route` doesn't tell what BGP compares",
            "bird-to-feeds", bird((9, "100", None), (4, "100", None), (3, "100", None)), {"10.0.0.0/8": "9 4 3"}, NOTE),
     Sample("BIRD, behind its choice: preferences without attributes", OWN_PREFERENCE,
            "bird-to-feeds", bird((9, "150", None), (4, "100", None), (3, "120", None)), {"10.0.0.0/8": "9 3 4"},
            "omitted nothing\n"),
     Sample("BIRD, behind its choice: a sorted table", "BIRD's `sorted table`: routes are listed in the order of choice",
-           "bird-to-feeds --sorted", bird((9,), (4,), (3,)), {"10.0.0.0/8": "9 4 3"}, "omitted nothing\n"),
+           "bird-to-feeds --sorted", bird(BY_PREFERENCE, (4,), (3,)), {"10.0.0.0/8": "9 4 3"}, "omitted nothing\n"),
 )
 SAMPLES = (*BGPDUMP, *FRR, *GOBGP, *BIRD)

@@ -22,6 +22,7 @@ import dealing
 from ending import NAME, NO_MEMORY
 from errors import Missing, Refused, Wrong, in_words, naming, printable
 from folders import Folder
+from self_check import SelfCheck
 
 # what erases a terminal's line
 ERASED = "\r\033[K"
@@ -34,6 +35,11 @@ USUAL_LIMIT, GREATEST_LIMIT = 65536, 1000000
 DISCARD = "discard"
 # the next hop written for a connected network, as in the output of `route -n`
 CONNECTED = "0.0.0.0"
+# between a source and the word for a further next hop of its routes; no daemon's name has it
+FURTHER = "\n"
+FURTHER_HOPS = "further next hops of multipath routes"
+MULTIPATH = ("prefixes have a route with several next hops, and the feeds have the heaviest, which is the first of equal ones: "
+             "use --all-hops for a feed of each further one, or accept this with --one-hop")
 BLOCK = 1 << 20
 # seconds between two lines of progress
 EACH = 1
@@ -99,6 +105,9 @@ class Notes:
     def __init__(self):
         self.left_out, self.told = {}, {}
         self.differs = False
+        self.last_multipath = None
+        # what the daemon chose beside what the rules give
+        self.choices = SelfCheck()
 
     def leave_out(self, name, number=1, differs=False):
         self.left_out[name] = self.left_out.get(name, 0) + number
@@ -109,12 +118,23 @@ class Notes:
         self.told[name] = self.told.get(name, 0) + number
         self.differs = self.differs or differs
 
+    def meet_multipath(self, prefix):
+        """Counts a prefix with several next hops, once."""
+        if prefix != self.last_multipath:
+            self.tell(MULTIPATH, differs=True)
+        self.last_multipath = prefix
+
+    def may_differ(self):
+        """Returns True if some addresses may get another answer than from the daemon."""
+        return self.differs or self.choices.differs()
+
     def report(self, taken, what):
         """The lines that say what was accepted and what wasn't."""
         parts = [f"{number} {name}" for name, number in self.left_out.items()]
         lines = [f"accepted {taken} {what}; omitted " + (", ".join(parts) or "nothing")]
         lines += [f"{number} {name}" for name, number in self.told.items()]
-        if self.differs:
+        lines += self.choices.lines()
+        if self.may_differ():
             lines.append(f"so some addresses may be answered differently than by the daemon (status {OTHERWISE})")
         return lines
 
@@ -507,6 +527,23 @@ class GiveAddress(argparse.Action):
         getattr(arguments, self.dest).give(*values)
 
 
+def offers_of_hops(prefix, hops, made, arguments, notes):
+    """The offers that `made` makes of a route's next hops, of which the first is used. Further ones have sources of their
+    own, if they are wanted, and else are counted."""
+    if len(hops) > 1 and not arguments.all_hops:
+        notes.leave_out(FURTHER_HOPS, len(hops) - 1)
+        if not arguments.one_hop:
+            notes.meet_multipath(prefix)
+        hops = hops[:1]
+    first, *others = map(made, hops)
+    return [first, *(offer._replace(source=f"{offer.source}{FURTHER}hop{number}") for number, offer in enumerate(others, 2))]
+
+
+def of_hop(source):
+    """The source whose routes' next hops these are, of a source of further next hops."""
+    return source.partition(FURTHER)[0]
+
+
 def is_usable(path, valid):
     """Returns True if the daemon may choose the path: it is valid, and neither damped nor removed (FRR shows that
     separately)."""
@@ -516,8 +553,9 @@ def is_usable(path, valid):
     return not unused and (valid is None or member(path, valid, bool, False))
 
 
-def chosen_first(prefix, paths, notes, valid="valid", best="best"):
-    """The paths to an IPv4 prefix that a BGP daemon may use, its choice first; an empty list if it has no choice."""
+def chosen_first(prefix, paths, notes, valid="valid", best="best", in_order=True):
+    """The paths to an IPv4 prefix that a BGP daemon may use, its choice first; an empty list if it has no choice. `in_order`
+    is True if the daemon lists paths in the order of choice."""
     if prefix_of(prefix) is None:
         notes.leave_out("of IPv6", len(paths))
         return []
@@ -525,6 +563,8 @@ def chosen_first(prefix, paths, notes, valid="valid", best="best"):
     if len(usable) < len(paths):
         notes.leave_out("that are not valid", len(paths) - len(usable))
     if len(usable) > 1:
+        if in_order:
+            notes.choices.meet(member(usable[0], best, bool, False) or not any(member(path, best, bool, False) for path in usable))
         usable.sort(key=lambda path: not member(path, best, bool, False))
     if usable and not member(usable[0], best, bool, False):
         notes.leave_out("of prefixes without a chosen path", len(usable))
@@ -539,6 +579,17 @@ def one_each(offers, notes):
         first.setdefault(offer.source, offer)
     leave_out_further(len(offers) - len(first), notes)
     return first.values()
+
+
+def of_used_routes(offers):
+    """The offers of a prefix, with each next hop of a source's first route, without those of its further routes."""
+    first, is_used = set(), True
+    for offer in offers:
+        if FURTHER not in offer.source:
+            is_used = offer.source not in first
+            first.add(offer.source)
+        if is_used or FURTHER not in offer.source:
+            yield offer
 
 
 def leave_out_further(number, notes):
@@ -556,6 +607,8 @@ def preference_of(prefix, offer):
 
 def add_lines(files, prefix, offers, by_rank, notes):
     """Adds the offers of a prefix, best first, to the feeds of their sources."""
+    if files.has_all_hops:
+        offers = list(of_used_routes(offers))
     for rank, offer in enumerate(one_each(offers, notes) if len(offers) > 1 else offers, 1):
         source, hop, _, sought, over_interface, found = offer
         if sought:
@@ -566,6 +619,8 @@ def add_lines(files, prefix, offers, by_rank, notes):
             files.over[over_interface] = files.over.get(over_interface, 0) + 1
         preference = rank if by_rank else preference_of(prefix, offer)
         lines = files.waiting.get(source) or files.lines(source)
+        if sought or source in files.looked_up:
+            files.mark(source, sought is not None)
         lines.append(f"add {prefix} {preference} {hop}\n")
 
 
@@ -591,10 +646,14 @@ class FeedFiles:
     def __init__(self, arguments):
         if arguments.merge and arguments.by != "rank":
             raise Refused("--merge compares ranks of the whole table: leave out --by")
+        self.has_all_hops = getattr(arguments, "all_hops", False)
+        if self.has_all_hops and arguments.by != "rank":
+            raise Refused("--all-hops ranks the next hops of a route: leave out --by")
         self.arguments, self.folder = arguments, Folder(arguments.folder, NAME)
         self.waiting, self.counts = {}, []
-        # the sources with the addresses that the daemon looked up for them
-        self.sought = set()
+        # the sources with the addresses that the daemon looked up for them, and of these sources, for each line, whether the
+        # next hop was looked up
+        self.sought, self.looked_up = set(), {}
         # the next hops that were found for them, if the daemon shows these
         self.found = {}
         # by option and interface, the number of routes whose interface the feeds don't show
@@ -611,6 +670,15 @@ class FeedFiles:
 
     def lines(self, source):
         return self.waiting.setdefault(source, [])
+
+    def mark(self, source, is_looked_up):
+        """Keeps whether the next hop of the source's next line was looked up."""
+        marks = self.looked_up.get(source)
+        if marks is None:
+            number = list(self.waiting).index(source)
+            written = self.counts[number] if number < len(self.counts) else 0
+            marks = self.looked_up[source] = bytearray(written + len(self.waiting[source]))
+        marks.append(is_looked_up)
 
     def flush_many(self):
         """Writes what waits, if that is many lines."""
@@ -645,7 +713,7 @@ class FeedFiles:
 
     def sources(self, names, routes):
         """The sources that have commands, under these names."""
-        every = zip(names, map(str, range(len(names))), self.counts, routes)
+        every = zip([name.replace(FURTHER, "-") for name in names], map(str, range(len(names))), self.counts, routes)
         return [dealing.Source(*source).counted(GREATEST_LIMIT, self.folder.directory) for source in every if source[2]]
 
     def put_in_place(self, sources):
@@ -694,7 +762,7 @@ class FeedFiles:
             say(f"{number} feeds are in the directory, and `yarib` accepts at most {MAX_FEED_FILES} files (status {OTHERWISE}): "
                 f"use --merge {MAX_FEED_FILES} to merge the sources with the fewest routes; the sources are {names}")
         tell_limit(max(-(-source.routes // source.feeds(GREATEST_LIMIT)) for source in sources), self.arguments.folder)
-        return OTHERWISE if notes.differs or number > MAX_FEED_FILES else 0
+        return OTHERWISE if notes.may_differ() or number > MAX_FEED_FILES else 0
 
 
 def listed(names):
@@ -751,31 +819,52 @@ def covering(address):
     return {f"{ipaddress.IPv4Address(number & ~past)}/{length}": int(length) for length, past in HOST_BITS.items()}
 
 
+class Found(typing.NamedTuple):
+    """A route that covers an address: the length of its prefix, negative so that the longest comes first, its preference, its
+    source, its next hop, and whether that was looked up itself."""
+
+    order: int
+    preference: int
+    source: str
+    hop: str
+    is_looked_up: bool
+
+
+def routes_to(files, met, addresses):
+    """The routes that cover each of the addresses, in the order in which they are used."""
+    lengths = {address: {prefix: length for prefix, length in covering(address).items() if prefix in met} for address in addresses}
+    wanted, routes = {prefix for found in lengths.values() for prefix in found}, {}
+    for source in files.waiting:
+        marks = files.looked_up.get(source)
+        for number, line in enumerate(files.written(source)):
+            _, prefix, preference, hop = line.split()
+            if prefix in wanted:
+                routes.setdefault(prefix, []).append((int(preference), source, hop, marks is not None and bool(marks[number])))
+    return {address: sorted(Found(-length, *route) for prefix, length in found.items() for route in routes[prefix])
+            for address, found in lengths.items()}
+
+
+def is_found_without(finder, hop, seeker, routes):
+    """Returns True if the routes give the same next hop without those of the finder. A route of the seeker, or one that was
+    itself looked up, may be gone as well: it is no way to its own next hop."""
+    other = next((route for route in routes if of_hop(route.source) != finder), None)
+    return other is not None and of_hop(other.source) != seeker and not other.is_looked_up and other.hop == hop
+
+
 def tell_of_finders(files, met, notes):
     """Reports the sources whose routes the daemon used to find next hops of other sources, if it would find others
     without them. The table without such a source's feed keeps the next hops that were found with it."""
     if not files.sought:
         return
     files.flush()
-    prefixes = {address: {prefix: length for prefix, length in covering(address).items() if prefix in met}
-                for address in {address for _, address in files.sought if is_address(address)}}
-    wanted = {prefix for found in prefixes.values() for prefix in found}
-    routes = {}
-    for source in files.waiting:
-        for line in files.written(source):
-            _, prefix, preference, hop = line.split()
-            if prefix in wanted:
-                routes.setdefault(prefix, []).append((int(preference), source, hop))
-    told = {}
-    for source, address in sorted(files.sought):
-        order = [route for prefix, _ in sorted(prefixes.get(address, {}).items(), key=lambda found: -found[1])
-                 for route in sorted(routes[prefix])]
-        _, finder, hop = order[0] if order else (0, source, "")
-        others = [other for _, name, other in order if name != finder]
-        # if another next hop was found, it wasn't by that route
-        is_found_here = files.found.get((source, address), hop) == hop
-        if is_found_here and finder != source and hop != CONNECTED and others[:1] != [hop]:
-            told.setdefault(finder, {})[address] = source
+    routes, told = routes_to(files, met, {address for _, address in files.sought if is_address(address)}), {}
+    for seeker, address in sorted({(of_hop(source), address) for source, address in files.sought}):
+        if found := routes.get(address):
+            finder, hop = of_hop(found[0].source), found[0].hop
+            # if another next hop was found, it wasn't by that route
+            is_found_here = files.found.get((seeker, address), hop) == hop
+            if is_found_here and finder != seeker and hop != CONNECTED and not is_found_without(finder, hop, seeker, found):
+                told.setdefault(finder, {})[address] = seeker
     for finder, found in told.items():
         notes.tell(f"next hops ({listed(list(found))}) of {listed(sorted(set(found.values())))} are found by routes of {finder}: "
                    f"without {finder} the daemon finds others, and the table without its feed keeps these", len(found))
@@ -800,6 +889,14 @@ def parser(documentation, numbers=("local-pref",)):
     made.add_argument("--merge", metavar="N", type=count,
                       help="write at most N feeds: merge the best routes of the sources with the fewest routes")
     return made
+
+
+def multipath(parser):
+    """The options of those whose routes may have several next hops."""
+    either = parser.add_mutually_exclusive_group()
+    either.add_argument("--one-hop", action="store_true", help="accept that the feeds have one next hop of a multipath route, the heaviest")
+    either.add_argument("--all-hops", action="store_true",
+                        help="write the further next hops of multipath routes to feeds of their own, NAME-hop2.feed and so on")
 
 
 def always_compare_med(parser):

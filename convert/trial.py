@@ -131,3 +131,18 @@ def text_of(files):
 def files_of(folder):
     """The feed files of a directory."""
     return sorted(folder.glob("*.feed"))
+
+
+def best_of(lines):
+    """The next hop of each prefix's first line."""
+    best = {}
+    for line in lines:
+        best.setdefault(ipaddress.ip_network(line.split()[0]), line.split()[-1])
+    return best
+
+
+def longest(best, address):
+    """The longest prefix of the table that covers the address, and its next hop."""
+    covering = [prefix for prefix in best if ipaddress.ip_address(address) in prefix]
+    prefix = max(covering, key=lambda prefix: prefix.prefixlen, default=None)
+    return prefix, best.get(prefix, "no route")
