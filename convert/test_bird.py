@@ -74,6 +74,38 @@ def check_protocols(made):
         raise Failed(f"a protocol that --protocols doesn't have: status {status}, and it says {said}")
 
 
+# A peer's next hop that OSPF found, and a default with the same next hop from another source.
+FOUND = """BIRD 2.0.12 ready.
+Table master4:
+10.255.0.5/32        unicast [ospf1 08:15:03.000] * I (150/10) [10.0.5.2]
+	via 10.0.5.2 on vi1
+	Type: OSPF univ
+0.0.0.0/0            unicast [{source} 08:15:03.000] * (105{cost}) [?]
+	via 10.0.5.2 on vi1
+	Type: {source_type} univ
+{attributes}20.0.0.0/8           unicast [core 08:15:03.000 from 10.255.0.5] * (105/10) [i]
+	via 10.0.5.2 on vi1
+	Type: BGP univ
+	BGP.origin: IGP
+	BGP.as_path: 65001
+	BGP.next_hop: 10.255.0.5
+	BGP.local_pref: 100
+"""
+LOOKED_UP = "\tBGP.origin: IGP\n\tBGP.as_path: 65002\n\tBGP.next_hop: 10.255.0.6\n\tBGP.local_pref: 100\n"
+
+
+def check_finders(made):
+    """A next hop isn't found without OSPF by a route of the seeker, nor by one that was itself looked up; but it is by a
+    static one."""
+    for source, kind, cost, attributes, is_told in (
+        ("core", "BGP", "/10", LOOKED_UP, True), ("edge", "BGP", "/10", LOOKED_UP, True), ("fixed", "static", "", "", False),
+    ):
+        text = FOUND.format(source=source, source_type=kind, cost=cost, attributes=attributes)
+        _, said = run_here("bird-to-feeds", text.encode(), made / f"finders-{source}")
+        if ("next hops (10.255.0.5) of core are found by routes of ospf1" in said.replace("10.255.0.5, 10.255.0.6", "10.255.0.5")) != is_told:
+            raise Failed(f"a default of {source} beside OSPF's route to a next hop: it says {said}")
+
+
 def check(made):
     folder = made / "bird"
     folder.mkdir()
@@ -81,3 +113,4 @@ def check(made):
         check_lab(folder / f"lab{number}", lab)
     check_cuts(folder)
     check_protocols(folder)
+    check_finders(folder)
