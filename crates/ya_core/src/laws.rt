@@ -3,9 +3,9 @@
 
 ghost use Rattle.std.specs.Prelude.{◌≡◌, ◌≢◌, ℕ, ◌+◌, ◌*◌, ◌^◌, ◌<◌, ◌≤◌, ◌⊎◌, IsTrue, Option, Some, List, ◌∷◌, ◌++◌};
 ghost use Rattle.ya_core.specs.declared.word.Word.{Word};
-ghost use Rattle.ya_core.specs.ArbitrationTree.{IsWord, number_of, count_of_words};
+ghost use Rattle.ya_core.specs.ArbitrationTree.{IsWord, node_of, side_of, number_of, count_of_words};
 ghost use Rattle.ya_core.specs.Steps.{State, StepsTo, LeadTo, opening, access_of, value_of};
-ghost use Rattle.ya_core.specs.Soundness.{IsSoundState};
+ghost use Rattle.ya_core.specs.Soundness.{IsSoundState, Away, phase_of, holds};
 ghost use Rattle.ya_core.specs.declared.process.Process.TheVariants as process;
 ghost use Rattle.ya_core.specs.Progress.{SomeoneGoesOn, SomeoneGoesOnIn, CanLeadTo, LevelStep, announces};
 ghost use Rattle.ya_core.specs.Progress.{LevelSees, HasNotWon, times_overtaken};
@@ -54,6 +54,19 @@ pub fn freedom<X>()
         → place < 2 ^ levels → (new : World X) × WorldSteps levels place old new }
     ensures append { (place : ℕ) (entry : X) (old : World X)
         → IsInside old.state place → (new : World X) × WorldAppends any_entry place entry old new }
+{}
+
+/// If the invariant holds, a side has one occupant: of two places on the same side of a node, at most one takes part at
+/// that level, in any phase. At most one place below a node holds it.
+pub fn levels()
+    ensures side { (levels level p q : ℕ) (s : State)
+        → IsSoundState levels s → 1 ≤ level → level ≤ levels
+        → node_of level p ≡ node_of level q → side_of level p ≡ side_of level q
+        → phase_of levels level (s.processes p) ≢ Away → phase_of levels level (s.processes q) ≢ Away → p ≡ q }
+    ensures node { (levels level p q : ℕ) (s : State)
+        → IsSoundState levels s → 1 ≤ level → level ≤ levels → node_of level p ≡ node_of level q
+        → IsTrue (holds (phase_of levels level (s.processes p))) → IsTrue (holds (phase_of levels level (s.processes q)))
+        → p ≡ q }
 {}
 
 /// At most one place is inside, in every state after any list of places has stepped one after another. [`content`]

@@ -3,6 +3,7 @@ ghost use Rattle.std.specs.Prelude.{◌≡◌, ◌^◌, ◌<◌, IfOk, length, s
 ghost use Rattle.ya_core.specs.ArbitrationTree.{count_of_words};
 ghost use Rattle.std.specs.List.{position};
 ghost use Rattle.ya_core.specs.Steps.{Accesses, StepsTo, opening, value_of};
+ghost use Rattle.ya_core.specs.Soundness.{IsSoundState};
 ghost use Rattle.ya_core.specs.WalkerModel.{AccessIsWithin};
 ghost use Rattle.ya_core.specs.inside.Machines.{IsMachine, TakesStep, rows};
 ghost use Rattle.ya_core.specs.Machines.{state_of, step_of, step_by, mark_of};
@@ -37,7 +38,7 @@ impl<T: Drop> From<AllocFailed<T>> for NoMemory {
 /// All places of a tree with its words. One place at a time takes one atomic step.
 ///
 /// Contracts see it as its rows: its levels, its words in one flat row and its processes by place. `state_of` shows
-/// words by name and processes by place; this state always satisfies the lock's invariant.
+/// words by name and processes by place; this state always satisfies the lock's invariant (`holds`).
 #[derive(Debug, Drop)]
 pub struct Machine {
     shape: Shape,
@@ -69,6 +70,14 @@ impl Machine {
             words,
             processes,
         })
+    }
+
+    /// Makes known to a proof that the machine's state satisfies the lock's invariant, so that the laws of such states are
+    /// about it. Does nothing.
+    pub fn holds(&self)
+        ensures { IsSoundState self.now.levels (state_of self.now) }
+    {
+        let _ = self.shape.levels();
     }
 
     /// Takes one atomic step of the place. An idle place begins its entry, a place that is inside begins its exit, and
