@@ -12,10 +12,12 @@ use Rattle.ya_core.specs.Worlds.{World, Event, Steps, Appends, opening_world}
 use Rattle.lock_examples.proofs.Core.Worlds.{follow, runs}
 use Rattle.ya_lock.specs.declared.rule.View.TheVariants.{HandingOut, Seated}
 use Rattle.ya_lock.specs.LockState.{IsOf, HasProcess, IsToMake, NoneInside}
+use Rattle.rt_cidr.specs.declared.address.Addr.{Addr}
 use Rattle.rt_rib.specs.declared.routes.Hop.TheVariants.{Discard}
 use Rattle.rt_rib.specs.declared.routes.Route.{Route}
 use Rattle.rt_rib.specs.declared.commands.Cmd.TheVariants.{Add, Lookup, Dump, Purge}
-use Rattle.rt_rib.specs.declared.commands.Reply.TheVariants.{Added, Full, Found, Dumped, Purged}
+use Rattle.rt_rib.specs.declared.commands.Reply.{Reply}
+use Rattle.rt_rib.specs.declared.commands.Reply.TheVariants.{Added, Full, Found, NoRoute, Dumped, Purged}
 use Rattle.rt_rib.specs.declared.commands.Entry.{Entry}
 use Rattle.rt_rib.specs.LookUp.{look_up}
 use Rattle.rt_rib.specs.Sequential.{reply_of, table_after, table_of_journal, IsLawfulJournal}
@@ -208,30 +210,43 @@ nothing_made_that_is_lost :
     ¬ HasAllMade (record { state = opening; content = []; copies = λ place. []; doing = λ place. []; made = λ place. (Dump, Dumped 0) ∷ [] })
 nothing_made_that_is_lost h = let entries = h 0 in cc
 
+no_look_up_in : (k feed : ℕ) (addr : Addr) (reply : Reply) (earlier later : List Entry)
+    → dump k ∷ [] ≡ earlier ++ entry feed (Lookup addr) reply ∷ later → ⊥
+no_look_up_in k feed addr reply [] later same =
+    let first : dump k ≡ entry feed (Lookup addr) reply = cc in
+    let asked : Dump ≡ Lookup addr = ap (λ (e : Entry). e.cmd) first in cc
+no_look_up_in k feed addr reply (e ∷ []) later same = cc
+no_look_up_in k feed addr reply (e ∷ f ∷ earlier) later same = cc
+
 -- FindsBest
 no_look_up_no_wrong_one : FindsBest 1 (dump 1 ∷ [])
-no_look_up_no_wrong_one feed addr r [] later same =
-    let first : dump 1 ≡ entry feed (Lookup addr) (Found r) = cc in
-    let asked : Dump ≡ Lookup addr = ap (λ (e : Entry). e.cmd) first in cc
-no_look_up_no_wrong_one feed addr r (e ∷ []) later same = cc
-no_look_up_no_wrong_one feed addr r (e ∷ f ∷ earlier) later same = cc
+no_look_up_no_wrong_one = record {
+  found = λ feed addr r earlier later same. absurd (no_look_up_in 1 feed addr (Found r) earlier later same);
+  none = λ feed addr earlier later same. absurd (no_look_up_in 1 feed addr NoRoute earlier later same);
+}
 
 nothing_in_an_empty_table : ¬ FindsBest 1 (entry 1 (Lookup at_10_1_2_3) (Found its_route) ∷ [])
 unfolding table_of_journal
-nothing_in_an_empty_table h = let match = h 1 at_10_1_2_3 its_route [] [] refl in omega (arith, match.contained.1)
+nothing_in_an_empty_table h = let match = h.found 1 at_10_1_2_3 its_route [] [] refl in omega (arith, match.contained.1)
 
 nothing_for_another_feed_either : ¬ FindsBest 1 (entry 2 (Lookup at_10_1_2_3) (Found its_route) ∷ [])
 unfolding table_of_journal
-nothing_for_another_feed_either h = let match = h 2 at_10_1_2_3 its_route [] [] refl in omega (arith, match.contained.1)
+nothing_for_another_feed_either h = let match = h.found 2 at_10_1_2_3 its_route [] [] refl in omega (arith, match.contained.1)
 
 nothing_behind_a_dump : ¬ FindsBest 1 (dump 1 ∷ entry 2 (Lookup at_10_1_2_3) (Found its_route) ∷ [])
 unfolding table_of_journal table_after
-nothing_behind_a_dump h = let match = h 2 at_10_1_2_3 its_route (dump 1 ∷ []) [] refl in omega (arith, match.contained.1)
+nothing_behind_a_dump h = let match = h.found 2 at_10_1_2_3 its_route (dump 1 ∷ []) [] refl in omega (arith, match.contained.1)
 
 nothing_that_is_added_later : ¬ FindsBest 1 (entry 2 (Lookup at_10_1_2_3) (Found its_route) ∷ entry 1 (Add ten_8 5 Discard) Added ∷ [])
 unfolding table_of_journal
 nothing_that_is_added_later h =
-    let match = h 2 at_10_1_2_3 its_route [] (entry 1 (Add ten_8 5 Discard) Added ∷ []) refl in omega (arith, match.contained.1)
+    let match = h.found 2 at_10_1_2_3 its_route [] (entry 1 (Add ten_8 5 Discard) Added ∷ []) refl in omega (arith, match.contained.1)
+
+nothing_found_where_a_route_covers : ¬ FindsBest 1 (entry 1 (Add ten_8 5 Discard) Added ∷ entry 2 (Lookup at_10_1_2_3) NoRoute ∷ [])
+unfolding table_of_journal table_after
+nothing_found_where_a_route_covers h =
+    let uncovered = h.none 2 at_10_1_2_3 (entry 1 (Add ten_8 5 Discard) Added ∷ []) []
+        refl (record { prefix = ten_8; feed = 1; pref = 5; hop = Discard }) (0, omega arith, refl) in cc
 
 -- a dump leaves no route
 no_route_by_a_dump : table_of_journal 1 (dump 2 ∷ []) ≡ []
@@ -355,11 +370,10 @@ nobody_is_inside homes seat place value has = let idle = (seen_by homes seat pla
 
 -- FindsBest
 where_nothing_was_looked_up : FindsBest dumped.book.limit dumped.book.journal
-where_nothing_was_looked_up feed addr r [] later same =
-    let first : dump 2 ≡ entry feed (Lookup addr) (Found r) = cc in
-    let asked : Dump ≡ Lookup addr = ap (λ (e : Entry). e.cmd) first in cc
-where_nothing_was_looked_up feed addr r (e ∷ []) later same = cc
-where_nothing_was_looked_up feed addr r (e ∷ f ∷ earlier) later same = cc
+where_nothing_was_looked_up = record {
+  found = λ feed addr r earlier later same. absurd (no_look_up_in 2 feed addr (Found r) earlier later same);
+  none = λ feed addr earlier later same. absurd (no_look_up_in 2 feed addr NoRoute earlier later same);
+}
 
 -- IsAtRest
 the_dump_was_seen_by_its_feed : IsAtRest at_rest dumped

@@ -44,9 +44,20 @@ found_it : (limit feed : ℕ) (table : List Route) (addr : Addr) (r : Route) (fo
 found_it limit feed table addr r (Some s) e = cc
 found_it limit feed table addr r None e = absurd (cc)
 
+-- a look-up that was answered without a route found none
+found_none : (found : Option Route) → NoRoute ≡ option_map_or Found found NoRoute → found ≡ None
+found_none (Some s) e = absurd (cc)
+found_none None e = refl
+
 pub finds_best : LookUpFindsBest → TableByEntry → (limit : ℕ) (journal : List Entry) → IsLawfulJournal limit journal → FindsBest limit journal
 unfolding reply_of
-finds_best law leaves limit journal lawful feed addr r earlier later is =
-    let e = lawful.answered earlier (record { feed = feed; cmd = Lookup addr; reply = Found r }) later is in
-    ((law addr (table_of_journal limit earlier) (leaves.table limit earlier)).0 r).0
-    (found_it limit feed (table_of_journal limit earlier) addr r (look_up addr (table_of_journal limit earlier)) e)
+finds_best law leaves limit journal lawful = record {
+  found = λ feed addr r earlier later is.
+      let e = lawful.answered earlier (record { feed = feed; cmd = Lookup addr; reply = Found r }) later is in
+      ((law addr (table_of_journal limit earlier) (leaves.table limit earlier)).0 r).0
+      (found_it limit feed (table_of_journal limit earlier) addr r (look_up addr (table_of_journal limit earlier)) e);
+  none = λ feed addr earlier later is.
+      let e = lawful.answered earlier (record { feed = feed; cmd = Lookup addr; reply = NoRoute }) later is in
+      (law addr (table_of_journal limit earlier) (leaves.table limit earlier)).1.0
+      (found_none (look_up addr (table_of_journal limit earlier)) e);
+}

@@ -1,12 +1,13 @@
 -- The main theorem's terms for the core's worlds, where places answer commands.
-use Rattle.std.specs.Prelude.{◌≡◌, ℕ, ◌≤◌, List, ◌∷◌, ◌++◌, map}
+use Rattle.std.specs.Prelude.{◌≡◌, ℕ, ◌≤◌, List, ◌∷◌, ◌++◌, map, false, Contains}
 use Rattle.ya_core.specs.Worlds.{Marked, World, Event, IsReached, IsInside}
 use Rattle.rt_cidr.specs.declared.address.Addr.{Addr}
+use Rattle.rt_cidr.specs.Prefix.{covers}
 use Rattle.rt_rib.specs.declared.routes.Route.{Route}
 use Rattle.rt_rib.specs.declared.commands.Cmd.{Cmd}
 use Rattle.rt_rib.specs.declared.commands.Cmd.TheVariants.{Lookup}
 use Rattle.rt_rib.specs.declared.commands.Reply.{Reply}
-use Rattle.rt_rib.specs.declared.commands.Reply.TheVariants.{Found}
+use Rattle.rt_rib.specs.declared.commands.Reply.TheVariants.{Found, NoRoute}
 use Rattle.rt_rib.specs.declared.commands.Entry.{Entry}
 use Rattle.rt_rib.specs.Sequential.{table_of_journal, IsAnswered}
 use Rattle.rt_rib.specs.Laws.{feed_entries, IsBestMatch}
@@ -42,8 +43,11 @@ abbrev pub HasAllMade : World Act → Type 0
 HasAllMade world = (place : ℕ) → feed_entries (feed_of place) (journal_of world.content) ≡ map (entry_of place) (world.made place)
 
 -- each look-up that found a route found the best feed's route of the longest matching prefix, in the table that the
--- entries before it left
-abbrev pub FindsBest : ℕ → List Entry → Type 0
-FindsBest limit journal =
-    (feed : ℕ) (addr : Addr) (r : Route) (earlier later : List Entry) → journal ≡ earlier ++ record { feed = feed; cmd = Lookup addr; reply = Found r } ∷ later
-    → IsBestMatch addr (table_of_journal limit earlier) r
+-- entries before it left; if a look-up found none, no route of that table covers the address
+pub record FindsBest (limit : ℕ) (journal : List Entry) : Type 0 where
+  pub found : (feed : ℕ) (addr : Addr) (r : Route) (earlier later : List Entry)
+      → journal ≡ earlier ++ record { feed = feed; cmd = Lookup addr; reply = Found r } ∷ later
+      → IsBestMatch addr (table_of_journal limit earlier) r
+  pub none : (feed : ℕ) (addr : Addr) (earlier later : List Entry)
+      → journal ≡ earlier ++ record { feed = feed; cmd = Lookup addr; reply = NoRoute } ∷ later
+      → (s : Route) → Contains (table_of_journal limit earlier) s → covers s.prefix addr ≡ false
