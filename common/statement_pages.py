@@ -6,32 +6,32 @@ import sys
 import textwrap
 import tomllib
 
+from . import prover
 from .crates import CRATES, TOP, all_crates
-from .definition_reader import Definition, imports, rests_on, rust_named, unique, words_of
+from .definition_reader import Definition, imports, parse_module, rests_on, rust_named, unique, words_of
 from .rust_sources import source, sources
 
 
 class Chapter:
-    """A chapter of a page: its sentence, what has to hold for it, its clauses, and what ties them to the sources."""
+    """A chapter of a page: its sentence, what has to hold for it, its clauses, what ties them to the sources, and what the
+    toolchain says of it."""
 
-    def __init__(self, title, said, premises, clauses, ties=()):
-        self.title, self.said, self.premises, self.clauses, self.ties = title, said, premises, clauses, ties
+    def __init__(self, said):
+        self.title, self.said, self.premises, self.clauses = (said[key] for key in ("title", "said", "premises", "clauses"))
+        self.ties, self.kit = said.get("tie", ()), said.get("kit", ())
 
 
 class Page:
-    """A page in docs/: its file, its title, its introduction, its chapters, and the definitions that it prints by their
-    first lines."""
+    """A page in docs/: its file, its title, its introduction and its chapters."""
 
-    def __init__(self, name, title, said, chapters, brief):
-        self.name, self.title, self.said, self.chapters, self.brief = name, title, said, chapters, brief
+    def __init__(self, name, title, said, chapters):
+        self.name, self.title, self.said, self.chapters = name, title, said, chapters
         self.file = TOP / "docs" / name
 
 
 def page_of(said):
     """Returns the page that a table of statement_pages.toml describes."""
-    chapters = [Chapter(one["title"], one["said"], one["premises"], one["clauses"], one.get("tie", ()))
-                for one in said["chapter"]]
-    return Page(said["file"], said["title"], said["said"], chapters, {} if said.get("whole") else BRIEF)
+    return Page(said["file"], said["title"], said["said"], [Chapter(one) for one in said["chapter"]])
 
 
 WORDS = tomllib.loads(pathlib.Path(__file__).with_suffix(".toml").read_text())
@@ -212,8 +212,7 @@ def from_above(old, spoken_of, written):
 
 def definitions_of(speakers, written, brief, link):
     """What the speakers rest on, as far as it isn't further up."""
-    known = {key: page for key, page in written.home.items() if page or brief}
-    new, old, words = in_order(speakers, known, brief)
+    new, old, words = in_order(speakers, written.home, brief)
     bare = [one.key for one in new if not one.comment]
     if bare:
         sys.exit("tools/statement: no comment says what this is: " + ", ".join(bare))
@@ -232,7 +231,16 @@ def chapter(one, written, link):
     speakers = [*map(Clause, one.clauses), *(Tie(**tie) for tie in one.ties)]
     out = [f"## {one.title}", "", *wrapped(one.said), "", *wrapped(f"*Premises:* {one.premises}"), ""]
     out += places(speakers, link) + fenced("rust", [shown_clause(speaker) for speaker in speakers])
-    return out + definitions_of(speakers, written, written.page.brief, link)
+    for said in one.kit:
+        out += [*wrapped(said["said"]), "", *fenced("agda", kit_definitions(said["file"], said["names"]))]
+    return out + definitions_of(speakers, written, BRIEF, link)
+
+
+def kit_definitions(file, names):
+    """The lines of definitions of the toolchain, with their comments."""
+    found = parse_module(file, prover.kit() / "rattle" / file)
+    return [[*(f"-- {line}" for line in wrapped(" ".join(found[name].comment), width=116)), *found[name].lines]
+            for name in names]
 
 
 def legend():
@@ -287,7 +295,7 @@ def pages(written):
 
 def figure(page):
     """Matches the number of lines of a page in README.md."""
-    return re.compile(rf"\[(\d+) lines\]\(docs/{re.escape(page.name)}\)")
+    return re.compile(rf"\[(\d+)\slines\]\(docs/{re.escape(page.name)}\)")
 
 
 def check():
@@ -307,7 +315,7 @@ def write():
     readme = TOP / "README.md"
     for page, text, lines in pages(Written()):
         page.file.write_text(text)
-        readme.write_text(figure(page).sub(f"[{lines} lines](docs/{page.name})", readme.read_text()))
+        readme.write_text(figure(page).sub(lambda old: old[0].replace(old[1], str(lines), 1), readme.read_text()))
         print(f"docs/{page.name}: {lines} lines")
 
 

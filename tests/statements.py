@@ -2,7 +2,7 @@
 """Changes laws and pages in a copy of the repository, and checks that `tools/statement --check` refuses each change that
 means something, and no other.
 
-tests/statements.py [CASE..], or --list for the names of the cases. Needs only python3, and about ten seconds.
+tests/statements.py [CASE..], or --list for the names of the cases. Needs the toolchain and python3, and about ten seconds.
 """
 import pathlib
 import re
