@@ -1,11 +1,11 @@
--- An ordered list of pairs: the pairs that are found.
-use Rattle.std.proofs.Common.{◌≡◌, zero, suc, ◌<◌, ◌⊎◌, true, [], ◌∷◌, Some, None, inl, inr, refl, sym, ◌∙◌, ap, subst, arith, ◌↔◌}
+-- An ordered list of pairs: the pairs that are found, and the first and the next of their prefixes.
+use Rattle.std.proofs.Common.{◌≡◌, zero, suc, ◌<◌, ◌⊎◌, true, false, [], ◌∷◌, Some, None, inl, inr, refl, sym, ◌∙◌, ap, subst, arith, ◌↔◌}
 use Rattle.std.specs.Prelude.{Contains, is_some}
 use Rattle.std.proofs.lemmas.Bool.{false≢true}
 use Rattle.rt_cidr.specs.declared.prefixes.Prefix.{Prefix}
 use Rattle.rt_cidr.proofs.Promised.{prefix_by_parts}
-use Rattle.rt_trie.specs.Map.{Pairs, get, IsStored, IsBeforeAll, IsOrdered}
-use Rattle.rt_trie.proofs.PrefixOrder.{rank, same_tells, same_rank, other_rank, rank_of_before}
+use Rattle.rt_trie.specs.Map.{Pairs, before, get, first, next_after, IsStored, IsBeforeAll, IsOrdered}
+use Rattle.rt_trie.proofs.PrefixOrder.{rank, same_tells, before_tells, same_rank, other_rank, lower_rank, higher_rank, rank_of_before}
 use Rattle.rt_trie.proofs.JoinedPairs.{AllKeys-map, IsHigher, IsOther, IsOther-higher, get-none}
 use Rattle.rt_trie.proofs.Counts.{AllKeys-higher}
 
@@ -50,6 +50,27 @@ module _ {V : Type 0} where
       let r : rank x < rank p = stored-higher x m p o.0 (stored-contained m p v (k, omega arith, e)) in
       rw (other_rank x p (λ d. absurd (omega arith))) (found-contained m p v o.1 (k, omega arith, e))
 
+  pub next-is-none : (m : Pairs V) (p : Prefix) → (next_after m p ≡ None) ↔ ((x : Prefix) → IsStored m x → before p x ≡ false)
+  next-is-none m p = (none m p, of_none m p)
+    where
+      none : (m : Pairs V) (p : Prefix) → next_after m p ≡ None → (x : Prefix) → IsStored m x → before p x ≡ false
+      none [] p h x s = absurd (false≢true s)
+      none ((y, w) ∷ m) p h x s = elim (before_tells p y) [
+        | inl b ↦ let e : Some y ≡ None = rw b.0 at h in cc
+        | inr b ↦ elim (stored-cases y w m x s) [
+          | inl e ↦ higher_rank p x (omega arith)
+          | inr t ↦ let e : next_after m p ≡ None = rw b.0 at h in none m p e x t
+        ]
+      ]
+
+      of_none : (m : Pairs V) (p : Prefix) → ((x : Prefix) → IsStored m x → before p x ≡ false) → next_after m p ≡ None
+      of_none [] p h = refl
+      of_none ((y, w) ∷ m) p h = rw (h y (stored-here y w m)) (of_none m p (λ x s. h x (stored-more y w m x s)))
+
+  pub first-is-none : (m : Pairs V) → (first m ≡ None) ↔ (m ≡ [])
+  first-is-none [] = (λ h. refl, λ h. refl)
+  first-is-none ((x, w) ∷ m) = (λ h. cc, λ h. cc)
+
   pub contained-found : (m : Pairs V) (p : Prefix) (v : V) → get m p ≡ Some v → Contains m (p, v)
   contained-found [] p v h = cc
   contained-found ((x, w) ∷ m) p v h = elim (same_tells x p) [
@@ -89,3 +110,56 @@ module _ {V : Type 0} where
             ]) in
             cc
       ]
+
+  pub first-is-least : (m : Pairs V) (p : Prefix) → IsOrdered m
+      → (first m ≡ Some p) ↔ (IsStored m p × ((x : Prefix) → IsStored m x → before x p ≡ false))
+  first-is-least [] p o = (λ h. cc, λ h. absurd (false≢true h.0))
+  first-is-least ((y, w) ∷ m) p o = (
+    λ h.
+        let e : y ≡ p = cc in
+        subst (λ q. IsStored ((y, w) ∷ m) q × ((x : Prefix) → IsStored ((y, w) ∷ m) x → before x q ≡ false)) e (
+          stored-here y w m,
+          λ x s. higher_rank x y (elim (stored-cases y w m x s) [ inl i ↦ omega arith | inr t ↦ omega (arith, stored-higher y m x o.0 t) ]),
+        ),
+    λ h. elim (stored-cases y w m p h.0) [
+      | inl e ↦ ap Some (prefix_by_parts y p e.0 e.1)
+      | inr t ↦ absurd (false≢true (sym (h.1 y (stored-here y w m)) ∙ lower_rank y p (stored-higher y m p o.0 t)))
+    ],
+  )
+
+  pub after-is-next : (m : Pairs V) (p q : Prefix) → IsOrdered m
+      → (next_after m p ≡ Some q)
+      ↔ (IsStored m q × (before p q ≡ true) × ((x : Prefix) → IsStored m x → before p x ≡ true → before x q ≡ false))
+  after-is-next [] p q o = (λ h. cc, λ h. absurd (false≢true h.0))
+  after-is-next ((y, w) ∷ m) p q o = elim (before_tells p y) [
+    | inl b ↦ (
+      λ h.
+          let i : Some y ≡ Some q = rw b.0 at h in
+          let f = (first-is-least ((y, w) ∷ m) q o).0 i in
+          let e : y ≡ q = cc in
+          (f.0, subst (λ x. before p x ≡ true) e b.0, λ x s l. f.1 x s),
+      λ h. rw b.0 ((first-is-least ((y, w) ∷ m) q o).1 (
+        h.0,
+        λ x s. elim (before_tells p x) [
+          | inl l ↦ h.2 x s l.0
+          | inr l ↦ higher_rank x q (elim (stored-cases y w m x s) [ inl i ↦ absurd (omega arith) | inr t ↦ absurd (omega (arith, stored-higher y m x o.0 t)) ])
+        ],
+      )),
+    )
+    | inr b ↦
+        let next = after-is-next m p q o.1 in (
+          λ h.
+              let n = next.0 (rw b.0 at h) in (
+                stored-more y w m q n.0,
+                n.1,
+                λ x s l. elim (stored-cases y w m x s) [
+                  | inl i ↦ absurd (omega (arith, rank_of_before p x l))
+                  | inr t ↦ n.2 x t l
+                ],
+              ),
+          λ h. rw b.0 (elim (stored-cases y w m q h.0) [
+            | inl i ↦ absurd (omega (arith, rank_of_before p q h.1))
+            | inr t ↦ next.1 (t, h.1, λ x s l. h.2 x (stored-more y w m x s) l)
+          ]),
+        )
+  ]

@@ -1,10 +1,10 @@
--- Theorems that explain the definitions for a map, look-ups and changes, and the halves of a prefix.
-use Rattle.std.specs.Prelude.{◌≡◌, ◌↔◌, ◌<◌, ◌/◌, ◌%◌, Bool, IsTrue, Some, None, Contains, if◌then◌else◌}
+-- Theorems that explain the definitions for a map: look-ups, changes, and the first and the next prefix.
+use Rattle.std.specs.Prelude.{◌≡◌, ◌↔◌, ◌<◌, ◌/◌, ◌%◌, Bool, false, IsTrue, [], Some, None, Contains, if◌then◌else◌}
 use Rattle.rt_cidr.specs.declared.prefixes.Prefix.{Prefix}
 use Rattle.rt_cidr.specs.Cidr.{size_of}
 use Rattle.rt_cidr.specs.Prefix.{contains}
 use Rattle.rt_trie.specs.Halves.{IsChild}
-use Rattle.rt_trie.specs.Map.{Pairs, same_prefix, get, put, erase, IsOrdered}
+use Rattle.rt_trie.specs.Map.{Pairs, same_prefix, before, get, put, erase, first, next_after, IsStored, IsOrdered}
 
 -- after v was inserted at p, p has the value v, and every other prefix has its old value
 abbrev pub PutIsSeen : Type 0 → Type 0
@@ -29,6 +29,27 @@ PairsAreFound V = (m : Pairs V) (p : Prefix) (v : V) → IsOrdered m → Contain
 -- a map has only one list
 abbrev pub MapHasOneList : Type 0 → Type 0
 MapHasOneList V = (m n : Pairs V) → IsOrdered m → IsOrdered n → ((p : Prefix) → get m p ≡ get n p) → m ≡ n
+
+-- the first prefix is the stored one with no other before it
+abbrev pub FirstIsLeast : Type 0 → Type 0
+FirstIsLeast V =
+    (m : Pairs V) (p : Prefix) → IsOrdered m
+    → (first m ≡ Some p) ↔ (IsStored m p × ((x : Prefix) → IsStored m x → before x p ≡ false))
+
+-- there is no first prefix if and only if the map is empty
+abbrev pub NoneIsFirst : Type 0 → Type 0
+NoneIsFirst V = (m : Pairs V) → (first m ≡ None) ↔ (m ≡ [])
+
+-- the next prefix after p is the stored one after p with no other in between
+abbrev pub AfterIsNext : Type 0 → Type 0
+AfterIsNext V =
+    (m : Pairs V) (p q : Prefix) → IsOrdered m
+    → (next_after m p ≡ Some q)
+    ↔ (IsStored m q × IsTrue (before p q) × ((x : Prefix) → IsStored m x → IsTrue (before p x) → before x q ≡ false))
+
+-- there is no next prefix if and only if no stored prefix comes after p
+abbrev pub NoneIsAfter : Type 0 → Type 0
+NoneIsAfter V = (m : Pairs V) (p : Prefix) → (next_after m p ≡ None) ↔ ((x : Prefix) → IsStored m x → before p x ≡ false)
 
 -- a child by bits: it is longer than its parent and contained in it, and its bit after the parent's length is the
 -- side's; this bit is worth half the parent's number of addresses

@@ -2,7 +2,7 @@
 //! is the theorem.
 
 ghost use Rattle.rt_trie.specs.Laws.{PutIsSeen, EraseIsSeen, PutKeepsOrder, EraseKeepsOrder, PairsAreFound, MapHasOneList};
-ghost use Rattle.rt_trie.specs.Laws.{ChildByNextBit};
+ghost use Rattle.rt_trie.specs.Laws.{FirstIsLeast, NoneIsFirst, AfterIsNext, NoneIsAfter, ChildByNextBit};
 
 /// An insertion and a removal only change the value at their own prefix, and keep the pairs in order.
 pub fn changes<V>()
@@ -16,6 +16,15 @@ pub fn changes<V>()
 pub fn one_list<V>()
     ensures found { PairsAreFound V }
     ensures one { MapHasOneList V }
+{}
+
+/// The first prefix is the lowest stored one. The next one after p is the stored prefix after p with no other in
+/// between.
+pub fn least<V>()
+    ensures first { FirstIsLeast V }
+    ensures none_first { NoneIsFirst V }
+    ensures after { AfterIsNext V }
+    ensures none_after { NoneIsAfter V }
 {}
 
 /// A longer prefix is in the lower or upper half of a prefix's addresses if and only if it is contained in the prefix
