@@ -122,6 +122,16 @@ SHOWN = [
 10.1.0.0/16 feed north pref 10 via 192.0.2.1
 10.9.0.0/16 feed east pref 10 via discard
 """),
+    call("table --total --feed 1 north.feed south.feed east.feed", """\
+10.0.0.0/8 feed 1 pref 50 via 192.0.2.1
+10.1.0.0/16 feed 1 pref 10 via 192.0.2.1
+total 2
+"""),
+    call("table --total --json --best --within 10.9.0.0/16 north.feed south.feed east.feed", """\
+{"prefix":"10.9.0.0/16","feed":3,"file":"east.feed","pref":10,"via":null,"discard":true}
+{"total":1}
+"""),
+    call("table --total --exact 11.0.0.0/8 north.feed", "total 0\n"),
     call("table --count --names north.feed south.feed east.feed", """\
 routes 4 prefixes 3
 feed north routes 2

@@ -703,6 +703,27 @@ def counted_tables(yarib):
     misused("--count twice", yarib("table", "--count", "--count", "row.feed"), "--count")
 
 
+# Catches a total that counts prefixes, or the routes of the whole table: `--total of 300`.
+# Catches a table without the line if no route is selected: `--total of 0`.
+def totalled_tables(yarib):
+    """Random tables and parts of them with `--total`: what the same command prints without it, and then the number of these
+    lines."""
+    choice = random.Random(88)
+    for count in (0, 1, 300):
+        _, names = random_table(choice, f"totalled{count}_", count)
+        for part in ([], ["--within", "10.0.0.0/8"], ["--covering", "10.0.0.1/32"], ["--exact", "10.0.0.0/24"]):
+            for more in ([], ["--best"], ["--feed", "2"], ["--best", "--without", "1"], ["--names"], ["--json"]):
+                words = [*part, *more, *names]
+                _, rows, _ = yarib("table", *words)
+                number = len(rows.splitlines())
+                last = f'{{"total":{number}}}\n' if "--json" in more else f"total {number}\n"
+                compare(f"--total of {count} {words}", yarib("table", "--total", *words), 0, rows + last)
+    for both in (["--count", "--total"], ["--total", "--json", "--count"]):
+        expect(f"{both}", yarib("table", *both, "missing.feed"), (3, "", "yarib: only one of --count and --total may be given\n"))
+    misused("--total of a look-up", yarib("lookup", "--total", "--address", "10.0.0.1", "row.feed"), "--total")
+    misused("--total twice", yarib("table", "--total", "--total", "row.feed"), "--total")
+
+
 def cut(number, length):
     """The number without its bits past the length."""
     return number >> 32 - length << 32 - length
@@ -1171,7 +1192,7 @@ def progress_of_long_runs(yarib):
 CASES = (
     runs, what_the_table_says, what_two_tables_answer_otherwise, file_order, many_files, unreadable, names,
     texts, limits, batches, twice, replays, finished_tables, parts_of_tables, left_out, routes_of_feeds,
-    unknown_feeds, counted_tables, compared_tables,
+    unknown_feeds, counted_tables, totalled_tables, compared_tables,
     compared_as_json, compared_by_name, old_first, not_taken, not_asked, files_told, addresses_told, pages,
     examples_of_the_help, help_is_true, closed_outputs, progress, line_each_second, progress_of_long_runs,
 )

@@ -142,6 +142,11 @@ instead, then the number for each feed and for each prefix length that has any:
   feed F routes N
   length L routes N
 
+With --total a last line has the number of the printed routes. A table without
+this line, or with another number of routes before it, is incomplete. Only one
+of --count and --total may be given.
+  total N
+
 F is the position of the feed's FILE on the command line, from 1. With --names
 the feed's name is printed instead: FILE without its directory and .feed. Two
 feeds with the same name are an error, as is a name that is empty or contains a
@@ -150,6 +155,7 @@ With --json each line is one object; --names adds \"name\" before \"file\":
   {\"prefix\":PREFIX,\"feed\":F,\"file\":FILE,\"pref\":P,\"via\":HOP}
   {\"routes\":N,\"prefixes\":N}
   {\"feed\":F,\"file\":FILE,\"routes\":N}   {\"length\":L,\"routes\":N}
+  {\"total\":N}
 For discard: \"via\":null,\"discard\":true.
 
 ",
@@ -163,6 +169,9 @@ the line `add 10.0.0.0/8 50 192.0.2.2`:
   10.0.0.0/8 feed 2 pref 50 via 192.0.2.2
   $ yarib table --covering 10.1.0.0/16 --feed 1 one.feed two.feed
   10.0.0.0/8 feed 1 pref 100 via 192.0.2.1
+  $ yarib table --total --best one.feed two.feed
+  10.0.0.0/8 feed 2 pref 50 via 192.0.2.2
+  total 1
   $ yarib table --count one.feed two.feed
   routes 2 prefixes 1
   feed 1 routes 1

@@ -226,6 +226,11 @@ const TABLE: &[Parameter] = &[
         help: "Print the number of routes instead: in all, per feed and per length",
         ..FLAG
     },
+    Parameter {
+        name: "total",
+        help: "Print the number of printed routes on a last line",
+        ..FLAG
+    },
     NAMES,
     JSON,
     LIMIT,

@@ -107,12 +107,23 @@ pub struct TableRequest<'a> {
     pub only_best: bool,
     /// The prefixes whose routes are listed.
     pub part: PrefixFilterArg<'a>,
-    /// Print the number of routes instead of the routes.
-    pub count: bool,
+    /// What is printed of these routes.
+    pub output: TableOutput,
     /// Print a feed's name instead of its number.
     pub names: bool,
     /// Print JSON objects instead of plain lines.
     pub json: bool,
+}
+
+/// What `table` prints of the routes that it lists.
+#[derive(Clone, Copy)]
+pub enum TableOutput {
+    /// The routes.
+    Routes,
+    /// The routes, and their number on a last line.
+    RoutesAndTotal,
+    /// The number of routes: in all, of each feed and of each length.
+    Counts,
 }
 
 /// A filter on prefixes, with its argument not yet parsed.
@@ -182,6 +193,9 @@ pub enum RequestFault {
     /// More than one of `--within`, `--covering` and `--exact` was given.
     #[error("only one of --within, --covering and --exact may be given")]
     ConflictingFilters,
+    /// Both `--count` and `--total` were given.
+    #[error("only one of --count and --total may be given")]
+    CountAndTotal,
     /// `clap` accepted arguments that this crate doesn't expect. This would be a bug of this crate; no such arguments are
     /// known.
     #[error("cannot parse the command line: see yarib --help")]
@@ -238,12 +252,13 @@ fn lookup_request<'a>(matches: &'a ArgMatches<'_>) -> Result<Request<'a>, Reques
 
 fn table_request<'a>(matches: &'a ArgMatches<'_>) -> Result<Request<'a>, RequestFault> {
     let part = part_of(matches)?;
+    let output = output_of(matches)?;
     Ok(Request::Table(TableRequest {
         run: run_request(matches)?,
         feeds: feeds_of(matches, "feed", "without"),
         only_best: matches.get_flag("best"),
         part,
-        count: matches.get_flag("count"),
+        output,
         names: matches.get_flag("names"),
         json: matches.get_flag("json"),
     }))
@@ -258,6 +273,15 @@ fn part_of<'a>(matches: &'a ArgMatches<'_>) -> Result<PrefixFilterArg<'a>, Reque
         (None, Some(prefix), None) => Ok(PrefixFilterArg::Covering(prefix)),
         (None, None, Some(prefix)) => Ok(PrefixFilterArg::Exact(prefix)),
         _ => Err(RequestFault::ConflictingFilters),
+    }
+}
+
+fn output_of(matches: &ArgMatches<'_>) -> Result<TableOutput, RequestFault> {
+    match (matches.get_flag("count"), matches.get_flag("total")) {
+        (false, false) => Ok(TableOutput::Routes),
+        (false, true) => Ok(TableOutput::RoutesAndTotal),
+        (true, false) => Ok(TableOutput::Counts),
+        (true, true) => Err(RequestFault::CountAndTotal),
     }
 }
 

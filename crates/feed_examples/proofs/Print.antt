@@ -24,7 +24,7 @@ use Rattle.rt_print.specs.FeedNames.{is_name, name_at, HasOwnName, ChecksNames}
 use Rattle.rt_print.specs.Labels.{is_json, has_names, without_feed, feed_name, label_by, index_of_name, paired_number, labels_by}
 use Rattle.rt_print.specs.Styles.{StyleContents, label_of, row_as, address_head, found_as, reason_text, also_line, all_found_as}
 use Rattle.rt_print.specs.DifferenceText.{way_text, DiffContents, diff_of, answered_as, range_as, difference_as, differences_as}
-use Rattle.rt_print.specs.Counts.{prefix_count, length_count, totals_as, count_as, counts_as}
+use Rattle.rt_print.specs.Counts.{prefix_count, length_count, totals_as, count_as, counts_as, total_as, rows_and_total_as}
 use Rattle.feed_examples.proofs.Feed.{at_192_0_2_1}
 
 -- hop_text
@@ -161,6 +161,17 @@ all_counts : counts_as (record { json = false; labels = [] }) counted_routes
     ≡ codes "routes 3 prefixes 2\nfeed 1 routes 2\nfeed 2 routes 1\nlength 8 routes 2\nlength 16 routes 1\n"
 unfolding counts_as totals_as count_as digits
 all_counts = refl
+
+-- total_as
+the_total_in_each_style : (total_as false 2 ≡ codes "total 2\n") × (total_as true 0 ≡ codes "{\"total\":0}\n")
+unfolding total_as digits
+the_total_in_each_style = (refl, refl)
+
+-- rows_and_total_as
+each_route_and_not_each_prefix : rows_and_total_as (record { json = false; labels = [] }) counted_routes
+    ≡ codes "10.0.0.0/8 feed 1 pref 5 via discard\n10.0.0.0/8 feed 2 pref 5 via discard\n10.1.0.0/16 feed 1 pref 5 via discard\ntotal 3\n"
+unfolding digits address_text prefix_text row_as total_as
+each_route_and_not_each_prefix = refl
 
 -- escaped
 what_stands_for_a_byte :

@@ -52,7 +52,7 @@ use Rattle.rt_print.specs.ReplayText.{inside_text}
 use Rattle.rt_run.specs.Replayed.{IsReplayText, LeavesReplay}
 use Rattle.rt_run.specs.declared.tallies.RejectedInput.{RejectedInput}
 use Rattle.rt_print.specs.Styles.{StyleContents, row_as, found_as, all_found_as, reason_text}
-use Rattle.rt_print.specs.Counts.{totals_as, count_as, counts_as}
+use Rattle.rt_print.specs.Counts.{totals_as, count_as, counts_as, total_as}
 use Rattle.rt_run.specs.TableText.{answers_text, all_answers_text, was_full, was_existing, was_missing, faults_of, tally_of}
 use Rattle.rt_run.specs.TableText.{has_refused, has_rejected, tallies_status, faulty_tally, NoneRefused, LeavesTable, question_text, named_in, said_in, IsQueryOutput, IsAnswer}
 use Rattle.rt_rib.specs.declared.selection.Selection.{Selection}
@@ -749,27 +749,32 @@ all_of_one_and_a_text = ask.All (record { ref_ptr = (0, 0); now = at_10_9_0_1 �
 abbrev every_route : Question
 every_route = ask.Routes (record { part = part.All; only_best = false; feed = None }) (record { ref_ptr = (0, 0); now = [] })
 
+abbrev every_route_and_the_number : Question
+every_route_and_the_number = ask.RoutesAndTotal (record { part = part.All; only_best = false; feed = None }) (record { ref_ptr = (0, 0); now = [] })
+
 abbrev the_number_of_all : Question
 the_number_of_all = ask.Counts (record { part = part.All; only_best = false; feed = None }) (record { ref_ptr = (0, 0); now = [] })
 
 -- named_in
 only_look_ups_have_addresses :
     (named_in the_best_of_one_and_a_text ≡ at_10_9_0_1 ∷ []) × (named_in all_of_one_and_a_text ≡ at_10_9_0_1 ∷ []) × (named_in every_route ≡ [])
-    × (named_in the_number_of_all ≡ [])
-only_look_ups_have_addresses = (refl, refl, refl, refl)
+    × (named_in every_route_and_the_number ≡ []) × (named_in the_number_of_all ≡ [])
+only_look_ups_have_addresses = (refl, refl, refl, refl, refl)
 
 -- said_in
 only_look_ups_have_a_text :
     (said_in the_best_of_one_and_a_text ≡ asked_text) × (said_in all_of_one_and_a_text ≡ asked_text) × (said_in every_route ≡ [])
-    × (said_in the_number_of_all ≡ [])
-only_look_ups_have_a_text = (refl, refl, refl, refl)
+    × (said_in every_route_and_the_number ≡ []) × (said_in the_number_of_all ≡ [])
+only_look_ups_have_a_text = (refl, refl, refl, refl, refl)
 
 -- question_text
 routes_and_their_numbers :
     (question_text plain every_route [] two_to_ten_8 ≡ codes "10.0.0.0/8 feed 2 pref 30 via discard\n10.0.0.0/8 feed 1 pref 50 via discard\n")
+    × (question_text plain every_route_and_the_number [] two_to_ten_8
+    ≡ codes "10.0.0.0/8 feed 2 pref 30 via discard\n10.0.0.0/8 feed 1 pref 50 via discard\ntotal 2\n")
     × (question_text plain the_number_of_all [] two_to_ten_8 ≡ codes "routes 2 prefixes 1\nfeed 1 routes 1\nfeed 2 routes 1\nlength 8 routes 2\n")
-unfolding digits address_text prefix_text row_as counts_as totals_as count_as
-routes_and_their_numbers = (refl, refl)
+unfolding digits address_text prefix_text row_as total_as counts_as totals_as count_as
+routes_and_their_numbers = (refl, refl, refl)
 
 all_or_the_best :
     (question_text plain the_best_of_one_and_a_text (at_10_1_2_3 ∷ []) two_to_ten_8 ≡ codes "10.1.2.3 route 10.0.0.0/8 feed 2 pref 30 via discard\n")

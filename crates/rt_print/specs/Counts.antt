@@ -1,4 +1,5 @@
--- The numbers of routes: in all, of their prefixes, of each feed, and to prefixes of each length.
+-- The numbers of routes: in all, of their prefixes, of each feed, and to prefixes of each length; and routes followed by
+-- their number.
 use Rattle.std.specs.Prelude.{ℕ, ◌+◌, ◌==◌, Bool, true, false, if◌then◌else◌, List, [], ◌++◌, length, codes, decimal, count_by}
 use Rattle.std.specs.List.{dedup, flat_map, range_with_len}
 use Rattle.rt_cidr.specs.Prefix.{same_prefix}
@@ -6,7 +7,7 @@ use Rattle.rt_rib.specs.declared.limits.TheConstants.{MAX_FEEDS}
 use Rattle.rt_rib.specs.declared.routes.Route.{Route}
 use Rattle.rt_rib.specs.Table.{count_of}
 use Rattle.rt_print.specs.declared.counts.TheConstants.{MAX_BITS}
-use Rattle.rt_print.specs.Styles.{StyleContents, label_of}
+use Rattle.rt_print.specs.Styles.{StyleContents, label_of, rows_as}
 
 -- the number of prefixes of the routes, if routes to the same prefix are adjacent
 abbrev pub prefix_count : List Route → ℕ
@@ -33,3 +34,12 @@ counts_as style routes =
     totals_as style.json (length routes) (prefix_count routes)
     ++ (flat_map (λ feed. count_as style.json (codes "feed") (label_of style.labels feed) (count_of feed routes)) (range_with_len 0 (MAX_FEEDS + 1))
     ++ flat_map (λ len. count_as style.json (codes "length") (decimal len) (length_count len routes)) (range_with_len 0 (MAX_BITS + 1)))
+
+-- the text of the number of routes before it
+unfoldable pub total_as : Bool → ℕ → List ℕ
+total_as false count = codes "total " ++ (decimal count ++ codes "\n")
+total_as true count = codes "{\"total\":" ++ (decimal count ++ codes "}\n")
+
+-- the routes in order, and last their number
+abbrev pub rows_and_total_as : StyleContents → List Route → List ℕ
+rows_and_total_as style routes = rows_as style routes ++ total_as style.json (length routes)

@@ -1,15 +1,16 @@
-//! The numbers of routes: in all, of each feed, and to prefixes of each length.
+//! The numbers of routes: in all, of each feed, and to prefixes of each length; and routes followed by their number.
 ghost use Rattle.std.specs.Prelude.{◌≡◌, ℕ, ◌+◌, ◌<◌, ◌≤◌, List, length, get_or};
 ghost use Rattle.std.specs.List.{flat_map, range_with_len};
 ghost use Rattle.rt_rib.specs.declared.limits.TheConstants.{MAX_FEEDS};
 ghost use Rattle.rt_print.specs.declared.counts.TheConstants.{MAX_BITS};
 ghost use Rattle.rt_cidr.specs.Output.{WritesText};
 ghost use Rattle.rt_rib.specs.Table.{count_of};
-ghost use Rattle.rt_print.specs.Counts.{prefix_count, length_count, totals_as, count_as, counts_as};
+ghost use Rattle.rt_print.specs.Counts.{prefix_count, length_count, totals_as, count_as, counts_as, total_as, rows_and_total_as};
 ghost use Rattle.rt_print.specs.Styles.{label_of};
 ghost use Rattle.rt_print.specs.inside.Parts.{label_pairs};
 
 use crate::labels::{FeedLabel, label_in};
+use crate::routes::write_routes;
 use crate::style::Style;
 use crate::text::Text;
 use rt_cidr::ShortText;
@@ -43,6 +44,31 @@ pub fn write_counts<W: Write>(w: &mut W, style: &Style, routes: &[Route]) -> io:
     put_totals(w, json, routes.len() as u64, prefixes as u64)?;
     put_numbers(w, json, "feed", style.labels(), &feeds)?;
     put_numbers(w, json, "length", &[], &lengths)
+}
+
+/// Writes the routes as `write_routes` does and then, on a last line, their number: `total N`, or an object. A reader that
+/// finds this line with the number of the lines before it has all of them. Errors and memory are as for `write_routes`.
+pub fn write_routes_and_total<W: Write>(
+    w: &mut W,
+    style: &Style,
+    routes: &[Route],
+) -> io::Result<()>
+    ensures { WritesText (W.contents w.old) (W.contents w.new) (rows_and_total_as style.now routes.now) result }
+{
+    write_routes(w, style, routes)?;
+    put_total(w, style.is_json(), routes.len() as u64)
+}
+
+/// Writes the number of the routes before it.
+#[tactic(auto, unfolding(crate::specs::Counts::total_as))]
+fn put_total<W: Write>(w: &mut W, json: bool, count: u64) -> io::Result<()>
+    ensures { WritesText (W.contents w.old) (W.contents w.new) (total_as json count) result }
+{
+    if json {
+        ("{\"total\":", (count, "}\n")).put_to(w)
+    } else {
+        ("total ", (count, "\n")).put_to(w)
+    }
 }
 
 /// Counts the prefixes of the routes, if routes to the same prefix are adjacent; and the routes of each feed, and those to

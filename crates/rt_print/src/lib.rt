@@ -36,7 +36,7 @@ mod style;
 mod text;
 
 pub use buffer::{OUTPUT_BYTES, OutputBuffer, OutputRoom};
-pub use counts::write_counts;
+pub use counts::{write_counts, write_routes_and_total};
 pub use diff_options::DiffOptions;
 pub use differences::write_difference;
 pub use format::Format;

@@ -10,7 +10,7 @@ use Rattle.rt_rib.specs.LookUp.{look_up}
 use Rattle.rt_feed.specs.declared.faulty.FaultyLines.{FaultyLines}
 use Rattle.rt_feed.specs.declared.faults.RunFault.TheVariants as refusal
 use Rattle.rt_print.specs.Routes.{table_text, count_text}
-use Rattle.rt_print.specs.Counts.{totals_as, counts_as}
+use Rattle.rt_print.specs.Counts.{totals_as, counts_as, total_as, rows_and_total_as}
 use Rattle.rt_print.specs.Styles.{StyleContents, label_of, row_as, rows_as, address_head, found_as, all_found_as}
 use Rattle.rt_run.specs.declared.faults.AppFault.{AppFault}
 use Rattle.rt_run.specs.declared.faults.AppFault.TheVariants.{Run, Replay, Write}
@@ -108,6 +108,14 @@ module _ (style : StyleContents) (empty : Bool) where
 pub counts-some : (style : StyleContents) (routes : List Route) → 0 < length (counts_as style routes)
 unfolding counts_as totals_as
 counts-some style routes = grind (arith, common_steps)
+
+-- nor is a text that ends with a total
+total-some : (json : Bool) (count : ℕ) → 0 < length (total_as json count)
+unfolding total_as
+total-some json count = grind (arith, common_steps)
+
+pub rows_and_total-some : (style : StyleContents) (routes : List Route) → 0 < length (rows_and_total_as style routes)
+rows_and_total-some style routes = omega (arith, length-append (rows_as style routes) (total_as style.json (length routes)), total-some style.json (length routes))
 
 -- the text of the steps of a run from the start, and of the place that is inside after them, is its replay text
 pub is_replay_text : (levels : ℕ) (picks : List ℕ) (steps : List Step) (inside : Option ℕ) → ((HasShape levels → ⊥) → ⊥) → Replays levels opening picks steps

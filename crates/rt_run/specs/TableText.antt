@@ -16,7 +16,7 @@ use Rattle.rt_feed.specs.declared.report.Answer.TheVariants.{Did, Refused, Fault
 use Rattle.rt_feed.specs.Lines.{LineOutcome}
 use Rattle.rt_feed.specs.Addresses.{faulty_lines, SaysAddresses}
 use Rattle.rt_feed.specs.Reports.{is_refusal}
-use Rattle.rt_print.specs.Counts.{counts_as}
+use Rattle.rt_print.specs.Counts.{counts_as, rows_and_total_as}
 use Rattle.rt_print.specs.Styles.{StyleContents, label_of, rows_as, found_as, all_found_as}
 use Rattle.rt_run.specs.declared.tallies.RejectedInput.{RejectedInput}
 use Rattle.rt_run.specs.declared.tallies.RunSummary.{RunSummary}
@@ -39,6 +39,7 @@ abbrev pub question_text : StyleContents → Question → List Addr → List Rou
 question_text style (ask.Best named text) addresses table = answers_text style addresses table
 question_text style (ask.All named text) addresses table = all_answers_text style addresses table
 question_text style (ask.Routes selection feeds) addresses table = rows_as style (routes_of_selected feeds.now (selected selection table))
+question_text style (ask.RoutesAndTotal selection feeds) addresses table = rows_and_total_as style (routes_of_selected feeds.now (selected selection table))
 question_text style (ask.Counts selection feeds) addresses table = counts_as style (routes_of_selected feeds.now (selected selection table))
 
 -- the named addresses of a question
@@ -46,6 +47,7 @@ abbrev pub named_in : Question → List Addr
 named_in (ask.Best named text) = named.now
 named_in (ask.All named text) = named.now
 named_in (ask.Routes selection feeds) = []
+named_in (ask.RoutesAndTotal selection feeds) = []
 named_in (ask.Counts selection feeds) = []
 
 -- its text of addresses
@@ -53,6 +55,7 @@ abbrev pub said_in : Question → List ℕ
 said_in (ask.Best named text) = text.now
 said_in (ask.All named text) = text.now
 said_in (ask.Routes selection feeds) = []
+said_in (ask.RoutesAndTotal selection feeds) = []
 said_in (ask.Counts selection feeds) = []
 
 -- an `add` was over the limit

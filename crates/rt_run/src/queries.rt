@@ -16,7 +16,7 @@ use crate::tallies::{RejectedInput, RunSummary, tallies_status};
 use crate::turns::run_in_turn;
 use rt_cidr::Addr;
 use rt_feed::{RunFault, read_addresses};
-use rt_print::{OutputRoom, Style, write_counts, write_routes};
+use rt_print::{OutputRoom, Style, write_counts, write_routes, write_routes_and_total};
 use rt_rib::{Refused, Route, Selection, Table};
 use std::alloc::Global;
 use std::io::Write;
@@ -29,6 +29,7 @@ use std::mem;
 /// - for `Question::All` also a line, `ADDR also` with the route and its reason, for each further route
 ///   (`write_all_matches`). All routes are stored before the first is written;
 /// - for `Question::Routes` the selected routes, without the table's first line;
+/// - for `Question::RoutesAndTotal` the same and a last line with their number (`write_routes_and_total`);
 /// - for `Question::Counts` their numbers (`write_counts`).
 ///
 /// Hence, if no command ran out of memory, the bytes are a function of only the texts, the limit and the question
@@ -90,6 +91,12 @@ fn write_answer<W: Write>(
             let routes = routes_asked(alloc, table, selection, feeds)?;
             write_through(w, room, routes.is_empty(), given, |out| {
                 write_routes(out, style, routes.as_slice())
+            })
+        }
+        Question::RoutesAndTotal { selection, feeds } => {
+            let routes = routes_asked(alloc, table, selection, feeds)?;
+            write_through(w, room, false, given, |out| {
+                write_routes_and_total(out, style, routes.as_slice())
             })
         }
         Question::Counts { selection, feeds } => {

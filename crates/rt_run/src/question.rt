@@ -25,6 +25,11 @@ pub enum Question<'a> {
         selection: Selection,
         feeds: &'a [u32],
     },
+    /// The selected routes, in the table's order, and last their number.
+    RoutesAndTotal {
+        selection: Selection,
+        feeds: &'a [u32],
+    },
     /// The number of the selected routes and of their prefixes, and the number for each feed and each prefix length.
     Counts {
         selection: Selection,
@@ -40,7 +45,9 @@ impl<'a> Question<'a> {
     {
         match self {
             Question::Best { named, text } | Question::All { named, text } => (*named, *text),
-            Question::Routes { .. } | Question::Counts { .. } => (&[], &[]),
+            Question::Routes { .. }
+            | Question::RoutesAndTotal { .. }
+            | Question::Counts { .. } => (&[], &[]),
         }
     }
 }

@@ -8,7 +8,7 @@ use super::prefixes::prefix_of;
 use super::styles::style_of;
 use super::warnings::{report_each, report_rejected};
 use super::{Program, ProgramError};
-use command_line::{LookupRequest, PrefixFilterArg, RunRequest, TableRequest};
+use command_line::{LookupRequest, PrefixFilterArg, RunRequest, TableOutput, TableRequest};
 use rt_cidr::Addr;
 use rt_print::Style;
 use rt_rib::{PrefixFilter, Selection};
@@ -44,7 +44,7 @@ impl<R: Files + Wait + AllocGlobal, O: Write, E: Write> Program<'_, R, O, E> {
         self.show(&asked, &style, &question, files, request.more)
     }
 
-    /// Writes the selected routes, or their number. Reports rejected input, and returns the exit status.
+    /// Writes the selected routes, their number, or both. Reports rejected input, and returns the exit status.
     pub(super) fn show_routes<'w>(
         &mut self,
         request: &TableRequest<'w>,
@@ -56,17 +56,7 @@ impl<R: Files + Wait + AllocGlobal, O: Write, E: Write> Program<'_, R, O, E> {
         let texts = self.read_feeds(feeds.files, feeds.choice_of_all())?;
         let asked = asked_of(&request.run, texts.as_slice(), feeds.choice_of_all());
         let only = feeds.only.as_slice();
-        let question = if request.count {
-            Question::Counts {
-                selection,
-                feeds: only,
-            }
-        } else {
-            Question::Routes {
-                selection,
-                feeds: only,
-            }
-        };
+        let question = question_of(request.output, selection, only);
         self.show(&asked, &style, &question, files, None)
     }
 
@@ -101,6 +91,15 @@ pub(super) fn asked_of<'t>(
     requires { length texts.now ≤ MAX_FEEDS }
 {
     ChosenTexts::new(texts, request.limit, request.batch as usize, choice)
+}
+
+/// Returns the question of this output for the selected routes of these feeds.
+fn question_of(output: TableOutput, selection: Selection, feeds: &[u32]) -> Question<'_> {
+    match output {
+        TableOutput::Routes => Question::Routes { selection, feeds },
+        TableOutput::RoutesAndTotal => Question::RoutesAndTotal { selection, feeds },
+        TableOutput::Counts => Question::Counts { selection, feeds },
+    }
 }
 
 /// Returns the selection of the command line. Stops if an argument isn't a prefix.

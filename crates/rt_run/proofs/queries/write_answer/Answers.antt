@@ -1,5 +1,5 @@
 use Rattle.std.proofs.Common.{rules}
-use Rattle.rt_run.proofs.Outputs.{has_byte, rows-empty, answers-empty, matches-empty, counts-some}
+use Rattle.rt_run.proofs.Outputs.{has_byte, rows-empty, answers-empty, matches-empty, rows_and_total-some, counts-some}
 use Rattle.rt_run.proofs.queries.write_answer.Goals as goal
 
 pub returns-in-Best : goal.returns-in-Best
@@ -17,6 +17,12 @@ pub returns-in_ok-routes-in-Routes : goal.returns-in_ok-routes-in-Routes
 returns-in_ok-routes-in-Routes g c =
     rw (c.in-Routes.is, ← (c.in_ok-routes-in-Routes.ensures {u = tt}))
     (c.write_through-in-Routes.ensures.text _ (rows-empty c.args.style.now _ c.in_ok-routes-in-Routes.routes.items (rw c.in_ok-routes-in-Routes.routes.ok.0 at c.is_empty-in-Routes.ensures))
+    (λ old written new called. search rules))
+
+pub returns-in_ok-routes-in-RoutesAndTotal : goal.returns-in_ok-routes-in-RoutesAndTotal
+returns-in_ok-routes-in-RoutesAndTotal g c =
+    rw (c.in-RoutesAndTotal.is, ← (c.in_ok-routes-in-RoutesAndTotal.ensures {u = tt}))
+    (c.write_through-in-RoutesAndTotal.ensures.text _ (has_byte _ (rows_and_total-some c.args.style.now c.in_ok-routes-in-RoutesAndTotal.routes.items))
     (λ old written new called. search rules))
 
 pub returns-in_ok-routes-in-Counts : goal.returns-in_ok-routes-in-Counts
