@@ -413,7 +413,7 @@ def examples_of_the_help(yarib):
         help_text = yarib(name, "--help")[1]
         for words, shown in re.findall(r"^  \$ yarib (.*)\n((?:  [^$].*\n)*)", help_text, re.M):
             listed.append(calls.call(words, textwrap.dedent(shown), 1 if name == "diff" else 0))
-    expect("how many examples the help has", len(listed), 10)
+    expect("how many examples the help has", len(listed), 11)
     make(yarib, texts, listed)
 
 
