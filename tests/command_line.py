@@ -982,6 +982,42 @@ def files_told(yarib):
     expect("tens of thousands of each kind", table("many.feed"), (2, route(1), told))
 
 
+# Catches a program that reports a cut file only if its last line is a command: `a comment`.
+# Catches a program that reports a file that has no line, or one whose last line is empty: `an empty file`, `an empty line`.
+# Catches a report with a status of its own, or one that replaces that of rejected input: `cut within a faulty line`.
+def cut_off(yarib):
+    """A feed file whose last line has no line end is reported, on each side of a comparison too, and its last line is
+    executed."""
+    note = "yarib: {}: the last line has no line end: check that the file is complete\n".format
+    pathlib.Path("whole.feed").write_text("add 10.0.0.0/8 100 192.0.2.12\n")
+    pathlib.Path("cut.feed").write_text("add 10.0.0.0/8 100 192.0.2.1")
+    cut = note("cut.feed")
+    expect("a run, which only writes its faults", yarib("run", "cut.feed"), (0, "1:1 added\n" + table(route(1)), ""))
+    expect("a look-up", yarib("lookup", "--address", "10.0.0.1", "cut.feed"), (0, "10.0.0.1 route " + route(1), cut))
+    for options, rows in ([], route(1)), (["--best", "--total"], route(1) + "total 1\n"), (["--within", "11.0.0.0/8"], ""):
+        expect(f"a table {options}", yarib("table", *options, "empty.feed", "cut.feed"), (0, rows.replace("feed 1", "feed 2"), cut))
+    lines = "10.0.0.0-10.255.255.255 via 192.0.2.12 -> via 192.0.2.1\n"
+    expect("the new side", yarib("diff", "whole.feed", "--", "cut.feed"), (1, lines, cut))
+    expect("both sides", yarib("diff", "cut.feed", "--", "cut.feed"), (0, "", cut * 2))
+    expect("a feed that is left out", yarib("table", "--without", "1", "cut.feed", "whole.feed"),
+           (0, route(2, hop="192.0.2.12"), ""))
+    expect("a feed that isn't listed", yarib("table", "--feed", "2", "cut.feed", "empty.feed"), (0, "", cut))
+    for what, text, report in (
+            ("an empty file", "", ""), ("an empty line", "\n", ""), ("a comment", "# cut", note("some.feed")),
+            ("the version", "version 2", note("some.feed")), ("a carriage return", "\r", None),
+            ("cut within a faulty line", "\nad", None)):
+        pathlib.Path("some.feed").write_text(text)
+        if report is None:
+            line = text.count("\n") + 1
+            report = f"yarib: some.feed: faulty lines: 1, the first is line {line}: {E1}\n" + note("some.feed")
+        expect(what, yarib("table", "some.feed"), (2 if "faulty" in report else 0, "", report))
+    expect("beside a file that can't be read", yarib("table", "cut.feed", "missing.feed"),
+           (4, "", "yarib: cannot read missing.feed\n"))
+    pathlib.Path("cut.txt").write_text("10.0.0.1")
+    expect("a file of addresses", yarib("lookup", "--addresses", "cut.txt", "whole.feed"),
+           (0, "10.0.0.1 route " + route(1, hop="192.0.2.12"), ""))
+
+
 # Catches a number of the first invalid address that doesn't count skipped lines, or a program that reads only 64 KB of
 # the file: `a long text of addresses`.
 # Catches counts of invalid addresses that stop at 255 or 65,535: `256 faulty addresses`, `70001 faulty addresses`.
@@ -1193,7 +1229,7 @@ CASES = (
     runs, what_the_table_says, what_two_tables_answer_otherwise, file_order, many_files, unreadable, names,
     texts, limits, batches, twice, replays, finished_tables, parts_of_tables, left_out, routes_of_feeds,
     unknown_feeds, counted_tables, totalled_tables, compared_tables,
-    compared_as_json, compared_by_name, old_first, not_taken, not_asked, files_told, addresses_told, pages,
+    compared_as_json, compared_by_name, old_first, not_taken, not_asked, files_told, cut_off, addresses_told, pages,
     examples_of_the_help, help_is_true, closed_outputs, progress, line_each_second, progress_of_long_runs,
 )
 

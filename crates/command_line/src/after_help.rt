@@ -15,6 +15,8 @@ Rejected input is reported on standard error, one line per file and kind:
   yarib: FILE: duplicate adds: N
   yarib: FILE: replaces and withdraws without a route: N
   yarib: FILE: commands failed, out of memory: N
+A feed file that may have been cut off is reported, too:
+  yarib: FILE: the last line has no line end: check that the file is complete
 
 Exit status, the highest that applies:
 "

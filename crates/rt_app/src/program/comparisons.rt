@@ -32,8 +32,9 @@ impl<R: Files + Wait + AllocGlobal, O: Write, E: Write> Program<'_, R, O, E> {
         let summary = diff_texts(self.alloc, &old_asked, &new_asked, &options, &mut out)?;
         let (old_files, tallies) = (request.run.files, summary.tallies.as_slice());
         let (old_tallies, new_tallies) = tallies.split_at(old_files.len().min(tallies.len()));
-        report_each(&mut self.screen, old_files, old_tallies);
-        report_each(&mut self.screen, request.new_files, new_tallies);
+        let (old_texts, new_texts) = (old_texts.as_slice(), new_texts.as_slice());
+        report_each(&mut self.screen, old_files, old_texts, old_tallies);
+        report_each(&mut self.screen, request.new_files, new_texts, new_tallies);
         Ok(summary.status)
     }
 }

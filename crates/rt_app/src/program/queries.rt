@@ -18,6 +18,13 @@ use std::io::Write;
 use std::rt::Files;
 use std::sync::Wait;
 
+/// The feed files of a query: their names, and the texts that were read from them.
+#[derive(Clone, Copy)]
+struct FeedTexts<'a> {
+    names: &'a [&'a str],
+    texts: &'a [Vec<u8>],
+}
+
 impl<R: Files + Wait + AllocGlobal, O: Write, E: Write> Program<'_, R, O, E> {
     /// Writes, for each address of the command line and then for each address of the file, all routes that cover it, or only
     /// the best one. Reports rejected input, and returns the exit status.
@@ -41,6 +48,10 @@ impl<R: Files + Wait + AllocGlobal, O: Write, E: Write> Program<'_, R, O, E> {
         } else {
             Question::Best { named, text }
         };
+        let files = FeedTexts {
+            names: files,
+            texts: texts.as_slice(),
+        };
         self.show(&asked, &style, &question, files, request.more)
     }
 
@@ -57,6 +68,10 @@ impl<R: Files + Wait + AllocGlobal, O: Write, E: Write> Program<'_, R, O, E> {
         let asked = asked_of(&request.run, texts.as_slice(), feeds.choice_of_all());
         let only = feeds.only.as_slice();
         let question = question_of(request.output, selection, only);
+        let files = FeedTexts {
+            names: files,
+            texts: texts.as_slice(),
+        };
         self.show(&asked, &style, &question, files, None)
     }
 
@@ -67,7 +82,7 @@ impl<R: Files + Wait + AllocGlobal, O: Write, E: Write> Program<'_, R, O, E> {
         asked: &ChosenTexts<'_>,
         style: &Style,
         question: &Question<'_>,
-        files: &[&str],
+        files: FeedTexts<'_>,
         more: Option<&str>,
     ) -> Result<u8, ProgramError<'w>> {
         let mut out = self.screen.beside(asked.count(), self.out);
@@ -76,7 +91,7 @@ impl<R: Files + Wait + AllocGlobal, O: Write, E: Write> Program<'_, R, O, E> {
             if let Some(name) = more {
                 report_rejected(&mut self.screen, name, addresses);
             }
-            report_each(&mut self.screen, files, feeds);
+            report_each(&mut self.screen, files.names, files.texts, feeds);
         }
         Ok(given.status)
     }

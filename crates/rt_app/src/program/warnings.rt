@@ -1,12 +1,41 @@
-//! Reports of a file's rejected input on standard error, one line per kind. Errors of standard error itself are ignored.
+//! Reports of a file's rejected input on standard error, one line per kind, and of a last line without its line end. Errors of
+//! standard error itself are ignored.
+
+ghost use Rattle.std.specs.Prelude.{◌≡◌, ◌-◌, ◌==◌, true, length};
+ghost use Rattle.std.specs.List.{slice_get};
+ghost use Rattle.std.specs.Option.{option_map_or};
 
 use rt_run::RejectedInput;
 use std::io::Write;
 
-/// Reports the rejected input of each file.
-pub(super) fn report_each<E: Write>(err: &mut E, names: &[&str], tallies: &[RejectedInput]) {
-    for (name, tally) in names.iter().zip(tallies.iter()) {
+/// Reports the rejected input of each feed file, and whether it ends within a line.
+pub(super) fn report_each<E: Write>(
+    err: &mut E,
+    names: &[&str],
+    texts: &[Vec<u8>],
+    tallies: &[RejectedInput],
+) {
+    for ((name, text), tally) in names.iter().zip(texts.iter()).zip(tallies.iter()) {
         report_rejected(err, name, tally);
+        report_line_end(err, name, text.as_slice());
+    }
+}
+
+/// Returns true if the last byte of the text, if there is one, is LF.
+fn has_line_end(text: &[u8]) -> bool
+    ensures { result ≡ option_map_or (λ byte. byte == 10) (slice_get text.now (length text.now - 1)) true }
+{
+    text.last().is_none_or(|byte| *byte == b'\n')
+}
+
+/// Reports a feed file whose last line has no line end: it may have been cut off within this line, which is then another
+/// command than the one that was written.
+fn report_line_end<E: Write>(err: &mut E, name: &str, text: &[u8]) {
+    if !has_line_end(text) {
+        let _ = writeln!(
+            err,
+            "yarib: {name}: the last line has no line end: check that the file is complete"
+        );
     }
 }
 
