@@ -404,6 +404,20 @@ def pages(yarib):
         misused(f"{words}", yarib(*words), part)
 
 
+# Catches a program that gives the advice of the library, to pass an unknown option as a file's name.
+def advice(yarib):
+    """The message on an unknown option, to the byte."""
+    rest = "\n\nFor more information, try '--help'.\n"
+    for words, hint, usage in (
+            (["lookup", "--count", "row.feed"], "", "lookup [OPTIONS] <FILE>..."),
+            (["table", "--cuont", "row.feed"], "\n\n  tip: a similar argument exists: '--count'", "table --count <FILE>..."),
+            (["diff", "row.feed", "--frob", "--", "row.feed"], "", "diff <OLD>... -- <NEW>..."),
+            (["run", "--frob=1", "row.feed"], "", "run [OPTIONS] <FILE>...")):
+        option = next(word.split("=")[0] for word in words if word.startswith("--"))
+        expect(f"{words}", yarib(*words),
+               (3, "", f"error: unexpected argument '{option}' found{hint}\n\nUsage: yarib {usage}{rest}"))
+
+
 # Catches a help page whose replay shows another value.
 def examples_of_the_help(yarib):
     """Each call that a help page shows prints the text below it on that page."""
@@ -577,9 +591,8 @@ def left_out(yarib):
             if query[0] == "lookup" and kept:
                 ended = yarib(*query, *options("--feed", kept), *placed(out, "missing"))
                 expect(f"{query} without {out}: of {kept} only", ended, wanted)
-                most = choice.sample(range(1, 5), 2)
-                rest = [feed for feed in range(1, 5) if feed in most and feed in kept]
-                gone = [feed for feed in range(1, 5) if feed not in rest]
+                most = choice.sample(kept, min(2, len(kept)))
+                gone = [feed for feed in range(1, 5) if feed not in most]
                 ended = yarib(*query, *options("--feed", most), *options("--without", out), *placed(gone, "missing"))
                 expect(f"{query} without {out}: of {most} only", ended, yarib(*query, *placed(gone, "empty")))
         for more in ([], ["--by", "route"], ["--names", "--by", "route"], ["--json"]):
@@ -645,6 +658,15 @@ def unknown_feeds(yarib):
     compare("a number that is the same feed's name", yarib("table", "--without", "2", "row.feed", "missing/2.feed"), 0, route(1))
     compare("a number as a name", yarib("table", "--without", "65001", "row.feed", "missing/65001.feed"), 0, route(1))
     compare("all feeds left out", yarib("table", "--without", "1", "--without", "2", *missing), 0, "")
+    for only, out in (("2", "other"), ("other", "2"), ("same", "1"), ("1", "same"), ("02", "2")):
+        words = ["--feed", "1", "--feed", "2", "--without", out]
+        for given in (["--feed", only, "--without", out], ["--without", out, "--feed", only], words):
+            ended = (3, "", f"yarib: the same feed is selected and left out: {out}\n")
+            expect(f"table {given}", yarib("table", *given, *missing), ended)
+            expect(f"lookup {given}", yarib("lookup", "--address", "10.0.0.1", *given, *missing), ended)
+            for side in ("old", "new"):
+                given = [word.replace("--", f"--{side}-") for word in given]
+                expect(f"diff {given}", yarib("diff", *given, *missing, "--", *missing), ended)
     misused("--without of a run", yarib("run", "--without", "1", "row.feed"), "--without")
     expect("too many files", yarib("table", "--without", "1", *["missing"] * (MAX_FEEDS + 1)), TOO_MANY)
 
@@ -1229,7 +1251,7 @@ CASES = (
     runs, what_the_table_says, what_two_tables_answer_otherwise, file_order, many_files, unreadable, names,
     texts, limits, batches, twice, replays, finished_tables, parts_of_tables, left_out, routes_of_feeds,
     unknown_feeds, counted_tables, totalled_tables, compared_tables,
-    compared_as_json, compared_by_name, old_first, not_taken, not_asked, files_told, cut_off, addresses_told, pages,
+    compared_as_json, compared_by_name, old_first, not_taken, not_asked, files_told, cut_off, addresses_told, pages, advice,
     examples_of_the_help, help_is_true, closed_outputs, progress, line_each_second, progress_of_long_runs,
 )
 

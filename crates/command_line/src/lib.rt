@@ -27,6 +27,9 @@ pub use limits::{MAX_BATCH, MAX_FEED_FILES, MAX_ROUTES_PER_FEED};
 use std::alloc::{AllocError, Global};
 use thiserror::Error;
 
+/// How `clap` begins its advice to pass an unknown option as a file's name. Nobody means that.
+const ADVICE: &str = "\n  tip: to pass '";
+
 /// The value of `--by` for next hops, the default.
 const HOP: &str = "hop";
 
@@ -232,10 +235,33 @@ fn refusal_of(alloc: Global, error: &clap::Error) -> Refusal {
         return Refusal::Memory;
     }
     match error.to_string(alloc) {
-        Ok(text) if error.use_stderr() => Refusal::Usage(text),
+        Ok(text) if error.use_stderr() => match without_advice(alloc, text.as_str()) {
+            Ok(text) => Refusal::Usage(text),
+            Err(_) => Refusal::Memory,
+        },
         Ok(text) => Refusal::Shown(text),
         Err(_) => Refusal::Memory,
     }
+}
+
+/// Returns the text of an error without the line of advice, if it has one; other hints remain.
+fn without_advice(alloc: Global, text: &str) -> Result<String, AllocError> {
+    let Some((before, advice)) = text.split_once(ADVICE) else {
+        return String::from_str(alloc, text);
+    };
+    let Some((_, behind)) = advice.split_once("\n") else {
+        return String::from_str(alloc, text);
+    };
+    // If no other hint follows or precedes the advice, only one of the empty lines around it remains.
+    let front = if behind.starts_with("\n") {
+        before.strip_suffix("\n").unwrap_or(before)
+    } else {
+        before
+    };
+    let mut rest = String::from_str(alloc, front)?;
+    rest.push_str("\n")?;
+    rest.push_str(behind)?;
+    Ok(rest)
 }
 
 fn lookup_request<'a>(matches: &'a ArgMatches<'_>) -> Result<Request<'a>, RequestFault> {

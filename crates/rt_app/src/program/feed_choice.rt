@@ -70,7 +70,7 @@ pub(super) struct FeedNumbers<'w> {
 
 impl<'w> FeedNumbers<'w> {
     /// Returns the numbers of feeds that are read from the files of these names. Stops if there are more files than a run
-    /// accepts, or if an argument identifies no feed, or several.
+    /// accepts, if an argument identifies no feed, or several, or if a selected feed is also left out.
     pub(super) fn of(
         alloc: Global,
         feeds: &NamedFeeds<'w>,
@@ -79,6 +79,11 @@ impl<'w> FeedNumbers<'w> {
         let files = FeedFiles::of(names)?;
         let only = numbers_of(alloc, feeds.only, files)?;
         let without = numbers_of(alloc, feeds.without, files)?;
+        for (word, number) in feeds.without.iter().zip(without.iter()) {
+            if only.contains(number) {
+                return Err(ProgramError::SelectedAndLeftOut(word));
+            }
+        }
         Ok(FeedNumbers {
             files,
             only,

@@ -35,6 +35,9 @@ pub(crate) enum ProgramError<'a> {
     NoFeed(&'a str),
     #[error("more than one feed has this number or name: {0}")]
     SeveralFeeds(&'a str),
+    /// An option selects the feed, and another one leaves it out.
+    #[error("the same feed is selected and left out: {0}")]
+    SelectedAndLeftOut(&'a str),
     /// With `--names`: the file's name isn't a valid feed name.
     #[error("no valid feed name (rename the file, or leave out --names): {0}")]
     InvalidFeedName(&'a str),
