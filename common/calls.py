@@ -9,7 +9,7 @@ import pathlib
 import re
 
 from .crates import TOP
-from .table_model import E3
+from .table_model import E3, HAS_CR
 
 EXAMPLES = pathlib.Path(__file__).resolve().parent.parent / "examples"
 
@@ -167,7 +167,7 @@ length 16 routes 2
 10.0.0.1 route 10.0.0.0/8 feed 1 pref 30 via 192.0.2.8
 10.0.0.3 route 10.0.0.0/8 feed 1 pref 30 via 192.0.2.8
 """, 2, """\
-yarib: odd.txt: faulty lines: 2, the first is line 2: E3: the field is no prefix or address (the CR of CRLF is part of it)
+yarib: odd.txt: faulty lines: 2, the first is line 2: E3: the field is no prefix or address
 yarib: again.feed: duplicate adds: 1
 yarib: again.feed: replaces and withdraws without a route: 2
 """),
@@ -242,7 +242,7 @@ yarib: again.feed: replaces and withdraws without a route: 2
 10.0.0.1 route 10.0.0.0/8 feed 1 pref 30 via 192.0.2.8
 10.0.0.3 route 10.0.0.0/8 feed 1 pref 30 via 192.0.2.8
 """, 2, """\
-yarib: odd.txt: faulty lines: 2, the first is line 2: E3: the field is no prefix or address (the CR of CRLF is part of it)
+yarib: odd.txt: faulty lines: 2, the first is line 2: E3: the field is no prefix or address
 yarib: again.feed: duplicate adds: 1
 yarib: again.feed: replaces and withdraws without a route: 2
 """),
@@ -252,7 +252,7 @@ yarib: again.feed: replaces and withdraws without a route: 2
 10.0.0.3 route 10.0.0.0/8 feed 1 pref 30 via 192.0.2.5
 """, 2, f"yarib: odd.txt: faulty lines: 2, the first is line 2: {E3}\n"),
     call("lookup --addresses cr.txt none.feed",
-         "", 2, f"yarib: cr.txt: faulty lines: 1, the first is line 1: {E3}\n"),
+         "", 2, f"yarib: cr.txt: faulty lines: 1, the first is line 1: {E3}{HAS_CR}\n"),
     call("lookup --addresses no.txt equal.feed", ""),
     call("lookup --address 10.0.0.1 none.feed", "10.0.0.1 no route\n"),
     call("table none.feed", ""),

@@ -184,7 +184,9 @@ def run_text(texts, refused):
 # The messages of errors on standard error.
 TOO_MANY_FILES = f"yarib: more than {MAX_FEEDS} files\n"
 E1 = "E1: the first field is no command of this version"
-E3 = "E3: the field is no prefix or address (the CR of CRLF is part of it)"
+E3 = "E3: the field is no prefix or address"
+# What follows the message of a fault whose field ends with a carriage return.
+HAS_CR = " (the CR of CRLF is part of it)"
 E8 = "E8: the line has over 128 bytes"
 NOT_TAKEN = {
     "full": "adds over the limit", "exists": "duplicate adds",

@@ -8,6 +8,7 @@ If the plain reader accepts a line as a command, other lines are put around it, 
 the program read in that line. Runs of random feeds on threads are judged by tests/linearizability.py: some order of the feeds'
 batches has to explain each.
 """
+import gzip
 import itertools
 import json
 import os
@@ -19,7 +20,7 @@ import time
 from typing import NamedTuple
 
 from common.checks import chosen, compare, end, expect, is_unproved, run_each
-from common.table_model import (E1, E3, E8, MAX_FEEDS, TOO_MANY_FILES, Table, dotted, json_text, members, route_text,
+from common.table_model import (E1, E3, E8, HAS_CR, MAX_FEEDS, TOO_MANY_FILES, Table, dotted, json_text, members, route_text,
                                 run_text, table_text)
 from common.worked import REPLAYS, SIX, WORKED, report
 import linearizability
@@ -116,25 +117,47 @@ FAULTY = {
     "E8": ["x" * 129, "#" * 129, "x" * 1_000_000],
 }
 
-E7 = "E7: the next hop is neither an address nor, in version 2, `discard` (the CR of CRLF is part of it)"
+E7 = "E7: the next hop is neither an address nor, in version 2, `discard`"
+E2, IPV6 = "E2: the command takes another number of fields", " (IPv6 isn't supported)"
 # The message of each error on standard error.
 FAULT_TEXTS = [
     ("frob", E1),
-    ("dump x", "E2: the command takes another number of fields"),
+    ("dump x", f"{E2} (0 after its name, not 1)"),
+    ("add 10.0.0.0/8 1", f"{E2} (3 after its name, not 2)"),
+    ("replace 10.0.0.0/8 1  192.0.2.1", f"{E2} (3 after its name, not 4)"),
+    ("withdraw", f"{E2} (1 after its name, not 0)"),
+    ("lookup 10.0.0.1 10.0.0.2", f"{E2} (1 after its name, not 2)"),
+    ("lookup 2001:db8::1", E3 + IPV6),
+    ("add 2001:db8::/32 1 192.0.2.1", E3 + IPV6),
+    ("withdraw ::ffff:192.0.2.0/120", E3 + IPV6),
+    ("withdraw 10.0.0.0:8", E3),
+    ("lookup a::g", E3),
+    ("add 10.0.0.0/8 1 fe80::1", E7 + IPV6),
     ("lookup 10.0.0", E3),
     ("withdraw 10.0.0.0/33", "E4: the prefix's length is over 32"),
     ("withdraw 10.0.0.1/8", "E5: a bit past the prefix's length is set"),
     ("add 10.0.0.0/8 x 192.0.2.1", "E6: the preference is no decimal from 0 to 4294967295"),
     ("add 10.0.0.0/8 1 x", E7),
     ("x" * 129, E8),
-    ("withdraw 10.0.0.0/8\r", E3),
-    ("add 10.0.0.0/8 1 192.0.2.1\r", E7),
+    ("withdraw 10.0.0.0/8\r", E3 + HAS_CR),
+    ("lookup 2001:db8::1\r", E3 + HAS_CR),
+    ("add 10.0.0.0/8 1 192.0.2.1\r", E7 + HAS_CR),
+    ("dump\r", f"{E1} (the line ends with the CR of CRLF: end lines with LF only)"),
+    ("version 2\r", f"{E1} (the line ends with the CR of CRLF: end lines with LF only)"),
+    ("\ufeffdump", f"{E1} (the file begins with a byte order mark: save it without one)"),
+]
+# Beginnings of files, and what is said of them.
+BEGINNINGS = [
+    (b"\xff\xfed\0u\0m\0p\0\n\0", "the file begins with a byte order mark: save it without one"),
+    (b"\xfe\xff\0d\0u\0m\0p\0\n", "the file begins with a byte order mark: save it without one"),
+    (gzip.compress(b"dump\n"), "the file is compressed by gzip: decompress it first"),
 ]
 
 
 # Catches a reader that accepts a space at the end.
 # Catches F3 for a line of 129 bytes.
 # Catches another message for an error, such as one that says 127 bytes for E8.
+# Catches a hint that is taken from the first line, if another line is the first faulty one: `behind a line`.
 def faulty_lines(yarib):
     for faults, lines in FAULTY.items():
         for line in lines:
@@ -142,9 +165,20 @@ def faulty_lines(yarib):
                 ended = run_texts(yarib, [f"{first}\n{line}"])
                 compare(f"{line[:130]!r} behind {first!r}", ended, 2, f"1:2 fault {fault}\ntable 0\n")
     for line, told in FAULT_TEXTS:
-        pathlib.Path("faulty.feed").write_text(line)
-        told = f"yarib: faulty.feed: faulty lines: 1, the first is line 1: {told}\n"
-        expect(f"what is told of {line!r}", yarib("table", "faulty.feed"), (2, "", told))
+        pathlib.Path("faulty.feed").write_bytes(f"{line}\n".encode())
+        report = "yarib: faulty.feed: faulty lines: 1, the first is line {}: {}\n".format
+        expect(f"what is told of {line!r}", yarib("table", "faulty.feed"), (2, "", report(1, told)))
+        if not line.startswith(("\ufeff", "version")):
+            pathlib.Path("faulty.feed").write_bytes(f"# add 10.0.0.0/8\r\n\n{line}\n{line}\n".encode())
+            expect(f"what is told of {line!r} behind a line", yarib("table", "faulty.feed"),
+                   (2, "", report(3, told).replace("lines: 1", "lines: 2")))
+    for beginning, told in BEGINNINGS:
+        pathlib.Path("faulty.feed").write_bytes(beginning)
+        _, _, err = yarib("table", "faulty.feed")
+        expect(f"what is told of a file that begins with {beginning[:2]!r}", f": {E1} ({told})\n" in err, True)
+        pathlib.Path("faulty.feed").write_bytes(b"\n" + beginning)
+        _, _, err = yarib("table", "faulty.feed")
+        expect(f"what is told of {beginning[:2]!r} in another line", told in err, False)
 
 
 # Catches F3 for a text of one byte.
@@ -160,7 +194,7 @@ ADDRESSES = ["0.0.0.0", "192.0.2.1", "127.255.255.255", "255.255.255.255"]
 SKIPPED = ["", "#", "# 192.0.2.1", "#" * 128]
 NO_ADDRESS = [
     " ", " 192.0.2.1", "192.0.2.1 ", "192.0.2.1\r", "192.0.2.1 # note", "lookup 192.0.2.1", "10.0.0.0/8", "256.0.0.0",
-    "version 2", "1" * 128,
+    "version 2", "1" * 128, "2001:db8::1",
 ]
 
 
@@ -179,7 +213,7 @@ def addresses(yarib):
     for line in SKIPPED:
         expect(f"{line!r}, which is skipped", asked([line, "1.2.3.4"]), (0, found("1.2.3.4"), ""))
     for line in [*NO_ADDRESS, "#" * 129, "1" * 129]:
-        fault = E8 if len(line) > 128 else E3
+        fault = E8 if len(line) > 128 else E3 + HAS_CR * line.endswith("\r") + IPV6 * ("::" in line)
         told = f"yarib: asked.txt: faulty lines: 1, the first is line 1: {fault}\n"
         expect(f"{line!r}, which is no address", asked([line, "1.2.3.4"]), (2, found("1.2.3.4"), told))
 

@@ -2,6 +2,7 @@
 
 mod comparisons;
 mod feed_choice;
+mod hints;
 mod prefixes;
 mod program_error;
 mod queries;

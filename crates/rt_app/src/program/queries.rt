@@ -4,9 +4,10 @@ ghost use Rattle.std.specs.Prelude.{◌≤◌, length};
 ghost use Rattle.rt_rib.specs.declared.limits.TheConstants.{MAX_FEEDS};
 
 use super::feed_choice::FeedNumbers;
+use super::hints::FileKind;
 use super::prefixes::prefix_of;
 use super::styles::style_of;
-use super::warnings::{report_each, report_rejected};
+use super::warnings::{InputFile, report_each, report_rejected};
 use super::{Program, ProgramError};
 use command_line::{LookupRequest, PrefixFilterArg, RunRequest, TableOutput, TableRequest};
 use rt_cidr::Addr;
@@ -20,8 +21,8 @@ use std::sync::Wait;
 
 /// The feed files of a query: their names, and the texts that were read from them.
 #[derive(Clone, Copy)]
-struct FeedTexts<'a> {
-    names: &'a [&'a str],
+struct FeedTexts<'a, 'w> {
+    names: &'a [&'w str],
     texts: &'a [Vec<u8>],
 }
 
@@ -52,7 +53,7 @@ impl<R: Files + Wait + AllocGlobal, O: Write, E: Write> Program<'_, R, O, E> {
             names: files,
             texts: texts.as_slice(),
         };
-        self.show(&asked, &style, &question, files, request.more)
+        self.show(&asked, &style, &question, files, request.more, text)
     }
 
     /// Writes the selected routes, their number, or both. Reports rejected input, and returns the exit status.
@@ -72,7 +73,7 @@ impl<R: Files + Wait + AllocGlobal, O: Write, E: Write> Program<'_, R, O, E> {
             names: files,
             texts: texts.as_slice(),
         };
-        self.show(&asked, &style, &question, files, None)
+        self.show(&asked, &style, &question, files, None, &[])
     }
 
     /// Writes the answer to the question. Reports rejected input of the file with further addresses, if there is one, and of
@@ -82,14 +83,16 @@ impl<R: Files + Wait + AllocGlobal, O: Write, E: Write> Program<'_, R, O, E> {
         asked: &ChosenTexts<'_>,
         style: &Style,
         question: &Question<'_>,
-        files: FeedTexts<'_>,
+        files: FeedTexts<'_, '_>,
         more: Option<&str>,
+        text: &[u8],
     ) -> Result<u8, ProgramError<'w>> {
         let mut out = self.screen.beside(asked.count(), self.out);
         let given = show(self.alloc, asked, style, question, &mut out)?;
         if let Some((addresses, feeds)) = given.tallies.as_slice().split_last() {
             if let Some(name) = more {
-                report_rejected(&mut self.screen, name, addresses);
+                let file = InputFile { name, text };
+                report_rejected(&mut self.screen, file, FileKind::Addresses, addresses);
             }
             report_each(&mut self.screen, files.names, files.texts, feeds);
         }

@@ -5,8 +5,16 @@ ghost use Rattle.std.specs.Prelude.{◌≡◌, ◌-◌, ◌==◌, true, length};
 ghost use Rattle.std.specs.List.{slice_get};
 ghost use Rattle.std.specs.Option.{option_map_or};
 
+use super::hints::{FileKind, explain};
 use rt_run::RejectedInput;
 use std::io::Write;
+
+/// A file of the command line, and the text that was read from it.
+#[derive(Clone, Copy)]
+pub(super) struct InputFile<'a> {
+    pub(super) name: &'a str,
+    pub(super) text: &'a [u8],
+}
 
 /// Reports the rejected input of each feed file, and whether it ends within a line.
 pub(super) fn report_each<E: Write>(
@@ -16,8 +24,12 @@ pub(super) fn report_each<E: Write>(
     tallies: &[RejectedInput],
 ) {
     for ((name, text), tally) in names.iter().zip(texts.iter()).zip(tallies.iter()) {
-        report_rejected(err, name, tally);
-        report_line_end(err, name, text.as_slice());
+        let file = InputFile {
+            name,
+            text: text.as_slice(),
+        };
+        report_rejected(err, file, FileKind::Feed, tally);
+        report_line_end(err, file);
     }
 }
 
@@ -30,8 +42,9 @@ fn has_line_end(text: &[u8]) -> bool
 
 /// Reports a feed file whose last line has no line end: it may have been cut off within this line, which is then another
 /// command than the one that was written.
-fn report_line_end<E: Write>(err: &mut E, name: &str, text: &[u8]) {
-    if !has_line_end(text) {
+fn report_line_end<E: Write>(err: &mut E, file: InputFile<'_>) {
+    if !has_line_end(file.text) {
+        let name = file.name;
         let _ = writeln!(
             err,
             "yarib: {name}: the last line has no line end: check that the file is complete"
@@ -41,9 +54,16 @@ fn report_line_end<E: Write>(err: &mut E, name: &str, text: &[u8]) {
 
 /// Reports the rejected input of a file: the number of its faulty lines and the first of them, and its other rejected
 /// input by kind.
-pub(super) fn report_rejected<E: Write>(err: &mut E, name: &str, tally: &RejectedInput) {
+pub(super) fn report_rejected<E: Write>(
+    err: &mut E,
+    file: InputFile<'_>,
+    kind: FileKind,
+    tally: &RejectedInput,
+) {
+    let InputFile { name, text } = file;
     if let Some((number, fault)) = tally.faulty.first {
         let count = tally.faulty.count;
+        let fault = explain(fault, kind, text, number);
         let _ = writeln!(
             err,
             "yarib: {name}: faulty lines: {count}, the first is line {number}: {fault}"
