@@ -281,7 +281,12 @@ NAMED = {
 NAMELESS = (
     ".feed", "feeds/.feed", "a b.feed", "line\nfeed.feed", "\t.feed",
     "".join(map(chr, range(1, 32))) + ".feed", "\x7f.feed",
+    *(f"feeds/a{chr(code)}b.feed" for code in (
+        0x80, 0x85, 0x9B, 0x9F, 0x61C, 0x200E, 0x200F, 0x202A, 0x202E, 0x2066, 0x2069)),
 )
+# Characters beside those that no name may have, and one of them in a directory's name.
+NAMED_BESIDE = [f"a{chr(code)}b.feed" for code in (
+    0xA0, 0xE9, 0x61B, 0x61D, 0x200D, 0x2010, 0x2029, 0x202F, 0x2065, 0x206A)] + ["\x9b/a.feed"]
 ONE_NAME = (("east.feed", "feeds/east.feed"), ("east.feed", "east"), ("./north", "north.feed"),
             ("east.feed", "east.feed"))
 OFFERED = "version 2\nadd 10.1.0.0/16 70 192.0.2.4\nadd 10.0.0.0/8 5 discard\nadd 0.0.0.0/0 0 192.0.2.3\n"
@@ -289,8 +294,8 @@ OFFERED = "version 2\nadd 10.1.0.0/16 70 192.0.2.4\nadd 10.0.0.0/8 5 discard\nad
 
 def offered_by(paths):
     """Files of these paths, which offer the same routes in rising order of the preferences."""
-    pathlib.Path("feeds").mkdir(exist_ok=True)
     for path in paths:
+        pathlib.Path(path).parent.mkdir(exist_ok=True)
         pathlib.Path(path).write_text(OFFERED)
     return list(paths)
 
@@ -347,7 +352,7 @@ def answers_as_json(yarib):
         for command in TOLD:
             _, lines, _ = yarib(*command, *paths)
             status, out, err = yarib(*command, "--json", *flags, *paths)
-            told = [json.loads(line, object_pairs_hook=unlike_twice) for line in out.splitlines()]
+            told = [json.loads(line, object_pairs_hook=unlike_twice) for line in out.split("\n")[:-1]]
             wanted = with_files(objects_of(command, lines), paths, bool(flags))
             expect(f"{command} {flags}: status, objects and standard error", (status, told, err), (0, wanted, ""))
             expect(f"{command} {flags}: the last line ends", out[-1:], "\n")
@@ -365,6 +370,7 @@ def answers_as_json(yarib):
 
 
 # Catches another feed's name in a feed's place.
+# Catches a range of control characters without its first or its last one: `['table'] with 'feeds/a\x80b.feed'`.
 def answers_with_names(yarib):
     """Each line is that of the same command without `--names`, but with the name instead of the number."""
     paths = offered_by(NAMED)
@@ -376,6 +382,10 @@ def answers_with_names(yarib):
         for command in (["table"], ["table", "--json"], ["lookup", *ASKED]):
             ended = yarib(*command, "--names", *offered_by(["east.feed", path]))
             compare(f"{command} with {path!r}", ended, 3, "", f"yarib: no valid feed name (rename the file, or leave out --names): {path}\n")
+    for path in NAMED_BESIDE:
+        status, rows, err = yarib("table", "--names", *offered_by([path]))
+        name = pathlib.PurePath(path).stem
+        expect(f"{path!r} is a name", (status, {row.split(" ")[2] for row in rows.split("\n")[:-1]}, err), (0, {name}, ""))
     for first, second in ONE_NAME:
         ended = yarib("table", "--names", *offered_by(["west.feed", first, "other.feed", second]))
         compare(f"{first} and {second}", ended, 3, "", f"yarib: two feeds with the same name (rename a file, or leave out --names): {first}, {second}\n")

@@ -25,9 +25,15 @@ impl<'w> FeedFiles<'w> {
         Ok(FeedFiles { names })
     }
 
-    /// Stops if a file has no valid feed name, or the same feed name as an earlier file.
+    /// Stops if a file has no valid feed name, or the same feed name as an earlier file. A name isn't valid either if it would
+    /// change what a terminal shows around it.
     pub(super) fn check_names(&self) -> Result<(), ProgramError<'w>> {
         let files = self.names;
+        for file in files {
+            if has_hidden_control(file_name(file)) {
+                return Err(ProgramError::InvalidFeedName(file));
+            }
+        }
         match check_names(files) {
             Ok(()) => Ok(()),
             Err(NameFault::Invalid(file)) => Err(ProgramError::InvalidFeedName(files[file])),
@@ -52,6 +58,29 @@ impl<'w> FeedFiles<'w> {
         }
         found.ok_or(ProgramError::NoFeed(word))
     }
+}
+
+/// Returns the part of the path after its last slash.
+fn file_name(path: &str) -> &str {
+    match path.rsplit_once("/") {
+        Some((_, name)) => name,
+        None => path,
+    }
+}
+
+/// Returns true if the name has a control character of C1, or a character that sets the direction of the text around it
+/// (Unicode's Bidi_Control).
+fn has_hidden_control(name: &str) -> bool {
+    name.chars().any(|character| {
+        matches!(
+            character,
+            '\u{80}'..='\u{9f}'
+                | '\u{61c}'
+                | '\u{200e}'..='\u{200f}'
+                | '\u{202a}'..='\u{202e}'
+                | '\u{2066}'..='\u{2069}'
+        )
+    })
 }
 
 /// Returns true if the argument is the number of this feed, or the name that the feed has by its file.
