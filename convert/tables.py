@@ -1,6 +1,7 @@
 """Shared by the converters from a table: the best route of each prefix, as `yarib table` or `yarib run` prints it."""
 import argparse
 import functools
+import itertools
 import json
 import re
 
@@ -11,56 +12,92 @@ REPORT = re.compile(r"\d+:\d+ .+")
 # a report's text for a line whose route is not in the table
 NOT_TAKEN = re.compile(r".* (?:full|refused|fault E\d)")
 HEAD = re.compile(r"table (\d+)")
+# the last line of `yarib table --total`, as text and as JSON
+TOTAL, TOTAL_BEGINS = re.compile(r'total (\d+)|\{"total":(\d+)\}'), ("total", '{"total"')
 # the name of an interface: the commands have it between blanks or quotes
 INTERFACE = re.compile(r"[A-Za-z0-9_][A-Za-z0-9_.@+-]{0,126}")
 NOT_IN_TABLE = "lines of the report say full, refused or fault: their routes are not in the table"
 
 
-def table_lines(lines, notes):
-    """The table's lines: those after `table COUNT`, or all if the input is a bare list."""
+def table_lines(lines, notes, is_partial):
+    """The table's lines: those after `table COUNT`, as `yarib run` prints them, or those before `total COUNT`, as `yarib
+    table --total` does. A table without its count, or with another one, is refused unless it may be a part."""
     given = iter(lines)
-    reports, not_taken, head, rows = 0, 0, None, 0
+    not_taken, head, read = after_report(given)
+    rows, total = 0, None
+    for line in itertools.chain(read, given):
+        if line.startswith(TOTAL_BEGINS) and (total := TOTAL.fullmatch(line)):
+            break
+        rows += 1
+        yield line
+    refuse_more(given)
+    if not is_partial:
+        check_count(rows, head or total)
+    if not_taken:
+        notes.tell(NOT_IN_TABLE, not_taken, differs=True)
+
+
+def after_report(given):
+    """Reads the report of `yarib run`, if there is one, up to `table COUNT`. Returns the number of reported commands that
+    left no route, the match of `table COUNT`, and the table's lines that were read."""
+    reports = not_taken = 0
     for line in given:
-        head = HEAD.fullmatch(line)
-        if head or not REPORT.fullmatch(line):
+        if not REPORT.fullmatch(line):
+            head = HEAD.fullmatch(line)
+            if head or not reports:
+                return not_taken, head, [] if head else [line]
             break
         reports += 1
         not_taken += NOT_TAKEN.fullmatch(line) is not None
-    if head is None and reports:
-        raise feeds.Refused("the table is missing: the input is only a report")
-    if head is None:
-        yield line
+    raise feeds.Refused("the table is missing: the input is only a report")
+
+
+def refuse_more(given):
+    """The count is the last line."""
     for line in given:
-        rows += 1
-        yield line
-    if head and rows != int(head[1]):
-        raise feeds.Refused(f"the table should have {head[1]} routes and has {rows}")
-    if not_taken:
-        notes.tell(NOT_IN_TABLE, not_taken, differs=True)
+        raise feeds.Wrong(f"there is more after the table's last line: {line[:100]!r}")
+
+
+def check_count(rows, count):
+    """Refuses a table that hasn't as many lines as it should have."""
+    if count is None:
+        raise feeds.Refused("the table may be truncated, since its last line isn't `total N`: use the output of `yarib table "
+                            "--total`, or --partial for a part of a table")
+    number = int(next(filter(None, count.groups())))
+    if rows != number:
+        raise feeds.Refused(f"the table should have {number} routes and has {rows}: use the whole table, or --partial")
 
 
 def route_of(line):
     """The prefix and the next hop of a line of the table, which names a feed by its number or (--names) by its name; with
     --json it is an object."""
     if line.startswith("{"):
-        route = json.loads(line)
-        prefix = feeds.member(route, "prefix", str)
-        if route.get("via") is None and feeds.member(route, "discard", bool):
-            return prefix, feeds.DISCARD
-        return prefix, feeds.member(route, "via", str)
+        return route_of_object(line)
     found = ROW.fullmatch(line)
     if found is None:
         raise ValueError
     return found.groups()
 
 
-def best_routes(most, notes):
+def route_of_object(line):
+    try:
+        route = json.loads(line)
+        prefix = feeds.member(route, "prefix", str)
+        is_discarded = route.get("via") is None and feeds.member(route, "discard", bool)
+        return prefix, feeds.DISCARD if is_discarded else feeds.member(route, "via", str)
+    except feeds.Missing as missing:
+        raise feeds.Wrong(str(missing)) from None
+    except RecursionError as error:
+        raise ValueError from error
+
+
+def best_routes(arguments, notes):
     """The prefixes and next hops of the best routes: the first line of each prefix."""
     best = {}
-    lines = feeds.Lines(most)
+    lines = feeds.Lines(arguments.most)
     hops = {feeds.DISCARD: feeds.DISCARD}
     with lines.named():
-        for line in table_lines(lines, notes):
+        for line in table_lines(lines, notes, arguments.partial):
             prefix, hop = route_of(line)
             if hop not in hops:
                 if not feeds.is_address(hop):
@@ -139,6 +176,8 @@ def options(documentation):
                         help="the interface of a connected network (next hop 0.0.0.0); without PREFIX, of the only one")
     parser.add_argument("--onlink", metavar="NAME", type=interface,
                         help="the interface for next hops outside all connected networks of the table")
+    parser.add_argument("--partial", action="store_true",
+                        help="accept a part of a table: without the last line `total N`, or with another number of routes")
     return parser
 
 
@@ -152,7 +191,7 @@ def convert(patterns, arguments, told_outside, before="", after="", further=None
     """Writes each best route by the pattern of its kind; connected networks come first, since they contain next hops.
     What `further` makes of the best routes comes last. Returns the exit status."""
     notes = feeds.Notes()
-    best = best_routes(arguments.most, notes)
+    best = best_routes(arguments, notes)
     lines = list(further(best)) if further else []
     connected = [prefix for prefix, hop in best.items() if hop == feeds.CONNECTED]
     devices = devices_of(connected, arguments.device)

@@ -6,7 +6,7 @@ import random
 import re
 
 from rows import row_text
-from trial import SAMPLES, Failed, run_here
+from trial import SAMPLES, Failed, printed, run_here
 
 # how often each input is changed
 TIMES = 20
@@ -109,10 +109,12 @@ def check_changed(command, data, more, changed):
 
 def check(made):
     draw = random.Random(88)
-    table = "".join(row_text(f"10.{second}.0.0/16", "192.0.2.1") + "\n" for second in range(4)).encode()
-    for number, (command, sample) in enumerate(JSON + LINES):
-        text = (SAMPLES / sample).read_text()
-        change = changed_json if sample.endswith(".json") and command != "pmacct-to-feeds" else changed_lines
+    table = printed([row_text(f"10.{second}.0.0/16", "192.0.2.1") for second in range(4)])
+    objects = "".join(json.dumps({"prefix": f"10.{second}.0.0/16", "feed": 1, "pref": 1, "via": hop}) + "\n"
+                      for second, hop in enumerate(("192.0.2.1", "192.0.2.2", None)))
+    for number, (command, sample) in enumerate([*JSON, *LINES, ("table-to-ip --onlink a --partial", None)]):
+        text = (SAMPLES / sample).read_text() if sample else objects
+        change = changed_lines if (command, sample) in LINES else changed_json
         more = [made / f"fuzz{number}"] if command.split()[0].endswith("feeds") else []
         for _ in range(TIMES):
             changed = change(text, draw)

@@ -125,6 +125,48 @@ def check_short_write(made):
                 raise Failed(f"table-to-{form} {unbuffered and 'without a buffer'} on a full disk has status {status} and says {said}")
 
 
+ROWS = [row_text(f"10.{second}.0.0/16", "192.0.2.1") for second in range(4)]
+OBJECTS = [json.dumps({"prefix": f"10.{second}.0.0/16", "feed": 1, "file": "a", "pref": 1, "via": "192.0.2.1"}) for second in range(4)]
+NO_TOTAL = "the table may be truncated, since its last line isn't `total N`: use the output of `yarib table --total`, or --partial"
+OTHER_TOTAL = "the table should have {} routes and has {}: use the whole table, or --partial"
+
+
+# tables that may be a part of one, each with a part of the message
+PARTS = [(ROWS[:number], NO_TOTAL) for number in range(1, 5)]
+PARTS += [([*ROWS[:number], "total 4"], OTHER_TOTAL.format(4, number)) for number in range(1, 4)]
+PARTS += [([*ROWS, f"total {number}"], OTHER_TOTAL.format(number, 4)) for number in (0, 3, 5)]
+PARTS += [(["table 4", *ROWS[:3]], OTHER_TOTAL.format(4, 3)), (OBJECTS, NO_TOTAL), ([*OBJECTS, '{"total":5}'], OTHER_TOTAL.format(5, 4))]
+# what `table` never prints, and what has no routes
+NO_TABLES = [
+    ([*ROWS, "total 4", *ROWS], "line 6: there is more after the table's last line: '10.0.0.0/16 feed 1"),
+    ([*ROWS, "total 4 "], "line 5 is not understood: 'total 4 '"),
+    ([*ROWS, "total -4"], "line 5 is not understood: 'total -4'"),
+    ([*OBJECTS, '{"total": 4}'], "line 5: the member 'prefix' is missing"),
+    (["total 0"], "the table has no routes"),
+    ([OBJECTS[0].replace('"192.0.2.1"', "7")], "line 1: the member 'via' is missing or of another kind"),
+    ([OBJECTS[0].replace('"192.0.2.1"', "[]")], "line 1: the member 'via' is missing or of another kind"),
+    ([OBJECTS[0].replace('"192.0.2.1"', "null")], "line 1: the member 'discard' is missing or of another kind"),
+    (['{"prefix":' * 100000], "line 1 is not understood"),
+    (["1:1 added"], "the input is only a report"),
+]
+
+
+def check_total():
+    """A table whose last line doesn't say how many routes it has is refused, as when `table` was ended by a signal; so is one
+    with another number, unless it is said to be a part."""
+    data = lambda lines: "".join(f"{line}\n" for line in lines).encode()
+    for lines, part in PARTS + NO_TABLES:
+        status, written, said = run("table-to-ip --onlink uplink", data(lines))
+        if status != 1 or written or part not in said or said.count("\n") != 1:
+            raise Failed(f"table-to-ip of {lines} has status {status}, writes {written} and says {said}")
+    whole = [([*ROWS, "total 4"], ""), ([*OBJECTS, '{"total":4}'], ""), (["table 4", *ROWS], "")]
+    for lines, option in whole + [(lines, "--partial") for lines, _ in PARTS]:
+        command = f"table-to-ip --onlink uplink {option}"
+        status, written, said = run(command, data(lines))
+        if (status, said) != (0, "") or written.count("\n") != sum("via" in line for line in lines):
+            raise Failed(f"{command} of {lines} has status {status}, writes {written} and says {said}")
+
+
 # a host with an address, a default and a route of its own
 HOST = """
 ip link add uplink type veth peer name far
@@ -198,4 +240,5 @@ def check(made):
     check_nested_networks()
     check_json_hops()
     check_short_write(made)
+    check_total()
     check_kernel(made)

@@ -96,8 +96,8 @@ def run_in_child(words, constants):
 
 
 def printed(rows):
-    """The output of `yarib table` with these rows."""
-    return "".join(f"{row}\n" for row in rows).encode()
+    """The output of `yarib table --total` with these rows."""
+    return "".join(f"{row}\n" for row in [*rows, f"total {len(rows)}"]).encode()
 
 
 def table_of(sample):

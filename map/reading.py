@@ -35,6 +35,8 @@ NOT_IN_NAMES = r" \x00-\x1f\x7f-\x9f\u061c\u200e\u200f\u202a-\u202e\u2066-\u2069
 # a route after its prefix, and a whole one
 ROUTE = re.compile(f"feed ([^{NOT_IN_NAMES}]+)" + "".join(f" {name} (0|[1-9][0-9]{{0,9}})" for name in NUMBERS)
                    + r" via (\S+)")
+# the last line of `yarib table --total`, as text and as JSON
+TOTAL, TOTAL_BEGINS = re.compile(r'total (\d+)|\{"total":(\d+)\}'), ("total", '{"total"')
 ROUTE_TEXT = "{prefix} feed {feed}" + "".join(f" {name} {{{name}}}" for name in NUMBERS) + " via {via}"
 
 
@@ -150,11 +152,26 @@ def shown(text):
     return repr(text[:100])
 
 
-def each(stream, take, command):
-    """Passes each line to `take`, and counts them; reports an error by the line's number."""
+def rows_before_total(given):
+    """Yields the rows of a table. If there is a further line, as `yarib table --total` prints it, it has their number."""
+    count = 0
+    for line in given:
+        if line.startswith(TOTAL_BEGINS) and (found := TOTAL.fullmatch(line)):
+            number = int(found[1] or found[2])
+            if count != number:
+                raise Refused(f"line {count + 1}: the table should have {number} rows and has {count}")
+            break
+        count += 1
+        yield line
+    for line in given:
+        raise Refused(f"line {count + 2}: there is more after the table's last line: {shown(line)}")
+
+
+def each(rows, take, command):
+    """Passes each row to `take`, and counts them; reports an error by the line's number."""
     count, line = 0, ""
     try:
-        for count, line in enumerate(lines(stream), 1):
+        for count, line in enumerate(rows, 1):
             take(line)
     except Wrong as wrong:
         raise Refused(f"line {count}: {wrong}") from None
@@ -284,7 +301,7 @@ def read_table(stream):
         close(base)
         opened.append((last, (hop, length, feed, *numbers)))
 
-    rows = each(stream, take, "yarib table --best")
+    rows = each(rows_before_total(lines(stream)), take, "yarib table --best")
     close(END)
     return Ranges(firsts, {"": Answers(answers)}, hops, feeds, True, rows)
 
@@ -371,7 +388,7 @@ def read_diff(stream):
         append(first, old, new)
         at, are_routes = last + 1, form
 
-    rows = each(stream, take, "yarib diff")
+    rows = each(lines(stream), take, "yarib diff")
     if at < END:
         append(at, same, same)
     return Ranges(firsts, {"old ": Answers(olds), "new ": Answers(news)}, hops, feeds, are_routes is True, rows)

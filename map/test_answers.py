@@ -158,16 +158,16 @@ def check_legend(colouring, totals):
 
 
 def page_of(script, text):
-    """The page for an output of `yarib`, which is accepted; an empty output is reported."""
+    """The page for an output of `yarib`, which is accepted; an output without a row is reported."""
     status, written, said = run(script, data=text.encode())
-    if status or said.startswith(f"{script}: standard input: no row: ") == bool(text):
+    if status or said.startswith(f"{script}: standard input: no row: ") != (text in ("", "total 0\n")):
         raise Failed(f"{script} has status {status} and says {said!r}")
     return Page(written)
 
 
 def check_table(program, made, files):
     """Returns the page, and what is said of each address."""
-    held = page_of("table-to-map", yarib(program, "table", "--best", *files))
+    held = page_of("table-to-map", yarib(program, "table", "--best", "--total", *files))
     begin, answers = commands_of(program, made, files)
     said = {address: of_table(*answer) for address, answer in answers.items()}
     check_page(held, begin, said)
@@ -224,7 +224,7 @@ def cases(made):
 def check_forms(program, files, old, new):
     """A page is the same if `yarib` prints objects. With names it has the files' names instead of numbers."""
     plain, by_json, named, named_json = (
-        page_of("table-to-map", yarib(program, "table", "--best", *options, *files))
+        page_of("table-to-map", yarib(program, "table", "--best", "--total", *options, *files))
         for options in ((), ("--json",), ("--names",), ("--names", "--json")))
     expect("what a page holds of a table in JSON", (by_json.held, by_json.about), (plain.held, plain.about))
     expect("what a page holds of a table in JSON by name", (named_json.held, named_json.about), (named.held, named.about))
