@@ -5,7 +5,7 @@ import resource
 import subprocess
 
 from rows import row_text
-from trial import Failed, expect, printed, run
+from trial import Failed, expect, printed, run, run_copy
 
 TABLE = printed([row_text("10.0.0.0/8", "192.0.2.1")])
 OWN = {"dst": "10.1.0.0/16", "gateway": "192.0.2.1", "dev": "uplink", "flags": []}
@@ -40,8 +40,8 @@ def check_replace_file(made):
     given = [(json.dumps([OWN, OWN | route]), part) for route, part in ROUTES]
     for text, part in given + list(FILES):
         file.write_text(text)
-        status, written, said = run("table-to-ip --onlink uplink --replace", TABLE, file)
-        if status != 1 or written or part not in said or not said.startswith(f"table-to-ip: {file}") or said.count("\n") != 1:
+        status, written, said = run_copy("table-to-ip --onlink uplink --replace", TABLE, file)
+        if status != 1 or written or part not in said or f": {file}" not in said or said.count("\n") != 1:
             raise Failed(f"table-to-ip --replace of {text[:200]} has status {status}, writes {written} and says {said}")
 
 
@@ -49,15 +49,15 @@ def check_interfaces():
     """Text that isn't the name of an interface is refused with the command line."""
     for form in ("bird", "frr", "ip"):
         for option in ("--onlink", "--device", "--device=10.0.0.0/8"):
-            status, written, said = run(f"table-to-{form}", TABLE, f"{option}=a b")
+            status, written, said = run_copy(f"table-to-{form}", TABLE, f"{option}=a b")
             if status != 2 or written or "'a b' is not the name of an interface" not in said:
                 raise Failed(f"table-to-{form} {option} has status {status}, writes {written!r} and says {said!r}")
     for name in NAMES:
-        status, written, said = run("table-to-ip", TABLE, f"--onlink={name}")
+        status, written, said = run_copy("table-to-ip", TABLE, f"--onlink={name}")
         if status != 2 or written or f"argument --onlink: {name!r} is not the name of an interface" not in said:
             raise Failed(f"table-to-ip --onlink={name!r} has status {status}, writes {written!r} and says {said!r}")
     for name in ("eth0", "eth0.100", "br-lan", "wg_0", "a" * 127):
-        status, written, said = run("table-to-ip", TABLE, f"--onlink={name}")
+        status, written, said = run_copy("table-to-ip", TABLE, f"--onlink={name}")
         if (status, said) != (0, "") or f" dev {name} onlink " not in written:
             raise Failed(f"table-to-ip --onlink={name} has status {status}, writes {written} and says {said}")
 
@@ -72,19 +72,19 @@ TWICE = "--device 10.0.0.0/8=outer --device 10.0.0.0/8=other --device 10.1.0.0/1
 
 def check_nested_networks():
     """A router is reached by the longest connected network that contains it, and each --device counts."""
-    status, written, said = run(f"table-to-bird {BOTH}", NESTED)
+    status, written, said = run_copy(f"table-to-bird {BOTH}", NESTED)
     wanted = ['10.0.0.0/8 via "outer"', '10.1.0.0/16 via "inner"', "192.0.2.0/24 via 10.1.0.1%'inner' onlink",
               "198.51.100.0/24 via 10.2.0.1%'outer' onlink"]
     if (status, said) != (0, "") or [line[8:-1] for line in written.splitlines() if line.startswith("  route ")] != wanted:
         raise Failed(f"table-to-bird {BOTH} has status {status}, writes {written} and says {said}")
     for form in ("bird", "frr", "ip"):
-        status, written, said = run(f"table-to-{form} {BOTH}", NESTED)
+        status, written, said = run_copy(f"table-to-{form} {BOTH}", NESTED)
         if status != 0 or "inner" not in written or "outer" not in written:
             raise Failed(f"table-to-{form} {BOTH} has status {status}, writes {written} and says {said}")
         for given, message in ((TWICE, "--device 10.0.0.0/8=outer and --device 10.0.0.0/8=other: give its interface once"),
                                ("--device 10.1.0.0/16=inner", "10.0.0.0/8 is a connected network: name its interface"),
                                (f"{BOTH} --device more", "--device more: each connected network of the table has an interface")):
-            status, written, said = run(f"table-to-{form} {given}", NESTED)
+            status, written, said = run_copy(f"table-to-{form} {given}", NESTED)
             if (status, written, message in said) != (1, "", True):
                 raise Failed(f"table-to-{form} {given} has status {status}, writes {written} and says {said}")
 
@@ -105,7 +105,7 @@ def check_json_hops():
     """In JSON a route without a next hop is a discard only if it says so."""
     for members, wanted, part in JSON_HOPS:
         table = printed([json.dumps({"prefix": "10.0.0.0/8", "feed": 1, "pref": 1} | members)])
-        status, written, said = run("table-to-ip --onlink uplink", table)
+        status, written, said = run_copy("table-to-ip --onlink uplink", table)
         is_so = written == wanted if wanted else (status, written, part in said, said.count("\n")) == (1, "", True, 1)
         if not is_so:
             raise Failed(f"table-to-ip of {table} has status {status}, writes {written!r} and says {said!r}")
@@ -156,13 +156,13 @@ def check_total():
     with another number, unless it is said to be a part."""
     data = lambda lines: "".join(f"{line}\n" for line in lines).encode()
     for lines, part in PARTS + NO_TABLES:
-        status, written, said = run("table-to-ip --onlink uplink", data(lines))
+        status, written, said = run_copy("table-to-ip --onlink uplink", data(lines))
         if status != 1 or written or part not in said or said.count("\n") != 1:
             raise Failed(f"table-to-ip of {lines} has status {status}, writes {written} and says {said}")
     whole = [([*ROWS, "total 4"], ""), ([*OBJECTS, '{"total":4}'], ""), (["table 4", *ROWS], "")]
     for lines, option in whole + [(lines, "--partial") for lines, _ in PARTS]:
         command = f"table-to-ip --onlink uplink {option}"
-        status, written, said = run(command, data(lines))
+        status, written, said = run_copy(command, data(lines))
         if (status, said) != (0, "") or written.count("\n") != sum("via" in line for line in lines):
             raise Failed(f"{command} of {lines} has status {status}, writes {written} and says {said}")
 
