@@ -269,9 +269,10 @@ class Signals:
     def end(self, number, frame=None):
         self.came = number
         if not self.is_put_off:
-            # A second signal would interrupt the removal of what the build leaves.
+            # A second signal would interrupt the removal of what the build leaves. It isn't ignored by SIG_IGN: one that came
+            # just before that would be reported with a traceback.
             for each in ENDING:
-                signal.signal(each, signal.SIG_IGN)
+                signal.signal(each, lambda number, frame: None)
             sys.exit(128 + number)
 
     @contextlib.contextmanager

@@ -274,8 +274,9 @@ def one_line(copy):
         status, out, err = copy.start(*words)
         expect(f"{words}: a source that can't be read, in one line", (status, out, len(err.splitlines())), (126, "", 1))
     unread.unlink()
-    how = {"env": copy.names(), "stdin": subprocess.DEVNULL, "cwd": copy.top, "start_new_session": True, "text": True,
-           "stdout": subprocess.PIPE, "stderr": subprocess.PIPE, "preexec_fn": heed_signals}
+    # The build doesn't end by itself: a program that it made, which is Python here, would print a traceback.
+    how = {"env": copy.names() | {"HANGS": "rt_app"}, "stdin": subprocess.DEVNULL, "cwd": copy.top, "text": True,
+           "start_new_session": True, "stdout": subprocess.PIPE, "stderr": subprocess.PIPE, "preexec_fn": heed_signals}
     for delay in range(0, 400, 20):
         with subprocess.Popen([copy.top / "yarib", "run", "x"], **how) as call:
             time.sleep(delay / 1000)
