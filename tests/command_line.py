@@ -21,7 +21,6 @@ import random
 import re
 import select
 import subprocess
-import tempfile
 import textwrap
 import time
 import tty
@@ -373,6 +372,17 @@ def replays(yarib):
 
 
 # Help, version, and invalid commands
+
+
+# Catches a program that reads the path by which it was started as an argument: `started as ..`.
+def any_name(yarib):
+    """The name by which the program is started changes nothing."""
+    for name in (b"\xff", b"another name", b"yarib"):
+        os.symlink(yarib.path, name)
+        called = lambda *words: Program(os.fsdecode(os.path.join(os.getcwdb(), name)))(*words)
+        expect(f"started as {name}", called("run", "row.feed"), yarib("run", "row.feed"))
+        expect(f"usage, started as {name}", called("run"), (3, "", yarib("run")[2]))
+        os.unlink(name)
 
 
 # Catches a missing or different line of a help page: the page.
@@ -1247,7 +1257,7 @@ def progress_of_long_runs(yarib):
 
 
 CASES = (
-    runs, what_the_table_says, what_two_tables_answer_otherwise, file_order, many_files, unreadable, names,
+    runs, any_name, what_the_table_says, what_two_tables_answer_otherwise, file_order, many_files, unreadable, names,
     texts, limits, batches, twice, replays, finished_tables, parts_of_tables, left_out, routes_of_feeds,
     unknown_feeds, counted_tables, totalled_tables, compared_tables,
     compared_as_json, compared_by_name, old_first, not_taken, not_asked, files_told, cut_off, addresses_told, pages, advice,
@@ -1257,11 +1267,7 @@ CASES = (
 
 def main():
     words = chosen(__doc__, CASES)
-    with tempfile.TemporaryDirectory() as apart:
-        # The help prints the name by which the program was called.
-        yarib = Program(pathlib.Path(apart) / "yarib")
-        yarib.path.symlink_to(words.program)
-        run_each(words.cases, yarib, files={"row.feed": ROW, "empty.feed": "", "faulty.feed": "frob\n"})
+    run_each(words.cases, words.program, files={"row.feed": ROW, "empty.feed": "", "faulty.feed": "frob\n"})
     end()
 
 

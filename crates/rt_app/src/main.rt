@@ -7,24 +7,24 @@
 //! reports the progress of a run there ([`ProgressLine`]).
 #![tactic(auto)]
 
+mod arguments;
 mod program;
 
+use arguments::read_arguments;
 use program::{Program, ProgramError, run_words};
 pub use rt_run::{AppFault, replay_text, run_texts};
-use std::alloc::Global;
 use std::io::{self, IsTerminal, Write};
 use std::process::ExitCode;
 use std::rt::Files;
 use std::sync::Wait;
-use std::thread::Threads;
-use std::{env, thread};
+use std::thread::{self, Threads};
 use terminal_line::ProgressLine;
 
 fn main(rt: HostRuntime) -> ExitCode {
     let alloc = rt.alloc();
     let (stdout, stderr) = (rt.stdout(), rt.stderr());
     let (mut out, mut err) = (io::writer(&stdout), io::writer(&stderr));
-    let words = match read_words(&rt, alloc) {
+    let words = match read_arguments(&rt, alloc) {
         Ok(words) => words,
         Err(fault) => {
             let error = ProgramError::of_system(&fault, ProgramError::NotUtf8);
@@ -59,8 +59,4 @@ where
         let _ = scope.spawn(move || line.keep(rt, terminal));
         Program::new(rt, rt.alloc(), line, out, err).run(words)
     })
-}
-
-fn read_words(rt: &HostRuntime, alloc: Global) -> io::Result<Vec<String>> {
-    Ok(env::args(rt)?.collect(alloc)?)
 }
