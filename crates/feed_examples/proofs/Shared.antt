@@ -246,7 +246,7 @@ nothing_found_where_a_route_covers : ¬ FindsBest 1 (entry 1 (Add ten_8 5 Discar
 unfolding table_of_journal table_after
 nothing_found_where_a_route_covers h =
     let uncovered = h.none 2 at_10_1_2_3 (entry 1 (Add ten_8 5 Discard) Added ∷ []) []
-        refl (record { prefix = ten_8; feed = 1; pref = 5; hop = Discard }) (0, omega arith, refl) in cc
+    refl (record { prefix = ten_8; feed = 1; pref = 5; hop = Discard }) (0, omega arith, refl) in cc
 
 -- a dump leaves no route
 no_route_by_a_dump : table_of_journal 1 (dump 2 ∷ []) ≡ []

@@ -45,9 +45,10 @@ impl<'a> Question<'a> {
     {
         match self {
             Question::Best { named, text } | Question::All { named, text } => (*named, *text),
-            Question::Routes { .. }
-            | Question::RoutesAndTotal { .. }
-            | Question::Counts { .. } => (&[], &[]),
+            Question::Routes { .. } | Question::RoutesAndTotal { .. } | Question::Counts { .. } => (
+                &[],
+                &[],
+            ),
         }
     }
 }
