@@ -11,9 +11,9 @@ macro_rules! rejected_notes {
             "\
 Rejected input is reported on standard error, one line per file and kind:
   yarib: FILE: faulty lines: N, the first is line LINE: FAULT
-  yarib: FILE: adds over the limit: N
-  yarib: FILE: duplicate adds: N
-  yarib: FILE: replaces and withdraws without a route: N
+  yarib: FILE: adds over the limit: N, the first is line LINE
+  yarib: FILE: duplicate adds: N, the first is line LINE
+  yarib: FILE: replaces and withdraws without a route: N, the first is line LINE
   yarib: FILE: commands failed, out of memory: N
 A feed file that may have been cut off is reported, too:
   yarib: FILE: the last line has no line end: check that the file is complete
@@ -90,6 +90,10 @@ file, empty lines and lines that begin with # are skipped.
                                             ADDR; of its routes this one has the
                                             lowest P, and then the lowest F
   ADDR no route                             no prefix covers ADDR
+With --keep-invalid each other line of that file that isn't an address has a
+line too, in its place; LINE is its number. So a file without skipped lines has
+one line of output for each of its lines, in order (with --all, at least one).
+  LINE invalid
 
 With --all each other route that covers the address has a line too, the next
 best first. REASON is why it lost: shorter (a shorter prefix), else preference
@@ -104,6 +108,7 @@ With --json each line is one object; --names adds \"name\" before \"file\":
   {\"address\":ADDR,\"route\":{\"prefix\":PREFIX,\"feed\":F,\"file\":FILE,\"pref\":P,
   \"via\":HOP}}
 For discard: \"via\":null,\"discard\":true. For no route: \"route\":null.
+For an invalid line: {\"line\":LINE,\"invalid\":true}.
 With --all, \"also\" is the list of the other routes, each with its \"reason\".
 
 --without F leaves out a feed: its file isn't read, and the output is that of a
@@ -193,6 +198,10 @@ for every address.
 An answer is the result of a look-up: `via HOP`, `discard` or `no route`; with
 --by route it is `PREFIX feed F pref P via HOP` or `no route`.
 
+With --prefixes each of the fewest prefixes that make up the range has a line
+instead, in ascending order:
+  PREFIX OLDANSWER -> NEWANSWER
+
 F is the position of the feed's file on its side, from 1. With --names the
 feed's name is printed instead: FILE without its directory and .feed. Feeds with
 the same name on both sides are then the same feed. Two feeds with the same name
@@ -200,6 +209,7 @@ on one side are an error, as is a name that is empty or contains a space or a
 control character.
 With --json each line is one object; --names adds \"name\" before \"file\":
   {\"first\":ADDR,\"last\":ADDR,\"old\":ANSWER,\"new\":ANSWER}
+  {\"prefix\":PREFIX,\"old\":ANSWER,\"new\":ANSWER}
 ANSWER is {\"via\":HOP}, {\"via\":null,\"discard\":true}, or null if there is no
 route; with --by route it is null or
   {\"prefix\":PREFIX,\"feed\":F,\"file\":FILE,\"pref\":P,\"via\":HOP}
@@ -216,6 +226,8 @@ and --new-feed do the same on the new side. Here F is a number or a feed's name.
 has this line and `add 10.1.0.0/16 100 192.0.2.2`:
   $ yarib diff one.feed -- new.feed
   10.1.0.0-10.1.255.255 via 192.0.2.1 -> via 192.0.2.2
+  $ yarib diff --prefixes one.feed -- new.feed
+  10.1.0.0/16 via 192.0.2.1 -> via 192.0.2.2
 "
 );
 

@@ -182,6 +182,11 @@ const LOOKUP: &[Parameter] = &[
         value_names: &["FILE"],
         ..OPTION
     },
+    Parameter {
+        name: "keep-invalid",
+        help: "Print a line for each invalid line of that file, in its place",
+        ..FLAG
+    },
     FILES,
 ];
 
@@ -255,6 +260,11 @@ const DIFF: &[Parameter] = &[
         parser: ValueParser::Names(&[HOP, ROUTE]),
         default_values: &[HOP],
         ..OPTION
+    },
+    Parameter {
+        name: "prefixes",
+        help: "Print each range as the fewest prefixes that make it up",
+        ..FLAG
     },
     Parameter {
         name: "old-feed",

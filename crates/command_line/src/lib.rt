@@ -91,6 +91,8 @@ pub struct LookupRequest<'a> {
     pub addresses: &'a [&'a str],
     /// The name of the file with further addresses.
     pub more: Option<&'a str>,
+    /// Print a line for each invalid line of this file.
+    pub keep_invalid: bool,
     /// Print every route that covers an address.
     pub all: bool,
     /// Print a feed's name instead of its number.
@@ -155,6 +157,8 @@ pub struct DiffRequest<'a> {
     pub new_feeds: NamedFeeds<'a>,
     /// The part of an answer that is compared.
     pub by: ComparedBy,
+    /// Print the prefixes of each range instead of the range.
+    pub prefixes: bool,
     /// Print a feed's name instead of its number. Feeds with the same name on both sides then count as the same feed.
     pub names: bool,
     /// Print JSON objects instead of plain lines.
@@ -270,6 +274,7 @@ fn lookup_request<'a>(matches: &'a ArgMatches<'_>) -> Result<Request<'a>, Reques
         feeds: feeds_of(matches, "feed", "without"),
         addresses: texts_of(matches, "address"),
         more: matches.get_str("addresses"),
+        keep_invalid: matches.get_flag("keep-invalid"),
         all: matches.get_flag("all"),
         names: matches.get_flag("names"),
         json: matches.get_flag("json"),
@@ -319,6 +324,7 @@ fn diff_request<'a>(matches: &'a ArgMatches<'_>) -> Result<Request<'a>, RequestF
         new_files: texts_of(matches, "new"),
         new_feeds: feeds_of(matches, "new-feed", "new-without"),
         by,
+        prefixes: matches.get_flag("prefixes"),
         names: matches.get_flag("names"),
         json: matches.get_flag("json"),
     }))

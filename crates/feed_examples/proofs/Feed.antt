@@ -20,6 +20,7 @@ use Rattle.rt_rib.specs.declared.commands.Cmd.TheVariants.{Add, Replace, Withdra
 use Rattle.rt_rib.specs.declared.commands.Reply.{Reply}
 use Rattle.rt_rib.specs.declared.commands.Reply.TheVariants.{Added, Exists, Full, Replaced, Withdrawn, Missing, Found, NoRoute, Dumped, Purged}
 use Rattle.rt_shared.specs.declared.outcome.Outcome.TheVariants as outcome
+use Rattle.rt_feed.specs.declared.addresses.AddressText.{AddressText}
 use Rattle.rt_feed.specs.declared.parse.LineFault.{LineFault}
 use Rattle.rt_feed.specs.declared.parse.LineFault.TheVariants as fault
 use Rattle.rt_feed.specs.declared.report.Answer.TheVariants as answer
@@ -27,7 +28,7 @@ use Rattle.rt_feed.specs.declared.versions.Version.TheVariants.{One, Two}
 use Rattle.rt_feed.specs.CommandText.{space, words, route_words, command_text, HasHop, HasCommand}
 use Rattle.rt_feed.specs.Grammar.{prefix, preference, hop, address, hash, is_skipped, fields, purge_kinds, kinds_after, IsOfKind, IsFaultOf}
 use Rattle.rt_feed.specs.Grammar.{IsFirstFault, IsFaultAfter, IsFaultOfFields, AnswersLine}
-use Rattle.rt_feed.specs.Addresses.{AnswersAddressLine, addresses_said, faults_said, faulty_lines, SaysAddresses}
+use Rattle.rt_feed.specs.Addresses.{AnswersAddressLine, AddressRow, address_row, invalid_row, rows_said, addresses_in, invalid_in, faults_said, faulty_lines, SaysAddresses, AreOfRows, ReadsAddresses}
 use Rattle.rt_feed.specs.Lines.{lf, CutsLine, HasVersion2Header, IsBody, LineOutcome, skipped, faulty, asked}
 use Rattle.rt_feed.specs.Lines.{reading, heading, LinesParseAs, LinesYield, TextYields, line_answer, command_answer, numbered, report_lines, command_of, commands_of}
 use Rattle.rt_feed.specs.Reports.{is_refusal, is_fault, has_refusal, has_fault}
@@ -697,9 +698,22 @@ what_its_lines_say =
       ),
     )
 
--- addresses_said
-those_that_are_addresses : addresses_said asked_read ≡ at_192_0_2_1 ∷ at_10_1_2_3 ∷ []
+-- the rows of this text
+abbrev pub asked_rows : List AddressRow
+asked_rows = address_row at_192_0_2_1 ∷ invalid_row 3 ∷ address_row at_10_1_2_3 ∷ []
+
+-- rows_said
+a_row_for_each_line_that_is_not_skipped : rows_said 1 asked_read ≡ asked_rows
+a_row_for_each_line_that_is_not_skipped = refl
+
+-- addresses_in
+those_that_are_addresses : addresses_in asked_rows ≡ at_192_0_2_1 ∷ at_10_1_2_3 ∷ []
 those_that_are_addresses = refl
+
+-- invalid_in
+the_invalid_one_after_one_address_and_after_two :
+    (invalid_in 0 asked_rows ≡ record { number = 3; before = 1 } ∷ []) × (invalid_in 1 asked_rows ≡ record { number = 3; before = 2 } ∷ [])
+the_invalid_one_after_one_address_and_after_two = (refl, refl)
 
 -- faults_said
 the_third_line_is_faulty : faults_said 1 asked_read ≡ (3, fault.Text) ∷ []
@@ -710,9 +724,26 @@ how_many_and_the_first : faulty_lines ((3, fault.Text) ∷ (5, fault.LineLength)
 how_many_and_the_first = refl
 
 -- SaysAddresses
-pub two_are_asked_and_a_line_is_faulty :
-    SaysAddresses asked_text (at_192_0_2_1 ∷ at_10_1_2_3 ∷ []) (record { count = 1; first = Some (3, fault.Text) })
+pub two_are_asked_and_a_line_is_faulty : SaysAddresses asked_text asked_rows (record { count = 1; first = Some (3, fault.Text) })
 two_are_asked_and_a_line_is_faulty = record { says = asked_read; lines = what_its_lines_say; said = refl; faults = refl }
+
+-- AreOfRows
+the_invalid_line_in_its_place : AreOfRows true asked_rows (at_192_0_2_1 ∷ at_10_1_2_3 ∷ []) (record { number = 3; before = 1 } ∷ [])
+the_invalid_line_in_its_place = record { addressed = refl; kept = refl }
+
+no_invalid_line_unless_they_are_kept :
+    AreOfRows false asked_rows (at_192_0_2_1 ∷ at_10_1_2_3 ∷ []) [] × (¬ AreOfRows true asked_rows (at_192_0_2_1 ∷ at_10_1_2_3 ∷ []) [])
+no_invalid_line_unless_they_are_kept = (record { addressed = refl; kept = refl }, (λ h. let none = h.kept in cc))
+
+-- ReadsAddresses
+the_named_ones_come_first :
+    (read : AddressText) → read.addresses.items ≡ at_10_1_2_3 ∷ at_192_0_2_1 ∷ at_10_1_2_3 ∷ [] → read.invalid.items ≡ record { number = 3; before = 2 } ∷ []
+    → read.faulty ≡ record { count = 1; first = Some (3, fault.Text) } → ReadsAddresses (at_10_1_2_3 ∷ []) asked_text true read
+the_named_ones_come_first read addresses invalid faults = record {
+  said = asked_rows;
+  says = rw faults two_are_asked_and_a_line_is_faulty;
+  of_rows = record { addressed = addresses; kept = invalid };
+}
 
 -- has_refusal
 in_one_of_two_lines :

@@ -23,7 +23,10 @@ use Rattle.rt_print.specs.declared.names.NameFault.TheVariants.{Invalid, Duplica
 use Rattle.rt_print.specs.FeedNames.{is_name, name_at, HasOwnName, ChecksNames}
 use Rattle.rt_print.specs.Labels.{is_json, has_names, without_feed, feed_name, label_by, index_of_name, paired_number, labels_by}
 use Rattle.rt_print.specs.Styles.{StyleContents, label_of, row_as, address_head, found_as, reason_text, also_line, all_found_as}
-use Rattle.rt_print.specs.DifferenceText.{way_text, DiffContents, diff_of, answered_as, range_as, difference_as, differences_as}
+use Rattle.rt_print.specs.declared.diff_options.DiffOutput.{DiffOutput}
+use Rattle.rt_print.specs.declared.diff_options.DiffOutput.TheVariants.{Ranges, Prefixes}
+use Rattle.rt_print.specs.RangePrefixes.{prefixes_in, prefixes_of}
+use Rattle.rt_print.specs.DifferenceText.{way_text, DiffContents, diff_of, answered_as, range_as, prefix_as, difference_as, differences_as}
 use Rattle.rt_print.specs.Counts.{prefix_count, length_count, totals_as, count_as, counts_as, total_as, rows_and_total_as}
 use Rattle.feed_examples.proofs.Feed.{at_192_0_2_1}
 
@@ -109,8 +112,11 @@ range_without_way = record { first = at_10_1_2_3; last = at_10_9_0_1; old = answ
 abbrev told_range : Difference
 told_range = record { first = at_10_1_2_3; last = at_10_9_0_1; old = answered.Route (route_via ten_8 1 5 Discard); new = answered.Route (route_via ten_8 3 5 Discard) }
 
+abbrev compared_as : DiffOutput → Format → DiffContents
+compared_as output format = diff_of by.Route output format (codes "a.feed" ∷ codes "b.feed" ∷ []) (codes "new/c.feed" ∷ codes "new/a.feed" ∷ [])
+
 abbrev compared_files : Format → DiffContents
-compared_files format = diff_of by.Route format (codes "a.feed" ∷ codes "b.feed" ∷ []) (codes "new/c.feed" ∷ codes "new/a.feed" ∷ [])
+compared_files = compared_as Ranges
 
 -- diff_of
 new_feeds_by_their_names : ((compared_files Names).numbers ≡ 3 ∷ 1 ∷ []) × ((compared_files Json).numbers ≡ 1 ∷ 2 ∷ [])
@@ -127,6 +133,33 @@ a_range_as_an_object : difference_as (compared_files Json) range_without_way
     ≡ codes "{\"first\":\"10.1.2.3\",\"last\":\"10.9.0.1\",\"old\":{\"via\":\"192.0.2.1\"},\"new\":null}\n"
 unfolding digits address_text range_as answered_as
 a_range_as_an_object = refl
+
+-- prefixes_in
+the_prefixes_of_eight_addresses : prefixes_of 3 10 ≡ (3, 32) ∷ (4, 30) ∷ (8, 31) ∷ (10, 32) ∷ []
+unfolding prefixes_in
+the_prefixes_of_eight_addresses = refl
+
+all_addresses_as_one_prefix : prefixes_of 0 4294967295 ≡ (0, 0) ∷ []
+unfolding prefixes_in
+all_addresses_as_one_prefix = refl
+
+a_single_address_as_a_prefix : prefixes_of 4294967295 4294967295 ≡ (4294967295, 32) ∷ []
+unfolding prefixes_in
+a_single_address_as_a_prefix = refl
+
+-- lines_as
+a_line_for_each_prefix :
+    difference_as (compared_as Prefixes Numbers) (record { first = record { 0 = 3 }; last = record { 0 = 5 }; old = answered.NoRoute; new = answered.Hop Discard })
+    ≡ codes "0.0.0.3/32 no route -> discard\n0.0.0.4/31 no route -> discard\n"
+unfolding digits address_text prefix_text prefixes_in prefix_as answered_as
+a_line_for_each_prefix = refl
+
+-- prefix_as
+a_prefix_as_an_object :
+    difference_as (compared_as Prefixes Json) (record { first = record { 0 = 8 }; last = record { 0 = 15 }; old = answered.Hop (Via at_192_0_2_1); new = answered.NoRoute })
+    ≡ codes "{\"prefix\":\"0.0.0.8/29\",\"old\":{\"via\":\"192.0.2.1\"},\"new\":null}\n"
+unfolding digits address_text prefix_text prefixes_in prefix_as answered_as
+a_prefix_as_an_object = refl
 
 -- differences_as
 one_line_for_each_range :

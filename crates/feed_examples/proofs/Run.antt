@@ -33,9 +33,10 @@ use Rattle.rt_feed.specs.Visits.{IsSplitInto, concatenated}
 use Rattle.rt_feed.specs.Printed.{reply_text, answer_text, line_text}
 use Rattle.rt_print.specs.Routes.{route_text, row_text, count_text, table_text}
 use Rattle.rt_feed.specs.declared.faults.RunFault.TheVariants as run
-use Rattle.feed_examples.proofs.Feed.{at_192_0_2_1, asked_text, two_are_asked_and_a_line_is_faulty}
+use Rattle.feed_examples.proofs.Feed.{at_192_0_2_1, asked_text, asked_rows, two_are_asked_and_a_line_is_faulty}
 use Rattle.feed_examples.proofs.Feed.{north, north_read, south, south_read, east, east_read, what_north_becomes, what_south_becomes, what_east_becomes}
 use Rattle.rt_diff.specs.declared.comparison.Difference.{Difference}
+use Rattle.rt_print.specs.declared.diff_options.DiffOutput.TheVariants.{Ranges}
 use Rattle.rt_print.specs.DifferenceText.{DiffContents}
 use Rattle.rt_diff.specs.Answers.{own_numbers}
 use Rattle.rt_diff.specs.declared.table_answers.CompareBy.TheVariants as by
@@ -51,9 +52,11 @@ use Rattle.rt_run.proofs.Lists.{cut-joined}
 use Rattle.rt_print.specs.ReplayText.{inside_text}
 use Rattle.rt_run.specs.Replayed.{IsReplayText, LeavesReplay}
 use Rattle.rt_run.specs.declared.tallies.RejectedInput.{RejectedInput}
-use Rattle.rt_print.specs.Styles.{StyleContents, row_as, found_as, all_found_as, reason_text}
+use Rattle.rt_run.specs.declared.tallies.RejectedLines.{RejectedLines}
+use Rattle.rt_feed.specs.Addresses.{address_row, invalid_row}
+use Rattle.rt_print.specs.Styles.{StyleContents, row_as, found_as, all_found_as, reason_text, invalid_as}
 use Rattle.rt_print.specs.Counts.{totals_as, count_as, counts_as, total_as}
-use Rattle.rt_run.specs.TableText.{answers_text, all_answers_text, was_full, was_existing, was_missing, faults_of, tally_of}
+use Rattle.rt_run.specs.TableText.{line_answer_text, answers_text, all_answers_text, keeps_invalid, was_full, was_existing, was_missing, faults_of, lines_where, rejected_lines, tally_of}
 use Rattle.rt_run.specs.TableText.{has_refused, has_rejected, tallies_status, faulty_tally, NoneRefused, LeavesTable, question_text, named_in, said_in, IsQueryOutput, IsAnswer}
 use Rattle.rt_rib.specs.declared.selection.Selection.{Selection}
 use Rattle.rt_run.specs.declared.question.Question.{Question}
@@ -282,20 +285,38 @@ only_the_best_in_numbers : counts_text plain (record { part = part.All; only_bes
 unfolding counts_as totals_as count_as digits
 only_the_best_in_numbers = refl
 
+-- routes as objects
+abbrev as_objects : StyleContents
+as_objects = record { json = true; labels = [] }
+
+-- line_answer_text
+invalid_lines_if_they_are_kept :
+    (line_answer_text plain true (λ addr. []) (invalid_row 12) ≡ codes "12 invalid\n") × (line_answer_text plain false (λ addr. []) (invalid_row 12) ≡ [])
+    × (line_answer_text as_objects true (λ addr. []) (invalid_row 12) ≡ codes "{\"line\":12,\"invalid\":true}\n")
+    × (line_answer_text plain true (λ addr. codes "x") (address_row at_10_1_2_3) ≡ codes "x") × (line_answer_text plain false (λ addr. codes "x") (address_row at_10_1_2_3) ≡ codes "x")
+unfolding digits invalid_as
+invalid_lines_if_they_are_kept = (refl, refl, refl, refl, refl)
+
 -- answers_text
 one_is_covered_and_one_is_not :
-    answers_text plain (at_10_1_2_3 ∷ at_10_9_0_1 ∷ []) (route_via ten_1_16 1 10 Discard ∷ [])
+    answers_text plain false (address_row at_10_1_2_3 ∷ invalid_row 2 ∷ address_row at_10_9_0_1 ∷ []) (route_via ten_1_16 1 10 Discard ∷ [])
     ≡ codes "10.1.2.3 route 10.1.0.0/16 feed 1 pref 10 via discard\n10.9.0.1 no route\n"
 unfolding digits address_text prefix_text look_up found_as
 one_is_covered_and_one_is_not = refl
 
+an_invalid_line_between_them :
+    answers_text plain true (address_row at_10_1_2_3 ∷ invalid_row 2 ∷ address_row at_10_9_0_1 ∷ []) (route_via ten_1_16 1 10 Discard ∷ [])
+    ≡ codes "10.1.2.3 route 10.1.0.0/16 feed 1 pref 10 via discard\n2 invalid\n10.9.0.1 no route\n"
+unfolding digits address_text prefix_text look_up found_as invalid_as
+an_invalid_line_between_them = refl
+
 -- all_answers_text
 all_that_cover_each :
-    all_answers_text plain (at_10_1_2_3 ∷ at_10_9_0_1 ∷ []) (two_to_ten_8 ++ route_via ten_1_16 1 10 Discard ∷ [])
+    all_answers_text plain true (address_row at_10_1_2_3 ∷ invalid_row 2 ∷ address_row at_10_9_0_1 ∷ []) (two_to_ten_8 ++ route_via ten_1_16 1 10 Discard ∷ [])
     ≡ codes "10.1.2.3 route 10.1.0.0/16 feed 1 pref 10 via discard\n10.1.2.3 also 10.0.0.0/8 feed 2 pref 30 via discard shorter\n"
-    ++ codes "10.1.2.3 also 10.0.0.0/8 feed 1 pref 50 via discard shorter\n10.9.0.1 route 10.0.0.0/8 feed 2 pref 30 via discard\n"
+    ++ codes "10.1.2.3 also 10.0.0.0/8 feed 1 pref 50 via discard shorter\n2 invalid\n10.9.0.1 route 10.0.0.0/8 feed 2 pref 30 via discard\n"
     ++ codes "10.9.0.1 also 10.0.0.0/8 feed 1 pref 50 via discard preference\n"
-unfolding digits address_text prefix_text look_up_all all_found_as found_as reason_text
+unfolding digits address_text prefix_text look_up_all all_found_as found_as reason_text invalid_as
 all_that_cover_each = refl
 
 -- an answer of each kind that a tally distinguishes
@@ -319,6 +340,19 @@ the_second_and_the_third_line :
     faults_of (report_lines 3 (asked Dump Refused ∷ faulty fault.Hop ∷ faulty fault.Text ∷ [])) ≡ (4, fault.Hop) ∷ (5, fault.Text) ∷ []
 the_second_and_the_third_line = refl
 
+-- no rejected lines of a kind
+abbrev no_lines : RejectedLines
+no_lines = rejected_lines []
+
+-- lines_where
+the_lines_over_the_limit :
+    lines_where was_full (report_lines 3 (asked Dump (Did Full) ∷ asked Dump (Did Exists) ∷ skipped ∷ asked Dump (Did Full) ∷ [])) ≡ 3 ∷ 6 ∷ []
+the_lines_over_the_limit = refl
+
+-- rejected_lines
+their_number_and_the_first : (rejected_lines (3 ∷ 6 ∷ []) ≡ record { count = 2; first = Some 3 }) × (no_lines ≡ record { count = 0; first = None })
+their_number_and_the_first = (refl, refl)
+
 -- tally_of
 the_second_line_has_the_first_fault :
     (tally_of (report_lines 3 (asked Dump Refused ∷ faulty fault.Hop ∷ faulty fault.Text ∷ []))).faulty.first ≡ Some (4, fault.Hop)
@@ -326,24 +360,24 @@ the_second_line_has_the_first_fault = refl
 
 faults_and_an_add_over_the_limit :
     tally_of (report_lines 1 (faulty fault.Hop ∷ asked Dump (Did Full) ∷ skipped ∷ faulty fault.Text ∷ []))
-    ≡ record { faulty = record { count = 2; first = Some (1, fault.Hop) }; full = 1; existing = 0; missing = 0; refused = 0 }
+    ≡ record { faulty = record { count = 2; first = Some (1, fault.Hop) }; full = record { count = 1; first = Some 2 }; existing = no_lines; missing = no_lines; refused = 0 }
 faults_and_an_add_over_the_limit = refl
 
 -- an add of a prefix that exists, and two commands about one that is missing
 found_otherwise :
     tally_of (report_lines 1 (asked Dump (Did Exists) ∷ asked Dump (Did Missing) ∷ skipped ∷ asked Dump (Did Missing) ∷ []))
-    ≡ record { faulty = record { count = 0; first = None }; full = 0; existing = 1; missing = 2; refused = 0 }
+    ≡ record { faulty = record { count = 0; first = None }; full = no_lines; existing = record { count = 1; first = Some 1 }; missing = record { count = 2; first = Some 2 }; refused = 0 }
 found_otherwise = refl
 
 -- tally_of
 refused_alone :
     tally_of (report_lines 1 (asked Dump Refused ∷ []))
-    ≡ record { faulty = record { count = 0; first = None }; full = 0; existing = 0; missing = 0; refused = 1 }
+    ≡ record { faulty = record { count = 0; first = None }; full = no_lines; existing = no_lines; missing = no_lines; refused = 1 }
 refused_alone = refl
 
 all_was_taken :
     tally_of (report_lines 1 (asked Dump (Did (Dumped 0)) ∷ []))
-    ≡ record { faulty = record { count = 0; first = None }; full = 0; existing = 0; missing = 0; refused = 0 }
+    ≡ record { faulty = record { count = 0; first = None }; full = no_lines; existing = no_lines; missing = no_lines; refused = 0 }
 all_was_taken = refl
 
 -- has_refused
@@ -740,10 +774,10 @@ no_route_of_no_text tallies h =
 
 -- the best route of one named address and of those of the text; and all their routes
 abbrev the_best_of_one_and_a_text : Question
-the_best_of_one_and_a_text = ask.Best (record { ref_ptr = (0, 0); now = at_10_9_0_1 ∷ [] }) (record { ref_ptr = (0, 0); now = asked_text })
+the_best_of_one_and_a_text = ask.Best (record { ref_ptr = (0, 0); now = at_10_9_0_1 ∷ [] }) (record { ref_ptr = (0, 0); now = asked_text }) true
 
 abbrev all_of_one_and_a_text : Question
-all_of_one_and_a_text = ask.All (record { ref_ptr = (0, 0); now = at_10_9_0_1 ∷ [] }) (record { ref_ptr = (0, 0); now = asked_text })
+all_of_one_and_a_text = ask.All (record { ref_ptr = (0, 0); now = at_10_9_0_1 ∷ [] }) (record { ref_ptr = (0, 0); now = asked_text }) false
 
 -- every route of the table, and their number
 abbrev every_route : Question
@@ -767,6 +801,12 @@ only_look_ups_have_a_text :
     × (said_in every_route_and_the_number ≡ []) × (said_in the_number_of_all ≡ [])
 only_look_ups_have_a_text = (refl, refl, refl, refl, refl)
 
+-- keeps_invalid
+only_if_they_are_asked_for :
+    (keeps_invalid the_best_of_one_and_a_text ≡ true) × (keeps_invalid all_of_one_and_a_text ≡ false) × (keeps_invalid every_route ≡ false)
+    × (keeps_invalid every_route_and_the_number ≡ false) × (keeps_invalid the_number_of_all ≡ false)
+only_if_they_are_asked_for = (refl, refl, refl, refl, refl)
+
 -- question_text
 routes_and_their_numbers :
     (question_text plain every_route [] two_to_ten_8 ≡ codes "10.0.0.0/8 feed 2 pref 30 via discard\n10.0.0.0/8 feed 1 pref 50 via discard\n")
@@ -777,10 +817,11 @@ unfolding digits address_text prefix_text row_as total_as counts_as totals_as co
 routes_and_their_numbers = (refl, refl, refl)
 
 all_or_the_best :
-    (question_text plain the_best_of_one_and_a_text (at_10_1_2_3 ∷ []) two_to_ten_8 ≡ codes "10.1.2.3 route 10.0.0.0/8 feed 2 pref 30 via discard\n")
-    × (question_text plain all_of_one_and_a_text (at_10_1_2_3 ∷ []) two_to_ten_8
+    (question_text plain the_best_of_one_and_a_text (address_row at_10_1_2_3 ∷ invalid_row 2 ∷ []) two_to_ten_8
+    ≡ codes "10.1.2.3 route 10.0.0.0/8 feed 2 pref 30 via discard\n2 invalid\n")
+    × (question_text plain all_of_one_and_a_text (address_row at_10_1_2_3 ∷ invalid_row 2 ∷ []) two_to_ten_8
     ≡ codes "10.1.2.3 route 10.0.0.0/8 feed 2 pref 30 via discard\n10.1.2.3 also 10.0.0.0/8 feed 1 pref 50 via discard preference\n")
-unfolding digits address_text prefix_text look_up look_up_all found_as all_found_as reason_text
+unfolding digits address_text prefix_text look_up look_up_all found_as all_found_as reason_text invalid_as
 all_or_the_best = (refl, refl)
 
 -- IsAnswer
@@ -788,13 +829,14 @@ the_named_one_before_the_two_of_the_text :
     (tallies : Vec RejectedInput Global)
     → tallies.items ≡ map tally_of (reports_of the_tutorials_outcomes) ++ faulty_tally (record { count = 1; first = Some (3, fault.Text) }) ∷ []
     → IsAnswer the_tutorials_run plain the_best_of_one_and_a_text
-    (answers_text plain (at_10_9_0_1 ∷ at_192_0_2_1 ∷ at_10_1_2_3 ∷ []) (table_of_journal 65536 tutorial)) (record { status = 2; tallies = tallies })
+    (answers_text plain true (address_row at_10_9_0_1 ∷ address_row at_192_0_2_1 ∷ invalid_row 3 ∷ address_row at_10_1_2_3 ∷ []) (table_of_journal 65536 tutorial))
+    (record { status = 2; tallies = tallies })
 the_named_one_before_the_two_of_the_text tallies tallied = record {
-  said = at_192_0_2_1 ∷ at_10_1_2_3 ∷ [];
+  said = asked_rows;
   faulty = record { count = 1; first = Some (3, fault.Text) };
   says = two_are_asked_and_a_line_is_faulty;
   tallies = map tally_of (reports_of the_tutorials_outcomes);
-  shown = what_is_told_of_the_tutorial (answers_text plain (at_10_9_0_1 ∷ at_192_0_2_1 ∷ at_10_1_2_3 ∷ [])) (map tally_of (reports_of the_tutorials_outcomes)) refl;
+  shown = what_is_told_of_the_tutorial (answers_text plain true (address_row at_10_9_0_1 ∷ asked_rows)) (map tally_of (reports_of the_tutorials_outcomes)) refl;
   tallied = tallied;
   is_status = rw tallied refl;
 }
@@ -873,7 +915,7 @@ some_range_or_none d = (refl, refl, refl)
 
 -- a comparison of whole routes, with each feed's own number
 abbrev whole_routes : StyleContents → DiffContents
-whole_routes style = record { by = by.Route; numbers = []; old = style; new = style }
+whole_routes style = record { by = by.Route; output = Ranges; numbers = []; old = style; new = style }
 
 -- DiffContents
 what_a_comparison_is_asked : (style : StyleContents) → ((whole_routes style).by ≡ by.Route) × ((whole_routes style).numbers ≡ []) × ((whole_routes style).new ≡ style)

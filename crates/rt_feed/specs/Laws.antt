@@ -8,7 +8,7 @@ use Rattle.rt_feed.specs.declared.versions.Version.{Version}
 use Rattle.rt_feed.specs.declared.versions.Version.TheVariants.{One}
 use Rattle.rt_feed.specs.CommandText.{command_text, HasCommand}
 use Rattle.rt_feed.specs.declared.faulty.FaultyLines.{FaultyLines}
-use Rattle.rt_feed.specs.Addresses.{AnswersAddressLine, SaysAddresses}
+use Rattle.rt_feed.specs.Addresses.{AnswersAddressLine, AddressRow, SaysAddresses}
 use Rattle.rt_feed.specs.Grammar.{AnswersLine}
 use Rattle.rt_feed.specs.Lines.{CutsLine, HasVersion2Header, LineOutcome, LinesYield, TextYields, reading}
 
@@ -23,11 +23,11 @@ abbrev pub AddressLineHasOneAnswer : Type 0
 AddressLineHasOneAnswer =
     (line : List ℕ) (one two : Result (Option Addr) LineFault) → AnswersAddressLine line one → AnswersAddressLine line two → one ≡ two
 
--- and so a text of addresses has only one list of addresses, one count of faulty lines and one first faulty line
+-- and so a text of addresses has only one list of rows, one count of faulty lines and one first faulty line
 abbrev pub AddressTextHasOneReading : Type 0
 AddressTextHasOneReading =
-    (text : List ℕ) (addresses others : List Addr) (faulty other_faulty : FaultyLines) →
-    SaysAddresses text addresses faulty → SaysAddresses text others other_faulty → (addresses ≡ others) × (faulty ≡ other_faulty)
+    (text : List ℕ) (rows others : List AddressRow) (faulty other_faulty : FaultyLines) →
+    SaysAddresses text rows faulty → SaysAddresses text others other_faulty → (rows ≡ others) × (faulty ≡ other_faulty)
 
 -- the text of a command reads as that command, in texts of every version that has it
 abbrev pub CommandIsReadAgain : Type 0

@@ -35,7 +35,7 @@ mod report;
 mod running;
 mod versions;
 
-pub use addresses::{AddressText, parse_address_line, read_addresses};
+pub use addresses::{AddressText, InvalidLine, parse_address_line, read_addresses};
 pub use faults::RunFault;
 pub use faulty::FaultyLines;
 pub use feeds::{Feed, run_feeds};

@@ -4,3 +4,5 @@ pub mod Replaying
 pub mod LineParts
 pub mod Counting
 pub mod FeedLabels
+pub mod RangePrefixes
+pub mod DifferenceLines

@@ -3,13 +3,15 @@ use Rattle.std.proofs.Common.{◌≡◌, ◌==◌, ℕ, ◌+◌, ◌<◌, ◌≤
 use Rattle.std.specs.List.{flat_map, join_by}
 use Rattle.std.proofs.lemmas.Bool.Decides.{nat_tests}
 use Rattle.rt_cidr.specs.declared.address.Addr.{Addr}
+use Rattle.rt_cidr.specs.Text.{address_text, prefix_text}
 use Rattle.rt_cidr.proofs.Promised.{length-decimal, length-address_text, length-prefix_text}
 use Rattle.rt_rib.specs.declared.routes.Hop.{Hop}
 use Rattle.rt_rib.specs.declared.routes.Route.{Route}
 use Rattle.rt_rib.specs.declared.routes.Reason.{Reason}
+use Rattle.rt_print.specs.DifferenceText.{prefix_as}
 use Rattle.rt_print.specs.Routes.{hop_text, hop_members, route_text, route_line, route_object}
 use Rattle.rt_print.specs.Styles.{reason_text, also_object, address_head, row_as, found_as, all_found_as}
-use Rattle.rt_print.specs.inside.Parts.{either, route_front, route_back, route_open, asked_head, reason_end, other_as, others_as}
+use Rattle.rt_print.specs.inside.Parts.{either, route_front, route_back, route_open, asked_head, reason_end, other_as, others_as, change_end}
 
 pub hop_fits : (hop : Hop) → length (hop_text hop) ≤ 15
 hop_fits hop = grind (arith, length-address_text)
@@ -90,6 +92,17 @@ pub answer_parts : (json : Bool) (label : List ℕ) (r : Route)
     → route_open json label r ++ either json [] (codes "}") ≡ (if json then route_object label r [] else route_line label r)
 unfolding route_open route_front route_back route_object
 answer_parts json label r = grind (arith, append_assoc, append-nil)
+
+-- the line of a prefix with two answers, by its parts; and the object
+pub prefix_line : (base len : ℕ) (old new : List ℕ)
+    → address_text base ++ (codes "/" ++ (decimal len ++ change_end false old new)) ≡ prefix_as false old new (base, len)
+unfolding prefix_text prefix_as change_end
+prefix_line base len old new = simp append_assoc
+
+pub prefix_object : (base len : ℕ) (old new : List ℕ)
+    → codes "{\"prefix\":\"" ++ (address_text base ++ (codes "/" ++ (decimal len ++ change_end true old new))) ≡ prefix_as true old new (base, len)
+unfolding prefix_text prefix_as change_end
+prefix_object base len old new = simp append_assoc
 
 -- either text is at most as long as both together
 pub either_fits : (json : Bool) (line object : List ℕ) → length (either json line object) ≤ length line + length object

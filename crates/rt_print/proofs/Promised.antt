@@ -9,3 +9,5 @@ pub use Rattle.rt_print.proofs.Writing.{breaks_off, stops_within, writes_after, 
 pub use Rattle.rt_print.proofs.Writing.{stops, stops_held}
 -- the text of a replay is not empty
 pub use Rattle.rt_print.proofs.Replaying.{replay_text-some}
+-- the lines of a difference aren't empty
+pub use Rattle.rt_print.proofs.DifferenceLines.{difference-some}

@@ -1,15 +1,18 @@
 -- The text of the differences of two tables.
 use Rattle.std.specs.Prelude.{ℕ, Bool, true, false, if◌then◌else◌, List, [], ◌++◌, map, codes}
 use Rattle.std.specs.List.{flat_map, enumerate_from}
-use Rattle.rt_cidr.specs.Text.{address_text}
+use Rattle.rt_cidr.specs.Text.{address_text, prefix_text}
 use Rattle.rt_rib.specs.declared.routes.Hop.{Hop}
 use Rattle.rt_rib.specs.declared.routes.Hop.TheVariants.{Via, Discard}
 use Rattle.rt_diff.specs.declared.table_answers.CompareBy.{CompareBy}
 use Rattle.rt_diff.specs.declared.table_answers.TableAnswer.{TableAnswer}
 use Rattle.rt_diff.specs.declared.table_answers.TableAnswer.TheVariants as answered
 use Rattle.rt_diff.specs.declared.comparison.Difference.{Difference}
+use Rattle.rt_print.specs.declared.diff_options.DiffOutput.{DiffOutput}
+use Rattle.rt_print.specs.declared.diff_options.DiffOutput.TheVariants.{Ranges, Prefixes}
 use Rattle.rt_print.specs.declared.format.Format.{Format}
 use Rattle.rt_print.specs.Labels.{has_names, paired_number}
+use Rattle.rt_print.specs.RangePrefixes.{prefixes_of}
 use Rattle.rt_print.specs.Routes.{route_line, hop_members, route_object}
 use Rattle.rt_print.specs.Styles.{StyleContents, style_of, label_of}
 
@@ -18,20 +21,22 @@ abbrev pub way_text : Hop → List ℕ
 way_text (Via address) = codes "via " ++ address_text address.0
 way_text Discard = codes "discard"
 
--- the part of an answer that is compared; the numbers that identify the feeds of the new table; and the style of each
--- table, both in the same format
+-- the part of an answer that is compared; what is printed; the numbers that identify the feeds of the new table; and the
+-- style of each table, both in the same format
 pub record DiffContents : Type 0 where
   pub by : CompareBy
+  pub output : DiffOutput
   pub numbers : List ℕ
   pub old : StyleContents
   pub new : StyleContents
 
 -- the comparison of the tables of two sets of paths in this format. With names, a new feed is identified in relation to the
 -- old ones; else by its own number. The label of each new feed is the one for the number that identifies it
-abbrev pub diff_of : CompareBy → Format → List (List ℕ) → List (List ℕ) → DiffContents
-diff_of by format old new =
+abbrev pub diff_of : CompareBy → DiffOutput → Format → List (List ℕ) → List (List ℕ) → DiffContents
+diff_of by output format old new =
     let first = if has_names format then old else [] in record {
       by = by;
+      output = output;
       numbers = map (λ feed. paired_number first feed.0 feed.1) (enumerate_from 1 new);
       old = style_of format [] old;
       new = style_of format first new;
@@ -54,14 +59,25 @@ range_as true d old new =
     codes "{\"first\":\"" ++ (address_text d.first.0 ++ (codes "\",\"last\":\"" ++ (address_text d.last.0 ++ (codes "\",\"old\":"
     ++ (old ++ (codes ",\"new\":" ++ (new ++ codes "}\n")))))))
 
+-- a prefix, as its base and its length, and these texts of the answers for its addresses: `PREFIX OLD -> NEW`, or an object
+unfoldable pub prefix_as : Bool → List ℕ → List ℕ → ℕ × ℕ → List ℕ
+prefix_as false old new p = prefix_text p.0 p.1 ++ (codes " " ++ (old ++ (codes " -> " ++ (new ++ codes "\n"))))
+prefix_as true old new p =
+    codes "{\"prefix\":\"" ++ (prefix_text p.0 p.1 ++ (codes "\",\"old\":" ++ (old ++ (codes ",\"new\":" ++ (new ++ codes "}\n")))))
+
+-- the lines of a difference with these texts of its two answers: one for its range, or one for each prefix of its range
+abbrev pub lines_as : DiffOutput → Bool → Difference → List ℕ → List ℕ → List ℕ
+lines_as Ranges json d old new = range_as json d old new
+lines_as Prefixes json d old new = flat_map (prefix_as json old new) (prefixes_of d.first.0 d.last.0)
+
 -- the answer for an address of a table in its style
 abbrev pub answer_as : StyleContents → TableAnswer → List ℕ
 answer_as style answer = answered_as style.json (label_of style.labels) answer
 
--- a range and its two answers
+-- the lines of a difference
 abbrev pub difference_as : DiffContents → Difference → List ℕ
-difference_as asked d = range_as asked.old.json d (answer_as asked.old d.old) (answer_as asked.new d.new)
+difference_as asked d = lines_as asked.output asked.old.json d (answer_as asked.old d.old) (answer_as asked.new d.new)
 
--- the ranges in order
+-- the lines of all differences, in order
 abbrev pub differences_as : DiffContents → List Difference → List ℕ
 differences_as asked list = flat_map (difference_as asked) list

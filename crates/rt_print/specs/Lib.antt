@@ -3,6 +3,7 @@ pub mod Counts
 pub mod DifferenceText
 pub mod FeedNames
 pub mod Labels
+pub mod RangePrefixes
 pub mod ReplayText
 pub mod Routes
 pub mod Styles

@@ -70,3 +70,8 @@ all_found_as true label addr [] = address_head addr ++ codes "null,\"also\":[]}\
 all_found_as true label addr (first ∷ others) =
     address_head addr ++ (route_object (label first.feed) first []
     ++ (codes ",\"also\":[" ++ (join_by (also_object label first) (codes ",") others ++ codes "]}\n")))
+
+-- an invalid line of a text of addresses, by its number
+unfoldable pub invalid_as : Bool → ℕ → List ℕ
+invalid_as false number = decimal number ++ codes " invalid\n"
+invalid_as true number = codes "{\"line\":" ++ (decimal number ++ codes ",\"invalid\":true}\n")

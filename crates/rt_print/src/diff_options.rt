@@ -1,4 +1,4 @@
-//! Options of a comparison: the compared parts of two tables, and the style of the printed differences.
+//! Options of a comparison: the compared parts of two tables, and what is printed of the differences in which style.
 ghost use Rattle.std.specs.Prelude.{◌≡◌, ◌≤◌, length, map, IfOk};
 ghost use Rattle.rt_rib.specs.declared.limits.TheConstants.{MAX_FEEDS};
 ghost use Rattle.rt_diff.specs.Answers.{own_numbers};
@@ -12,10 +12,20 @@ use rt_rib::Table;
 use std::alloc::{AllocError, Global};
 use std::marker::Model;
 
+/// What is printed of each difference.
+#[derive(Clone, Copy, PartialEq, Eq, Debug)]
+pub enum DiffOutput {
+    /// A line for its range of addresses.
+    Ranges,
+    /// A line for each of the fewest prefixes that make up its range, in ascending order.
+    Prefixes,
+}
+
 /// The options of a comparison of two tables and of its output. Contracts see all of them.
 #[derive(Debug, Drop)]
 pub struct DiffOptions {
     by: CompareBy,
+    pub(crate) output: DiffOutput,
     numbers: Vec<u32>,
     pub(crate) old: Style,
     pub(crate) new: Style,
@@ -26,22 +36,23 @@ impl Model for DiffOptions {
 
     ghost Value = { DiffContents };
 
-    ghost view = { λ o. record { by = o.by; numbers = o.numbers.items; old = o.old; new = o.new } };
+    ghost view = { λ o. record { by = o.by; output = o.output; numbers = o.numbers.items; old = o.old; new = o.new } };
 }
 
 impl DiffOptions {
-    /// Returns the options that compare this part of each answer and print in this format, for the tables of two sets of
-    /// files. If the format has names, feeds of both sets with the same name are the same feed. Fails only if memory runs
-    /// out.
+    /// Returns the options that compare this part of each answer and print this of each difference, in this format, for the
+    /// tables of two sets of files. If the format has names, feeds of both sets with the same name are the same feed. Fails
+    /// only if memory runs out.
     pub fn new(
         alloc: Global,
         by: CompareBy,
+        output: DiffOutput,
         format: Format,
         old: &[&str],
         new: &[&str],
     ) -> Result<DiffOptions, AllocError>
         requires few { (length old.now ≤ MAX_FEEDS) × (length new.now ≤ MAX_FEEDS) }
-        ensures { IfOk result (λ options. options ≡ diff_of by format (map (λ path. path.now) old.now) (map (λ path. path.now) new.now)) }
+        ensures { IfOk result (λ options. options ≡ diff_of by output format (map (λ path. path.now) old.now) (map (λ path. path.now) new.now)) }
     {
         let first = if format.has_names() { old } else { &old[..0] };
         let numbers = pair_feeds_by_name(alloc, first, new)?;
@@ -49,6 +60,7 @@ impl DiffOptions {
         let new = Style::paired(alloc, format, first, new)?;
         Ok(DiffOptions {
             by,
+            output,
             numbers,
             old,
             new,

@@ -1,20 +1,27 @@
-//! The differences of two tables: ranges of addresses with their two answers, each in the style of its table.
-ghost use Rattle.std.specs.Prelude.{◌≡◌};
+//! The differences of two tables: ranges of addresses, or their prefixes, with the two answers, each in the style of its
+//! table.
+ghost use Rattle.std.specs.Prelude.{◌≡◌, ◌+◌, ◌^◌, ◌≤◌};
+ghost use Rattle.std.specs.List.{flat_map};
 ghost use Rattle.rt_cidr.specs.Output.{WritesText};
-ghost use Rattle.rt_print.specs.DifferenceText.{answer_as, difference_as};
+ghost use Rattle.rt_print.specs.DifferenceText.{answer_as, range_as, prefix_as, difference_as};
+ghost use Rattle.rt_print.specs.RangePrefixes.{is_inside, is_outside, prefixes_in};
+ghost use Rattle.rt_print.specs.inside.Parts.{change_end};
 
-use crate::diff_options::DiffOptions;
+use crate::diff_options::{DiffOptions, DiffOutput};
 use crate::routes::put_route;
 use crate::style::{Style, either};
 use crate::text::Text;
-use rt_cidr::ShortText;
+use rt_cidr::{Addr, ShortText};
 use rt_diff::{Difference, TableAnswer};
 use rt_rib::Hop;
 use std::io::{self, Write};
 
-/// Writes the range and its two answers, `FIRST-LAST OLD -> NEW` and LF, or a JSON object. An answer is `no route`,
-/// `via ADDR`, `discard`, or the whole route in the style of its table. Errors and memory are as for `write_routes`.
-#[tactic(auto, unfolding(crate::specs::DifferenceText::range_as))]
+/// The number of bits of an address.
+const ADDRESS_BITS: u32 = 32;
+
+/// Writes a line for the difference's range, `FIRST-LAST OLD -> NEW` and LF, or one for each of the fewest prefixes that make
+/// up the range, `PREFIX OLD -> NEW`; or a JSON object instead of a line. An answer is `no route`, `via ADDR`, `discard`, or
+/// the whole route in the style of its table. Errors and memory are as for `write_routes`.
 pub fn write_difference<W: Write>(
     w: &mut W,
     options: &DiffOptions,
@@ -22,22 +29,112 @@ pub fn write_difference<W: Write>(
 ) -> io::Result<()>
     ensures { WritesText (W.contents w.old) (W.contents w.new) (difference_as options.now difference.now) result }
 {
+    let change = Change {
+        json: options.old.is_json(),
+        old: StyledAnswer {
+            style: &options.old,
+            answer: &difference.old,
+        },
+        new: StyledAnswer {
+            style: &options.new,
+            answer: &difference.new,
+        },
+    };
+    match options.output {
+        DiffOutput::Ranges => put_range(w, difference, change),
+        DiffOutput::Prefixes => put_prefixes(w, difference, change, ADDRESS_BITS, 0),
+    }
+}
+
+/// Writes the line of the difference's range.
+#[tactic(auto, unfolding(crate::specs::DifferenceText::range_as, crate::specs::inside::Parts::change_end))]
+fn put_range<W: Write>(w: &mut W, difference: &Difference, change: Change<'_>) -> io::Result<()>
+    ensures { WritesText (W.contents w.old) (W.contents w.new)
+        (range_as change.entry.json difference.now (answer_as change.entry.old.style.now change.entry.old.answer.now) (answer_as change.entry.new.style.now change.entry.new.answer.now)) result }
+{
     let Difference { first, last, .. } = *difference;
-    let old = StyledAnswer {
-        style: &options.old,
-        answer: &difference.old,
-    };
-    let new = StyledAnswer {
-        style: &options.new,
-        answer: &difference.new,
-    };
-    if old.style.is_json() {
-        let answers = ("\",\"old\":", (old, (",\"new\":", (new, "}\n"))));
-        let last = ("\",\"last\":\"", (last, answers));
-        ("{\"first\":\"", (first, last)).put_to(w)
+    if change.json {
+        ("{\"first\":\"", (first, ("\",\"last\":\"", (last, change)))).put_to(w)
     } else {
-        let answers = (" ", (old, (" -> ", (new, "\n"))));
-        (first, ("-", (last, answers))).put_to(w)
+        (first, ("-", (last, change))).put_to(w)
+    }
+}
+
+/// Writes a line for each prefix of the difference's range among the 2^bits addresses from `base` on.
+fn put_prefixes<W: Write>(
+    w: &mut W,
+    difference: &Difference,
+    change: Change<'_>,
+    bits: u32,
+    base: u32,
+) -> io::Result<()>
+    requires few { bits ≤ 32 }
+    requires fits { base + 2 ^ bits ≤ 2 ^ 32 }
+    ensures { WritesText (W.contents w.old) (W.contents w.new)
+        (flat_map (prefix_as change.entry.json (answer_as change.entry.old.style.now change.entry.old.answer.now) (answer_as change.entry.new.style.now change.entry.new.answer.now))
+        (prefixes_in difference.now.first.0 difference.now.last.0 bits base)) result }
+{
+    let (first, last, size) = (difference.first.0, difference.last.0, 1u64 << bits);
+    if is_inside(first, last, base, size) {
+        return put_prefix(w, Addr(base), ADDRESS_BITS - bits, change);
+    }
+    if bits == 0 || is_outside(first, last, base, size) {
+        return Ok(());
+    }
+    let half = bits - 1;
+    put_prefixes(w, difference, change, half, base)?;
+    put_prefixes(w, difference, change, half, base + (1u32 << half))
+}
+
+/// Returns true if all of the `size` addresses from `base` on are in the range from the first to the last address.
+fn is_inside(first: u32, last: u32, base: u32, size: u64) -> bool
+    requires { size ≤ 2 ^ 32 }
+    ensures { result ≡ is_inside first last base size }
+{
+    first <= base && u64::from(base) + size <= u64::from(last) + 1
+}
+
+/// Returns true if none of them is.
+fn is_outside(first: u32, last: u32, base: u32, size: u64) -> bool
+    requires { size ≤ 2 ^ 32 }
+    ensures { result ≡ is_outside first last base size }
+{
+    u64::from(base) + size <= u64::from(first) || last < base
+}
+
+/// Writes the line of the prefix with this base and length.
+#[tactic(auto, using(crate::proofs::LineParts::prefix_line, crate::proofs::LineParts::prefix_object))]
+fn put_prefix<W: Write>(w: &mut W, base: Addr, len: u32, change: Change<'_>) -> io::Result<()>
+    ensures { WritesText (W.contents w.old) (W.contents w.new)
+        (prefix_as change.entry.json (answer_as change.entry.old.style.now change.entry.old.answer.now) (answer_as change.entry.new.style.now change.entry.new.answer.now) (base.0, len)) result }
+{
+    let prefix = (base, ("/", (u64::from(len), change)));
+    if change.json {
+        ("{\"prefix\":\"", prefix).put_to(w)
+    } else {
+        prefix.put_to(w)
+    }
+}
+
+/// The two answers of a difference, each in the style of its table: the end of a line or of an object.
+#[derive(Clone, Copy)]
+struct Change<'a> {
+    json: bool,
+    old: StyledAnswer<'a>,
+    new: StyledAnswer<'a>,
+}
+
+impl Text for Change<'_> {
+    ghost text = { λ c. change_end c.json (answer_as c.old.style.now c.old.answer.now) (answer_as c.new.style.now c.new.answer.now) };
+
+    #[tactic(auto, unfolding(crate::specs::inside::Parts::change_end))]
+    fn put_to<W: Write>(&self, w: &mut W) -> io::Result<()> {
+        let Change { json, old, new } = *self;
+        if json {
+            ("\",\"old\":", (old, (",\"new\":", (new, "}\n")))).put_to(w)
+        } else {
+            (" ", (old, (" -> ", (new, "\n")))).put_to(w)
+        }
     }
 }
 

@@ -1,5 +1,5 @@
 //! Printed output: routes, look-up results, numbers of routes and differences, as lines or as JSON objects; the text of a
-//! replay of the lock; and a buffer through which text goes to a writer.
+//! replay of the lock; and a buffer through which text goes to a writer. `laws` says which prefixes are printed for a range.
 //!
 //! A [`Style`] determines the output. It is made from a [`Format`] and the paths of the feeds' files, and gives each feed
 //! a label: its number, its name, or the members of a JSON object that identify it. A [`DiffOptions`] does the same for
@@ -28,6 +28,7 @@ mod diff_options;
 mod differences;
 mod format;
 mod labels;
+pub mod laws;
 mod lookups;
 mod names;
 mod replays;
@@ -37,11 +38,11 @@ mod text;
 
 pub use buffer::{OUTPUT_BYTES, OutputBuffer, OutputRoom};
 pub use counts::{write_counts, write_routes_and_total};
-pub use diff_options::DiffOptions;
+pub use diff_options::{DiffOptions, DiffOutput};
 pub use differences::write_difference;
 pub use format::Format;
 pub use labels::feed_name;
-pub use lookups::{write_all_matches, write_lookup};
+pub use lookups::{write_all_matches, write_invalid_line, write_lookup};
 pub use names::{NameFault, check_names};
 pub use replays::{inside_place, write_replay};
 pub use routes::{prepend_route, write_routes, write_table};

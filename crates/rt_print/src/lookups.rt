@@ -2,7 +2,7 @@
 ghost use Rattle.std.specs.Prelude.{◌≡◌, ◌+◌, ◌≤◌, ◌++◌, [], length, codes};
 ghost use Rattle.rt_cidr.specs.Output.{WritesText};
 ghost use Rattle.rt_cidr.specs.ShortText.{FitsInShortText};
-ghost use Rattle.rt_print.specs.Styles.{label_of, found_as, all_found_as};
+ghost use Rattle.rt_print.specs.Styles.{label_of, found_as, all_found_as, invalid_as};
 ghost use Rattle.rt_print.specs.inside.Parts.{either, route_open, asked_head, reason_end, other_as};
 
 use crate::routes::put_route;
@@ -54,6 +54,20 @@ pub fn write_all_matches<W: Write>(
         comma = b",";
     }
     put(w, either(json, b"", b"]}\n"))
+}
+
+/// Writes an invalid line of a text of addresses by its number, in the style: `LINE invalid` and LF, or a JSON object. Errors
+/// and memory are as for `write_routes`.
+#[tactic(auto, unfolding(crate::specs::Styles::invalid_as))]
+pub fn write_invalid_line<W: Write>(w: &mut W, style: &Style, number: usize) -> io::Result<()>
+    ensures { WritesText (W.contents w.old) (W.contents w.new) (invalid_as style.now.json number) result }
+{
+    let number = number as u64;
+    if style.is_json() {
+        ("{\"line\":", (number, ",\"invalid\":true}\n")).put_to(w)
+    } else {
+        (number, " invalid\n").put_to(w)
+    }
 }
 
 /// Writes that no route covers the address; `end` ends an object.

@@ -24,3 +24,5 @@ pub mod MapMatches
 pub mod BestRoutes
 pub mod Selections
 pub mod FromPlaces
+pub mod BestTo
+pub mod ChangesOfPurges

@@ -23,7 +23,7 @@ use Rattle.rt_rib.proofs.MapRoutes.{offer_in, offer_out, IsTable-map}
 use Rattle.rt_rib.proofs.Best.{look_up_finds_best}
 
 -- none of the offers is better than the first
-first_best : (p : Prefix) (o : Offer) (rest : List Offer) (x : Offer) → IsRanked (o ∷ rest) → Contains (o ∷ rest) x → outranks x o ≡ false
+pub first_best : (p : Prefix) (o : Offer) (rest : List Offer) (x : Offer) → IsRanked (o ∷ rest) → Contains (o ∷ rest) x → outranks x o ≡ false
 first_best p o rest x h c = elim (Contains-cases o rest x c) [
   | inl here ↦ subst (λ z. outranks z o ≡ false) here (is_better-itself (route_by p o))
   | inr later ↦

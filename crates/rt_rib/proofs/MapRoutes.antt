@@ -107,7 +107,7 @@ there_out m r order c = by_value (get m r.prefix) refl c where
   by_value (Some offers) e d = offer_out m r.prefix offers (offer_of r) ((pairs-found m r.prefix offers order).1 e) d
 
 -- a prefix before all of the list is before each of it
-before-each : (p : Prefix) (rest : Map) (q : Prefix) (offers : List Offer) → IsBeforeAll p rest → Contains rest (q, offers) → IsTrue (before p q)
+pub before-each : (p : Prefix) (rest : Map) (q : Prefix) (offers : List Offer) → IsBeforeAll p rest → Contains rest (q, offers) → IsTrue (before p q)
 before-each p [] q offers h c = absurd (Contains-none (q, offers) c)
 before-each p ((x, others) ∷ rest) q offers h c = elim (Contains-cases (x, others) rest (q, offers) c) [
   | inl here ↦ let P : Prefix × List Offer → Type 0 = λ z. IsTrue (before p z.0) in subst P here h.0

@@ -42,7 +42,7 @@ none_counted feed t none r c = none_by (λ (x : Route). eqb x.feed feed) t none 
       ]
 
 -- purging the routes to a prefix removes the feed's offer
-purge-routes : (feed : ℕ) (p : Prefix) (offers : List Offer) → purge feed (map (route_by p) offers) ≡ map (route_by p) (without feed offers)
+pub purge-routes : (feed : ℕ) (p : Prefix) (offers : List Offer) → purge feed (map (route_by p) offers) ≡ map (route_by p) (without feed offers)
 purge-routes feed p [] = refl
 purge-routes feed p (o ∷ offers) =
     let rest = purge-routes feed p offers in

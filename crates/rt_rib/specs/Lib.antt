@@ -5,5 +5,6 @@ pub mod Book
 pub mod Maps
 pub mod Places
 pub mod Selection
+pub mod Changes
 pub mod Laws
 pub mod inside

@@ -5,3 +5,4 @@ pub mod Maps
 pub mod Offers
 pub mod OneProof
 pub mod Purges
+pub mod Changes

@@ -1,6 +1,6 @@
 //! The commands of a feed, their replies, and entries of both: plain data, as callers see it.
 ghost use Rattle.std.specs.Prelude.{◌≡◌};
-ghost use Rattle.rt_rib.specs.Sequential.{lowest_address};
+ghost use Rattle.rt_rib.specs.Sequential.{changed_prefix, lowest_address};
 
 use crate::routes::{Hop, Route};
 use rt_cidr::{Addr, Prefix};
@@ -34,6 +34,18 @@ impl Cmd {
             }
             Cmd::Lookup { addr } => *addr,
             Cmd::Dump | Cmd::Purge => Addr(0),
+        }
+    }
+
+    /// Returns the prefix of the route that the command adds, replaces or withdraws; `None` for any other command.
+    pub fn changed_prefix(&self) -> Option<Prefix>
+        ensures { result ≡ changed_prefix self.now }
+    {
+        match self {
+            Cmd::Add { prefix, .. } | Cmd::Replace { prefix, .. } | Cmd::Withdraw { prefix } => {
+                Some(*prefix)
+            }
+            Cmd::Lookup { .. } | Cmd::Dump | Cmd::Purge => None,
         }
     }
 }

@@ -32,6 +32,8 @@
 //! - [`Table::look_up`] answers one address, [`Table::look_up_each`] many addresses at once.
 //! - [`Table::look_up_all`] returns every route whose prefix covers an address, the best first.
 //! - [`Table::lookup_cursor`] answers successive addresses, each with how far its answer holds.
+//! - [`Table::purge_changes`] returns which best routes a purge would change. [`Table::apply_changed`] executes any other
+//!   change, and returns which best route it has changed.
 //!
 //! The table passes such a look-up to the map (`src/lookups.rt`), where a prefix's first offer is its best one. The map
 //! passes it to the trie, whose type keeps it lawful.
@@ -44,6 +46,7 @@
 mod ahead;
 mod answers;
 mod book;
+mod changes;
 mod commands;
 pub mod laws;
 mod limits;
@@ -61,6 +64,7 @@ mod table;
 pub use ahead::{READ_AHEAD_COMMANDS, READ_AHEAD_NODES};
 pub use answers::LookupCursor;
 pub use book::Book;
+pub use changes::{BestChange, PurgeChanges};
 pub use commands::{Cmd, Entry, Reply};
 pub use limits::{MAX_FEEDS, MAX_ROUTES_PER_FEED, feed_ok, limit_ok};
 pub use places::RoutesFrom;

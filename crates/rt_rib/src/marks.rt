@@ -1,10 +1,14 @@
 //! Marks that say where a feed may have routes, so that a purge of few routes needn't visit the whole map. They are only
 //! a hint: no clause mentions them, and whoever uses them checks what they lead to and removes the rest in another way.
+use crate::limits::MAX_FEEDS;
 use crate::map::OfferMap;
 use crate::offers::Offer;
 use crate::refused::Refused;
 use rt_cidr::Prefix;
 use std::alloc::Allocator;
+
+/// A mark has a bit for each feed.
+const _: () = prove!(MAX_FEEDS <= 64);
 
 /// The number of blocks, each of 65,536 addresses.
 const BLOCKS: u32 = 1 << 16;

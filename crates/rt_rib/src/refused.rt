@@ -4,7 +4,7 @@ use thiserror::Error;
 
 /// M1: memory ran out. The request wasn't carried out; each call says what is then unchanged.
 #[derive(Clone, Copy, PartialEq, Eq, Debug, Error)]
-#[error("memory was refused")]
+#[error("out of memory")]
 pub struct Refused;
 
 impl From<AllocError> for Refused {

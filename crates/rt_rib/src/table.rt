@@ -1,5 +1,5 @@
 //! The sequential table: its routes as offers in a map, the number of each feed's routes, and the replies to commands.
-ghost use Rattle.std.specs.Prelude.{◌≡◌, ◌^◌, ◌<◌, ◌↔◌, IsTrue, [], length, map, sum, IfOk, OnErr};
+ghost use Rattle.std.specs.Prelude.{◌≡◌, ◌^◌, ◌<◌, ◌≤◌, ◌↔◌, IsTrue, [], length, map, sum, IfOk, OnErr};
 ghost use Rattle.rt_rib.specs.declared.commands.Cmd.TheVariants.{Withdraw, Purge};
 ghost use Rattle.rt_rib.specs.declared.commands.Reply.TheVariants.{Added};
 ghost use Rattle.rt_rib.specs.Sequential.{reply_of, add_of, replace_of};
@@ -8,8 +8,10 @@ ghost use Rattle.rt_rib.specs.Table.{count_of, purge, IsTable};
 ghost use Rattle.rt_rib.specs.LookUp.{look_up, look_up_all};
 ghost use Rattle.rt_rib.specs.Book.{IsLimit, IsFeed, table_state, Serves, HoldsRoutes};
 ghost use Rattle.rt_rib.specs.Selection.{selected};
+ghost use Rattle.rt_rib.specs.Changes.{best_to, AreBestChanges};
 
 use crate::answers::LookupCursor;
+use crate::changes::{self, PurgeChanges};
 use crate::commands::{Cmd, Reply};
 use crate::limits::MAX_FEEDS;
 use crate::map::OfferMap;
@@ -219,6 +221,23 @@ impl<A: Allocator + Copy> Table<A> {
         ensures { result ≡ from_place from.now self.now.routes }
     {
         RoutesFrom::new(&self.map, from)
+    }
+
+    /// Returns the best route to exactly this prefix: the one with the lowest preference number and, among those, with the
+    /// lowest feed number. Doesn't allocate.
+    pub fn best_to(&self, prefix: Prefix) -> Option<Route>
+        ensures { result ≡ best_to prefix self.now.routes }
+    {
+        changes::best_to(&self.map, prefix)
+    }
+
+    /// Returns which best routes a purge of the feed would change, in dump order. Visits each prefix once, while the
+    /// changes are requested from the iterator. Doesn't allocate.
+    pub fn purge_changes(&self, feed: u32) -> PurgeChanges<'_, A>
+        ensures changes { AreBestChanges self.now.routes (purge feed self.now.routes) result }
+        ensures few { length result ≤ length self.now.trie.pairs }
+    {
+        PurgeChanges::new(&self.map, feed)
     }
 
     /// Reads what the first [`READ_AHEAD_COMMANDS`](crate::READ_AHEAD_COMMANDS) of these commands will visit, all at

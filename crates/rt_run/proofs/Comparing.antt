@@ -2,7 +2,6 @@
 use Rattle.rt_run.proofs.Outputs.{has_byte}
 use Rattle.std.proofs.Common.{◌++◌, ◌≡◌, ◌==◌, if◌then◌else◌, Bool, true, false, not, is_some, ℕ, ◌+◌, ◌<◌, max}
 use Rattle.std.proofs.Common.{List, [], ◌∷◌, ◌++◌, Option, Some, None, length, append_assoc, append-nil, refl, sym, ap, subst, ◌∙◌, arith}
-use Rattle.std.proofs.lemmas.Grind.{common_steps}
 use Rattle.std.specs.Io.KnownBytes.{Appends}
 use Rattle.rt_cidr.specs.Output.{AppendsBeginning}
 use Rattle.rt_cidr.proofs.Promised.{begins_after, begins_longer}
@@ -10,7 +9,8 @@ use Rattle.rt_rib.specs.declared.routes.Route.{Route}
 use Rattle.rt_diff.specs.declared.comparison.Difference.{Difference}
 use Rattle.rt_diff.specs.Answers.{own_numbers}
 use Rattle.rt_diff.proofs.Promised.{at, rest_none, rest_next, rest_there, whole, differences_of, differences_are, is_differences_of}
-use Rattle.rt_print.specs.DifferenceText.{DiffContents, range_as, difference_as, differences_as}
+use Rattle.rt_print.specs.DifferenceText.{DiffContents, difference_as, differences_as}
+use Rattle.rt_print.proofs.Promised.{difference-some}
 use Rattle.rt_run.specs.declared.tallies.RejectedInput.{RejectedInput}
 use Rattle.rt_run.specs.declared.tallies.RunSummary.{RunSummary}
 use Rattle.rt_run.specs.RunText.{RunContents}
@@ -21,11 +21,6 @@ use Rattle.rt_run.specs.inside.Outputs.{IsFirstFrom, lines_of, IsSoFar}
 -- an absent difference is `None`
 pub none_left : (next : Option Difference) → ((d : Difference) → next ≡ Some d → ⊥) → next ≡ None
 none_left next h = grind arith
-
--- the line of a range isn't empty
-range-some : (json : Bool) (d : Difference) (old new rest : List ℕ) → 0 < length (range_as json d old new ++ rest)
-unfolding range_as
-range-some json d old new rest = grind (arith, common_steps)
 
 module _ (asked : DiffContents) (old new : List Route) where
   -- before the first line
@@ -73,7 +68,7 @@ module _ (asked : DiffContents) (old new : List Route) where
   lines-empty None true e is = ap (λ (t : List ℕ). length t == 0) (all_so_far [] (none_so_far None is))
   lines-empty (Some d) false e is =
       let (rest, same) = text_so_far [] d (none_so_far (Some d) is) in
-      has_byte _ (subst (λ (t : List ℕ). 0 < length t) (sym same) (range-some asked.old.json d _ _ rest))
+      has_byte _ (subst (λ (t : List ℕ). 0 < length t) (sym same) (difference-some asked d rest is.difference.some is.difference.fits))
   lines-empty first empty e is = absurd cc
 
   -- the status from the first difference is the status from the list

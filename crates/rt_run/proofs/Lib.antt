@@ -1,5 +1,6 @@
 pub mod Lists
 pub mod Answering
+pub mod InvalidLines
 pub mod Outputs
 pub mod Comparing
 pub mod CountedLines

@@ -1,5 +1,5 @@
 -- The effect of a call on its writer, from its output, and which output is empty.
-use Rattle.std.proofs.Common.{◌≡◌, ◌==◌, ℕ, ◌<◌, Bool, false, List, [], ◌∷◌, ◌++◌, length, Option, Result, Ok, Err, IfErr, refl, sym, ap, subst, ◌∙◌, arith, length-append}
+use Rattle.std.proofs.Common.{◌≡◌, ◌==◌, ℕ, ◌<◌, Bool, false, List, [], ◌∷◌, ◌++◌, length, map, Option, Result, Ok, Err, IfErr, refl, sym, ap, subst, ◌∙◌, arith, length-append}
 use Rattle.std.proofs.Common.{◌≤◌}
 use Rattle.std.specs.List.{flat_map}
 use Rattle.std.proofs.lemmas.Bool.Decides.{nat_tests}
@@ -20,10 +20,10 @@ use Rattle.rt_run.specs.declared.tallies.RejectedInput.{RejectedInput}
 use Rattle.rt_run.specs.declared.tallies.RunSummary.{RunSummary}
 use Rattle.rt_run.specs.declared.question.Question.{Question}
 use Rattle.rt_run.specs.RunText.{RunContents, WritesOrFails}
-use Rattle.rt_run.specs.TableText.{answers_text, question_text, named_in, said_in, faulty_tally, tallies_status, LeavesTable, IsAnswer}
+use Rattle.rt_run.specs.TableText.{question_text, named_in, said_in, faulty_tally, tallies_status, LeavesTable, IsAnswer}
 use Rattle.rt_run.specs.Replayed.{IsReplayText, LeavesReplay}
-use Rattle.rt_feed.specs.Addresses.{SaysAddresses}
-use Rattle.rt_run.specs.inside.Outputs.{Writes, matches_text}
+use Rattle.rt_feed.specs.Addresses.{AddressRow, address_row, SaysAddresses}
+use Rattle.rt_run.specs.inside.Outputs.{Writes, found_text, matches_text}
 use Rattle.ya_core.specs.declared.step.Step.{Step}
 use Rattle.ya_core.specs.Steps.{State, opening}
 use Rattle.ya_core.specs.ArbitrationTree.{HasShape}
@@ -48,17 +48,17 @@ leaves_replay levels picks text old new (Err (Run why)) is only wrote = absurd c
 leaves_replay levels picks text old new (Err (Replay why)) is only wrote = absurd wrote
 leaves_replay levels picks text old new (Err Write) is only wrote = (text, is, wrote)
 
--- the text for the question's addresses is the answer
+-- the text for the question's rows is the answer
 pub is_answer : (asked : RunContents) (style : StyleContents) (question : Question) (table : List Route) (tallies : List RejectedInput)
-    (said addresses : List Addr) (faulty : FaultyLines) (given : RunSummary) → SaysAddresses (said_in question) said faulty → addresses ≡ named_in question ++ said
+    (said : List AddressRow) (faulty : FaultyLines) (given : RunSummary) → SaysAddresses (said_in question) said faulty
     → LeavesTable asked table tallies → given.tallies.items ≡ tallies ++ faulty_tally faulty ∷ [] → given.status ≡ tallies_status given.tallies.items
-    → IsAnswer asked style question (question_text style question addresses table) given
-is_answer asked style question table tallies said addresses faulty given says all leaves tallied status = record {
+    → IsAnswer asked style question (question_text style question (map address_row (named_in question) ++ said) table) given
+is_answer asked style question table tallies said faulty given says leaves tallied status = record {
   said = said;
   faulty = faulty;
   says = says;
   tallies = tallies;
-  shown = record { table = table; leaves = leaves; shown = ap (λ (these : List Addr). question_text style question these table) all };
+  shown = record { table = table; leaves = leaves; shown = refl };
   tallied = tallied;
   is_status = status;
 }
@@ -94,7 +94,7 @@ module _ (style : StyleContents) (empty : Bool) where
   pub rows-empty : (routes : List Route) → empty ≡ (length routes == 0) → empty ≡ (length (rows_as style routes) == 0)
   rows-empty = texts-empty (row_as style.json (label_of style.labels)) (row_as-some style.json (label_of style.labels)) empty
 
-  pub answers-empty : (table : List Route) (addresses : List Addr) → empty ≡ (length addresses == 0) → empty ≡ (length (answers_text style addresses table) == 0)
+  pub answers-empty : (table : List Route) (addresses : List Addr) → empty ≡ (length addresses == 0) → empty ≡ (length (found_text style addresses table) == 0)
   answers-empty table =
       texts-empty (λ addr. found_as style.json (label_of style.labels) addr (look_up addr table))
       (λ addr. found_as-some style.json (label_of style.labels) addr (look_up addr table)) empty

@@ -1,8 +1,8 @@
 -- The answers to questions and the output of a comparison don't depend on the interleaving of the feeds' visits.
-use Rattle.std.proofs.Common.{List, ◌++◌, Bool, true, false, ◌||◌, refl, ap, sym, subst, ◌∙◌, ◌≡◌}
+use Rattle.std.proofs.Common.{List, ◌++◌, map, Bool, true, false, ◌||◌, refl, ap, sym, subst, ◌∙◌, ◌≡◌}
 use Rattle.std.specs.List.{list_any}
 use Rattle.std.proofs.lemmas.List.Folds.{list_any-append}
-use Rattle.rt_cidr.specs.declared.address.Addr.{Addr}
+use Rattle.rt_feed.specs.Addresses.{AddressRow, address_row}
 use Rattle.rt_feed.specs.Laws.{AddressTextHasOneReading}
 use Rattle.rt_run.specs.declared.tallies.RejectedInput.{RejectedInput}
 use Rattle.rt_run.specs.TableText.{question_text, named_in, said_in, has_refused, NoneRefused, IsQueryOutput}
@@ -24,9 +24,9 @@ none_of_either one other none = both_false (list_any has_refused one) (list_any 
 
 pub answers_are_deterministic : ShowOneTable → AddressTextHasOneReading → AnswerOnce
 answers_are_deterministic shows once one one' style question bytes bytes' given given' same is is' none none' =
-    let text_of = λ (said : List Addr). question_text style question (named_in question ++ said) in
+    let text_of = λ (said : List AddressRow). question_text style question (map address_row (named_in question) ++ said) in
     let read = once (said_in question) is.said is'.said is.faulty is'.faulty is.says is'.says in
-    let also = subst (λ (said : List Addr). IsQueryOutput one' (text_of said) bytes' is'.tallies) (sym read.0) is'.shown in
+    let also = subst (λ (said : List AddressRow). IsQueryOutput one' (text_of said) bytes' is'.tallies) (sym read.0) is'.shown in
     let both = shows one one' (text_of is.said) bytes bytes' is.tallies is'.tallies same is.shown also
     (none_of_either is.tallies _ (subst NoneRefused is.tallied none)).0 (none_of_either is'.tallies _ (subst NoneRefused is'.tallied none')).0 in
     let tallied : given.tallies.items ≡ given'.tallies.items = cc (is.tallied, is'.tallied, both.1, read.1) in

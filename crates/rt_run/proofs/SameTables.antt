@@ -157,7 +157,7 @@ of_feed batch first (suc k) feed journal (text ∷ texts) (lines ∷ outcomes) n
 of_feed batch first k feed journal texts outcomes number all none here = absurd all
 
 -- if the status isn't 5, no command was refused
-by_status : (refused left_out : Bool) (status : ℕ) → status ≡ status_where refused left_out → status ≢ 5 → refused ≡ false
+pub by_status : (refused left_out : Bool) (status : ℕ) → status ≡ status_where refused left_out → status ≢ 5 → refused ≡ false
 by_status refused left_out status e not = grind arith
 
 -- a tally counts the refused commands and rejected input of its report

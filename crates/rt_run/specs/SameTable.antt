@@ -10,6 +10,10 @@ use Rattle.rt_rib.specs.Table.{IsTable}
 use Rattle.rt_rib.specs.Laws.{is_own}
 use Rattle.rt_shared.specs.declared.outcome.Outcome.{Outcome}
 use Rattle.rt_shared.specs.declared.outcome.Outcome.TheVariants.{Did}
+use Rattle.rt_rib.specs.declared.commands.Reply.TheVariants.{Found, NoRoute, Dumped}
+use Rattle.rt_feed.specs.declared.report.Line.{Line}
+use Rattle.rt_feed.specs.declared.report.Answer.{Answer}
+use Rattle.rt_feed.specs.declared.report.Answer.TheVariants as answer
 use Rattle.rt_feed.specs.Lines.{LineOutcome, TextYields, commands_of}
 use Rattle.rt_print.specs.Routes.{table_text}
 use Rattle.rt_print.specs.Styles.{StyleContents}
@@ -72,6 +76,13 @@ HaveSameTallies =
 abbrev pub HaveOneUnion : Type 0
 HaveOneUnion = (texts : List (List ℕ)) (limit : ℕ) (one other : List Route) → IsUnion texts limit one → IsUnion texts limit other → one ≡ other
 
+-- the answer isn't the reply to a `lookup` or a `dump`
+abbrev pub is_own_answer : Answer → Bool
+is_own_answer (answer.Did (Found route)) = false
+is_own_answer (answer.Did NoRoute) = false
+is_own_answer (answer.Did (Dumped count)) = false
+is_own_answer _ = true
+
 -- if no command ran out of memory, a run's text is its reports and the table of the union
 abbrev pub EndsInUnion : Type 0
 EndsInUnion =
@@ -85,6 +96,18 @@ EndInOneTable =
     (texts : List (List ℕ)) (limit batch batch' : ℕ) (bytes bytes' : List ℕ) (status status' : ℕ)
     (run : IsRunText texts limit batch bytes status) (run' : IsRunText texts limit batch' bytes' status') → status ≢ 5 → status' ≢ 5
     → (status ≡ status') × (table : List Route) × (bytes ≡ reports_text 1 (reports_of run.outcomes) ++ table_text table) × (bytes' ≡ reports_text 1 (reports_of run'.outcomes) ++ table_text table)
+
+-- the line isn't the reply to a `lookup` or a `dump`
+abbrev pub is_own_line : Line → Bool
+is_own_line line = is_own_answer line.answer
+
+-- if no command ran out of memory, the reports of two runs of the same texts and limit have the same lines, and hence the same
+-- bytes, except for the replies to `lookup` and `dump`: for any batches and any interleaving of the threads
+abbrev pub HaveSameLines : Type 0
+HaveSameLines =
+    (texts : List (List ℕ)) (limit batch batch' : ℕ) (bytes bytes' : List ℕ) (status status' : ℕ)
+    (run : IsRunText texts limit batch bytes status) (run' : IsRunText texts limit batch' bytes' status') → status ≢ 5 → status' ≢ 5
+    → map (filter is_own_line) (reports_of run.outcomes) ≡ map (filter is_own_line) (reports_of run'.outcomes)
 
 -- the runs have the same texts and the same limit; their batches may differ
 abbrev pub HaveSameInput : RunContents → RunContents → Type 0

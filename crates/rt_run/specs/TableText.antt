@@ -1,5 +1,5 @@
 -- The output of queries of a run's final table, and the tally of each text.
-use Rattle.std.specs.Prelude.{◌≡◌, ℕ, Bool, true, false, ◌||◌, nat_lt, List, [], ◌∷◌, ◌++◌, map, count_by, filter_map, Option, Some, None}
+use Rattle.std.specs.Prelude.{◌≡◌, ℕ, Bool, true, false, ◌||◌, if◌then◌else◌, nat_lt, List, [], ◌∷◌, ◌++◌, length, map, count_by, filter, filter_map, Option, Some, None}
 use Rattle.std.specs.List.{flat_map, list_any}
 use Rattle.rt_cidr.specs.declared.address.Addr.{Addr}
 use Rattle.rt_rib.specs.declared.routes.Route.{Route}
@@ -14,49 +14,64 @@ use Rattle.rt_feed.specs.declared.faulty.FaultyLines.{FaultyLines}
 use Rattle.rt_feed.specs.declared.report.Answer.{Answer}
 use Rattle.rt_feed.specs.declared.report.Answer.TheVariants.{Did, Refused, Fault}
 use Rattle.rt_feed.specs.Lines.{LineOutcome}
-use Rattle.rt_feed.specs.Addresses.{faulty_lines, SaysAddresses}
+use Rattle.rt_feed.specs.Addresses.{AddressRow, address_row, invalid_row, faulty_lines, SaysAddresses}
 use Rattle.rt_feed.specs.Reports.{is_refusal}
 use Rattle.rt_print.specs.Counts.{counts_as, rows_and_total_as}
-use Rattle.rt_print.specs.Styles.{StyleContents, label_of, rows_as, found_as, all_found_as}
+use Rattle.rt_print.specs.Styles.{StyleContents, label_of, rows_as, found_as, all_found_as, invalid_as}
 use Rattle.rt_run.specs.declared.tallies.RejectedInput.{RejectedInput}
+use Rattle.rt_run.specs.declared.tallies.RejectedLines.{RejectedLines}
 use Rattle.rt_run.specs.declared.tallies.RunSummary.{RunSummary}
 use Rattle.rt_run.specs.declared.question.Question.{Question}
 use Rattle.rt_run.specs.declared.question.Question.TheVariants as ask
 use Rattle.rt_run.specs.RunText.{RunContents, IsJournalOfRun, reports_of, status_where}
 use Rattle.rt_run.specs.ChosenFeeds.{routes_of_selected}
 
--- for each address, in order, the result of looking it up in the table, in the style
-abbrev pub answers_text : StyleContents → List Addr → List Route → List ℕ
-answers_text style addresses table = flat_map (λ addr. found_as style.json (label_of style.labels) addr (look_up addr table)) addresses
+-- what is printed for a row: the answer for its address; for an invalid line its number, if such lines are kept, or else nothing
+abbrev pub line_answer_text : StyleContents → Bool → (Addr → List ℕ) → AddressRow → List ℕ
+line_answer_text style keeps answer (address_row addr) = answer addr
+line_answer_text style keeps answer (invalid_row number) = if keeps then invalid_as style.json number else []
 
--- for each address, in order, all routes of the table that cover it, the best first
-abbrev pub all_answers_text : StyleContents → List Addr → List Route → List ℕ
-all_answers_text style addresses table = flat_map (λ addr. all_found_as style.json (label_of style.labels) addr (look_up_all addr table)) addresses
+-- for each row, in order, the result of looking its address up in the table, in the style
+abbrev pub answers_text : StyleContents → Bool → List AddressRow → List Route → List ℕ
+answers_text style keeps rows table = flat_map (line_answer_text style keeps (λ addr. found_as style.json (label_of style.labels) addr (look_up addr table))) rows
 
--- the text that answers a question about a table, in the style; `addresses` are the ones to look up. If there are feeds, only
--- their routes among the selected ones are printed or counted
-abbrev pub question_text : StyleContents → Question → List Addr → List Route → List ℕ
-question_text style (ask.Best named text) addresses table = answers_text style addresses table
-question_text style (ask.All named text) addresses table = all_answers_text style addresses table
-question_text style (ask.Routes selection feeds) addresses table = rows_as style (routes_of_selected feeds.now (selected selection table))
-question_text style (ask.RoutesAndTotal selection feeds) addresses table = rows_and_total_as style (routes_of_selected feeds.now (selected selection table))
-question_text style (ask.Counts selection feeds) addresses table = counts_as style (routes_of_selected feeds.now (selected selection table))
+-- for each row, in order, all routes of the table that cover its address, the best first
+abbrev pub all_answers_text : StyleContents → Bool → List AddressRow → List Route → List ℕ
+all_answers_text style keeps rows table =
+    flat_map (line_answer_text style keeps (λ addr. all_found_as style.json (label_of style.labels) addr (look_up_all addr table))) rows
+
+-- the text that answers a question about a table, in the style; the rows have the addresses to look up. If there are feeds,
+-- only their routes among the selected ones are printed or counted
+abbrev pub question_text : StyleContents → Question → List AddressRow → List Route → List ℕ
+question_text style (ask.Best named text keeps) rows table = answers_text style keeps rows table
+question_text style (ask.All named text keeps) rows table = all_answers_text style keeps rows table
+question_text style (ask.Routes selection feeds) rows table = rows_as style (routes_of_selected feeds.now (selected selection table))
+question_text style (ask.RoutesAndTotal selection feeds) rows table = rows_and_total_as style (routes_of_selected feeds.now (selected selection table))
+question_text style (ask.Counts selection feeds) rows table = counts_as style (routes_of_selected feeds.now (selected selection table))
 
 -- the named addresses of a question
 abbrev pub named_in : Question → List Addr
-named_in (ask.Best named text) = named.now
-named_in (ask.All named text) = named.now
+named_in (ask.Best named text keeps) = named.now
+named_in (ask.All named text keeps) = named.now
 named_in (ask.Routes selection feeds) = []
 named_in (ask.RoutesAndTotal selection feeds) = []
 named_in (ask.Counts selection feeds) = []
 
 -- its text of addresses
 abbrev pub said_in : Question → List ℕ
-said_in (ask.Best named text) = text.now
-said_in (ask.All named text) = text.now
+said_in (ask.Best named text keeps) = text.now
+said_in (ask.All named text keeps) = text.now
 said_in (ask.Routes selection feeds) = []
 said_in (ask.RoutesAndTotal selection feeds) = []
 said_in (ask.Counts selection feeds) = []
+
+-- true if the invalid lines of this text are kept, each in its place
+abbrev pub keeps_invalid : Question → Bool
+keeps_invalid (ask.Best named text keeps) = keeps
+keeps_invalid (ask.All named text keeps) = keeps
+keeps_invalid (ask.Routes selection feeds) = false
+keeps_invalid (ask.RoutesAndTotal selection feeds) = false
+keeps_invalid (ask.Counts selection feeds) = false
 
 -- an `add` was over the limit
 abbrev pub was_full : Answer → Bool
@@ -83,19 +98,28 @@ fault_at number (Fault fault) = Some (number, fault)
 abbrev pub faults_of : List Line → List (ℕ × LineFault)
 faults_of report = filter_map (λ (line : Line). fault_at line.number line.answer) report
 
+-- the numbers of a report's lines whose answers are of this kind
+abbrev pub lines_where : (Answer → Bool) → List Line → List ℕ
+lines_where is_such report = map (λ (line : Line). line.number) (filter (λ (line : Line). is_such line.answer) report)
+
+-- the record of rejected lines with these numbers: how many they are, and the first of them
+abbrev pub rejected_lines : List ℕ → RejectedLines
+rejected_lines [] = record { count = 0; first = None }
+rejected_lines (number ∷ others) = record { count = length (number ∷ others); first = Some number }
+
 -- the rejected input of a text, from its report
 abbrev pub tally_of : List Line → RejectedInput
 tally_of report = record {
   faulty = faulty_lines (faults_of report);
-  full = count_by (λ (line : Line). was_full line.answer) report;
-  existing = count_by (λ (line : Line). was_existing line.answer) report;
-  missing = count_by (λ (line : Line). was_missing line.answer) report;
+  full = rejected_lines (lines_where was_full report);
+  existing = rejected_lines (lines_where was_existing report);
+  missing = rejected_lines (lines_where was_missing report);
   refused = count_by (λ (line : Line). is_refusal line.answer) report;
 }
 
 -- the tally of a text whose only rejected input are these faulty lines
 abbrev pub faulty_tally : FaultyLines → RejectedInput
-faulty_tally faulty = record { faulty = faulty; full = 0; existing = 0; missing = 0; refused = 0 }
+faulty_tally faulty = record { faulty = faulty; full = rejected_lines []; existing = rejected_lines []; missing = rejected_lines []; refused = 0 }
 
 -- a command ran out of memory
 abbrev pub has_refused : RejectedInput → Bool
@@ -103,7 +127,7 @@ has_refused tally = nat_lt 0 tally.refused
 
 -- a line was faulty, or an `add` was over the limit
 abbrev pub has_rejected : RejectedInput → Bool
-has_rejected tally = nat_lt 0 tally.faulty.count || nat_lt 0 tally.full
+has_rejected tally = nat_lt 0 tally.faulty.count || nat_lt 0 tally.full.count
 
 -- the status of a query: faulty lines and `add`s over the limit count as rejected input
 abbrev pub tallies_status : List RejectedInput → ℕ
@@ -127,14 +151,13 @@ pub record IsQueryOutput (asked : RunContents) (text_of : List Route → List �
   pub leaves : LeavesTable asked table tallies
   pub shown : bytes ≡ text_of table
 
--- the bytes are the answer to the question, in the style, from the table that some run of this input left. The addresses to
--- look up are the named ones and after them those in the lines of the text of addresses. The tallies are the run's and, last,
--- that of this text
+-- the bytes are the answer to the question, in the style, from the table that some run of this input left. The rows are the
+-- named addresses and after them the lines of the text of addresses. The tallies are the run's and, last, that of this text
 pub record IsAnswer (asked : RunContents) (style : StyleContents) (question : Question) (bytes : List ℕ) (given : RunSummary) : Type 0 where
-  pub said : List Addr
+  pub said : List AddressRow
   pub faulty : FaultyLines
   pub says : SaysAddresses (said_in question) said faulty
   pub tallies : List RejectedInput
-  pub shown : IsQueryOutput asked (question_text style question (named_in question ++ said)) bytes tallies
+  pub shown : IsQueryOutput asked (question_text style question (map address_row (named_in question) ++ said)) bytes tallies
   pub tallied : given.tallies.items ≡ tallies ++ faulty_tally faulty ∷ []
   pub is_status : given.status ≡ tallies_status given.tallies.items

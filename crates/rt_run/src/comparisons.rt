@@ -21,10 +21,10 @@ use std::mem;
 
 /// Executes the old texts and then the new ones, one after another, each side over its own table. Then writes to `w` each
 /// range of addresses for which the two tables give different answers, in ascending order and with the given options: a line
-/// `FIRST-LAST OLD -> NEW`, or a JSON object (`write_difference`). Writes nothing else; hence if nothing is written,
-/// both tables give the same answer for every address. Returns the summary if everything was written. Its errors are
-/// those of `run_texts`: F1 if there is no old text or no new text; F3 also if there is no memory for the tallies. Leaks the
-/// tables, as `run_texts` does.
+/// `FIRST-LAST OLD -> NEW`, a line `PREFIX OLD -> NEW` for each prefix of the range, or a JSON object instead of a line
+/// (`write_difference`). Writes nothing else; hence if nothing is written, both tables give the same answer for every
+/// address. Returns the summary if everything was written. Its errors are those of `run_texts`: F1 if there is no old text or
+/// no new text; F3 also if there is no memory for the tallies. Leaks the tables, as `run_texts` does.
 pub fn diff_texts<W: Write>(
     alloc: Global,
     old_asked: &ChosenTexts<'_>,

@@ -1,7 +1,7 @@
 //! Laws that hold for every run of feeds and every interleaving of its threads. Each function is a theorem: a call makes
 //! its clauses known and does nothing. Each law but `one` of [`union`] and `loses` of [`left_out`] holds if no command was
 //! refused, that is, if memory ran out for none. Two runs may have different batches.
-ghost use Rattle.rt_run.specs.SameTable.{LeavesUnion, AnswersAlone, HaveSameTallies, HaveOneUnion, EndsInUnion, EndInOneTable};
+ghost use Rattle.rt_run.specs.SameTable.{LeavesUnion, AnswersAlone, HaveSameTallies, HaveOneUnion, EndsInUnion, EndInOneTable, HaveSameLines};
 ghost use Rattle.rt_run.specs.SameTable.{ShowsUnion, ShowOneTable, AnswerOnce, LosesLeftOut, ShowsRest, DiffsUnions, DiffOnce};
 
 use rt_diff::laws::one_list;
@@ -31,12 +31,17 @@ pub fn union()
 }
 
 /// - `ends`: a run writes its reports and the table of the union;
-/// - `same`: two runs of the same texts and limit end in the same table with the same status.
+/// - `same`: two runs of the same texts and limit end in the same table with the same status;
+/// - `lines`: their reports have the same lines, and hence the same bytes, except for the replies to `lookup` and `dump`.
 pub fn run_output()
     ensures ends { EndsInUnion }
     ensures same { EndInOneTable }
+    ensures lines { HaveSameLines }
 {
     union();
+    feeds_are_independent();
+    visits();
+    one_reading();
 }
 
 /// - `shows`: a query of a run writes its answer for the union. Hence the output of `show` is a function of only the texts,

@@ -44,4 +44,4 @@ pub use question::Question;
 pub use replays::replay_text;
 pub use runs::{MAX_FEED_FILES, run_texts};
 pub use status::Status;
-pub use tallies::{RejectedInput, RunSummary};
+pub use tallies::{RejectedInput, RejectedLines, RunSummary};

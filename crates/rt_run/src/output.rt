@@ -7,18 +7,17 @@ ghost use Rattle.rt_print.specs.Buffer.{buffered};
 ghost use Rattle.rt_rib.specs.declared.limits.TheConstants.{MAX_FEEDS};
 ghost use Rattle.rt_print.specs.Routes.{table_text};
 ghost use Rattle.rt_run.specs.RunText.{reports_text};
-ghost use Rattle.rt_run.specs.TableText.{answers_text};
-ghost use Rattle.rt_run.specs.inside.Outputs.{matches_text, Writes, IsFirstFrom, lines_of};
+ghost use Rattle.rt_run.specs.inside.Outputs.{found_text, matches_text, with_invalid, Writes, IsFirstFrom, lines_of};
 
 use crate::faults::AppFault;
 use crate::forwarding::look_up_by;
 use rt_cidr::Addr;
 use rt_diff::Difference;
-use rt_feed::{Report, write_report};
+use rt_feed::{InvalidLine, Report, write_report};
 use rt_fib::Fib;
 use rt_print::{
     DiffOptions, OutputBuffer, OutputRoom, Style, write_all_matches, write_difference,
-    write_lookup, write_table,
+    write_invalid_line, write_lookup, write_table,
 };
 use rt_rib::{Route, Table};
 use std::alloc::Global;
@@ -90,8 +89,55 @@ pub(crate) fn write_run<W: Write>(
     write_table(w, routes)
 }
 
+/// Writes the result of looking up each address in the table, with its forwarding table if there is one, and the invalid
+/// lines in their places.
+pub(crate) fn write_lookups<W: Write>(
+    w: &mut W,
+    style: &Style,
+    table: &Table<Global>,
+    fib: &Option<Fib<Global>>,
+    addresses: &[Addr],
+    invalid: &[InvalidLine],
+) -> Result<(), io::Error>
+    requires fib { IfSome fib.now (λ fib. fib ≡ table.now.routes) }
+    ensures { WritesText (W.contents w.old) (W.contents w.new)
+        (with_invalid style.now.json (λ these. found_text style.now these table.now.routes) 0 addresses.now invalid.now) result }
+{
+    let (mut rest, mut lines, mut done) = (addresses, invalid, 0);
+    while let Some((line, later)) = lines.split_first() {
+        let (piece, behind) = rest.split_at(line.before.saturating_sub(done).min(rest.len()));
+        write_answers(w, style, table, fib, piece)?;
+        write_invalid_line(w, style, line.number)?;
+        rest = behind;
+        lines = later;
+        done = line.before;
+    }
+    write_answers(w, style, table, fib, rest)
+}
+
+/// Writes all routes that cover each address, the best first, and the invalid lines in their places.
+pub(crate) fn write_all_lookups<W: Write>(
+    w: &mut W,
+    style: &Style,
+    all: &[(Addr, Vec<Route>)],
+    invalid: &[InvalidLine],
+) -> Result<(), io::Error>
+    ensures { WritesText (W.contents w.old) (W.contents w.new) (with_invalid style.now.json (matches_text style.now) 0 all.now invalid.now) result }
+{
+    let (mut rest, mut lines, mut done) = (all, invalid, 0);
+    while let Some((line, later)) = lines.split_first() {
+        let (piece, behind) = rest.split_at(line.before.saturating_sub(done).min(rest.len()));
+        write_matches(w, style, piece)?;
+        write_invalid_line(w, style, line.number)?;
+        rest = behind;
+        lines = later;
+        done = line.before;
+    }
+    write_matches(w, style, rest)
+}
+
 /// Writes the result of looking up each address in the table, with its forwarding table if there is one.
-pub(crate) fn write_answers<W: Write>(
+fn write_answers<W: Write>(
     w: &mut W,
     style: &Style,
     table: &Table<Global>,
@@ -99,7 +145,7 @@ pub(crate) fn write_answers<W: Write>(
     addresses: &[Addr],
 ) -> Result<(), io::Error>
     requires { IfSome fib.now (λ fib. fib ≡ table.now.routes) }
-    ensures { WritesText (W.contents w.old) (W.contents w.new) (answers_text style.now addresses.now table.now.routes) result }
+    ensures { WritesText (W.contents w.old) (W.contents w.new) (found_text style.now addresses.now table.now.routes) result }
 {
     let mut rest = addresses;
     while !rest.is_empty() {
@@ -120,7 +166,7 @@ fn write_piece<W: Write>(
 ) -> Result<(), io::Error>
     requires fib { IfSome fib.now (λ fib. fib ≡ table.now.routes) }
     requires few { length piece.now ≤ 256 }
-    ensures { WritesText (W.contents w.old) (W.contents w.new) (answers_text style.now piece.now table.now.routes) result }
+    ensures { WritesText (W.contents w.old) (W.contents w.new) (found_text style.now piece.now table.now.routes) result }
 {
     let mut places = [None; PIECE];
     let found = &mut places[..piece.len()];
@@ -132,7 +178,7 @@ fn write_piece<W: Write>(
 }
 
 /// Writes all routes that cover each address, the best first.
-pub(crate) fn write_matches<W: Write>(
+fn write_matches<W: Write>(
     w: &mut W,
     style: &Style,
     all: &[(Addr, Vec<Route>)],

@@ -1,21 +1,21 @@
 //! Queries: a question to the finished table of a run, and the output of the answer.
-ghost use Rattle.std.specs.Prelude.{◌≡◌, ◌↔◌, [], IfOk};
+ghost use Rattle.std.specs.Prelude.{◌≡◌, ◌↔◌, ◌==◌, ◌&&◌, [], List, IfOk, length};
+ghost use Rattle.rt_feed.specs.Addresses.{AddressRow, AreOfRows};
 ghost use Rattle.rt_rib.specs.Selection.{selected};
-ghost use Rattle.rt_print.specs.Styles.{StyleContents};
 ghost use Rattle.rt_run.specs.ChosenFeeds.{routes_of_selected};
 ghost use Rattle.rt_run.specs.RunText.{WritesOrFails};
-ghost use Rattle.rt_run.specs.TableText.{all_answers_text, question_text, IsAnswer};
-ghost use Rattle.rt_run.specs.inside.Outputs.{matches_text, Writes};
+ghost use Rattle.rt_run.specs.TableText.{question_text, keeps_invalid, IsAnswer};
+ghost use Rattle.rt_run.specs.inside.Outputs.{matches_found, matches_in, Writes};
 
 use crate::chosen::{ChosenTexts, is_selected};
 use crate::faults::AppFault;
 use crate::forwarding::fib_for;
-use crate::output::{write_answers, write_matches, write_through};
+use crate::output::{write_all_lookups, write_lookups, write_through};
 use crate::question::Question;
 use crate::tallies::{RejectedInput, RunSummary, tallies_status};
 use crate::turns::run_in_turn;
 use rt_cidr::Addr;
-use rt_feed::{RunFault, read_addresses};
+use rt_feed::{AddressText, InvalidLine, RunFault, read_addresses};
 use rt_print::{OutputRoom, Style, write_counts, write_routes, write_routes_and_total};
 use rt_rib::{Refused, Route, Selection, Table};
 use std::alloc::Global;
@@ -28,6 +28,8 @@ use std::mem;
 ///   (`write_lookup`);
 /// - for `Question::All` also a line, `ADDR also` with the route and its reason, for each further route
 ///   (`write_all_matches`). All routes are stored before the first is written;
+/// - for both, if `keep_invalid` is true, for each invalid line of the text a line in its place: `LINE invalid` with the line's
+///   number, or a JSON object (`write_invalid_line`);
 /// - for `Question::Routes` the selected routes, without the table's first line;
 /// - for `Question::RoutesAndTotal` the same and a last line with their number (`write_routes_and_total`);
 /// - for `Question::Counts` their numbers (`write_counts`).
@@ -46,45 +48,45 @@ pub fn show<W: Write>(
     ensures no_text { (result ≡ Err (AppFault.Run RunFault.NoText)) ↔ (asked.now.texts ≡ []) }
 {
     let (table, mut tallies) = run_in_turn(alloc, asked)?;
-    let (named, text) = question.addresses();
-    let mut read = read_addresses(alloc, text)?;
-    let mut addresses = named.to_vec(alloc)?;
-    addresses.append(&mut read.addresses)?;
+    let (named, text, keep_invalid) = question.addresses();
+    let read = read_addresses(alloc, named, text, keep_invalid)?;
     tallies.try_reserve(1)?;
     tallies.push_reserved(RejectedInput::of(read.faulty));
     let status = tallies_status(tallies.as_slice());
     let given = RunSummary { status, tallies };
-    let addresses = addresses.as_slice();
-    let told = write_answer(alloc, &table, style, question, addresses, given, w);
+    let told = write_answer(alloc, &table, style, question, &read, given, w);
     mem::forget(table);
     told
 }
 
-/// Writes the answer to the question from the table, in few large writes, and returns `given`; `addresses` are the ones to
-/// look up.
+/// Writes the answer to the question from the table, in few large writes, and returns `given`; `read` has the addresses to look
+/// up, and the invalid lines that are kept.
 fn write_answer<W: Write>(
     alloc: Global,
     table: &Table<Global>,
     style: &Style,
     question: &Question<'_>,
-    addresses: &[Addr],
+    read: &AddressText,
     given: RunSummary,
     w: &mut W,
 ) -> Result<RunSummary, AppFault>
-    ensures { Writes (question_text style.now question.now addresses.now table.now.routes) given (W.contents w.old) (W.contents w.new) result }
+    ensures { (rows : List AddressRow) → AreOfRows (keeps_invalid question.now) rows read.now.addresses.items read.now.invalid.items
+        → Writes (question_text style.now question.now rows table.now.routes) given (W.contents w.old) (W.contents w.new) result }
 {
     let room = OutputRoom::new(alloc)?;
+    let (addresses, invalid) = (read.addresses.as_slice(), read.invalid.as_slice());
+    let is_empty = are_empty(addresses, invalid);
     match question {
         Question::Best { .. } => {
             let fib = fib_for(alloc, table, addresses.len());
-            write_through(w, room, addresses.is_empty(), given, |out| {
-                write_answers(out, style, table, &fib, addresses)
+            write_through(w, room, is_empty, given, |out| {
+                write_lookups(out, style, table, &fib, addresses, invalid)
             })
         }
         Question::All { .. } => {
             let all = matches_of(alloc, table, addresses)?;
-            write_through(w, room, all.is_empty(), given, |out| {
-                write_matches(out, style, all.as_slice())
+            write_through(w, room, is_empty, given, |out| {
+                write_all_lookups(out, style, all.as_slice(), invalid)
             })
         }
         Question::Routes { selection, feeds } => {
@@ -108,13 +110,20 @@ fn write_answer<W: Write>(
     }
 }
 
+/// Returns true if there is neither an address nor an invalid line.
+fn are_empty(addresses: &[Addr], invalid: &[InvalidLine]) -> bool
+    ensures { result ≡ ((length addresses.now == 0) && (length invalid.now == 0)) }
+{
+    addresses.is_empty() && invalid.is_empty()
+}
+
 /// Returns each address, in order, and all routes of the table that cover it, the best first.
 fn matches_of(
     alloc: Global,
     table: &Table<Global>,
     addresses: &[Addr],
 ) -> Result<Vec<(Addr, Vec<Route>)>, Refused>
-    ensures { IfOk result (λ all. (style : StyleContents) → matches_text style all.items ≡ all_answers_text style addresses.now table.now.routes) }
+    ensures { IfOk result (λ all. matches_found all.items ≡ matches_in table.now.routes addresses.now) }
 {
     let mut all = Vec::with_capacity(alloc, addresses.len())?;
     for addr in addresses {

@@ -1,5 +1,5 @@
 //! Tallies of rejected input, for callers that don't read the reports of a run.
-ghost use Rattle.std.specs.Prelude.{◌≡◌, List, [], ◌++◌};
+ghost use Rattle.std.specs.Prelude.{◌≡◌, ℕ, List, [], ◌∷◌, ◌++◌, ◌<◌};
 ghost use Rattle.rt_feed.specs.declared.report.Line.{Line};
 ghost use Rattle.rt_run.specs.RunText.{status_where};
 ghost use Rattle.rt_run.specs.TableText.{tallies_status};
@@ -8,17 +8,51 @@ use crate::status::Status;
 use rt_feed::{Answer, FaultyLines};
 use rt_rib::Reply;
 
+/// The lines of a text whose commands were rejected for one reason.
+#[derive(Clone, Copy, PartialEq, Eq, Debug)]
+pub struct RejectedLines {
+    /// Their number.
+    pub count: usize,
+    /// The number of the first of them, from 1.
+    pub first: Option<usize>,
+}
+
+impl RejectedLines {
+    ghost use Rattle.rt_run.specs.TableText.{rejected_lines};
+
+    /// Returns the rejected lines of a text without any.
+    fn none() -> RejectedLines
+        ensures { result ≡ rejected_lines [] }
+    {
+        RejectedLines {
+            count: 0,
+            first: None,
+        }
+    }
+
+    /// Adds the line of this number, which comes after the others.
+    fn put(&mut self, number: usize)
+        requires { self.old.count < number }
+        ensures { (lines : List ℕ) → self.old ≡ rejected_lines lines → self.new ≡ rejected_lines (lines ++ number ∷ []) }
+    {
+        self.count += 1;
+        if self.first.is_none() {
+            self.first = Some(number);
+        }
+    }
+}
+
 /// The rejected input of a feed's text, by kind.
 #[derive(Clone, Copy, Debug)]
 pub struct RejectedInput {
     /// Its faulty lines.
     pub faulty: FaultyLines,
-    /// The number of `add`s over the limit.
-    pub full: usize,
-    /// The number of `add`s to a prefix to which the feed already had a route.
-    pub existing: usize,
-    /// The number of `replace`s and `withdraw`s to a prefix to which the feed had no route.
-    pub missing: usize,
+    /// The `add`s over the limit.
+    pub full: RejectedLines,
+    /// The `add`s to a prefix to which the feed already had a route.
+    pub existing: RejectedLines,
+    /// The `replace`s and `withdraw`s to a prefix to which the feed had no route.
+    pub missing: RejectedLines,
     /// The number of commands that ran out of memory.
     pub refused: usize,
 }
@@ -34,9 +68,9 @@ impl RejectedInput {
     {
         RejectedInput {
             faulty,
-            full: 0,
-            existing: 0,
-            missing: 0,
+            full: RejectedLines::none(),
+            existing: RejectedLines::none(),
+            missing: RejectedLines::none(),
             refused: 0,
         }
     }
@@ -48,9 +82,9 @@ impl RejectedInput {
     {
         match said {
             Some(Answer::Fault(fault)) => self.faulty.put(number, fault),
-            Some(Answer::Did(Reply::Full)) => self.full += 1,
-            Some(Answer::Did(Reply::Exists)) => self.existing += 1,
-            Some(Answer::Did(Reply::Missing)) => self.missing += 1,
+            Some(Answer::Did(Reply::Full)) => self.full.put(number),
+            Some(Answer::Did(Reply::Exists)) => self.existing.put(number),
+            Some(Answer::Did(Reply::Missing)) => self.missing.put(number),
             Some(Answer::Refused) => self.refused += 1,
             Some(Answer::Did(_)) | None => {}
         }
@@ -76,7 +110,7 @@ pub(crate) fn tallies_status(tallies: &[RejectedInput]) -> u8
     let refused = tallies.iter().any(|tally| tally.refused > 0);
     let rejected = tallies
         .iter()
-        .any(|tally| tally.faulty.count > 0 || tally.full > 0);
+        .any(|tally| tally.faulty.count > 0 || tally.full.count > 0);
     status_where(refused, rejected)
 }
 

@@ -95,8 +95,9 @@ pub fn running<const L: u32>()
 }
 
 /// Nobody is forgotten. At each moment between two atomic steps, a feed that may be asleep and could go on has its bell
-/// off, or another feed owes it a ring (`rung`). A feed that owes a ring makes no step of its process before it has
-/// paid: it has found the other's bell off, or has put it off (`owing`).
+/// off, which means that it isn't 1, or another feed owes it a ring (`rung`). A feed that owes a ring makes no step of its
+/// process before its view says that it has paid, by which it has found the other's bell off, or has put it off
+/// (`owing`): `rung` holds of that moment too.
 ///
 /// That the ring then wakes the other rests on the kernel, and on two lines of the lock that no clause reads.
 pub fn nobody_is_forgotten<const L: u32>()

@@ -6,4 +6,5 @@ pub mod Replay
 pub mod Shared
 pub mod Tally
 pub mod Trie
+pub mod Walk
 pub mod inside

@@ -12,6 +12,7 @@ mod readers;
 mod replay;
 mod shared;
 mod trie;
+mod walk;
 
 use anyhow::Result;
 use lock::Tally;
@@ -112,6 +113,16 @@ fn print_schedules<W: Write>(alloc: Global, out: &mut W) -> Result<()> {
     Ok(())
 }
 
+fn print_passage<W: Write>(alloc: Global, out: &mut W) -> Result<()> {
+    if let Some((entered, left)) = walk::passage_alone(alloc, 1)? {
+        writeln!(
+            out,
+            "remote accesses of a passage alone: {entered} to enter, {left} in all"
+        )?;
+    }
+    Ok(())
+}
+
 fn print_counts<W: Write>(tally: &Tally, out: &mut W) -> io::Result<()> {
     let (first, second) = (tally.first, tally.second);
     writeln!(out, "place 0 counted {first}, place 1 {second}")
@@ -162,6 +173,7 @@ fn main(rt: HostRuntime) -> Result<()> {
     let mut out = io::writer(&stdout);
     print_tables(alloc, &mut out)?;
     print_schedules(alloc, &mut out)?;
+    print_passage(alloc, &mut out)?;
     print_counts(&lock::count_both(&rt, alloc, 1_000)?, &mut out)?;
     print_shared(&rt, alloc, &mut out)?;
     print_readers(&rt, alloc, &mut out)?;

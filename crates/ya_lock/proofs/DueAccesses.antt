@@ -13,13 +13,14 @@ use Rattle.ya_core.specs.inside.Ahead.{ComesNearer}
 use Rattle.ya_core.proofs.Promised.{within_access, told_nearer, told_counted}
 use Rattle.ya_lock.specs.declared.rule.View.{View}
 use Rattle.ya_lock.specs.Rule.{index_of, making_index, row_length, Rule}
-use Rattle.ya_lock.specs.Lock.{LockId}
+use Rattle.ya_lock.specs.Lock.{LockId, WalksTo}
 use Rattle.ya_lock.specs.inside.Lock.{IsLockTable, OnWay, SeatOf}
 use Rattle.ya_lock.specs.StepEffects.{ProcessSteps}
 use Rattle.ya_lock.specs.inside.Rule.{value_after}
 use Rattle.ya_lock.proofs.WordsInRow.{making_small, index_below, index_is}
 use Rattle.ya_lock.proofs.ProcessSteps.{counted, allows}
 use Rattle.ya_lock.proofs.PassageSteps.{ready_by}
+use Rattle.ya_lock.proofs.Ways.{walks_once}
 
 -- the due access is of a word of the tree
 pub due_word : (w : Walk) (a : Access) → IsWalk w → access_of w.levels w.place w.process ≡ a → AccessIsWithin w.levels a
@@ -63,10 +64,15 @@ pub due_to : {V : Type 0} (inside seen : OnWay V) → inside ≡ seen
 due_to {V} inside seen is due =
     subst (λ (p : OnWay V). (op_of p.walk ≢ op.Idle) × (op_of p.walk ≢ op.Inside)) (sym is) due
 
--- the place comes nearer, and its count rises by no more than its bound, with the value passed to its walk
+-- the place comes nearer, its count rises by no more than its bound, and its walk leads there, with the value passed to it
 pub goes_by : {V : Type 0} (inside seen : OnWay V) (new : Walk) (value : ℕ) → inside ≡ seen → IsWalk inside.walk
     → MayBeTold (due inside.walk) value → new ≡ walk_after inside.walk value
     → ComesNearer seen.walk new × (new.remote + most_remote seen.walk ≤ seen.walk.remote + most_remote new)
+    × WalksTo seen.walk new
 goes_by {V} inside seen new value is walks told goes =
-    subst (λ (p : OnWay V). ComesNearer p.walk new × (new.remote + most_remote p.walk ≤ p.walk.remote + most_remote new)) is
-    (told_nearer inside.walk new value walks told goes, told_counted inside.walk new value walks told goes)
+    subst (λ (p : OnWay V). ComesNearer p.walk new × (new.remote + most_remote p.walk ≤ p.walk.remote + most_remote new)
+    × WalksTo p.walk new) is (
+      told_nearer inside.walk new value walks told goes,
+      told_counted inside.walk new value walks told goes,
+      walks_once inside.walk new value told goes,
+    )

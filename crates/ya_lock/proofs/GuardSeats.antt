@@ -1,53 +1,25 @@
 -- The seat of a guard after the value has left its slot.
-use Rattle.std.proofs.Common.{◌≡◌, ℕ, ◌*◌, ◌≤◌, Bool, true, false, [], ◌∷◌, Some, None, sym, ap, ◌∙◌, subst}
+use Rattle.std.proofs.Common.{◌≡◌, ℕ, ◌*◌, ◌≤◌, true, false, [], ◌∷◌, Some, None, sym, ap, ◌∙◌, subst}
 use Rattle.std.specs.Prelude as std
 use Rattle.atomic_table.specs.Table.{Me, rest}
-use Rattle.ya_core.specs.declared.process.Process.{Process}
-use Rattle.ya_core.specs.declared.process.Process.TheVariants.{Idle, Entering, Inside, Leaving}
-use Rattle.ya_core.specs.declared.word.Access.{Access}
-use Rattle.ya_core.specs.declared.word.Access.TheVariants.{Load, Store}
-use Rattle.ya_core.specs.Steps.{entry_access, exit_access}
-use Rattle.ya_core.specs.declared.walker.Op.{Op}
+use Rattle.ya_core.specs.declared.process.Process.TheVariants.{Inside}
 use Rattle.ya_core.specs.declared.walker.Op.TheVariants as op
-use Rattle.ya_core.specs.WalkerModel.{Walk, walk, op_of, op_of_access}
+use Rattle.ya_core.specs.WalkerModel.{Walk, walk, op_of}
 use Rattle.ya_lock.specs.declared.rule.View.{View}
 use Rattle.ya_lock.specs.declared.rule.View.TheVariants.{Seated}
 use Rattle.ya_lock.specs.Lock.{LockId}
 use Rattle.ya_lock.specs.inside.Lock.{HasTree, HasPlace, SeatInside, SeatOf}
 use Rattle.ya_lock.proofs.TreeSize.{one_tree}
 use Rattle.ya_lock.proofs.NewSteps.{one_value}
-
--- no access is requested, since the process is inside
-abbrev IsInsideOp : Op → Type 0
-IsInsideOp op.Inside = Unit {0}
-IsInsideOp _ = ⊥
-
--- an access is requested
-no_access : (levels : ℕ) (access : Access) → IsInsideOp (op_of_access levels access) → ⊥
-no_access levels (Load word) h = h
-no_access levels (Store word value) h = h
+use Rattle.ya_lock.proofs.Ways.{is_inside_walk}
 
 module _ {V : Type 0} where
-  -- a walk without a request because it is inside has no exit begun
-  entered_at : (since done : ℕ → V → V → Type 0) (levels place : ℕ) (process : Process) (begun : Bool) (remote : ℕ) (seen : V)
-      (me : Me (std.Option V) (View V)) → IsInsideOp (op_of (walk levels place process begun remote))
-      → SeatOf since done seen (walk levels place process begun remote) me
-      → SeatOf since done seen (walk levels place Inside false remote) me
-  entered_at since done levels place Inside false remote seen me inside h = h
-  entered_at since done levels place Inside true remote seen me inside h = absurd inside
-  entered_at since done levels place Idle false remote seen me inside h = absurd inside
-  entered_at since done levels place Idle true remote seen me inside h = absurd inside
-  entered_at since done levels place (Entering level point) begun remote seen me inside h =
-      absurd (no_access levels (entry_access level place point) inside)
-  entered_at since done levels place (Leaving level point) begun remote seen me inside h =
-      absurd (no_access levels (exit_access level place point) inside)
-
-  -- so its seat has found a value
+  -- the seat of a walk without a request because it is inside has found a value
   pub entered : (since done : ℕ → V → V → Type 0) (w : Walk) (seen : V) (me : Me (std.Option V) (View V))
       → op_of w ≡ op.Inside → SeatOf since done seen w me
       → SeatOf since done seen (walk w.levels w.place Inside false w.remote) me
   entered since done w seen me inside h =
-      entered_at since done w.levels w.place w.process w.begun w.remote seen me (subst IsInsideOp (sym inside) tt) h
+      subst (λ (v : Walk). SeatOf since done seen v me) (is_inside_walk w inside) h
 
   -- there is a slot to take it from
   pub has_slot : (since done : ℕ → V → V → Type 0) (levels place : ℕ) (seen : V) (remote : ℕ) (me : Me (std.Option V) (View V))

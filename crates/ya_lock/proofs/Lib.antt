@@ -18,4 +18,5 @@ pub mod DebtsKept
 pub mod EntryAccesses
 pub mod EntrySteps
 pub mod PassageSteps
+pub mod Ways
 pub mod DueAccesses

@@ -3,6 +3,7 @@ use Rattle.std.specs.Prelude.{◌≡◌, ℕ, ◌^◌, ◌<◌, List, length, sl
 use Rattle.std.specs.Prelude.{Some}
 use Rattle.atomic_table.specs.Seated.{TableId}
 use Rattle.ya_core.specs.declared.process.Process.TheVariants.{Idle, Inside}
+use Rattle.ya_core.specs.WalkerModel.{Walk, WalkLeadsTo}
 use Rattle.ya_lock.specs.declared.rule.View.{View}
 use Rattle.ya_lock.specs.declared.rule.View.TheVariants.{Seated}
 
@@ -50,6 +51,10 @@ pass_of guard remote = record {
   remote = remote;
   view = Seated guard.place Idle guard.value remote;
 }
+
+-- some values, each of which the due access may find, lead one after another from the walk to the other one
+abbrev pub WalksTo : Walk → Walk → Type 0
+WalksTo start end = (values : List ℕ) × WalkLeadsTo start values end
 
 -- the pass of a place that has not been inside yet: its process is idle
 abbrev pub new_pass : {V : Type 0} → LockId → ℕ → V → IdlePass V

@@ -57,7 +57,7 @@ least_at E3 = 2
 least_at E4 = 2
 least_at _ = 3
 
--- the same since its last entry began: three for each level that it has won
+-- the minimum number of remote accesses of a process since its last entry began: three for each level that it has won
 abbrev pub least_count : ℕ → Process → ℕ
 least_count levels Idle = 0
 least_count levels (Entering level point) = 3 * (level - 1) + least_at point
@@ -69,7 +69,7 @@ abbrev pub count_from : Process → ℕ → ℕ
 count_from Idle last = 0
 count_from _ count = count
 
--- the same after the due access, which counts if it is remote
+-- the count of remote accesses after the due access, which counts if it is remote
 abbrev pub count_after : ℕ → ℕ → Process → ℕ → ℕ
 count_after levels place process count =
     count_from process count + cost_of place (access_of levels place process)

@@ -31,7 +31,7 @@ module _ {V : Type 0} where
   handed_out (HandingOut first value) = Seated first Idle value 0
   handed_out view = view
 
-  -- its remaining places: those after that one
+  -- the remaining places of the seat that makes the passes: those after that one
   abbrev pub rest_to_hand_out : View V → View V
   rest_to_hand_out (HandingOut first value) = HandingOut (first + 1) value
   rest_to_hand_out view = view

@@ -39,7 +39,7 @@ module _ {V : Type 0} where
       pub carries : carried_after slots act ≡ after.1
       pub leads : t ≡ stepped s word number seat slots after.0 act
 
-    -- the same for a load, which leaves its word as it is
+    -- as `SeatSteps`, for a load, which leaves its word as it is
     abbrev pub SeatLoads : ℕ → ℕ → Slots V → Me (std.Option V) (View V) → Type 0
     SeatLoads seat word slots after = SeatSteps seat word (slice_index s.words word) slots after
 

@@ -4,6 +4,7 @@
 ghost use Rattle.std.specs.Prelude.{◌≡◌, ◌^◌, ◌<◌, ◌≤◌, true};
 ghost use Rattle.ya_core.specs.ArbitrationTree.{HasShape};
 ghost use Rattle.ya_core.specs.WalkerModel.{is_waiting};
+ghost use Rattle.ya_lock.specs.Lock.{WalksTo};
 ghost use Rattle.ya_lock.specs.Rule.{bell_index, OwesRing};
 ghost use Rattle.ya_lock.specs.StepEffects.{awake, paid};
 ghost use Rattle.ya_lock.specs.inside.Lock.{HasLooked, IsFreeSeat, has_looked_in_vain};
@@ -88,6 +89,7 @@ impl<'a, V: Kept + Drop, const L: u32> Passage<'a, V, L> {
         requires { is_waiting self.walk.process ≡ true }
         ensures of { result.of ≡ self.entry.of }
         ensures looked { HasLooked L self.entry.walk.process result.walk }
+        ensures way { WalksTo self.entry.walk result.walk }
     {
         let mut passage = self;
         let lock = passage.lock;

@@ -48,11 +48,12 @@ pub fn kinds<V: Kept, const L: u32>()
         → GivesHome s t value → IsGift L s t value }
 {}
 
-/// No wake-up is lost. Only a seat that has looked at its spin word in vain since it last stored in its own bell parks,
-/// and the kernel lets it sleep only while this bell is 1: its view is `Watching`. At each such moment, if its process can
-/// go on with the words as they are, its bell isn't 1, or some seat owes its place a ring (`rung`). Hence if some process
-/// takes part, some process that takes part can go on, and isn't asleep or is rung (`awake`). A seat that owes a ring
-/// takes no step of its process before it has paid: it has found the bell other than 1, or has stored 0 there (`owing`).
+/// No wake-up is lost. Only a seat that has looked at its spin word in vain since it last stored in its own bell parks
+/// without a time limit, and the kernel lets it sleep only while this bell is 1: its view is `Watching`. At each such
+/// moment, if its process can go on with the words as they are, its bell isn't 1, or some seat owes its place a ring
+/// (`rung`). Hence if some process takes part, some process that takes part can go on, and isn't asleep or is rung
+/// (`awake`). A seat that owes a ring takes no step of its process before its view says that it has paid (`owing`). Its
+/// view says so once it has found the bell other than 1, or has stored 0 there: `rung` holds of that moment too.
 pub fn no_lost_wakeup<V: Kept, const L: u32>()
     requires { 1 ≤ L }
     ensures rung { (s : _) → ⟦<LockTable<V> as Ruled<Option<V>, View<V>, u32>>⟧.rule L s

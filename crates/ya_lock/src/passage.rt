@@ -1,10 +1,11 @@
 //! The way in and the way out: each access is one step of a walker of the core, taken by the seat of its place.
 ghost use Rattle.std.specs.Prelude.{◌≡◌, ◌≢◌, ℕ, true, false, ◌+◌, ◌*◌, ◌<◌, ◌≤◌, ◌↔◌, IsTrue};
-ghost use Rattle.ya_core.specs.declared.process.Process.TheVariants.{Entering, Leaving};
+ghost use Rattle.ya_core.specs.declared.process.Process.TheVariants.{Idle, Entering, Leaving};
 ghost use Rattle.ya_core.specs.declared.process.EntryPoint.TheVariants.{E5};
 ghost use Rattle.ya_core.specs.declared.process.ExitPoint.TheVariants.{X2};
 ghost use Rattle.ya_core.specs.WalkerModel.{BeginsEntry, BeginsExit, op_of, walk, walk_after, most_remote, is_waiting};
 ghost use Rattle.ya_core.specs.inside.Ahead.{points_ahead, ComesNearer};
+ghost use Rattle.ya_lock.specs.Lock.{WalksTo};
 ghost use Rattle.ya_lock.specs.Rule.{bell_after};
 ghost use Rattle.ya_lock.specs.inside.Lock.{way_of, HasWon, HasPassed, HasLooked, HasReleased, StoresFor, is_to_ring, is_vain};
 
@@ -62,7 +63,7 @@ impl<'a, V: Kept + Drop, const L: u32> Passage<'a, V, L> {
     pub(crate) fn begin(lock: &'a TreeLock<V, L>, pass: Pass<V>) -> Self
         requires { pass.lock ≡ lock.now }
         ensures of { result.of ≡ way_of pass }
-        ensures begins { BeginsEntry result.walk }
+        ensures walk { result.walk ≡ walk L pass.place Idle true 0 }
     {
         lock.holds_tree();
         let Pass {
@@ -90,6 +91,7 @@ impl<'a, V: Kept + Drop, const L: u32> Passage<'a, V, L> {
         requires { BeginsEntry self.walk }
         ensures of { result.of ≡ self.entry.of }
         ensures inside { op_of result.walk ≡ Op.Inside }
+        ensures way { WalksTo self.entry.walk result.walk }
     {
         let mut passage = self;
         passage.write_begun();
@@ -117,6 +119,7 @@ impl<'a, V: Kept + Drop, const L: u32> Passage<'a, V, L> {
         ensures won { HasWon result.walk.process }
         ensures begun { result.walk.begun ≡ false }
         ensures onward { points_ahead result.walk < points_ahead self.entry.walk }
+        ensures way { WalksTo self.entry.walk result.walk }
     {
         let mut passage = self;
         let Process::Entering(_, EntryPoint::E5(rival)) = passage.walker.process() else {
@@ -148,6 +151,7 @@ impl<'a, V: Kept + Drop, const L: u32> Passage<'a, V, L> {
         ensures of { result.of ≡ self.entry.of }
         ensures passed { HasPassed L self.entry.walk.process result.walk }
         ensures tree { result.walk.levels ≡ L }
+        ensures way { WalksTo self.entry.walk result.walk }
     {
         let mut passage = self;
         let mut patience = SPIN_LIMIT;
@@ -176,6 +180,7 @@ impl<'a, V: Kept + Drop, const L: u32> Passage<'a, V, L> {
         ensures of { result.of ≡ self.entry.of }
         ensures looked { HasLooked L self.entry.walk.process result.walk }
         ensures vain { is_waiting result.walk.process ≡ true → result.vain ≡ true }
+        ensures way { WalksTo self.entry.walk result.walk }
     {
         let mut passage = self;
         match passage.walker.process() {
@@ -207,6 +212,7 @@ impl<'a, V: Kept + Drop, const L: u32> Passage<'a, V, L> {
         ensures idle { op_of result.walk ≡ Op.Idle }
         ensures least { self.entry.walk.remote ≤ result.walk.remote }
         ensures most { result.walk.remote ≤ self.entry.walk.remote + 3 * L }
+        ensures way { WalksTo self.entry.walk result.walk }
     {
         let mut passage = self;
         passage.step();
@@ -229,6 +235,7 @@ impl<'a, V: Kept + Drop, const L: u32> Passage<'a, V, L> {
         ensures least { self.old.walk.remote ≤ self.new.walk.remote }
         ensures count { self.new.walk.remote + most_remote self.old.walk
             ≤ self.old.walk.remote + most_remote self.new.walk }
+        ensures way { WalksTo self.old.walk self.new.walk }
     {
         self.step();
         if let Process::Leaving(_, ExitPoint::X3(rival)) = self.walker.process() {
@@ -275,6 +282,7 @@ impl<'a, V: Kept + Drop, const L: u32> Passage<'a, V, L> {
         ensures onward { ComesNearer self.old.walk self.new.walk }
         ensures count { self.new.walk.remote + most_remote self.old.walk
             ≤ self.old.walk.remote + most_remote self.new.walk }
+        ensures way { WalksTo self.old.walk self.new.walk }
     {
         let lock = self.lock;
         let shared = &lock.table.shared;
@@ -301,6 +309,7 @@ impl<'a, V: Kept + Drop, const L: u32> Passage<'a, V, L> {
         ensures onward { ComesNearer self.old.walk self.new.walk }
         ensures count { self.new.walk.remote + most_remote self.old.walk
             ≤ self.old.walk.remote + most_remote self.new.walk }
+        ensures way { WalksTo self.old.walk self.new.walk }
     {
         let lock = self.lock;
         let Op::Store(number, value) = self.walker.op() else {

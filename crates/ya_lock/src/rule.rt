@@ -29,7 +29,7 @@ pub enum View<V> {
     /// accesses since its last entry began.
     Seated(usize, Process, V, u64),
     /// The same, and its process waits: since the seat last stored in its own bell, it has looked at its spin word in
-    /// vain. Only such a seat parks.
+    /// vain. Only such a seat parks without a time limit.
     Watching(usize, Process, V, u64),
     /// The same as `Seated`, and it owes this rival a ring: it has stored in the rival's spin word, and since then it has
     /// neither found the rival's bell other than 1 nor stored 0 there.

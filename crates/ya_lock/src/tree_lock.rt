@@ -1,8 +1,9 @@
 //! The lock and its calls.
-ghost use Rattle.std.specs.Prelude.{◌≡◌, ◌+◌, ◌*◌, ◌≤◌, IfOk, IfErr};
+ghost use Rattle.std.specs.Prelude.{◌≡◌, ◌+◌, ◌*◌, ◌≤◌, true, false, IfOk, IfErr};
 ghost use Rattle.ya_core.specs.ArbitrationTree.{HasShape};
-ghost use Rattle.ya_core.specs.WalkerModel.{op_of};
-ghost use Rattle.ya_lock.specs.Lock.{ArePassesInOrder, guard_of, pass_of};
+ghost use Rattle.ya_core.specs.WalkerModel.{op_of, walk};
+ghost use Rattle.ya_core.specs.declared.process.Process.TheVariants.{Idle, Inside};
+ghost use Rattle.ya_lock.specs.Lock.{ArePassesInOrder, guard_of, pass_of, WalksTo};
 ghost use Rattle.ya_lock.specs.inside.Lock.{guard_at, HasTree};
 
 use crate::ghost_value::GhostValue;
@@ -71,6 +72,7 @@ impl<V: Kept + Drop, const L: u32> TreeLock<V, L> {
         ensures guard { result ≡ guard_of pass result.found result.remote }
         ensures fresh { V.since pass.place pass.seen result.found }
         ensures count { result.remote ≤ 7 * L }
+        ensures walks { WalksTo (walk L pass.place Idle true 0) (walk L pass.place Inside false result.remote) }
     {
         self.holds_tree();
         let crowd = self.throttle_if_contended(rt, pass.place, pass.crowd);
@@ -86,6 +88,7 @@ impl<V: Kept + Drop, const L: u32> TreeLock<V, L> {
         requires done { V.done guard.place guard.found guard.value }
         ensures pass { result ≡ pass_of guard result.remote }
         ensures count { (guard.remote ≤ result.remote) × (result.remote ≤ guard.remote + 3 * L) }
+        ensures walks { WalksTo (walk L guard.place Inside true guard.remote) (walk L guard.place Idle false result.remote) }
     {
         let Guard {
             mut seat,
@@ -178,6 +181,7 @@ impl<V: Kept + Drop, const L: u32> TreeLock<V, L> {
         ensures guard { result ≡ guard_at passage.entry.of result.found result.remote }
         ensures fresh { V.since passage.entry.of.place passage.entry.of.seen result.found }
         ensures count { result.remote ≤ 7 * L }
+        ensures remote { result.remote ≡ passage.entry.walk.remote }
     {
         let Passage {
             lock,

@@ -1,15 +1,17 @@
 -- What the libraries say of new tables and of answered commands, as it is said of what a handle holds.
 use Rattle.std.proofs.Common.{◌≡◌, ℕ, Bool, true, false, nat_le, if◌then◌else◌, List, [], refl, ap}
-use Rattle.std.specs.Prelude.{Some, Result, Ok, Err, IfOk, OnErr, MatchResult}
+use Rattle.std.specs.Prelude.{Option, Some, Result, Ok, Err, IfOk, OnErr, MatchResult, option_to_list}
 use Rattle.rt_rib.specs.declared.commands.Cmd.{Cmd}
 use Rattle.rt_rib.specs.declared.commands.Reply.{Reply}
 use Rattle.rt_rib.specs.declared.refused.Refused.{Refused}
 use Rattle.rt_rib.specs.declared.routes.Route.{Route}
+use Rattle.rt_rib.specs.declared.changes.BestChange.{BestChange}
+use Rattle.rt_rib.specs.Changes.{AreBestChanges}
 use Rattle.rt_rib.specs.declared.commands.Cmd.TheVariants.{Purge}
 use Rattle.rt_rib.specs.declared.commands.Reply.TheVariants.{Added, Exists, Full, Replaced, Withdrawn, Missing}
 use Rattle.rt_rib.specs.Table.{has, count_of}
 use Rattle.rt_rib.specs.Sequential.{reply_of, table_after, table_of_journal}
-use Rattle.rt_rib.specs.Book.{TableState, table_state, BookContents, Applies, Refuses}
+use Rattle.rt_rib.specs.Book.{TableState, table_state, table_of, BookContents, Applies, Refuses}
 use Rattle.rt_rib.proofs.Promised.{table_of_journal-push, each_command}
 use Rattle.yarib_c.specs.declared.held.Held.TheVariants.{Plain, Journaled}
 use Rattle.yarib_c.specs.Plain.{PlainContents}
@@ -51,6 +53,15 @@ module _ (feed : ℕ) (cmd : Cmd) (old new : BookContents) where
     same = record { limited = refused.limited; routes = rw (refused.limited, refused.journaled) refl; journal = ap Some refused.journaled; room = refused.roomy; followed = λ no. no };
     wanted = refused.wanted;
   }
+
+  -- and the change that it returned with the reply
+  pub journaled_changed : (result : Result (Reply × Option BestChange) Refused) → IfOk result (λ done. Applies old new feed cmd done.0)
+      → IfOk result (λ done. AreBestChanges (table_of old) (table_of new) (option_to_list done.1)) → OnErr result (Refuses old new feed cmd)
+      → MatchResult result
+      (λ done. Applied (Journaled old) (Journaled new) feed cmd done.0 × AreBestChanges (table_of old) (table_of new) (option_to_list done.1))
+      (λ _. NotApplied (Journaled old) (Journaled new) feed cmd)
+  journaled_changed (Ok done) h changes refused = (journaled (Ok done.0) h refused, changes)
+  journaled_changed (Err e) h changes refused = journaled (Err e) h refused
 
 -- a command whose reply says no change leaves the routes
 kept_by : (one other : Bool) (kept : List Route) (more : List Route) → ¬ SaysChange (if one then Exists else if other then Full else Added)

@@ -6,4 +6,5 @@ mod Examples
 pub mod FilledLists
 pub mod Outcomes
 pub mod ParsedAddresses
+pub mod ShownParts
 pub mod TextLengths

@@ -9,4 +9,5 @@ pub mod ShownViews
 pub mod Selections
 pub mod Sizes
 pub mod Differences
+pub mod Changes
 pub mod inside

@@ -20,7 +20,8 @@ pub struct YaribCommand {
 }
 
 impl YaribCommand {
-    ghost use Rattle.std.specs.Prelude.{◌≡◌, MatchOption};
+    ghost use Rattle.std.specs.Prelude.{◌≡◌, IsSome, MatchOption};
+    ghost use Rattle.rt_rib.specs.Sequential.{changed_prefix};
     ghost use Rattle.rt_rib.specs.declared.commands.Cmd.{Cmd as Command};
     ghost use Rattle.rt_rib.specs.declared.routes.Hop.{Hop as NextHop};
     ghost use Rattle.rt_cidr.specs.Cidr.{IsPrefix};
@@ -67,6 +68,18 @@ impl YaribCommand {
             6 => Cmd::Purge,
             _ => return None,
         })
+    }
+
+    /// Returns the add, the replacement or the withdrawal that these numbers denote, if they denote one.
+    pub(crate) fn read_change(&self) -> Option<Cmd>
+        ensures { MatchOption result ((cmd : Command) → IsCommand self.now cmd → ¬ IsSome (changed_prefix cmd))
+            (λ cmd. IsCommand self.now cmd × IsSome (changed_prefix cmd)) }
+    {
+        let cmd = self.read()?;
+        if cmd.changed_prefix().is_none() {
+            return None;
+        }
+        Some(cmd)
     }
 
     /// Returns the numbers of a feed's command. Those that the command doesn't use are 0.

@@ -1,6 +1,8 @@
 //! The contents of a handle.
-ghost use Rattle.std.specs.Prelude.{◌≡◌, ◌↔◌, IsTrue, ◌<◌, ◌≤◌, MatchOption, MatchResult, OnOk};
+ghost use Rattle.std.specs.Prelude.{◌≡◌, ◌↔◌, IsTrue, ◌<◌, ◌≤◌, MatchOption, MatchResult, OnOk, IsSome, option_to_list};
 ghost use Rattle.rt_rib.specs.Book.{IsLimit, IsFeed};
+ghost use Rattle.rt_rib.specs.Sequential.{changed_prefix};
+ghost use Rattle.rt_rib.specs.Changes.{AreBestChanges};
 ghost use Rattle.yarib_c.specs.Kinds.{routes_in, HasFib, IsForwarding, IsFollowed, IsNew, IsSame, HasRoom, Applied, NotApplied};
 ghost use Rattle.yarib_c.specs.Sizes.{TakesBytes};
 ghost use Rattle.yarib_c.specs.inside.Tables.{IsTableOf};
@@ -8,7 +10,7 @@ ghost use Rattle.yarib_c.specs.inside.Tables.{IsTableOf};
 use crate::plain::PlainTable;
 use crate::sizes::{entry_bytes, table_bytes};
 use rt_fib::Fib;
-use rt_rib::{Book, Cmd, Refused, Reply, Table};
+use rt_rib::{BestChange, Book, Cmd, Refused, Reply, Table};
 use std::alloc::Global;
 use std::sync::Arc;
 
@@ -91,6 +93,27 @@ impl Held {
         match self {
             Held::Plain(plain) => Some(plain.apply(feed, cmd)),
             Held::Journaled(book) => Some(book.apply(feed, cmd)),
+            Held::Forwarding(_) => None,
+        }
+    }
+
+    /// Answers an add, a replacement or a withdrawal of the feed, if it holds a table that changes. Returns the reply, and the change
+    /// of the best route to the command's prefix, if it is another one.
+    pub(crate) fn answer_changed(
+        &mut self,
+        feed: u32,
+        cmd: Cmd,
+    ) -> Option<Result<(Reply, Option<BestChange>), Refused>>
+        requires feed { IsFeed feed }
+        requires prefix { IsSome (changed_prefix cmd) }
+        ensures { MatchOption result (IsForwarding self.old × (self.new ≡ self.old)) (λ answered. MatchResult answered
+            (λ done. Applied self.old self.new feed cmd done.0
+            × AreBestChanges (routes_in self.old) (routes_in self.new) (option_to_list done.1))
+            (λ _. NotApplied self.old self.new feed cmd)) }
+    {
+        match self {
+            Held::Plain(plain) => Some(plain.apply_changed(feed, cmd)),
+            Held::Journaled(book) => Some(book.apply_changed(feed, cmd)),
             Held::Forwarding(_) => None,
         }
     }

@@ -11,6 +11,7 @@
 //! handle, and one call at a time on a handle. `bindings/c/handles.c` sees to the last, so the header asks for the others alone.
 #![tactic(auto)]
 
+mod changed;
 mod changes;
 mod commands;
 mod differences;
@@ -30,6 +31,7 @@ mod status;
 mod texts;
 mod views;
 
+pub use changed::YaribChange;
 pub use commands::{YaribCommand, YaribEntry, YaribReply};
 pub use differences::YaribDifference;
 pub use handle::Yarib;

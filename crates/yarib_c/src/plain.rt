@@ -1,8 +1,9 @@
 //! A table that keeps no journal and, if a call has requested one, a forwarding table that follows it.
-ghost use Rattle.std.specs.Prelude.{◌≡◌, ◌↔◌, ◌⊎◌, ◌+◌, ◌≤◌, ◌^◌, IsTrue, true, false, [], length, map, IfOk, MatchOption, OnOk, OnErr};
+ghost use Rattle.std.specs.Prelude.{◌≡◌, ◌↔◌, ◌⊎◌, ◌+◌, ◌≤◌, ◌^◌, IsTrue, true, false, [], length, map, IfOk, MatchOption, OnOk, OnErr, IsSome, option_to_list};
 ghost use Rattle.rt_rib.specs.declared.commands.Cmd.TheVariants.{Purge};
 ghost use Rattle.rt_rib.specs.declared.commands.Reply.TheVariants.{Added};
-ghost use Rattle.rt_rib.specs.Sequential.{reply_of};
+ghost use Rattle.rt_rib.specs.Sequential.{reply_of, changed_prefix};
+ghost use Rattle.rt_rib.specs.Changes.{AreBestChanges};
 ghost use Rattle.rt_rib.specs.LookUp.{look_up};
 ghost use Rattle.rt_rib.specs.Book.{IsLimit, IsFeed, table_state, Serves};
 ghost use Rattle.yarib_c.specs.Sizes.{trie_bytes};
@@ -13,7 +14,7 @@ use crate::sizes::table_bytes;
 use rt_cidr::Addr;
 use rt_fib::Fib;
 use rt_fib::laws::commands_preserve_other_routes;
-use rt_rib::{Cmd, Refused, Reply, Route, Table};
+use rt_rib::{BestChange, Cmd, Refused, Reply, Route, Table};
 use std::alloc::Global;
 use std::marker::Model;
 
@@ -102,6 +103,31 @@ impl PlainTable {
         commands_preserve_other_routes();
         self.beside = followed(self.beside.take(), &self.table, &cmd);
         Ok(reply)
+    }
+
+    /// Answers an add, a replacement or a withdrawal of the feed as `apply` does. Returns the reply, and the change of the best route
+    /// to the command's prefix, if it is another one.
+    pub(crate) fn apply_changed(
+        &mut self,
+        feed: u32,
+        cmd: Cmd,
+    ) -> Result<(Reply, Option<BestChange>), Refused>
+        requires feed { IsFeed feed }
+        requires prefix { IsSome (changed_prefix cmd) }
+        ensures ok { IfOk result (λ done. Serves (table_state self.old.table) (table_state self.new.table) feed cmd done.0) }
+        ensures changes { IfOk result (λ done. AreBestChanges self.old.table.routes self.new.table.routes (option_to_list done.1)) }
+        ensures err { OnErr result (self.new ≡ self.old) }
+        ensures wanted { OnErr result (reply_of self.old.table.limit self.old.table.routes feed cmd ≡ Added) }
+        ensures followed { IfOk result (λ done. self.old.is_followed ≡ true → SaysChange done.0 ⊎ (self.new.is_followed ≡ true)) }
+    {
+        self.table.holds();
+        let Some(prefix) = cmd.changed_prefix() else {
+            unreachable!()
+        };
+        let before = self.table.best_to(prefix);
+        let reply = self.apply(feed, cmd)?;
+        let after = self.table.best_to(prefix);
+        Ok((reply, BestChange::of(prefix, before, after)))
     }
 
     /// Executes a purge of the feed.

@@ -44,11 +44,7 @@ impl<R: Files + Wait + AllocGlobal, O: Write, E: Write> Program<'_, R, O, E> {
         };
         let asked = asked_of(&request.run, texts.as_slice(), feeds.choice());
         let (named, text) = (named.as_slice(), text.as_slice());
-        let question = if request.all {
-            Question::All { named, text }
-        } else {
-            Question::Best { named, text }
-        };
+        let question = addresses_question(request, named, text);
         let files = FeedTexts {
             names: files,
             texts: texts.as_slice(),
@@ -109,6 +105,28 @@ pub(super) fn asked_of<'t>(
     requires { length texts.now ≤ MAX_FEEDS }
 {
     ChosenTexts::new(texts, request.limit, request.batch as usize, choice)
+}
+
+/// Returns the question about these addresses and about those of the text.
+fn addresses_question<'t>(
+    request: &LookupRequest<'_>,
+    named: &'t [Addr],
+    text: &'t [u8],
+) -> Question<'t> {
+    let keep_invalid = request.keep_invalid;
+    if request.all {
+        Question::All {
+            named,
+            text,
+            keep_invalid,
+        }
+    } else {
+        Question::Best {
+            named,
+            text,
+            keep_invalid,
+        }
+    }
 }
 
 /// Returns the question of this output for the selected routes of these feeds.

@@ -4,7 +4,7 @@ use super::ProgramError;
 use super::feed_choice::FeedFiles;
 use command_line::{ComparedBy, DiffRequest};
 use rt_diff::CompareBy;
-use rt_print::{DiffOptions, Format, Style};
+use rt_print::{DiffOptions, DiffOutput, Format, Style};
 use std::alloc::Global;
 
 /// Returns the format of printed routes with these options of the command line.
@@ -43,8 +43,13 @@ pub(super) fn diff_options<'w>(
         ComparedBy::Hop => CompareBy::Hop,
         ComparedBy::Route => CompareBy::Route,
     };
+    let output = if request.prefixes {
+        DiffOutput::Prefixes
+    } else {
+        DiffOutput::Ranges
+    };
     let format = format_of(request.names, request.json);
-    Ok(DiffOptions::new(alloc, by, format, old.names, new.names)?)
+    Ok(DiffOptions::new(alloc, by, output, format, old.names, new.names)?)
 }
 
 /// Stops as `style_of` does, on either side, if feeds have labels; also if there are too many files on a side.

@@ -52,8 +52,8 @@ fn report_line_end<E: Write>(err: &mut E, file: InputFile<'_>) {
     }
 }
 
-/// Reports the rejected input of a file: the number of its faulty lines and the first of them, and its other rejected
-/// input by kind.
+/// Reports the rejected input of a file by kind: the number of its faulty lines, of its commands without effect by reason,
+/// each with the first of them, and the number of commands that ran out of memory.
 pub(super) fn report_rejected<E: Write>(
     err: &mut E,
     file: InputFile<'_>,
@@ -69,15 +69,25 @@ pub(super) fn report_rejected<E: Write>(
             "yarib: {name}: faulty lines: {count}, the first is line {number}: {fault}"
         );
     }
-    let counts = [
+    let rejected = [
         ("adds over the limit", tally.full),
         ("duplicate adds", tally.existing),
         ("replaces and withdraws without a route", tally.missing),
-        ("commands failed, out of memory", tally.refused),
     ];
-    for (what, count) in counts {
-        if count > 0 {
-            let _ = writeln!(err, "yarib: {name}: {what}: {count}");
+    for (what, lines) in rejected {
+        if let Some(first) = lines.first {
+            let count = lines.count;
+            let _ = writeln!(
+                err,
+                "yarib: {name}: {what}: {count}, the first is line {first}"
+            );
         }
+    }
+    if tally.refused > 0 {
+        let count = tally.refused;
+        let _ = writeln!(
+            err,
+            "yarib: {name}: commands failed, out of memory: {count}"
+        );
     }
 }

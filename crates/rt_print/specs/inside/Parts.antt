@@ -55,6 +55,11 @@ others_as json label addr best number [] = []
 others_as json label addr best number (r ∷ rs) =
     other_as json label addr best (if number == 1 then [] else codes ",") r ++ others_as json label addr best (number + 1) rs
 
+-- the texts of two answers at the end of a line or of an object
+unfoldable pub change_end : Bool → List ℕ → List ℕ → List ℕ
+change_end false old new = codes " " ++ (old ++ (codes " -> " ++ (new ++ codes "\n")))
+change_end true old new = codes "\",\"old\":" ++ (old ++ (codes ",\"new\":" ++ (new ++ codes "}\n")))
+
 -- the place that is inside after a step of this place with this mark: the step's place, if it won the root; none, if it is
 -- a later step of the place that was inside
 abbrev pub inside_next : Option ℕ → ℕ → Mark → Option ℕ

@@ -58,7 +58,7 @@ pub record IsExecuting (version : Version) (feed : ℕ) (text rest : List ℕ) (
 -- fewer lines were counted than this number
 pub record IsBelow (number : ℕ) (tally : RejectedInput) : Type 0 where
   pub faulty : tally.faulty.count < number
-  pub full : tally.full < number
-  pub existing : tally.existing < number
-  pub missing : tally.missing < number
+  pub full : tally.full.count < number
+  pub existing : tally.existing.count < number
+  pub missing : tally.missing.count < number
   pub refused : tally.refused < number

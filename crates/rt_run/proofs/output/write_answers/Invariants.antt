@@ -1,6 +1,6 @@
 use Rattle.std.proofs.Common.{◌≡◌, ℕ, List, ◌++◌, length}
 use Rattle.std.specs.Io.KnownBytes.{Appends}
-use Rattle.rt_run.specs.TableText.{answers_text}
+use Rattle.rt_run.specs.inside.Outputs.{found_text}
 use Rattle.rt_run.proofs.output.write_answers.Given as goal
 
 -- a text was written; followed by the answers of the rest it is the text of all answers
@@ -8,7 +8,7 @@ abbrev pub invariant-loop-rest : goal.invariant-loop-rest
 invariant-loop-rest g l = record {
   text : List ℕ;
   written : Appends (g.W.Write.contents l.initial.w) (g.W.Write.contents l.w) text;
-  whole : text ++ answers_text l.style l.rest l.table.routes ≡ answers_text l.style l.fn.addresses l.table.routes;
+  whole : text ++ found_text l.style l.rest l.table.routes ≡ found_text l.style l.fn.addresses l.table.routes;
 }
 
 abbrev pub decreases-loop-rest : goal.decreases-loop-rest

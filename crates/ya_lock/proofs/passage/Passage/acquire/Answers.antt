@@ -1,12 +1,15 @@
-use Rattle.std.proofs.Common.{◌≡◌, Bool, false, lit<, refl, sym, ap, ◌∙◌, rules, subst}
+use Rattle.std.proofs.Common.{◌≡◌, Bool, false, lit<, refl, sym, ap, ◌∙◌, rules, subst, inr}
 use Rattle.ya_core.specs.declared.process.Process.TheVariants.{Entering, Inside}
 use Rattle.ya_core.specs.declared.process.EntryPoint.TheVariants.{E2, E3, E4}
 use Rattle.ya_core.specs.WalkerModel.{Walk}
+use Rattle.ya_lock.specs.Lock.{WalksTo}
 use Rattle.ya_lock.specs.inside.Lock.{HasWon, OnWay}
 use Rattle.ya_lock.proofs.EntryAccesses.{at_next}
 use Rattle.ya_lock.proofs.EntrySteps.{plain_entering, plain_at_foot, from_foot, leads, rests_inside}
+use Rattle.ya_lock.proofs.Ways.{walks_on}
+use Rattle.ya_lock.proofs.passage.Passage.acquire.Given.{Over}
 use Rattle.ya_lock.proofs.passage.Passage.acquire.Goals as goal
-use Rattle.ya_lock.proofs.passage.Passage.acquire.Goals.{then-not-has_won, else-not-has_won}
+use Rattle.ya_lock.proofs.passage.Passage.acquire.Goals.{After-process, then-not-has_won, else-not-has_won}
 
 pub write_out-requires : goal.write_out-requires
 write_out-requires g c =
@@ -58,3 +61,33 @@ returns-in-Inside-clause-inside g c =
     let inside : c.process.result ≡ Inside = search in
     let at = ap (λ (q : OnWay V). q.walk.process) (sym c.passage-in-loop-passage.view_is) in
     rests_inside p.walk (at ∙ (sym c.process.ensures.value ∙ inside)) going
+
+-- the walk leads to where the level is won
+won_way : (g : Over) (c : After-process g) → WalksTo c.write_begun.new.self.walk c.if-not-has_won.passage.walk
+won_way g c =
+    let start = c.write_begun.new.self.walk in let foot = c.loop-passage.passage.walk in let e2 = c.step.new.self.walk in
+    let e3 = c.step-in-loop-passage.new.self.walk in let e4 = c.step-in-loop-passage-2.new.self.walk in
+    let seen = c.step-in-loop-passage-3.new.self.walk in
+    let Way : OnWay g.row.V.Denot → Type 0 = λ p. WalksTo start p.walk in
+    let at_e2 = walks_on start foot e2 c.loop-passage.invariant.way c.step.ensures.way in
+    let at_e3 = walks_on start e2 e3 at_e2 c.step-in-loop-passage.ensures.way in
+    let at_e4 = walks_on start e3 e4 at_e3 c.step-in-loop-passage-2.ensures.way in
+    let looked = walks_on start e4 seen at_e4 c.step-in-loop-passage-3.ensures.way in
+    elim c.if-not-has_won.branch [
+      | then-not-has_won w ↦
+          subst Way (sym w.passage-is) (walks_on start seen w.compete-passage.result.walk looked w.compete-passage.ensures.way)
+      | else-not-has_won w ↦ subst Way (sym w.passage-is) looked
+    ]
+
+pub returns-in-Inside-clause-way : goal.returns-in-Inside-clause-way
+returns-in-Inside-clause-way g c =
+    subst (λ (p : OnWay g.row.V.Denot). WalksTo p.walk c.if-not-has_won.passage.walk) c.write_begun.ensures.same
+    (won_way g (goal.at.returns-in-Inside-clause-way g c).After-process)
+
+pub loop-passage-preserved : goal.loop-passage-preserved
+loop-passage-preserved g c = record {
+  of = search rules;
+  foot = inr c.write_out.ensures.at;
+  way = subst (λ (p : OnWay g.row.V.Denot). WalksTo c.write_begun.new.self.walk p.walk) (sym c.write_out.ensures.same)
+      (won_way g (goal.at.loop-passage-preserved g c).After-process);
+}

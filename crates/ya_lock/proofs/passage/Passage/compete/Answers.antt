@@ -5,9 +5,11 @@ use Rattle.ya_core.specs.declared.process.Process.TheVariants.{Entering}
 use Rattle.ya_core.specs.declared.process.EntryPoint.TheVariants.{E5, E6, E7, E9}
 use Rattle.ya_core.specs.WalkerModel.{Walk, is_waiting}
 use Rattle.ya_core.specs.inside.Ahead.{points_ahead}
+use Rattle.ya_lock.specs.Lock.{WalksTo}
 use Rattle.ya_lock.specs.inside.Lock.{OnWay, WayOf}
 use Rattle.ya_lock.proofs.EntrySteps.{plain_entering, found_at, found_entering, leads, lost_e5, lost_e9, comes_nearer, waits_behind}
 use Rattle.ya_lock.proofs.EntrySteps.{passed_e8, passed_e10, passed_begun, passed_nearer}
+use Rattle.ya_lock.proofs.Ways.{walks_on}
 use Rattle.ya_lock.proofs.passage.Passage.compete.Given.{Over}
 use Rattle.ya_lock.proofs.passage.Passage.compete.Goals as goal
 use Rattle.ya_lock.proofs.passage.Passage.compete.Goals.{After-step-3, in-Entering-default-E7, in-Entering-process-3+in-E1-1, in-Idle-1}
@@ -192,3 +194,30 @@ spin-passage-requires g c =
       | in-Entering-process-3+in-E1-1 w ↦ unwoken w.passage-is (λ e. search rules)
       | in-Idle-1 w ↦ unwoken w.passage-is (λ e. search rules)
     ] in (lit< tt, waits)
+
+-- and the walk leads there
+past_e9_way : (g : Over) (c : After-step-3 g) → WalksTo c.args.self.walk c.step-3.new.self.walk
+past_e9_way g c =
+    let V : Type 0 = g.row.V.Denot in let start = c.args.self.walk in let p = c.match-process-3.passage in
+    let first = c.step.new.self.walk in let second = c.step-2.new.self.walk in let third = c.step-3.new.self.walk in
+    let over = c.spin-passage.result.walk in
+    let From : OnWay V → Type 0 = λ q. WalksTo q.walk first in let To : OnWay V → Type 0 = λ q. WalksTo start q.walk in
+    let Last : OnWay V → Type 0 = λ q. WalksTo q.walk third in
+    let e6 = walks_on start first second (subst From c.write_out.ensures.same c.step.ensures.way) c.step-2.ensures.way in
+    let met : To p =
+    elim c.match-process-3.branch [
+      | in-Entering-default-E7 w ↦
+          subst To (sym w.passage-is) (walks_on start second w.step_for.new.self.walk e6 w.step_for.ensures.way)
+      | in-Entering-process-3+in-E1-1 w ↦ subst To (sym w.passage-is) e6
+      | in-Idle-1 w ↦ subst To (sym w.passage-is) e6
+    ] in
+    walks_on start over third (walks_on start p.walk over met c.spin-passage.ensures.way)
+    (subst Last c.write_out-2.ensures.same c.step-3.ensures.way)
+
+pub returns-then-has_won-2-clause-way : goal.returns-then-has_won-2-clause-way
+returns-then-has_won-2-clause-way g c = past_e9_way g (goal.at.returns-then-has_won-2-clause-way g c).After-step-3
+
+pub returns-clause-way : goal.returns-clause-way
+returns-clause-way g c =
+    walks_on c.args.self.walk c.step-3.new.self.walk c.spin.result.walk
+    (past_e9_way g (goal.at.returns-clause-way g c).After-step-3) c.spin.ensures.way

@@ -124,3 +124,17 @@ returns-in-Load-clause-goes g c =
     c.saw.ensures.after
     (looked g.V.Kept.since g.V.Kept.done s.walker g.row.L c.load-value.result s.seen.value s.seat.me c.load-value.new.seat.me
     (due_to _ c.args.self.now c.self.view_is (c.requires.0, c.requires.1)) i.seat i.tree c.load-value.ensures.2)
+
+pub returns-in-Store-clause-way : goal.returns-in-Store-clause-way
+returns-in-Store-clause-way g c =
+    let w = c.self.inside.walker in let value = c.in-Store.value in
+    let a = store_due w c.in-Store.number value (sym c.op.ensures.value ∙ c.in-Store.is) in
+    (goes_by _ c.args.self.now c.done.new.self value c.self.view_is c.op.ensures.proper
+    (subst (λ d. MayBeTold d value) (sym a.3) tt) (c.done.ensures.after value)).2
+
+pub returns-in-Load-clause-way : goal.returns-in-Load-clause-way
+returns-in-Load-clause-way g c =
+    let s = c.self.inside in let i = c.self.invariant in let due = due_to _ c.args.self.now c.self.view_is (c.requires.0, c.requires.1) in
+    (goes_by _ c.args.self.now c.saw.new.self c.load-value.result c.self.view_is c.op.ensures.proper
+    (told_due g.V.Kept.since g.V.Kept.done s.walker g.row.L c.load-value.result s.seen.value s.seat.me c.load-value.new.seat.me due
+    i.seat i.tree c.load-value.ensures.2) c.saw.ensures.after).2

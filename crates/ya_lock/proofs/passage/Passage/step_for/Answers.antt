@@ -87,3 +87,10 @@ returns-clause-count g c =
     let a = store_due w c.in-Store.number value (sym c.op.ensures.value ∙ c.in-Store.is) in
     (goes_by _ c.args.self.now c.done.new.self value c.self.view_is c.op.ensures.proper
     (subst (λ d. MayBeTold d value) (sym a.3) tt) (c.done.ensures.after value)).1
+
+pub returns-clause-way : goal.returns-clause-way
+returns-clause-way g c =
+    let w = c.self.inside.walker in let value = c.in-Store.value in
+    let a = store_due w c.in-Store.number value (sym c.op.ensures.value ∙ c.in-Store.is) in
+    (goes_by _ c.args.self.now c.done.new.self value c.self.view_is c.op.ensures.proper
+    (subst (λ d. MayBeTold d value) (sym a.3) tt) (c.done.ensures.after value)).2

@@ -3,7 +3,9 @@ use Rattle.ya_lock.specs.Lock.{OpenGuard}
 use Rattle.ya_core.specs.declared.process.Process.TheVariants.{Inside}
 use Rattle.ya_core.specs.WalkerModel.{Walk, walk}
 use Rattle.ya_lock.proofs.GuardSeats.{told_to_leave}
+use Rattle.ya_lock.specs.inside.Lock.{OnWay}
 use Rattle.ya_lock.proofs.TreeSize.{place_below}
+use Rattle.ya_lock.proofs.Ways.{comes_idle}
 use Rattle.ya_lock.proofs.tree_lock.TreeLock.leave.Goals as goal
 
 pub inside-walker-requires-clause-place : goal.inside-walker-requires-clause-place
@@ -34,3 +36,16 @@ invariant_of-result g c = search rules
 
 pub returns-clause-pass : goal.returns-clause-pass
 returns-clause-pass g c = search rules
+
+pub returns-clause-walks : goal.returns-clause-walks
+returns-clause-walks g c =
+    let s = c.guard.inside in let V = g.row.V.Denot in let shape = c.shape.result in
+    let is : c.begin_exit.new.self ≡ walk shape s.place Inside true s.remote =
+    c.begin_exit.ensures
+    ∙ ap (λ (w : Walk). walk w.levels w.place w.process true w.remote) c.inside-walker.ensures in
+    let begins =
+    is ∙ (λ i. walk (c.shape.ensures i) s.place Inside true s.remote)
+    ∙ ap (λ (q : OpenGuard V). walk g.row.L q.place Inside true q.remote) c.guard.view_is in
+    let made = c.remote.ensures.value ∙ ap (λ (p : OnWay V). p.walk.remote) c.passage.view_is in
+    comes_idle (walk g.row.L c.args.guard.place Inside true c.args.guard.remote) c.begin_exit.new.self
+    c.release-passage.result.walk c.remote.result begins c.release-passage.ensures.way c.release-passage.ensures.idle made
