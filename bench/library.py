@@ -49,7 +49,7 @@ def python_rows(yarib, pairs, asked):
     yield each("look_up_text", ASKED, lambda: call_each(table.look_up, texts))
     yield each("look_up_array", ASKED, lambda: table.look_up_each(block))
     yield each("contains", len(pairs), lambda: call_each(lambda prefix: prefix in table, prefixes))
-    forwarding = table.forward()
+    forwarding = table.fib_new()
     yield each("forwarding_1", ASKED, lambda: call_each(forwarding.look_up, asked))
     yield each("forwarding_text", ASKED, lambda: call_each(forwarding.look_up, texts))
     yield each("forwarding_array", ASKED, lambda: forwarding.look_up_each(block))

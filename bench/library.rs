@@ -3,7 +3,7 @@
 //! one prefix or address.
 use std::net::Ipv4Addr;
 use std::{env, fs};
-use yarib::{Command, Error, Forwarding, Hop, Prefix, Route, Table};
+use yarib::{Command, Error, Fib, Hop, Prefix, Route, Table};
 
 const CHUNK: usize = 4096;
 
@@ -71,7 +71,7 @@ fn look_up(table: &mut Table, asked: &[u32], size: usize) -> Result<u64, Error> 
         .sum()
 }
 
-fn forwarded(forwarding: &mut Forwarding, asked: &[u32], size: usize) -> Result<u64, Error> {
+fn forwarded(forwarding: &mut Fib, asked: &[u32], size: usize) -> Result<u64, Error> {
     asked
         .chunks(size)
         .map(|some| Ok(sum(&forwarding.look_up_each(some)?)))
@@ -93,7 +93,7 @@ fn main() -> Result<(), Error> {
         say("look_up_256", asked.len(), || look_up(&mut table, asked, 256))?,
         say("look_up_4096", asked.len(), || look_up(&mut table, asked, CHUNK))?,
     ];
-    let mut forwarding = say("forward", prefixes, || table.forward())?;
+    let mut forwarding = say("forward", prefixes, || table.fib_new())?;
     let forwarded = [
         say("forwarding_1", asked.len(), || forwarded(&mut forwarding, asked, 1))?,
         say("forwarding_256", asked.len(), || forwarded(&mut forwarding, asked, 256))?,

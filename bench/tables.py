@@ -161,7 +161,7 @@ def table(name, head):
     lines = ["| " + " | ".join(str(cell) for cell in row) + " |" for row in rows]
     lines.insert(1, "|" + "---|" * len(heads))
     machine = "" if kept["machine"] in " ".join(head.split()) else f"{kept['machine']}; "
-    rounds = f"{kept['rounds']} round{'s' if kept['rounds'] > 1 else ''}"
+    rounds = f"{kept['rounds']} run{'s' if kept['rounds'] > 1 else ''}"
     below = BELOW.get(name, lambda rows: "")(kept["rows"])
     said = f"{below}{machine}{rounds}{figures.MEMORY[kept.get('memory')]}; {kept['made']}{stolen(kept)}."
     return "\n".join(lines) + f"\n\n{textwrap.fill(said, 120)}\n"

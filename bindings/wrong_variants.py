@@ -1,13 +1,15 @@
-"""Wrong variants of the bindings that each language's tests must notice. `bindings/test` applies each one to a copy.
+"""Mutants of the bindings that each language's tests must notice. `bindings/test` applies each one to a copy.
 
 Of each language, by name: the file, the text that is there exactly once, and the wrong text; and, from the lists at the
 end, the test that has to notice it.
 """
-TABLES, LIBRARY = "yarib/_tables.py", "yarib/_library.py"
+TABLES, LIBRARY, FILES = "yarib/_tables.py", "yarib/_library.py", "yarib/_files.py"
 PYTHON = {
     "in finds longer prefixes": (TABLES, "if found[4] == length and", "if found[4] >= length and"),
     "in finds shorter prefixes": (TABLES, "if found[4] == length and", "if found[4] <= length and"),
     "in doesn't find what a longer prefix hides": (TABLES, "if found[4] > length or base", "if base"),
+    "a prefix is looked up by its base": (TABLES, "if found[4] <= length and not base & LAST >> length:", "if not base & LAST >> length:"),
+    "a prefix with bits past the length is looked up": (TABLES, "if found[4] <= length and not base & LAST >> length:", "if found[4] <= length:"),
     "in accepts bits past the length": (TABLES, "if found[4] > length or base & LAST >> length:", "if found[4] > length:"),
     "a router is another one": (TABLES, "    return address_of(text)\n", "    return address_of(text) ^ 1\n"),
     "a call's room is given back too early": (TABLES, "            if self._held.yarib_look_up_one(self._at, asked, room.at):\n",
@@ -24,14 +26,14 @@ PYTHON = {
     "a feed out of range isn't named": (TABLES, "    if status == c.BAD_NUMBER:\n", "    if status == c.BAD_SIZE:\n"),
     "any number of arguments is a command": (TABLES, "    if len(words) != len(TAKES[operation]):\n", "    if operation == c.LOOKUP and len(words) != 1:\n"),
     "a full feed is overlooked": (TABLES, "{c.EXISTS: Exists, c.FULL: Full, c.MISSING: Missing}", "{c.EXISTS: Exists, c.MISSING: Missing}"),
-    **{f"{forgotten[0]} is forgotten in {call}": (TABLES, f"self._select(c.{call.upper()}, prefix_of(prefix), feed, best)",
-                                                  f"self._select(c.{call.upper()}, prefix_of(prefix), {forgotten[1]})")
+    **{f"{forgotten[0]} is forgotten in {call}": (TABLES, f"self._select(c.{call.upper()}, prefix, feed, best)",
+                                                  f"self._select(c.{call.upper()}, prefix, {forgotten[1]})")
        for call in ("exact", "within", "covering")
        for forgotten in (("best", "feed, False"), ("feed", "None, best"))},
     "best is forgotten in routes": (TABLES, "self._select(c.ALL, (0, 0), feed, best)", "self._select(c.ALL, (0, 0), feed, False)"),
     "feed is forgotten in routes": (TABLES, "self._select(c.ALL, (0, 0), feed, best)", "self._select(c.ALL, (0, 0), None, best)"),
     "within and covering are exchanged": (TABLES, "return self._select(c.WITHIN,", "return self._select(c.COVERING,"),
-    "feed 0 selects all": (TABLES, "        if feed == 0:\n", "        if feed == 0 and best is None:\n"),
+    "feed 0 selects all": (TABLES, "    if not 1 <= found <= c.MAX_FEED:\n", "    if not 0 <= found <= c.MAX_FEED:\n"),
     "routes(feed=0) gives all": (TABLES, "if feed is not None or best:", "if feed or best:"),
     "an entry without its prefix": (TABLES, "        return feed, name, prefix\n", "        return feed, name, None\n"),
     "an added entry without its prefix": (TABLES, "return feed, name, prefix, pref,",
@@ -53,7 +55,7 @@ PYTHON = {
                                           "(base, length, pref, feed, via if hop == c.VIA else None))\n"),
     "an answer's preference and feed are exchanged": (TABLES, "(base, length, feed, pref, via if hop == VIA else None)) if",
                                                       "(base, length, pref, feed, via if hop == VIA else None)) if"),
-    "lists are cut at 64": (TABLES, "            size = total.value\n", "            return memoryview(block)\n"),
+    "lists are cut at 64": (TABLES, "        if total <= c.LISTED:\n", "        if total <= c.MAX_LIMIT:\n"),
     "lists are cut at 4,096": (TABLES, "            size = total.value\n",
                                "            if size == 4096:\n                return memoryview(block)\n            size = total.value\n"),
     "a list that just fits is asked for ever": (TABLES, "if total.value <= size:", "if total.value < size:"),
@@ -74,11 +76,11 @@ PYTHON = {
     "reasons are exchanged": (LIBRARY, '"bad text",\n          "bad length"', '"bad length",\n          "bad text"'),
     "closed and unsupported are exchanged": (LIBRARY, "    NOTHING: \"the table is closed\",\n    WRONG_KIND:",
                                              "    WRONG_KIND: \"the table is closed\",\n    NOTHING:"),
-    "the size without what is attached": (TABLES, '        """Returns an estimate of its size in bytes, including an attached forwarding table."""\n',
-                                          '        return bytes_of(self._at) % (1 << 26)\n'),
+    "the size without what is attached": (TABLES, "        return bytes_of(self._at, self._held)\n",
+                                          "        return bytes_of(self._at, self._held) % (1 << 26)\n"),
     "another library is loaded": (LIBRARY, "        return named\n", '        return named.replace(".so.0", ".so")\n'),
-    "the best of all routes is the last": (TABLES, "        return routes_of(found)\n\n    def _pages(",
-                                           "        return routes_of(found[:1])\n\n    def _pages("),
+    "all matches are cut to the best": (TABLES, "self._held.yarib_look_up_all, address_in(room, address))",
+                                        "self._held.yarib_look_up_all, address_in(room, address))[:1]"),
     "a busy call isn't made again": (LIBRARY, "    while status == BUSY:\n", "    while status == BUSY and call is None:\n"),
     "an IPv6 address is read as a number": (TABLES, "int(value) if isinstance(value, ADDRESS) else", "int(value) if hasattr(value, 'packed') else"),
     "a float is read as a number": (TABLES, "found = operator.index(value)", "found = int(value)"),
@@ -90,11 +92,29 @@ PYTHON = {
     "in doesn't find addresses": (TABLES, "else self.look_up(key)) is not None", "else None) is not None"),
     "in finds other routes to a prefix": (TABLES, "return key in self.exact(key[:2], feed=key.feed)",
                                           "return bool(self.exact(key[:2], feed=key.feed))"),
-    "a prefix is looked up by its base": (TABLES, "return found[-1] if found else None", "return self.look_up(prefix_of(prefix)[0])"),
     "a copy without the limit": (TABLES, "return restored, (self._limit,", "return restored, (c.MAX_LIMIT,"),
     "a copy without the journal": (TABLES, "        if self._journal:\n", "        if not self._limit:\n"),
-    "load skips a line": (TABLES, "lines[first:], 1 + first)", "lines[first + 1:], 2 + first)"),
-    "save writes all feeds": (TABLES, "for one in self.routes(feed)]", "for one in self.routes()]"),
+    "save writes another feed": (TABLES, "self._freed.yarib_save, self._at, chosen, stream)", "self._freed.yarib_save, self._at, 1, stream)"),
+    "load adds to another feed": (TABLES, "self._freed.yarib_load, self._at, chosen, *words)", "self._freed.yarib_load, self._at, 1, *words)"),
+    "load counts lines from 0": (TABLES, 'place = f"{os.fspath(path)}:{loaded.line}"', 'place = f"{os.fspath(path)}:{loaded.line - 1}"'),
+    "load names another line": (TABLES, "[max(loaded.line, 1) - 1]", "[max(loaded.line, 1)]"),
+    "load names a whole long line": (TABLES, "[:c.MAX_LINE + 1].decode", ".decode"),
+    "load returns the number of lines": (TABLES, "return loaded.routes  #", "return loaded.line  #"),
+    "a full feed has the route": (TABLES, "raise UNCHANGED[loaded.code](", "raise Exists("),
+    "a bad prefix is a bad line": (TABLES, "'not an add line' if status == c.BAD_TEXT else c.STATUS[status]", "'not an add line'"),
+    "a load of a closed table is overlooked": (TABLES, "            check(status)\n        return loaded", "        return loaded"),
+    "a saved text is cut": (FILES, "ctypes.string_at(at, size.value) if", "ctypes.string_at(at, size.value - 1) if"),
+    "a save that is refused is overlooked": (FILES, "    c.check(c.NO_MEMORY if status == c.BAD_FILE or not is_whole else status)\n", ""),
+    "a text is read up to its last byte": (FILES, "libc.fmemopen(text, len(text), ", "libc.fmemopen(text, max(len(text) - 1, 0), "),
+    **{f"{call} keeps the global lock": (TABLES, f"self._freed.yarib_{call}, ", f"self._held.yarib_{call}, ") for call in ("hops", "save", "load")},
+    "a view keeps the global lock": (TABLES, "table._freed.yarib_view_write", "table._held.yarib_view_write"),
+    "look-ups in a view keep the global lock": (TABLES, "freed.yarib_view_look_up_each", "held.yarib_view_look_up_each"),
+    "no route and a discard are exchanged": (TABLES, "number(no_route), number(discard), pointer_to", "number(discard), number(no_route), pointer_to"),
+    "hops of any number": (TABLES, "number(no_route), number(discard), pointer_to", "no_route % 2**32, discard % 2**32, pointer_to"),
+    "a view's routers are cut": (TABLES, "[:raw.router_count]", "[:raw.router_count - 1]"),
+    "a view's routers may be written": (TABLES, "[:raw.router_count].toreadonly()", "[:raw.router_count]"),
+    "a view that is too small isn't made again": (TABLES, "        while status == c.BAD_SIZE:\n", "        if status == c.BAD_SIZE:\n"),
+    "an address in a view is another": (TABLES, "held.yarib_view_look_up(self._at, address_of(address))", "held.yarib_view_look_up(self._at, address_of(address) ^ 1)"),
     "a source deals by chance": (TABLES, "mixed = (base + length) * 2_654_435_769 & 0xFFFFFFFF",
                                      "mixed = threading.get_ident() + id(prefix) & 0xFFFFFFFF"),
     "a source deals otherwise": (TABLES, "2_654_435_769", "2_654_435_761"),
@@ -104,17 +124,27 @@ PYTHON = {
         "self.table.add(prefix, via, pref, self.feed_of(prefix))\n        return True"),
     "a source uses one feed": (TABLES, "return self.feeds[mixed * len(self.feeds) >> 32]", "return self.feeds[0]"),
     "close leaves a forwarding table open": (TABLES, "        self.close()\n", "        pass\n"),
-    "one of two tables is counted": (TABLES, '        """Returns an estimate of the size of both tables in bytes, including attached forwarding tables."""\n',
-                                     "        return bytes_of(self._at, self._held) // 2\n"),
-    "a concurrent table isn't followed": (TABLES, "self._change(self._freed.yarib_follow, self._at)", "len(self)"),
+    "one of two tables is counted": (TABLES, "        return bytes_of(self._at, self._held)\n",
+                                     "        return bytes_of(self._at, self._held) // (2 if self._held is concurrent_held else 1)\n"),
+    "a concurrent table isn't followed": (TABLES, "self._change(self._freed.yarib_fib_attach, self._at)", "len(self)"),
     "a batch is published one by one": (TABLES, "        raw = [command_of(*words) for words in commands]\n",
                                         "        commands = list(commands)\n        if len(commands) > 1:\n"
                                         "            return [self.apply_each([one])[0] for one in commands]\n"
                                         "        raw = [command_of(*words) for words in commands]\n"),
     "a replace is an add": (TABLES, "self._put(c.REPLACE, prefix,", "self._put(c.ADD, prefix,"),
     "every table is followed": (TABLES, "return found.value == 1", "return found.value <= 1"),
+    "a copy has another limit": (TABLES, "        made = Table(limit)\n        self._check_limit(status_of(freed.yarib_concurrent_copy, self._at, number(limit, \"a limit\"), made._at), limit)",
+                                 "        made = Table(limit)\n        self._check_limit(status_of(freed.yarib_concurrent_copy, self._at, c.MAX_LIMIT, made._at), limit)"),
+    "a table that replaces has another limit": (TABLES, "freed.yarib_concurrent_replace, self._at, number(limit, \"a limit\"), other._at", "freed.yarib_concurrent_replace, self._at, c.MAX_LIMIT, other._at"),
+    "a feed over the limit is overlooked": (TABLES, "        if status == c.NOT_ADDED:\n            raise Full(f\"a feed has more than {limit} routes\")\n        check(status, limit)\n",
+                                            "        if status != c.NOT_ADDED:\n            check(status, limit)\n"),
+    "tables of two kinds are compared": (TABLES, "isinstance(other, Table if isinstance(self, Table) else ConcurrentTable)", "isinstance(other, Routes)"),
     "the text of an address is cut": (TABLES, "            if self._held.yarib_look_up_text(self._at, text, size, room.at):\n",
                                       "            if self._held.yarib_look_up_text(self._at, text, size and size - 1, room.at):\n"),
+    "the routes of a change are exchanged": (TABLES, "route_of(*routes[:6]), route_of(*routes[6:]))\n\n\ndef outcome",
+                                             "route_of(*routes[6:]), route_of(*routes[:6]))\n\n\ndef outcome"),
+    "no change is a change": (TABLES, "found if found.before or found.after else None", "found"),
+    "a purge's changes are the first feed's": (TABLES, "yarib_purge_changes(self._at, feed,", "yarib_purge_changes(self._at, 1,"),
     "an invalid text of an address is overlooked": (TABLES,
         "                check(status_of(self._held.yarib_look_up_text, self._at, text, size, room.at), address)\n",
         "                pass\n"),
@@ -140,7 +170,7 @@ GO = {name: ("yarib.go", *texts) for name, texts in {
     "mapped prefixes are accepted": ("!prefix.Addr().Is4()", "!prefix.Addr().Unmap().Is4()"),
     "no router is discard": ("return Hop{router.Unmap(), true}", "return Hop{router.Unmap(), router.IsValid()}"),
     "a page is the last": ("if len(page) < pageSize {", "if len(page) <= pageSize {"),
-    "a full table is overlooked": ("\t\treturn ErrFull\n", "\t\treturn nil\n"),
+    "a full table is overlooked": ("\tcase Full:\n\t\treturn ErrFull\n", "\tcase Full:\n\t\treturn nil\n"),
     "put keeps the old route": ("table.Replace(feed, prefix, pref, hop); !errors", "table.Apply(Command{Operation: Dump, Feed: feed}); !errors"),
     "the best of a prefix is the shortest": ("return found[len(found)-1], true, nil", "return found[0], true, nil"),
     "an error without its command": ("return &CommandError{command, err}", "return &CommandError{Err: err}"),
@@ -184,15 +214,38 @@ GO = {name: ("yarib.go", *texts) for name, texts in {
     "one of two tables is counted": ("uint32(C.yarib_concurrent_memory(one.concurrent(), bytes))",
                                      "uint32(C.yarib_concurrent_memory(one.concurrent(), bytes)) + uint32(C.size_t(0)*(*bytes)) + "
                                      "func() uint32 { *bytes /= 2; return 0 }()"),
+}.items()} | {name: ("changes.go", *texts) for name, texts in {
+    "the routes of a change are exchanged": ("change.Old, change.HasOld = routeOf(&raw.before)\n\tchange.New, change.HasNew = routeOf(&raw.after)",
+                                             "change.New, change.HasNew = routeOf(&raw.before)\n\tchange.Old, change.HasOld = routeOf(&raw.after)"),
+    "no change is a change": ("if !found.HasOld && !found.HasNew {", "if !found.HasOld && found.HasNew {"),
+    "a purge's changes are cut at 64": ("for int(total) > len(room) {", "for int(total) > len(room) && len(room) == 0 {"),
 }.items()} | {name: ("files.go", *texts) for name, texts in {
-    "save writes all feeds": ("Selection{Part: All, Feed: feed}", "Selection{Part: All}"),
-    "load skips a last line without its end": ("case line != \"\" && line[0]", "case ended == nil && line != \"\" && line[0]"),
-    "load counts lines from 0": ("&LineError{number, line, err}", "&LineError{number - 1, line, err}"),
-    "load accepts long comments": ("len(line) > maxLine:", "len(line) > maxLine+1:"),
+    "save writes another feed": ("C.save(unsafe.Pointer(&one.inside), one.kind(), feed,", "C.save(unsafe.Pointer(&one.inside), one.kind(), 1,"),
+    "load adds to another feed": ("C.load(unsafe.Pointer(&one.inside), one.kind(), feed,", "C.load(unsafe.Pointer(&one.inside), one.kind(), 1,"),
+    "load counts lines from 0": ("return &LineError{number, string(line), reason}", "return &LineError{number - 1, string(line), reason}"),
+    "load names a whole long line": ("line = line[:maxLine+1]", "line = line[:len(line)]"),
+    "load returns the number of lines": ("return int(loaded.routes), err", "return int(loaded.line), err"),
+    "a full feed has the route": ("unchanged(Code(loaded.code))", "ErrExists"),
+    "a bad prefix is a bad line": ("lineError(text, int(loaded.line), err)", "lineError(text, int(loaded.line), ErrLine)"),
+    "a load's feed isn't named": ("\t\terr = about(err, \"feed %d, not 1 to %d\", feed, MaxFeed)\n\tcase C.YARIB_BAD_TEXT", "\tcase C.YARIB_BAD_TEXT"),
+    "a text is read up to its last byte": ("C.size_t(len(text)), &loaded)", "C.size_t(len(text)/2*2), &loaded)"),
+    "what is read of a broken file is loaded": ("\tif err != nil {\n\t\treturn 0, err\n\t}\n\t// One byte", "\tif err != nil && len(text) == 0 {\n\t\treturn 0, err\n\t}\n\t// One byte"),
+}.items()} | {name: ("views.go", *texts) for name, texts in {
+    "no route and a discard are exchanged": ("C.uint32_t(noRoute), C.uint32_t(discard), array", "C.uint32_t(discard), C.uint32_t(noRoute), array"),
+    "a view's routers are cut": ("view.routers = view.routers[:routers]", "view.routers = view.routers[:routers-1]"),
+    "a refused view is a view": ("\t\tif status != C.YARIB_BAD_SIZE {\n\t\t\treturn nil, err\n", "\t\tif status != C.YARIB_BAD_SIZE {\n\t\t\treturn view, nil\n"),
+    "a discard has no number": ("\tcase number == NumberDiscard:\n\t\treturn Discard, true\n", ""),
+    "a number of another view is a router": ("number < FirstRouter || number >= uint32(len(view.routers))", "number < FirstRouter"),
+    "an address in a view is another": ("C.size_t(len(view.routers)), base)), nil", "C.size_t(len(view.routers)), base^1)), nil"),
+    "lists of a view may differ in length": ("C.size_t(len(numbers)))))", "C.size_t(len(addresses)))))"),
+    "lists of hops may differ in length": ("array(hops), C.size_t(len(hops)))", "array(hops), C.size_t(len(addresses)))"),
+    "an IPv6 address is looked up in a view": ("\tif !isRight {\n\t\treturn NumberNoRoute, about", "\tif !isRight && len(view.entries) == 0 {\n\t\treturn NumberNoRoute, about"),
 }.items()} | {name: ("yarib.go", *texts) for name, texts in {
     "every table is followed": ("return attached == 1, err", "return attached < 2, err"),
-    "load accepts other forms of a preference": ("strconv.FormatUint(pref, 10) != fields[2]", "pref > 1<<32"),
-    "load accepts discard in version 1": ('fields[3] != "discard" || !hasDiscard', 'fields[3] != "discard"'),
+    "a copy has another limit": ("C.yarib_concurrent_copy(table.held.concurrent(), C.uint32_t(limit),", "C.yarib_concurrent_copy(table.held.concurrent(), MaxLimit,"),
+    "a table that replaces has another limit": ("C.yarib_concurrent_replace(table.held.concurrent(), C.uint32_t(limit),", "C.yarib_concurrent_replace(table.held.concurrent(), MaxLimit,"),
+    "a feed over the limit is a number out of range": ("\t\treturn ErrFull\n\t}\n\treturn ErrNumber", "\t\treturn ErrNumber\n\t}\n\treturn ErrNumber"),
+    "concurrent tables are compared with themselves": ("C.yarib_concurrent_first_difference(older.concurrent(), newer.concurrent(),", "C.yarib_concurrent_first_difference(newer.concurrent(), older.concurrent(),"),
     "a source uses one feed": ("uint64(source.feeds)>>32", "uint64(source.feeds)>>63"),
     "a source deals otherwise": ("2654435769", "2654435761"),
     "a source purges its first feed": ("source.first+source.feeds; feed++", "source.first+1; feed++"),
@@ -238,21 +291,40 @@ RUST = {name: ("src/lib.rs", *texts) for name, texts in {
     "preference and feed are exchanged": ("feed: raw.feed,\n            pref: raw.pref,\n            hop,", "feed: raw.pref,\n            pref: raw.feed,\n            hop,"),
     "addresses are read backwards": (".copied().map(u32::from)", ".copied().map(u32::from).map(u32::swap_bytes)"),
     "a command is written as another": ('"replace {prefix} {pref} {hop}"', '"add {prefix} {pref} {hop}"'),
-    "load accepts other forms of a preference": ("number.to_string() != pref", "number.to_string().len() > pref.len()"),
-    "load accepts discard in version 1": ('"discard" if has_discard', '"discard" if has_discard || number > 0'),
+    "two replacements at once": ("        let _turn = self.turn();\n        self.0.replace_all(limit, &other.0)", "        self.0.replace_all(limit, &other.0)"),
+    "a copy has another limit": ("self.0.copy(limit).map(Table)", "self.0.copy(MAX_LIMIT.min(limit.max(9))).map(Table)"),
+    "a table that replaces has another limit": ("self.0.replace_all(limit, &other.0)", "self.0.replace_all(MAX_LIMIT.min(limit.max(9)), &other.0)"),
+    "a feed over the limit is a number out of range": ("            raw::NOT_ADDED => Error::Full,\n", ""),
+    "sides of concurrent tables are exchanged": ("sides: Sides::Concurrent(&self.0, &new.0)", "sides: Sides::Concurrent(&new.0, &self.0)"),
+    "two loads at once": ("        let _turn = self.turn();\n        self.0.load(feed, text)", "        self.0.load(feed, text)"),
 }.items()} | {name: ("src/raw.rs", *texts) for name, texts in {
     "nothing is freed": ("        unsafe { yarib_free(self) };\n", ""),
     "a concurrent table isn't freed": ("        unsafe { yarib_concurrent_free(self) };\n", ""),
     "a concurrent table isn't followed": ("told(unsafe { yarib_concurrent_fib_attach(self) })", "Ok(())"),
-    "a concurrent table counts its routes as memory": ("yarib_concurrent_count, yarib_concurrent_memory);",
-                                                       "yarib_concurrent_count, yarib_concurrent_count);"),
+    "no route and a discard are exchanged": ("$hops(self, at, size, no_route, discard, hops, room)", "$hops(self, at, size, discard, no_route, hops, room)"),
+    "a view's routers are cut": ("view.routers.truncate(arrays.router_count);", "view.routers.truncate(arrays.router_count - 1);"),
+    "save writes another feed": ("saved(|stream| unsafe { $save(self, feed, stream) })", "saved(|stream| unsafe { $save(self, feed.min(1), stream) })"),
+    "load adds to another feed": ("            yarib_load(self, feed, stream, loaded)", "            yarib_load(self, feed.min(1), stream, loaded)"),
+    "load adds to another feed of a concurrent table": ("yarib_concurrent_load(self, feed, stream, loaded)",
+                                                        "yarib_concurrent_load(self, feed.min(1), stream, loaded)"),
+    "a text is read up to its last byte": ("fmemopen(text.as_ptr(), text.len(), ", "fmemopen(text.as_ptr(), text.len().saturating_sub(1), "),
+    "a saved text is cut": ("slice::from_raw_parts(at, size) }.to_vec()", "slice::from_raw_parts(at, size - 1) }.to_vec()"),
+    "a refused save is overlooked": ("told(status).map(|()| unsafe", "Ok(status).map(|_| unsafe"),
+    "a concurrent table counts its routes as memory": ("yarib_concurrent_count, yarib_concurrent_memory,\n",
+                                                       "yarib_concurrent_count, yarib_concurrent_count,\n"),
 }.items()} | {name: ("src/files.rs", *texts) for name, texts in {
-    "save writes all feeds": ("feed: Some(feed),", "feed: Some(feed).filter(|feed| *feed == 0),"),
-    "load skips a last line without its end": (".unwrap_or(&read)", ".unwrap_or_default()"),
-    "load counts lines from 0": ("for line in 1.. {", "for line in 0.. {"),
-    "load accepts long comments": ("bytes.len() > MAX_LINE ||", "bytes.len() > MAX_LINE + 1 ||"),
+    "load counts lines from 0": ("let line = loaded.line;", "let line = loaded.line.max(2) - 1;"),
+    "load names a whole long line": ("line.len().min(MAX_LINE + 1)", "line.len()"),
+    "load returns the number of lines": ("return Ok(loaded.routes)", "return Ok(loaded.line)"),
+    "a full feed has the route": ("raw::NOT_ADDED if loaded.code == raw::FULL => Error::Full,", "raw::NOT_ADDED if loaded.code > 99 => Error::Full,"),
+    "a bad prefix is a bad line": ("        raw::BAD_TEXT => FileError::Line {", "        raw::BAD_TEXT | raw::BAD_BITS => FileError::Line {"),
+    "what is read of a broken file is loaded": ("from.read_to_end(&mut text)?;", "let _ = from.read_to_end(&mut text);"),
     "a refusal lacks its reason": ("FileError::Table(error) | FileError::Route { error, .. } => Some(error),\n            FileError::Line",
                                    "FileError::Table(error) => Some(error),\n            FileError::Route { .. } | FileError::Line"),
+}.items()} | {name: ("src/views.rs", *texts) for name, texts in {
+    "a router's number is another's": (".get(router as usize)", ".get(router as usize - 1)"),
+    "a discard has no number": ("NUMBER_DISCARD => Some(Hop::Discard)", "NUMBER_DISCARD => None"),
+    "an address in a view is another": ("self.0.look_up(u32::from(address))", "self.0.look_up(u32::from(address) ^ 1)"),
 }.items()} | {name: ("src/source.rs", *texts) for name, texts in {
     "a source uses one feed": ("u64::from(self.feeds)) >> 32", "u64::from(self.feeds)) >> 63"),
     "a source deals otherwise": (".wrapping_add(u32::from(prefix.len()))", ".wrapping_add(0)"),
@@ -265,6 +337,10 @@ RUST = {name: ("src/lib.rs", *texts) for name, texts in {
     "a source in a concurrent table keeps the old route": (".put(self.source.feed_of(prefix)", ".add(self.source.feed_of(prefix)"),
     "a source in a concurrent table counts its last purge": ("                count += removed;\n            }\n        }\n        Ok(count)\n    }\n\n    /// Returns the routes of the source in one",
                                                             "                count = removed;\n            }\n        }\n        Ok(count)\n    }\n\n    /// Returns the routes of the source in one"),
+}.items()} | {name: ("src/changes.rs", *texts) for name, texts in {
+    "the routes of a change are exchanged": ("before: Route::of(&raw.before),\n            after: Route::of(&raw.after),",
+                                             "before: Route::of(&raw.after),\n            after: Route::of(&raw.before),"),
+    "a route that is gone is no change": ("change.before.is_some() || change.after.is_some()", "change.after.is_some()"),
 }.items()} | {name: ("src/raw.rs", *texts) for name, texts in {
     "every table is followed": ("Ok(attached == 1)", "Ok(attached < 2)"),
 }.items()}
@@ -312,10 +388,11 @@ C = {f"{file.partition('.')[0]}: {name}": (file, *texts) for file, wrong in {
         "a handle is compared with itself": ("    if (old_table == new_table) return YARIB_BUSY;\n", ""),
         "the number of routers is left out": ("view->router_count, &view->router_count));", "view->router_count, &(size_t){0}));"),
         "the blocks are said to be entries": ("view->blocks, view->block_count, view->routers", "view->blocks, view->entry_count, view->routers"),
-        "other calls run during a load": ("    CHANGE(load(&own, feed, file, loaded));\n",
+        "other calls run during a load": ("    CHANGE(table, load(&own, feed, file, loaded));\n",
                                           "    yarib own;\n    enum yarib_status status = enter_change(table, &own);\n"
-                                          "    if (status != YARIB_DONE) return status;\n    leave_change(table, &own);\n"
-                                          "    status = load(&own, feed, file, loaded);\n    leave_change(table, &own);\n    return status;\n"),
+                                          "    if (status != YARIB_DONE) return status;\n    unmark(&table->inside, own.inside);\n"
+                                          "    status = load(&own, feed, file, loaded);\n    unmark(&table->inside, own.inside);\n    return status;\n"),
+        "a copy isn't a change": ("    CHANGE(copy, copy_published(table, limit, &own));\n", "    return copy_published(table, limit, copy);\n"),
         "load accepts feed 65 of a forwarding table": (
             "if (status != YARIB_NOTHING && (feed < 1",
             "if (status == YARIB_DONE && (feed < 1"),
@@ -332,8 +409,11 @@ C = {f"{file.partition('.')[0]}: {name}": (file, *texts) for file, wrong in {
     "readers.c": {
         "the second table leaves its memory to changes": ("return status == YARIB_DONE ? attach(back(sides)) : status;",
                                                           "return status == YARIB_DONE ? proved_yarib_follow(back(sides)) : status;"),
-        "a change is made in the side that readers use": ("status = proved_yarib_apply(back(sides), command, reply);\n    if (status != YARIB_DONE) return status;\n    keep(sides, command, reply);\n    if (sides",
-                                                          "status = proved_yarib_apply(&sides->tables[sides->front], command, reply);\n    if (status != YARIB_DONE) return status;\n    keep(sides, command, reply);\n    if (sides"),
+        "a change is made in the side that readers use": (" : proved_yarib_apply(back(sides), command, reply);",
+                                                          " : proved_yarib_apply(&sides->tables[sides->front], command, reply);"),
+        "a change of a best route is forgotten": ("status = change ? proved", "status = change && !sides ? proved"),
+        "a change of a best route is that of the side that readers use": (
+            "proved_yarib_apply_changed(back(sides), command,", "proved_yarib_apply_changed(&sides->tables[sides->front], command,"),
         "readers use the side that is changed": ("    __atomic_store_n(&sides->table, back(sides)->inside, __ATOMIC_SEQ_CST);\n    sides->front = 1 - sides->front;\n",
                                                  "    sides->front = 1 - sides->front;\n    __atomic_store_n(&sides->table, back(sides)->inside, __ATOMIC_SEQ_CST);\n"),
         "a batch is made in the side that readers use": ("proved_yarib_apply_each(back(sides),", "proved_yarib_apply_each(&sides->tables[sides->front],"),
@@ -341,7 +421,8 @@ C = {f"{file.partition('.')[0]}: {name}": (file, *texts) for file, wrong in {
         "no wait for readers before a free": (
             "    enum yarib_status status = wait_for_readers(table, __atomic_add_fetch(&publications.number, 1, __ATOMIC_SEQ_CST));\n",
             "    enum yarib_status status = YARIB_DONE;\n"),
-        "no wait for readers before a new table": ("    if (settle(table, sides) == YARIB_DONE) catch_up(sides);\n", "    catch_up(sides);\n"),
+        "no wait for readers before a new table": ("    if (settle(table, sides) == YARIB_DONE) prepare(sides, 1);\n",
+                                                   "    (void)table;\n    prepare(sides, 1);\n"),
         "no wait for readers between forwarding tables": ("    publish(sides);\n    status = settle(table, sides);\n    return",
                                                           "    publish(sides);\n    status = YARIB_DONE;\n    return"),
         "a reader claims the next publication": ("enter_place(table, __atomic_load_n(&publications.number, __ATOMIC_SEQ_CST))",
@@ -365,48 +446,71 @@ C = {f"{file.partition('.')[0]}: {name}": (file, *texts) for file, wrong in {
         "no room for the commands": ("    if (size == 0 || (size <= sides->room", "    if (size < 99999 || (size <= sides->room"),
         "a large list is never given back": (" && (size > KEPT || sides->room <= KEPT))) return true;", ")) return true;"),
         "a shorter list that finds no memory is refused": ("    if (!made.ok) return size <= sides->room;\n", "    if (!made.ok) return false;\n"),
-        "new tables are lost without memory": ("    if (status != YARIB_DONE) proved_yarib_free(&tables[0]);\n", ""),
-        "new sides are lost without memory": ("        for (int k = 0; k < 2; k++) proved_yarib_free(&tables[k]);\n", ""),
+        "new tables are lost without memory": ("    for (int k = 0; k < 2 && status != YARIB_DONE; k++) free_contents(&tables[k]);\n", ""),
+        "new sides are lost without memory": ("        for (int k = 0; k < 2; k++) free_contents(&tables[k]);\n", ""),
         "a new table loses the one before": ("        free_contents(back(sides));\n        *back(sides)", "        *back(sides)"),
         "one side has a forwarding table": ("return status == YARIB_DONE ? attach(back(sides)) : status;", "return status;"),
         "the second forwarding table that finds no memory is forgotten": (
             "return status == YARIB_DONE ? attach(back(sides)) : status;",
             "return status == YARIB_DONE ? (attach(back(sides)), YARIB_DONE) : status;"),
         "one side is counted": ("*bytes *= 2;", "*bytes *= 1;"),
-        "load accepts feed 0 of a concurrent table": ("    if (feed < 1 || feed", "    if (feed"),
+        "load accepts feed 0 of a concurrent table": ("(sides && (feed < 1 || feed", "(sides && (feed"),
         "load says nothing after an error of a concurrent table": ("    *loaded = (yarib_loaded){0};\n", ""),
-        "a loaded table isn't published": ("    if (loading.is_new) publish(sides);\n", ""),
-        "a load is published at its end only": (
-            "if (loading->is_new && sides->end == KEPT) {",
-            "if (sides->end == 999 * KEPT) {"),
-        "each line is published": ("if (loading->is_new && sides->end == KEPT) {", "if (loading->is_new) {"),
-        "the second side lacks a loaded route": (
-            "    keep(sides, command, reply);\n    loading->is_new",
-            "    if (sides->end < 9) keep(sides, command, reply);\n    loading->is_new"),
+        "a loaded table isn't published": ("    if (sides->end > 0) publish_both(table, sides);\n", ""),
+        "each line of a load is published": ("    if (status == YARIB_DONE) keep(sides, command, reply);\n    return status;",
+                                             "    if (status == YARIB_DONE) keep(sides, command, reply);\n"
+                                             "    if (status == YARIB_DONE) publish(sides), sides->published = 0, catch_up(sides);\n    return status;"),
+        "the second side lacks a loaded route": ("    if (status == YARIB_DONE) keep(sides, command, reply);\n",
+                                                 "    if (status == YARIB_DONE && sides->end < 9) keep(sides, command, reply);\n"),
         "a load begins without the change before": (
-            "if (status == YARIB_DONE && !loading->is_new) status = prepare(sides, KEPT);",
-            "if (status == YARIB_DONE && !loading->is_new && !reserve(sides, KEPT)) status = YARIB_NO_MEMORY;"),
+            "    enum yarib_status status = prepare(sides, KEPT);\n",
+            "    enum yarib_status status = sides && reserve(sides, KEPT) ? YARIB_DONE : YARIB_NOTHING;\n"),
+        "a long load has no room": ("if (sides->end == sides->room && !reserve(sides, 2 * sides->room)) return YARIB_NO_MEMORY;\n",
+                                    "if (sides->end == sides->room && !reserve(sides, 2 * sides->room)) sides->end--;\n"),
+        "room for more loses what is kept": ("rattle_realloc(sides->lacking, sides->end * sizeof(yarib_command), ", "rattle_realloc(sides->lacking, 0, "),
+        "a load leaves its commands to the next change": ("    if (settle(table, sides) == YARIB_DONE) prepare(sides, 1);\n", "    (void)table;\n"),
+        "one side is replaced": ("make_table(beginning->limit, &beginning->list, &tables[k]);",
+                                 "make_table(beginning->limit, k ? &(struct list){NULL, 0} : &beginning->list, &tables[k]);"),
+        "one side has the limit": ("make_table(beginning->limit, ", "make_table(k && beginning->limit ? YARIB_MAX_LIMIT : beginning->limit, "),
+        "a table is replaced by one feed": ("list_routes(other, NULL, 0, ", "list_routes(other, NULL, 1, "),
+        "a replacement has no forwarding table": ("    beginning.is_followed = is_attached;\n", "    (void)is_attached;\n"),
+        "one side of a replacement has a forwarding table": ("if (status == YARIB_DONE && beginning->is_followed) status", "if (status == YARIB_DONE && beginning->is_followed && k) status"),
+        "a replacement loses its list": ("    free_list(&beginning.list);\n", ""),
+        "a comparison waits for its second place": ("    if (!try_to_enter(table, &visit)) return YARIB_BUSY;\n",
+                                                    "    enter(table, &visit);\n"),
+        "a comparison keeps its place": ("    leave_place(visit.place);\n    return status;\n}\n\nenum yarib_status yarib_concurrent_first", "    return status;\n}\n\nenum yarib_status yarib_concurrent_first"),
+        "old and new tables are exchanged": ("proved_yarib_first_difference(old, &visit.table,", "proved_yarib_first_difference(&visit.table, old,"),
+        "a table is compared with itself": ("    if (table == new_table) return YARIB_BUSY;\n", ""),
+    },
+    "copies.c": {
+        "a list of a table that grew is cut": ("if (status == YARIB_DONE && list->size <= room) return status;",
+                                               "if (status == YARIB_DONE && list->routes) return list->size = list->size < room ? list->size : room, status;\n"
+                                               "        if (status == YARIB_DONE && list->size == 0) return status;"),
+        "a list has only the best routes": ("{.part = YARIB_ALL, ", "{.part = YARIB_ALL, .only_best = 1, "),
+        "a refused list is whole": (
+            "        if (!made.ok) return YARIB_NO_MEMORY;\n",
+            "        if (!made.ok) return YARIB_DONE;\n"),
+        "a list isn't freed": ("    if (list->routes) rattle_dealloc(list->routes);\n", ""),
+        "a copied discard is a router": (".hop = route->hop, .via", ".hop = YARIB_VIA, .via"),
+        "a route that isn't added is left out": ("status = YARIB_NOT_ADDED;", "status = YARIB_DONE;"),
+        "a table that is refused is lost": ("    if (status != YARIB_DONE) free_contents(made);\n", ""),
+        "a copy has one feed": ("list_routes(NULL, table, 0, &list)", "list_routes(NULL, table, 1, &list)"),
+        "a copy has any limit": ("status = make_table(limit, &list, &made);", "status = make_table(limit ? YARIB_MAX_LIMIT : 0, &list, &made);"),
+        "a copy loses its list": ("    free_list(&list);\n    if (status", "    if (status"),
+        "a copy loses what the handle had": ("    free_contents(copy);\n", ""),
+        "a copy that is refused empties the handle": ("    yarib made = YARIB_INIT;\n", "    yarib made = YARIB_INIT;\n    free_contents(copy);\n"),
     },
     "files.c": {
         "a short write isn't noticed": (
             "is_written = is_written && fflush(file) == 0;",
             "is_written = is_written || fflush(file) == 0;"),
         "what the file refuses at its end isn't noticed": ("    is_written = is_written && fflush(file) == 0;\n", ""),
-        "save takes a part of the feed's number": (".feed = feed == 0 ? YARIB_MAX_FEED + 1 : feed}", ".feed = feed == 0 ? YARIB_MAX_FEED + 1 : feed & 255}"),
-        "a list of a table that grew is cut": ("if (status == YARIB_DONE && *total <= room) return status;",
-                                               "if (status == YARIB_DONE && *routes) return *total = *total < room ? *total : room, status;\n"
-                                               "        if (status == YARIB_DONE && *total == 0) return status;"),
+        "save takes a part of the feed's number": ("feed == 0 ? YARIB_MAX_FEED + 1 : feed,", "feed == 0 ? YARIB_MAX_FEED + 1 : feed & 255,"),
         "a thread that loads is cancelled": ("    pthread_setcancelstate(PTHREAD_CANCEL_DISABLE, &before);\n    flockfile(file);\n",
                                              "    pthread_setcancelstate(PTHREAD_CANCEL_ENABLE, &before);\n    flockfile(file);\n"),
-        "save writes all feeds": (
-            ".feed = feed == 0 ? YARIB_MAX_FEED + 1 : feed}",
-            ".feed = feed <= YARIB_MAX_FEED ? 0 : feed}"),
-        "save writes all feeds for feed 0": ("feed == 0 ? YARIB_MAX_FEED + 1 : feed", "feed"),
-        "save writes only the best routes": ("{.part = YARIB_ALL, ", "{.part = YARIB_ALL, .only_best = 1, "),
-        "save loses its list": ("    if (routes) rattle_dealloc(routes);\n", ""),
-        "a refused list is written": (
-            "        if (!made.ok) return YARIB_NO_MEMORY;\n",
-            "        if (!made.ok) return YARIB_DONE;\n"),
+        "save writes all feeds": ("feed == 0 ? YARIB_MAX_FEED + 1 : feed,", "feed <= YARIB_MAX_FEED ? 0 : feed,"),
+        "save writes all feeds for feed 0": ("feed == 0 ? YARIB_MAX_FEED + 1 : feed,", "feed,"),
+        "save loses its list": ("    free_list(&list);\n", ""),
         "discard is a router": ("if (route->hop == YARIB_VIA && yarib", "if (yarib"),
         "preference and router are exchanged": ("&command->pref)) return", "&command->via)) return"),
         "load skips a last line without its end": ("return line->size > 0 || byte != EOF;", "return byte != EOF;"),
@@ -474,7 +578,7 @@ C = {f"{file.partition('.')[0]}: {name}": (file, *texts) for file, wrong in {
 }.items() for name, texts in wrong.items()}
 
 
-# The test that has to notice each wrong variant: it is run before all others. For a variant without one all are run.
+# The test that has to notice each mutant: it is run before all others. For a mutant without one all are run.
 def noticed_by(tests, variants):
     named = {name: test for test, names in tests.items() for name in names}
     if unknown := named.keys() - variants.keys():
@@ -483,6 +587,9 @@ def noticed_by(tests, variants):
 
 
 PYTHON = noticed_by({
+    "test_calls.Calls.test_which_best_routes_change": (
+        "the routes of a change are exchanged", "no change is a change", "a purge's changes are the first feed's",
+    ),
     "test_calls.Calls.test_many_commands_in_one_call": (
         "in finds longer prefixes", "in finds shorter prefixes", "in doesn't find what a longer prefix hides",
         "a router is another one", "feed is forgotten in exact", "feed is forgotten in within",
@@ -492,12 +599,12 @@ PYTHON = noticed_by({
         "an entry's discard as a router", "an entry's address without its number", "a route's discard as a router",
         "an answer's discard as a router", "preference and feed are exchanged",
         "an answer's preference and feed are exchanged", "a page that just fits is the last",
-        "the best of all routes is the last", "in doesn't find addresses", "a prefix is looked up by its base",
+        "all matches are cut to the best", "in doesn't find addresses", "a prefix is looked up by its base",
         "an address isn't a key",
     ),
     "test_calls.Conventions.test_keys": (
         "in accepts bits past the length", "in finds a default route that isn't there", "an answer without a route is a route", "del removes one feed's route",
-        "in finds other routes to a prefix",
+        "in finds other routes to a prefix", "a prefix with bits past the length is looked up",
     ),
     "test_yarib.Threads.test_calls_between_a_call_and_its_results": (
         "a call's room is given back too early",
@@ -510,7 +617,8 @@ PYTHON = noticed_by({
     ),
     "test_yarib.Daemons.test_calls_that_keep_the_global_lock_are_short": (
         "a purge keeps the global lock", "a followed table keeps the global lock", "an end keeps the global lock",
-        "a wide selection keeps the global lock",
+        "a wide selection keeps the global lock", "hops keeps the global lock", "save keeps the global lock", "load keeps the global lock",
+        "a view keeps the global lock", "look-ups in a view keep the global lock",
     ),
     "test_yarib.Daemons.test_a_refusal_of_the_system_is_an_error": (
         "a refused barrier is an invalid value",
@@ -527,6 +635,7 @@ PYTHON = noticed_by({
     "test_calls.Calls.test_each_call_answers_as_the_model": (
         "best is forgotten in within", "numpy's fields are exchanged", "numpy's length and hop are exchanged",
         "put keeps an old route", "put overlooks a full feed", "a replace is an add", "the text of an address is cut",
+        "no route and a discard are exchanged", "a view's routers are cut", "a view's routers may be written", "an address in a view is another",
     ),
     "test_calls.Given.test_numbers_out_of_range": (
         "feed 0 selects all", "routes(feed=0) gives all",
@@ -573,7 +682,24 @@ PYTHON = noticed_by({
         "a wide length wraps",
     ),
     "test_calls.Conventions.test_saved_tables_load": (
-        "load skips a line", "save writes all feeds",
+        "save writes another feed", "load adds to another feed", "load counts lines from 0", "load names another line",
+        "load returns the number of lines", "a full feed has the route", "a bad prefix is a bad line", "load names a whole long line",
+    ),
+    "test_yarib.Threads.test_copies_of_a_concurrent_table": (
+        "a copy has another limit", "a table that replaces has another limit", "a feed over the limit is overlooked",
+        "tables of two kinds are compared",
+    ),
+    "test_calls.Conventions.test_files_that_are_refused": (
+        "a load of a closed table is overlooked", "a save that is refused is overlooked", "a text is read up to its last byte",
+    ),
+    "test_calls.Conventions.test_a_large_file": (
+        "a saved text is cut",
+    ),
+    "test_yarib.Views.test_a_view_that_is_too_small_is_made_again": (
+        "a view that is too small isn't made again",
+    ),
+    "test_yarib.Views.test_what_has_no_view": (
+        "hops of any number",
     ),
     "test_yarib.Threads.test_they_read_one_published_table": (
         "one of two tables is counted", "a concurrent table isn't followed", "a batch is published one by one",
@@ -585,10 +711,16 @@ PYTHON = noticed_by({
 
 
 GO = noticed_by({
+    "TestChangesAreThoseOfTheBestRoutes": (
+        "the routes of a change are exchanged", "no change is a change",
+    ),
+    "TestAPurgeOfManyPrefixes": (
+        "a purge's changes are cut at 64",
+    ),
     "TestEveryCallAnswersAsTheModel": (
         "an entry's feed", "an entry's prefix", "an entry's preference", "an entry's hop", "an entry's address",
         "an entry's reply", "only best is forgotten", "the best of a prefix is the shortest",
-        "all matches are cut to the best",
+        "all matches are cut to the best", "lists of hops may differ in length", "an address in a view is another",
     ),
     "TestWhatIsRefusedIsNamed": (
         "a selection's feed is forgotten", "by route as by hop", "by hop as by route", "an error blames the prefix",
@@ -627,11 +759,19 @@ GO = noticed_by({
         "two changes of a concurrent table at once",
     ),
     "TestFilesHoldEveryRoute": (
-        "save writes all feeds", "load skips a last line without its end",
+        "save writes another feed", "load adds to another feed", "a text is read up to its last byte",
     ),
     "TestEveryFaultyLineIsNamed": (
-        "load counts lines from 0", "load accepts long comments",
-        "load accepts other forms of a preference", "load accepts discard in version 1",
+        "load counts lines from 0", "load names a whole long line", "load returns the number of lines", "a full feed has the route",
+        "a bad prefix is a bad line", "a load's feed isn't named", "what is read of a broken file is loaded",
+    ),
+    "TestEveryCopyOfAConcurrentTable": (
+        "a copy has another limit", "a table that replaces has another limit", "a feed over the limit is a number out of range",
+        "concurrent tables are compared with themselves",
+    ),
+    "TestEveryViewStaysAsItWasMade": (
+        "no route and a discard are exchanged", "a view's routers are cut", "a refused view is a view", "a discard has no number",
+        "a number of another view is a router", "lists of a view may differ in length", "an IPv6 address is looked up in a view",
     ),
     "TestWhereEveryPrefixOfASourceIs": (
         "a source uses one feed", "a source deals otherwise",
@@ -643,6 +783,9 @@ GO = noticed_by({
 
 
 RUST = noticed_by({
+    "changes changes_are_those_of_the_best_routes": (
+        "the routes of a change are exchanged", "a route that is gone is no change",
+    ),
     "model differences_reach_the_last_address": (
         "old and new answers are exchanged", "an answer by hop is a route", "differences end after the first",
     ),
@@ -664,7 +807,7 @@ RUST = noticed_by({
     ),
     "model a_concurrent_table_answers_as_the_model": (
         "put in a concurrent table keeps the old route", "a concurrent table isn't followed",
-        "a concurrent table counts its routes as memory",
+        "a concurrent table counts its routes as memory", "load adds to another feed of a concurrent table",
     ),
     "model commands_are_lines_of_a_feed_file": (
         "discard is written as an address", "a command is written as another",
@@ -674,13 +817,15 @@ RUST = noticed_by({
         "put keeps the old route", "preference and feed are exchanged",
     ),
     "model replies_and_routes_are_the_models": (
-        "an entry's discard is a router", "addresses are read backwards",
+        "an entry's discard is a router", "addresses are read backwards", "a selection's feed is forgotten",
+        "no route and a discard are exchanged", "an address in a view is another",
     ),
     "model lists_at_page_boundaries": (
         "an entry's feed", "an entry's preference", "an entry's length",
     ),
     "model files_hold_every_route": (
-        "a selection's feed is forgotten", "a purge and a dump are exchanged", "save writes all feeds",
+        "a purge and a dump are exchanged", "save writes another feed", "load adds to another feed", "a text is read up to its last byte",
+        "a saved text is cut", "a refused save is overlooked",
     ),
     "model pages_follow_one_another": (
         "a page that just fits is the last", "a page is given again",
@@ -696,8 +841,21 @@ RUST = noticed_by({
         "a source in a concurrent table keeps the old route", "a source in a concurrent table counts its last purge",
     ),
     "model faulty_lines_are_named": (
-        "load skips a last line without its end", "load counts lines from 0", "load accepts long comments",
-        "load accepts other forms of a preference", "load accepts discard in version 1", "a refusal lacks its reason",
+        "load counts lines from 0", "load names a whole long line", "load returns the number of lines", "a full feed has the route",
+        "a bad prefix is a bad line", "what is read of a broken file is loaded", "a refusal lacks its reason",
+    ),
+    "model a_view_stays_as_it_was_made": (
+        "a view's routers are cut", "a router's number is another's", "a discard has no number",
+    ),
+    "concurrent two_threads_load_at_once": (
+        "two loads at once",
+    ),
+    "concurrent copies_of_a_concurrent_table": (
+        "a copy has another limit", "a table that replaces has another limit", "a feed over the limit is a number out of range",
+        "sides of concurrent tables are exchanged",
+    ),
+    "concurrent a_table_replaces_another_at_once": (
+        "two replacements at once",
     ),
     "model feeds_of_a_source": (
         "a source uses one feed", "a source deals otherwise",
@@ -713,6 +871,9 @@ C = noticed_by({
         "handles: a change begins beside a reader", "handles: a reader begins beside a change",
         "handles: a reader keeps its place", "handles: a handle is compared with itself", "places: a busy handle is taken twice",
         "places: a lent place isn't read", "layer: a call inside another takes its place", "layer: a lent place stays lent",
+    ),
+    "test_changed": (
+        "readers: a change of a best route is forgotten", "readers: a change of a best route is that of the side that readers use",
     ),
     "test_followed": (
         "handles: attach leaves its memory to changes", "handles: attach fills for good",
@@ -750,7 +911,22 @@ C = noticed_by({
         "readers: the second side isn't new", "readers: a new table loses the one before",
     ),
     "test_concurrent save_meets_changes": (
-        "files: a list of a table that grew is cut",
+        "copies: a list of a table that grew is cut",
+    ),
+    "test_concurrent replace": (
+        "readers: one side is replaced", "readers: one side has the limit", "readers: a table is replaced by one feed",
+        "readers: a replacement has no forwarding table", "readers: one side of a replacement has a forwarding table",
+        "readers: a replacement loses its list", "copies: a list has only the best routes", "copies: a list isn't freed",
+        "copies: a copied discard is a router", "copies: a route that isn't added is left out",
+    ),
+    "test_concurrent copy": (
+        "copies: a copy has one feed", "copies: a copy has any limit", "copies: a copy loses its list",
+        "copies: a copy loses what the handle had", "copies: a table that is refused is lost",
+        "copies: a copy that is refused empties the handle", "handles: a copy isn't a change",
+    ),
+    "test_concurrent compare_tables": (
+        "readers: a comparison waits for its second place", "readers: a comparison keeps its place",
+        "readers: old and new tables are exchanged", "readers: a table is compared with itself",
     ),
     "test_refused concurrent": (
         "readers: the second side forgets what found no memory", "readers: a change begins without the one before",
@@ -820,7 +996,7 @@ C = noticed_by({
     "test_files": (
         "files: a short write isn't noticed", "files: what the file refuses at its end isn't noticed",
         "files: save writes all feeds", "files: save writes all feeds for feed 0",
-        "files: save writes only the best routes", "files: save loses its list", "files: a refused list is written",
+        "files: save loses its list", "copies: a refused list is whole",
         "files: discard is a router", "files: preference and router are exchanged",
         "files: load skips a last line without its end", "files: load skips what a read error cuts",
         "files: a read error is the end", "files: load counts lines from 0", "files: load accepts long comments",
@@ -833,8 +1009,9 @@ C = noticed_by({
         "handles: load says nothing after an error", "readers: load says nothing after an error of a concurrent table",
         "handles: load accepts feed 65 of a forwarding table", "handles: load accepts feed 0",
         "readers: load accepts feed 0 of a concurrent table", "readers: a loaded table isn't published",
-        "readers: a load is published at its end only", "readers: each line is published",
-        "readers: the second side lacks a loaded route", "readers: a load begins without the change before",
+        "readers: each line of a load is published", "readers: the second side lacks a loaded route",
+        "readers: a load begins without the change before", "readers: a long load has no room", "readers: room for more loses what is kept",
+        "readers: a load leaves its commands to the next change",
     ),
     "test_heap resizes": (
         "heap: a large block that must move stays empty", "heap: a large block is a slab's",

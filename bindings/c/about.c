@@ -21,6 +21,13 @@ const char *yarib_build(void)
     return YARIB_BUILD;
 }
 
+const char *yarib_status_text(enum yarib_status status)
+{
+    static const char *const texts[] = {"done", "nothing", "bad number", "bad command", "no memory", "bad size", "none left",
+        "bad text", "bad length", "bad bits", "wrong kind", "busy", "bad file", "not added", "no barrier", "forked"};
+    return (size_t)status < sizeof texts / sizeof *texts ? texts[status] : "unknown status";
+}
+
 /* Returns true if the processor has what the compiler of the proved code may use: x86-64-v2. */
 static bool has_instructions(void)
 {

@@ -13,36 +13,6 @@ enum { LONGEST = 128 };
 /* The first line of a file of version 2, which has `discard`. */
 #define VERSION "version 2"
 
-/* Makes the call yarib_select for one of two handles, the other one is null. */
-static enum yarib_status choose(const yarib *table, const yarib_concurrent *concurrent, const yarib_selection *asked,
-    yarib_route *routes, size_t room, size_t *total)
-{
-    if (table) return yarib_select(table, asked, 0, routes, room, total);
-    return yarib_concurrent_select(concurrent, asked, 0, routes, room, total);
-}
-
-/* Makes a list of the feed's routes, and frees the list that `routes` had before. A table may change between its calls. */
-static enum yarib_status list(const yarib *table, const yarib_concurrent *concurrent, uint32_t feed, yarib_route **routes,
-    size_t *total)
-{
-    /* 0 would select the routes of all feeds. */
-    const yarib_selection asked = {.part = YARIB_ALL, .feed = feed == 0 ? YARIB_MAX_FEED + 1 : feed};
-    yarib_route none;
-    size_t room = 0;
-    *routes = NULL;
-    for (;;) {
-        enum yarib_status status = choose(table, concurrent, &asked, *routes ? *routes : &none, room, total);
-        if (status == YARIB_DONE && *total <= room) return status;
-        if (*routes) rattle_dealloc(*routes);
-        *routes = NULL;
-        if (status != YARIB_DONE) return status;
-        room = *total;
-        struct tried made = rattle_alloc(room * sizeof **routes, sizeof(uint32_t));
-        if (!made.ok) return YARIB_NO_MEMORY;
-        *routes = made.block;
-    }
-}
-
 /* Writes the line of a route. Returns false if the file refuses it. */
 static bool write_route(FILE *file, const yarib_route *route)
 {
@@ -56,15 +26,15 @@ static bool write_route(FILE *file, const yarib_route *route)
 
 static enum yarib_status save(const yarib *table, const yarib_concurrent *concurrent, uint32_t feed, FILE *file)
 {
-    yarib_route *routes;
-    size_t total;
-    enum yarib_status status = list(table, concurrent, feed, &routes, &total);
+    struct list list;
+    /* 0 would select the routes of all feeds. */
+    enum yarib_status status = list_routes(table, concurrent, feed == 0 ? YARIB_MAX_FEED + 1 : feed, &list);
     if (status != YARIB_DONE) return status;
     int before;
     pthread_setcancelstate(PTHREAD_CANCEL_DISABLE, &before);
     bool is_written = fputs(VERSION "\n", file) >= 0;
-    for (size_t k = 0; k < total && is_written; k++) is_written = write_route(file, &routes[k]);
-    if (routes) rattle_dealloc(routes);
+    for (size_t k = 0; k < list.size && is_written; k++) is_written = write_route(file, &list.routes[k]);
+    free_list(&list);
     is_written = is_written && fflush(file) == 0;
     pthread_setcancelstate(before, NULL);
     return is_written ? YARIB_DONE : YARIB_BAD_FILE;

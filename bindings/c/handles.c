@@ -11,8 +11,6 @@
  * bindings/build renames the proved calls to proved_yarib_.., and hides them. */
 #include "layer.h"
 
-#include <stdlib.h>
-
 /* A reading call: its copy of the handle, and its place. */
 struct reading {
     yarib handle;
@@ -30,13 +28,6 @@ SHORT enum yarib_status enter_reading(const yarib *handle, struct reading *own)
     return status_of_mark(own->handle.inside);
 }
 
-/* Leaves a change, with what the handle holds now. */
-static void leave_change(yarib *handle, const yarib *own)
-{
-    if (((uintptr_t)own->inside & ~CONTENTS) != 0) abort();
-    __atomic_store_n(&handle->inside, own->inside, __ATOMIC_RELEASE);
-}
-
 /* Enters a change and makes its copy of the handle, or returns why not. */
 static enum yarib_status enter_change(yarib *handle, yarib *own)
 {
@@ -44,12 +35,12 @@ static enum yarib_status enter_change(yarib *handle, yarib *own)
     if (status != YARIB_DONE) return status;
     status = see_readers();
     if (status == YARIB_DONE && is_read(handle, NEVER, false)) status = YARIB_BUSY;
-    if (status != YARIB_DONE) leave_change(handle, own);
+    if (status != YARIB_DONE) unmark(&handle->inside, own->inside);
     return status;
 }
 
-/* The body of a reading call of `table`: a proved call with `own.handle`. */
-#define READ(call) \
+/* The body of a reading call of a handle: a call with `own.handle`. */
+#define READ(table, call) \
     struct reading own; \
     enum yarib_status status = enter_reading(table, &own); \
     if (status != YARIB_DONE) return status; \
@@ -57,13 +48,13 @@ static enum yarib_status enter_change(yarib *handle, yarib *own)
     leave_place(own.place); \
     return status
 
-/* The body of a change of `table`: a call with `own`. */
-#define CHANGE(call) \
+/* The body of a change of a handle: a call with `own`. */
+#define CHANGE(table, call) \
     yarib own; \
     enum yarib_status status = enter_change(table, &own); \
     if (status != YARIB_DONE) return status; \
     status = call; \
-    leave_change(table, &own); \
+    unmark(&(table)->inside, own.inside); \
     return status
 
 enum yarib_status free_contents(yarib *table)
@@ -86,32 +77,37 @@ enum yarib_status attach(yarib *table)
 
 enum yarib_status yarib_new(yarib *table, uint32_t limit, uint32_t kind)
 {
-    CHANGE(proved_yarib_new(&own, limit, kind));
+    CHANGE(table, proved_yarib_new(&own, limit, kind));
 }
 
 enum yarib_status yarib_free(yarib *table)
 {
-    CHANGE(free_contents(&own));
+    CHANGE(table, free_contents(&own));
 }
 
 enum yarib_status yarib_apply(yarib *table, const yarib_command *command, yarib_reply *reply)
 {
-    CHANGE(proved_yarib_apply(&own, command, reply));
+    CHANGE(table, proved_yarib_apply(&own, command, reply));
+}
+
+enum yarib_status yarib_apply_changed(yarib *table, const yarib_command *command, yarib_reply *reply, yarib_change *change)
+{
+    CHANGE(table, proved_yarib_apply_changed(&own, command, reply, change));
 }
 
 enum yarib_status yarib_apply_each(yarib *table, const yarib_command *commands, size_t size, yarib_reply *replies, size_t room)
 {
-    CHANGE(proved_yarib_apply_each(&own, commands, size, replies, room));
+    CHANGE(table, proved_yarib_apply_each(&own, commands, size, replies, room));
 }
 
 enum yarib_status yarib_reserve(yarib *table, size_t entries)
 {
-    CHANGE(proved_yarib_reserve(&own, entries));
+    CHANGE(table, proved_yarib_reserve(&own, entries));
 }
 
 enum yarib_status yarib_fib_attach(yarib *table)
 {
-    CHANGE(attach(&own));
+    CHANGE(table, attach(&own));
 }
 
 static enum yarib_status add_to_own(void *own, const yarib_command *command, yarib_reply *reply)
@@ -131,86 +127,71 @@ static enum yarib_status load(yarib *own, uint32_t feed, FILE *file, yarib_loade
 enum yarib_status yarib_load(yarib *table, uint32_t feed, FILE *file, yarib_loaded *loaded)
 {
     *loaded = (yarib_loaded){0};
-    CHANGE(load(&own, feed, file, loaded));
+    CHANGE(table, load(&own, feed, file, loaded));
+}
+
+enum yarib_status yarib_concurrent_copy(const yarib_concurrent *table, uint32_t limit, yarib *copy)
+{
+    CHANGE(copy, copy_published(table, limit, &own));
 }
 
 #define DEFINE(name, parameters, arguments) \
-    enum yarib_status yarib_##name(const yarib *table, LIST parameters) { READ(proved_yarib_##name(&own.handle, LIST arguments)); }
+    enum yarib_status yarib_##name(const yarib *table, LIST parameters) { READ(table, proved_yarib_##name(&own.handle, LIST arguments)); }
 READING_CALLS(DEFINE)
 
 enum yarib_status yarib_look_up_text(const yarib *table, const char *text, size_t size, yarib_route *answer)
 {
     uint32_t address;
-    READ((status = yarib_address_parse(text, size, &address)) == YARIB_DONE
+    READ(table, (status = yarib_address_parse(text, size, &address)) == YARIB_DONE
         ? (enum yarib_status)proved_yarib_look_up_one(&own.handle, address, answer) : status);
 }
 
 enum yarib_status yarib_journal(const yarib *table, size_t skip, yarib_entry *entries, size_t room, size_t *total)
 {
-    READ(proved_yarib_journal(&own.handle, skip, entries, room, total));
+    READ(table, proved_yarib_journal(&own.handle, skip, entries, room, total));
 }
 
 enum yarib_status yarib_memory(const yarib *table, size_t *bytes)
 {
-    READ(proved_yarib_memory(&own.handle, bytes));
+    READ(table, proved_yarib_memory(&own.handle, bytes));
 }
 
 enum yarib_status yarib_view_write(const yarib *table, yarib_view *view)
 {
-    READ(proved_yarib_view_write(&own.handle, view->entries, view->entry_count, view->blocks, view->block_count, view->routers,
+    READ(table, proved_yarib_view_write(&own.handle, view->entries, view->entry_count, view->blocks, view->block_count, view->routers,
         view->router_count, &view->router_count));
+}
+
+/* Compares the contents of an old handle with a table. */
+static enum yarib_status compare(yarib *old, const yarib *table, uint32_t by, uint32_t from, yarib_difference *difference)
+{
+    READ(table, proved_yarib_first_difference(old, &own.handle, by, from, difference));
 }
 
 /* One handle twice is busy with itself: the proved call needs two. */
 enum yarib_status yarib_first_difference(const yarib *old_table, const yarib *new_table, uint32_t by, uint32_t from,
     yarib_difference *difference)
 {
-    struct reading old_own, new_own;
     if (old_table == new_table) return YARIB_BUSY;
-    enum yarib_status status = enter_reading(old_table, &old_own);
-    if (status != YARIB_DONE) return status;
-    status = enter_reading(new_table, &new_own);
-    if (status == YARIB_DONE) {
-        status = proved_yarib_first_difference(&old_own.handle, &new_own.handle, by, from, difference);
-        leave_place(new_own.place);
-    }
-    leave_place(old_own.place);
-    return status;
+    READ(old_table, compare(&own.handle, new_table, by, from, difference));
 }
 
-/* Fills a handle from another one by a proved call. */
-static enum yarib_status fill(const yarib *table, yarib *other, uint32_t (*call)(yarib *table, yarib *other))
+/* Fills a handle from the contents of another one by a proved call. */
+static enum yarib_status fill(yarib *contents, yarib *table, uint32_t (*call)(yarib *contents, yarib *table))
 {
-    struct reading own;
-    yarib made;
-    enum yarib_status status = enter_reading(table, &own);
-    if (status != YARIB_DONE) return status;
-    status = enter_change(other, &made);
-    if (status == YARIB_DONE) {
-        status = call(&own.handle, &made);
-        leave_change(other, &made);
-    }
-    leave_place(own.place);
-    return status;
+    CHANGE(table, call(contents, &own));
 }
 
 enum yarib_status yarib_fib_new(const yarib *table, yarib *forwarding)
 {
-    return fill(table, forwarding, proved_yarib_forward);
+    READ(table, fill(&own.handle, forwarding, proved_yarib_forward));
 }
 
 enum yarib_status yarib_fib_clone(const yarib *forwarding, yarib *other)
 {
-    return fill(forwarding, other, proved_yarib_share);
+    READ(forwarding, fill(&own.handle, other, proved_yarib_share));
 }
 
 enum yarib_status yarib_forward(const yarib *table, yarib *forwarding) __attribute__((alias("yarib_fib_new")));
 enum yarib_status yarib_share(const yarib *forwarding, yarib *other) __attribute__((alias("yarib_fib_clone")));
 enum yarib_status yarib_follow(yarib *table) __attribute__((alias("yarib_fib_attach")));
-
-const char *yarib_status_text(enum yarib_status status)
-{
-    static const char *const texts[] = {"done", "nothing", "bad number", "bad command", "no memory", "bad size", "none left",
-        "bad text", "bad length", "bad bits", "wrong kind", "busy", "bad file", "not added", "no barrier", "forked"};
-    return (size_t)status < sizeof texts / sizeof *texts ? texts[status] : "unknown status";
-}

@@ -56,6 +56,8 @@ enum yarib_status free_contents(yarib *table);
     CALL(routes_from, (const yarib_route *from, yarib_route *routes, size_t room, size_t *used), (from, routes, room, used)) \
     CALL(select, (const yarib_selection *asked, size_t skip, yarib_route *routes, size_t room, size_t *total), \
         (asked, skip, routes, room, total)) \
+    CALL(purge_changes, (uint32_t feed, size_t skip, yarib_change *changes, size_t room, size_t *total), \
+        (feed, skip, changes, room, total)) \
     CALL(count, (size_t *total), (total)) \
     CALL(fib_is_attached, (uint32_t *attached), (attached)) \
     CALL(view_sizes, (size_t *blocks, size_t *routers), (blocks, routers))
@@ -69,6 +71,7 @@ READING_CALLS(DECLARE_PROVED)
 uint32_t proved_yarib_new(yarib *table, uint32_t limit, uint32_t kind);
 void proved_yarib_free(yarib *table);
 uint32_t proved_yarib_apply(yarib *table, const yarib_command *command, yarib_reply *reply);
+uint32_t proved_yarib_apply_changed(yarib *table, const yarib_command *command, yarib_reply *reply, yarib_change *change);
 uint32_t proved_yarib_apply_each(yarib *table, const yarib_command *commands, size_t size, yarib_reply *replies, size_t room);
 uint32_t proved_yarib_reserve(yarib *table, size_t entries);
 uint32_t proved_yarib_journal(yarib *table, size_t skip, yarib_entry *entries, size_t room, size_t *total);
@@ -79,6 +82,22 @@ uint32_t proved_yarib_share(yarib *forwarding, yarib *other);
 uint32_t proved_yarib_follow(yarib *table);
 uint32_t proved_yarib_view_write(yarib *table, uint32_t *entries, size_t entry_count, uint32_t *blocks, size_t block_count,
     uint32_t *routers, size_t router_count, size_t *used);
+
+/* Routes of a table. */
+struct list {
+    yarib_route *routes;
+    size_t size;
+};
+
+/* Lists the routes of a feed, or with 0 of all feeds, as one of two handles has them; the other one is null. */
+enum yarib_status list_routes(const yarib *table, const yarib_concurrent *concurrent, uint32_t feed, struct list *list);
+void free_list(struct list *list);
+
+/* Makes a table of these routes in an empty handle. Returns YARIB_NOT_ADDED if a feed has more of them than the limit. */
+enum yarib_status make_table(uint32_t limit, const struct list *list, yarib *made);
+
+/* Replaces what a handle holds by a copy of the published table. */
+enum yarib_status copy_published(const yarib_concurrent *table, uint32_t limit, yarib *copy);
 
 /* Executes an add in a table, during a change of it. */
 struct adder {
@@ -140,8 +159,9 @@ SHORT void leave_place(struct place *place)
     __atomic_store_n(&place->owner, NULL, __ATOMIC_RELEASE);
 }
 
-/* Marks a handle's word for a change and writes what it was to `found`, or returns why not. */
+/* Marks a handle's word for a change and writes what it was to `found`, or returns why not. The change ends with what it is then. */
 enum yarib_status mark(void **word, void **found);
+void unmark(void **word, void *contents);
 
 SHORT bool is_marked(const void *word)
 {

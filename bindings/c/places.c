@@ -14,6 +14,7 @@
 
 #include <linux/membarrier.h>
 #include <pthread.h>
+#include <stdlib.h>
 #include <sys/syscall.h>
 #include <time.h>
 #include <unistd.h>
@@ -136,6 +137,12 @@ enum yarib_status mark(void **word, void **found)
     if (is_marked(*found)) return status_of_mark(*found);
     bool is_done = __atomic_compare_exchange_n(word, found, marked(*found), 0, __ATOMIC_SEQ_CST, __ATOMIC_RELAXED);
     return is_done ? YARIB_DONE : YARIB_BUSY;
+}
+
+void unmark(void **word, void *contents)
+{
+    if (((uintptr_t)contents & ~CONTENTS) != 0) abort();
+    __atomic_store_n(word, contents, __ATOMIC_RELEASE);
 }
 
 enum yarib_status status_of_mark(const void *word)

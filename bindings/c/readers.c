@@ -14,7 +14,7 @@
 
 #include <stdlib.h>
 
-/* Room for more commands than this is given back when the back has them. yarib_concurrent_load publishes so many at once. */
+/* Room for more commands than this is given back when the back has them. */
 #define KEPT 1024
 
 /* The size of a cache line: what readers read is in lines that nothing else is written to. */
@@ -79,17 +79,18 @@ static bool catch_up(struct sides *sides)
         /* The front answered so. */
         if (status != YARIB_DONE || reply.code != codes[command->operation]) abort();
     }
+    sides->start = sides->end = 0;
     return true;
 }
 
-/* Makes room for this many commands that a side will lack. Returns false if memory runs out. */
+/* Makes room for this many commands that a side lacks. Returns false if memory runs out. */
 static bool reserve(struct sides *sides, size_t size)
 {
-    sides->start = sides->end = 0;
     if (size == 0 || (size <= sides->room && (size > KEPT || sides->room <= KEPT))) return true;
-    struct tried made = rattle_alloc(size * sizeof(yarib_command), sizeof(uint32_t));
+    struct tried made = sides->room > 0
+        ? rattle_realloc(sides->lacking, sides->end * sizeof(yarib_command), size * sizeof(yarib_command), sizeof(uint32_t))
+        : rattle_alloc(size * sizeof(yarib_command), sizeof(uint32_t));
     if (!made.ok) return size <= sides->room;
-    if (sides->room > 0) rattle_dealloc(sides->lacking);
     sides->lacking = made.block;
     sides->room = size;
     return true;
@@ -110,12 +111,6 @@ static void keep(struct sides *sides, const yarib_command *command, const yarib_
     if (is_change) sides->lacking[sides->end++] = *command;
 }
 
-/* Ends a change: the handle has these sides. */
-static void end(yarib_concurrent *table, struct sides *sides)
-{
-    __atomic_store_n(&table->inside, sides, __ATOMIC_RELEASE);
-}
-
 /* Begins a change: marks the handle and waits until no reader is in the back. Or returns why it can't. */
 static enum yarib_status begin(yarib_concurrent *table, struct sides **sides)
 {
@@ -124,7 +119,7 @@ static enum yarib_status begin(yarib_concurrent *table, struct sides **sides)
     if (status != YARIB_DONE) return status;
     *sides = found;
     if (found) status = settle(table, *sides);
-    if (status != YARIB_DONE) end(table, *sides);
+    if (status != YARIB_DONE) unmark(&table->inside, *sides);
     return status;
 }
 
@@ -134,26 +129,34 @@ static enum yarib_status begin(yarib_concurrent *table, struct sides **sides)
     enum yarib_status status = begin(table, &sides); \
     if (status != YARIB_DONE) return status; \
     status = call; \
-    end(table, sides); \
+    unmark(&table->inside, sides); \
     return status
 
-static enum yarib_status make_tables(uint32_t limit, yarib tables[2])
+/* What both sides of a new table begin with. */
+struct beginning {
+    uint32_t limit;
+    struct list list;
+    bool is_followed;
+};
+
+/* Makes two such tables in empty handles. */
+static enum yarib_status make_tables(const struct beginning *beginning, yarib tables[2])
 {
-    enum yarib_status status = proved_yarib_new(&tables[0], limit, YARIB_PLAIN);
-    if (status == YARIB_DONE) status = proved_yarib_new(&tables[1], limit, YARIB_PLAIN);
-    if (status != YARIB_DONE) proved_yarib_free(&tables[0]);
+    enum yarib_status status = YARIB_DONE;
+    for (int k = 0; k < 2 && status == YARIB_DONE; k++) {
+        status = make_table(beginning->limit, &beginning->list, &tables[k]);
+        if (status == YARIB_DONE && beginning->is_followed) status = attach(&tables[k]);
+    }
+    for (int k = 0; k < 2 && status != YARIB_DONE; k++) free_contents(&tables[k]);
     return status;
 }
 
-/* Makes two empty sides. */
-static enum yarib_status make(uint32_t limit, struct sides **made)
+/* Makes sides of two tables. */
+static enum yarib_status make_sides(yarib tables[2], struct sides **made)
 {
-    yarib tables[2] = {{NULL}, {NULL}};
-    enum yarib_status status = make_tables(limit, tables);
-    if (status != YARIB_DONE) return status;
     struct tried tried = rattle_alloc(sizeof(struct sides) + LINE, LINE);
     if (!tried.ok) {
-        for (int k = 0; k < 2; k++) proved_yarib_free(&tables[k]);
+        for (int k = 0; k < 2; k++) free_contents(&tables[k]);
         return YARIB_NO_MEMORY;
     }
     *made = (struct sides *)(((uintptr_t)tried.block + LINE - 1) & ~(LINE - 1));
@@ -161,26 +164,53 @@ static enum yarib_status make(uint32_t limit, struct sides **made)
     return YARIB_DONE;
 }
 
-/* Publishes an empty table, and frees what both sides had. As long as a reading call hinders that, the next change does it. */
-static enum yarib_status renew(const yarib_concurrent *table, struct sides *sides, uint32_t limit)
+/* Publishes the back, and makes the other side the same at once. As long as a reading call hinders that, the next change does it. */
+static void publish_both(const yarib_concurrent *table, struct sides *sides)
+{
+    publish(sides);
+    if (settle(table, sides) == YARIB_DONE) prepare(sides, 1);
+}
+
+/* Publishes a new table, and frees what both sides had. */
+static enum yarib_status renew(const yarib_concurrent *table, struct sides **sides, const struct beginning *beginning)
 {
     yarib tables[2] = {{NULL}, {NULL}};
-    enum yarib_status status = make_tables(limit, tables);
+    enum yarib_status status = make_tables(beginning, tables);
     if (status != YARIB_DONE) return status;
-    sides->start = sides->end = 0;
+    if (!*sides) return make_sides(tables, sides);
+    (*sides)->start = (*sides)->end = 0;
     for (int k = 0; k < 2; k++) {
-        free_contents(&sides->renewed);
-        sides->renewed = tables[k];
-        if (k == 0) catch_up(sides);
+        free_contents(&(*sides)->renewed);
+        (*sides)->renewed = tables[k];
+        if (k == 0) catch_up(*sides);
     }
-    publish(sides);
-    if (settle(table, sides) == YARIB_DONE) catch_up(sides);
+    publish_both(table, *sides);
     return YARIB_DONE;
 }
 
 enum yarib_status yarib_concurrent_new(yarib_concurrent *table, uint32_t limit)
 {
-    CHANGE(sides ? renew(table, sides, limit) : make(limit, &sides));
+    const struct beginning beginning = {.limit = limit};
+    CHANGE(renew(table, &sides, &beginning));
+}
+
+/* The new table has a forwarding table if readers had one. */
+static enum yarib_status replace(const yarib_concurrent *table, struct sides **sides, uint32_t limit, const yarib *other)
+{
+    struct beginning beginning = {.limit = limit};
+    uint32_t is_attached = 0;
+    enum yarib_status status = list_routes(other, NULL, 0, &beginning.list);
+    if (status != YARIB_DONE) return status;
+    if (*sides) status = proved_yarib_fib_is_attached(&(*sides)->tables[(*sides)->front], &is_attached);
+    beginning.is_followed = is_attached;
+    if (status == YARIB_DONE) status = renew(table, sides, &beginning);
+    free_list(&beginning.list);
+    return status;
+}
+
+enum yarib_status yarib_concurrent_replace(yarib_concurrent *table, uint32_t limit, const yarib *other)
+{
+    CHANGE(replace(table, &sides, limit, other));
 }
 
 static void destroy(struct sides *sides)
@@ -210,10 +240,12 @@ enum yarib_status yarib_concurrent_free(yarib_concurrent *table)
     CHANGE(empty(table, &sides));
 }
 
-static enum yarib_status apply(struct sides *sides, const yarib_command *command, yarib_reply *reply)
+/* With a change, it is written. */
+static enum yarib_status apply(struct sides *sides, const yarib_command *command, yarib_reply *reply, yarib_change *change)
 {
     enum yarib_status status = prepare(sides, 1);
-    if (status == YARIB_DONE) status = proved_yarib_apply(back(sides), command, reply);
+    if (status != YARIB_DONE) return status;
+    status = change ? proved_yarib_apply_changed(back(sides), command, reply, change) : proved_yarib_apply(back(sides), command, reply);
     if (status != YARIB_DONE) return status;
     keep(sides, command, reply);
     if (sides->end > 0) publish(sides);
@@ -222,7 +254,13 @@ static enum yarib_status apply(struct sides *sides, const yarib_command *command
 
 enum yarib_status yarib_concurrent_apply(yarib_concurrent *table, const yarib_command *command, yarib_reply *reply)
 {
-    CHANGE(apply(sides, command, reply));
+    CHANGE(apply(sides, command, reply, NULL));
+}
+
+enum yarib_status yarib_concurrent_apply_changed(yarib_concurrent *table, const yarib_command *command, yarib_reply *reply,
+    yarib_change *change)
+{
+    CHANGE(apply(sides, command, reply, change));
 }
 
 static enum yarib_status apply_each(struct sides *sides, const yarib_command *commands, size_t size, yarib_reply *replies, size_t room)
@@ -242,40 +280,24 @@ enum yarib_status yarib_concurrent_apply_each(yarib_concurrent *table, const yar
     CHANGE(apply_each(sides, commands, size, replies, room));
 }
 
-/* A load of a file: its sides, and whether the back has routes that aren't published. */
-struct loading {
-    const yarib_concurrent *table;
-    struct sides *sides;
-    bool is_new;
-};
-
-/* Adds a route to the back. If it has the most routes that are published at once, these are published first. */
+/* Adds a route to the back, which isn't published meanwhile. */
 static enum yarib_status add_to_back(void *argument, const yarib_command *command, yarib_reply *reply)
 {
-    struct loading *loading = argument;
-    struct sides *sides = loading->sides;
-    enum yarib_status status = YARIB_DONE;
-    if (loading->is_new && sides->end == KEPT) {
-        publish(sides);
-        loading->is_new = false;
-        status = settle(loading->table, sides);
-    }
-    if (status == YARIB_DONE && !loading->is_new) status = prepare(sides, KEPT);
-    if (status == YARIB_DONE) status = proved_yarib_apply(back(sides), command, reply);
-    if (status != YARIB_DONE) return status;
-    keep(sides, command, reply);
-    loading->is_new = sides->end > 0;
-    return YARIB_DONE;
+    struct sides *sides = argument;
+    if (sides->end == sides->room && !reserve(sides, 2 * sides->room)) return YARIB_NO_MEMORY;
+    enum yarib_status status = proved_yarib_apply(back(sides), command, reply);
+    if (status == YARIB_DONE) keep(sides, command, reply);
+    return status;
 }
 
 static enum yarib_status load(const yarib_concurrent *table, struct sides *sides, uint32_t feed, FILE *file, yarib_loaded *loaded)
 {
-    struct loading loading = {.table = table, .sides = sides};
-    const struct adder adder = {add_to_back, &loading};
-    if (!sides) return YARIB_NOTHING;
-    if (feed < 1 || feed > YARIB_MAX_FEED) return YARIB_BAD_NUMBER;
-    enum yarib_status status = add_lines(file, feed, &adder, loaded);
-    if (loading.is_new) publish(sides);
+    const struct adder adder = {add_to_back, sides};
+    if (sides && (feed < 1 || feed > YARIB_MAX_FEED)) return YARIB_BAD_NUMBER;
+    enum yarib_status status = prepare(sides, KEPT);
+    if (status != YARIB_DONE) return status;
+    status = add_lines(file, feed, &adder, loaded);
+    if (sides->end > 0) publish_both(table, sides);
     return status;
 }
 
@@ -308,13 +330,21 @@ struct visit {
     struct place *place;
 };
 
+/* Enters a reading call. Returns false if all places are taken. */
+SHORT bool try_to_enter(const yarib_concurrent *table, struct visit *visit)
+{
+    visit->place = enter_place(table, __atomic_load_n(&publications.number, __ATOMIC_SEQ_CST));
+    if (!visit->place) return false;
+    const struct sides *sides = (struct sides *)((uintptr_t)__atomic_load_n(&table->inside, __ATOMIC_SEQ_CST) & CONTENTS);
+    visit->table.inside = sides ? __atomic_load_n(&sides->table, __ATOMIC_SEQ_CST) : NULL;
+    return true;
+}
+
 /* Enters a reading call. It waits only while all places are taken. */
 SHORT void enter(const yarib_concurrent *table, struct visit *visit)
 {
     unsigned times = 0;
-    while (!(visit->place = enter_place(table, __atomic_load_n(&publications.number, __ATOMIC_SEQ_CST)))) rest(&times);
-    const struct sides *sides = (struct sides *)((uintptr_t)__atomic_load_n(&table->inside, __ATOMIC_SEQ_CST) & CONTENTS);
-    visit->table.inside = sides ? __atomic_load_n(&sides->table, __ATOMIC_SEQ_CST) : NULL;
+    while (!try_to_enter(table, visit)) rest(&times);
 }
 
 /* The body of a reading call of `table`: a proved call with `visit.table`. */
@@ -337,6 +367,24 @@ enum yarib_status yarib_concurrent_look_up_text(const yarib_concurrent *table, c
     uint32_t address;
     enum yarib_status status = yarib_address_parse(text, size, &address);
     return status == YARIB_DONE ? yarib_concurrent_look_up_one(table, address, answer) : status;
+}
+
+/* Compares an old table that a call has entered with a published one. It has a place already, so it doesn't wait for another one: calls
+ * that do could wait for one another. */
+static enum yarib_status compare(yarib *old, const yarib_concurrent *table, uint32_t by, uint32_t from, yarib_difference *difference)
+{
+    struct visit visit;
+    if (!try_to_enter(table, &visit)) return YARIB_BUSY;
+    enum yarib_status status = proved_yarib_first_difference(old, &visit.table, by, from, difference);
+    leave_place(visit.place);
+    return status;
+}
+
+enum yarib_status yarib_concurrent_first_difference(const yarib_concurrent *table, const yarib_concurrent *new_table, uint32_t by,
+    uint32_t from, yarib_difference *difference)
+{
+    if (table == new_table) return YARIB_BUSY;
+    READ(compare(&visit.table, new_table, by, from, difference));
 }
 
 static enum yarib_status memory_of_both(yarib *front, size_t *bytes)

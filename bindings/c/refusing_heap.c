@@ -3,6 +3,7 @@
 
 #include <stdbool.h>
 #include <stdlib.h>
+#include <string.h>
 
 struct tried {
     bool ok;
@@ -28,11 +29,14 @@ struct tried rattle_alloc(size_t size, size_t alignment)
     return tried(is_refused() ? NULL : malloc(size ? size : 1));
 }
 
+/* Only the first `kept` bytes stay, as of a block that moves. */
 struct tried rattle_realloc(void *block, size_t kept, size_t size, size_t alignment)
 {
-    (void)kept;
-    (void)alignment;
-    return tried(is_refused() ? NULL : realloc(block, size ? size : 1));
+    struct tried made = rattle_alloc(size, alignment);
+    if (!made.ok) return made;
+    memcpy(made.block, block, kept);
+    free(block);
+    return made;
 }
 
 void rattle_dealloc(void *block)

@@ -55,6 +55,7 @@ static enum yarib_status reading(void)
     const yarib_selection all = {.part = YARIB_ALL};
     yarib_route route;
     yarib_entry entry;
+    yarib_change one;
     yarib_difference range;
     uint32_t hop, attached;
     size_t total, other_total;
@@ -66,6 +67,7 @@ static enum yarib_status reading(void)
     CHECK(yarib_routes(&table, 0, &route, 1, &total) == status);
     CHECK(yarib_routes_from(&table, &start, &route, 1, &total) == status);
     CHECK(yarib_select(&table, &all, 0, &route, 1, &total) == status);
+    CHECK(yarib_purge_changes(&table, 1, 0, &one, 1, &total) == status);
     CHECK(yarib_count(&table, &total) == status);
     CHECK(yarib_memory(&table, &total) == status);
     CHECK(yarib_fib_is_attached(&table, &attached) == status);
@@ -82,6 +84,8 @@ static enum yarib_status reading(void)
 static void changes_are_busy(void)
 {
     yarib_reply reply = {.code = 99};
+    yarib_change change = {.base = 99};
+    CHECK(yarib_apply_changed(&table, &add_eight, &reply, &change) == YARIB_BUSY && reply.code == 99 && change.base == 99);
     CHECK(yarib_new(&table, 1, YARIB_PLAIN) == YARIB_BUSY && yarib_new(&table, 0, YARIB_PLAIN) == YARIB_BUSY);
     CHECK(yarib_apply(&table, &add_eight, &reply) == YARIB_BUSY && yarib_apply(&table, &dump, &reply) == YARIB_BUSY);
     CHECK(yarib_apply_each(&table, &add_eight, 1, &reply, 1) == YARIB_BUSY && reply.code == 99);

@@ -12,7 +12,7 @@
 #include <unistd.h>
 
 static yarib t, u;
-static yarib_concurrent k;
+static yarib_concurrent k, l;
 static yarib_command command;
 static yarib_reply reply;
 static yarib_route route, routes[2];
@@ -28,10 +28,12 @@ static yarib_view no_blocks = {numbers, 1, NULL, 1, numbers, 1};
 static yarib_view no_routers = {numbers, 1, numbers, 1, NULL, 1};
 static size_t size, other;
 static yarib_loaded loaded;
+static yarib_change change;
 static char text[20];
 static union {
     yarib_command commands[2];
     yarib_reply replies[2];
+    yarib_change changes[2];
     yarib_route routes[2];
     yarib_selection selection;
     uint32_t numbers[8];
@@ -49,6 +51,16 @@ static int fault(int number)
     FAULT(yarib_apply(&t, NULL, &reply));
     FAULT(yarib_apply(&t, &command, NULL));
     FAULT(yarib_apply(&t, both.commands, both.replies));
+    FAULT(yarib_apply_changed(NULL, &command, &reply, &change));
+    FAULT(yarib_apply_changed(&t, NULL, &reply, &change));
+    FAULT(yarib_apply_changed(&t, &command, NULL, &change));
+    FAULT(yarib_apply_changed(&t, &command, &reply, NULL));
+    FAULT(yarib_apply_changed(&t, both.commands, both.replies, &change));
+    FAULT(yarib_apply_changed(&t, both.commands, &reply, both.changes));
+    FAULT(yarib_apply_changed(&t, &command, both.replies, both.changes));
+    FAULT(yarib_purge_changes(NULL, 1, 0, &change, 1, &size));
+    FAULT(yarib_purge_changes(&t, 1, 0, NULL, 1, &size));
+    FAULT(yarib_purge_changes(&t, 1, 0, &change, 1, NULL));
     FAULT(yarib_apply_each(NULL, &command, 1, &reply, 1));
     FAULT(yarib_apply_each(&t, NULL, 1, &reply, 1));
     FAULT(yarib_apply_each(&t, &command, 1, NULL, 1));
@@ -133,10 +145,28 @@ static int fault(int number)
     FAULT(yarib_concurrent_apply(&k, NULL, &reply));
     FAULT(yarib_concurrent_apply(&k, &command, NULL));
     FAULT(yarib_concurrent_apply(&k, both.commands, both.replies));
+    FAULT(yarib_concurrent_apply_changed(NULL, &command, &reply, &change));
+    FAULT(yarib_concurrent_apply_changed(&k, NULL, &reply, &change));
+    FAULT(yarib_concurrent_apply_changed(&k, &command, NULL, &change));
+    FAULT(yarib_concurrent_apply_changed(&k, &command, &reply, NULL));
+    FAULT(yarib_concurrent_apply_changed(&k, both.commands, both.replies, &change));
+    FAULT(yarib_concurrent_apply_changed(&k, both.commands, &reply, both.changes));
+    FAULT(yarib_concurrent_apply_changed(&k, &command, both.replies, both.changes));
+    FAULT(yarib_concurrent_purge_changes(NULL, 1, 0, &change, 1, &size));
+    FAULT(yarib_concurrent_purge_changes(&k, 1, 0, NULL, 1, &size));
+    FAULT(yarib_concurrent_purge_changes(&k, 1, 0, &change, 1, NULL));
     FAULT(yarib_concurrent_apply_each(NULL, &command, 1, &reply, 1));
     FAULT(yarib_concurrent_apply_each(&k, NULL, 1, &reply, 1));
     FAULT(yarib_concurrent_apply_each(&k, &command, 1, NULL, 1));
     FAULT(yarib_concurrent_apply_each(&k, both.commands, 1, both.replies, 1));
+    FAULT(yarib_concurrent_replace(NULL, 1, &t));
+    FAULT(yarib_concurrent_replace(&k, 1, NULL));
+    FAULT(yarib_concurrent_copy(NULL, 1, &t));
+    FAULT(yarib_concurrent_copy(&k, 1, NULL));
+    FAULT(yarib_concurrent_first_difference(NULL, &l, 0, 0, &difference));
+    FAULT(yarib_concurrent_first_difference(&k, NULL, 0, 0, &difference));
+    FAULT(yarib_concurrent_first_difference(&k, &l, 0, 0, NULL));
+    FAULT(yarib_concurrent_first_difference(&k, &k, 0, 0, &difference));
     FAULT(yarib_concurrent_fib_attach(NULL));
     FAULT(yarib_concurrent_look_up(NULL, &address, 1, &route, 1));
     FAULT(yarib_concurrent_look_up(&k, NULL, 1, &route, 1));

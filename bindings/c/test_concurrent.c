@@ -54,7 +54,11 @@ struct tried rattle_realloc(void *block, size_t kept, size_t size, size_t alignm
     (void)kept;
     (void)alignment;
     meet();
-    return (struct tried){true, realloc(block, size ? size : 1)};
+    if (is_refused) return (struct tried){false, &large};
+    if (block == large) large = NULL;
+    block = realloc(block, size ? size : 1);
+    if (size >= LARGE) large = block;
+    return (struct tried){true, block};
 }
 
 void rattle_dealloc(void *block)
@@ -153,6 +157,7 @@ static void changes_are_busy(void)
     CHECK(yarib_concurrent_apply_each(&table, &one, 1, &reply, 1) == YARIB_BUSY && reply.code == 99);
     CHECK(yarib_concurrent_apply_each(&table, &one, 1, &reply, 0) == YARIB_BUSY);
     CHECK(yarib_concurrent_new(&table, 5) == YARIB_BUSY && yarib_concurrent_free(&table) == YARIB_BUSY);
+    CHECK(yarib_concurrent_replace(&table, 5, &model) == YARIB_BUSY);
     entered++;
 }
 
@@ -220,7 +225,16 @@ static void reader_meets_changes(void)
     entered = 0;
 }
 
-/* Every command from any state leaves both sides as the model. */
+/* Executes commands in a copy of the table, which then replaces it. */
+static void apply_aside(const yarib_command *commands, size_t size, yarib_reply *replies)
+{
+    yarib aside = YARIB_EMPTY;
+    CHECK(yarib_concurrent_copy(&table, LIMIT, &aside) == YARIB_DONE && yarib_apply_each(&aside, commands, size, replies, size) == YARIB_DONE);
+    compare();
+    CHECK(yarib_concurrent_replace(&table, LIMIT, &aside) == YARIB_DONE && yarib_free(&aside) == YARIB_DONE);
+}
+
+/* Every command from any state leaves both sides as the model, and each way to execute it. */
 static void change_at_random(void)
 {
     uint64_t state = 5;
@@ -237,7 +251,8 @@ static void change_at_random(void)
             batch[j] = command(operation, 1 + drawn / 64 % 2, (drawn / 512 % 40) << 24, 8, drawn / 20000);
         }
         if (k % 100 == 0) batch[0].feed = YARIB_MAX_FEED + 1;
-        CHECK(yarib_concurrent_apply_each(&table, batch, size, replies, size) == YARIB_DONE);
+        if (state >> 60 == 7) apply_aside(batch, size, replies);
+        else CHECK(yarib_concurrent_apply_each(&table, batch, size, replies, size) == YARIB_DONE);
         CHECK(yarib_apply_each(&model, batch, size, right, size) == YARIB_DONE);
         CHECK(memcmp(replies, right, size * sizeof *replies) == 0);
         compare();
@@ -341,9 +356,195 @@ static void save_meets_changes(void)
     }
 }
 
+/* A table that is to replace the published one: routes of three feeds, of which two have the same prefix. */
+static void make_other(yarib *aside, uint32_t kind)
+{
+    yarib_reply reply;
+    yarib_command commands[] = {add(3, 33), add(90, 1), command(YARIB_ADD, 2, 90u << 24, 8, 2), command(YARIB_ADD, YARIB_MAX_FEED, 0, 0, 5)};
+    commands[3].hop = YARIB_DISCARD;
+    CHECK(yarib_new(aside, LIMIT, kind) == YARIB_DONE);
+    for (int k = 0; k < 4; k++) CHECK(yarib_apply(aside, &commands[k], &reply) == YARIB_DONE && reply.code == YARIB_ADDED);
+}
+
+/* The model has the same routes from now on. */
+static void make_model(void)
+{
+    make_other(&model, YARIB_PLAIN);
+}
+
+/* Until a replacement is published readers have the table before it, and changes are busy. */
+static void during_replacement(void)
+{
+    during_change();
+    inside = during_replacement;
+}
+
+static void replace(void)
+{
+    yarib aside = YARIB_EMPTY;
+    yarib_route found;
+    uint32_t attached = 9;
+    size_t total;
+    for (uint32_t kind = YARIB_PLAIN; kind <= YARIB_JOURNALED; kind++) {
+        begin();
+        make_other(&aside, kind);
+        entered = 0;
+        inside = during_replacement;
+        CHECK(yarib_concurrent_replace(&table, LIMIT, &aside) == YARIB_DONE && entered > 10);
+        inside = NULL;
+        make_model();
+        compare_both();
+        CHECK(yarib_count(&aside, &total) == YARIB_DONE && total == 4);
+        CHECK(yarib_concurrent_fib_is_attached(&table, &attached) == YARIB_DONE && attached == 0);
+    }
+    /* Both sides allow so many routes: feed 1 has two. */
+    CHECK(yarib_concurrent_replace(&table, 2, &aside) == YARIB_DONE);
+    for (int k = 0; k < 2; k++) {
+        yarib_reply reply;
+        const yarib_command third = add(91, 1), other_feed = command(k ? YARIB_WITHDRAW : YARIB_ADD, 2, 1u << 24, 8, 1);
+        CHECK(yarib_concurrent_apply(&table, &third, &reply) == YARIB_DONE && reply.code == YARIB_FULL);
+        CHECK(yarib_concurrent_apply(&table, &other_feed, &reply) == YARIB_DONE);
+    }
+    compare();
+    /* What is refused leaves all as it was. */
+    CHECK(yarib_concurrent_replace(&table, 1, &aside) == YARIB_NOT_ADDED && yarib_concurrent_replace(&table, 0, &aside) == YARIB_BAD_NUMBER);
+    CHECK(yarib_concurrent_replace(&table, 1000001, &aside) == YARIB_BAD_NUMBER && yarib_free(&aside) == YARIB_DONE);
+    CHECK(yarib_concurrent_replace(&table, 0, &aside) == YARIB_NOTHING);
+    CHECK(yarib_fib_new(&model, &aside) == YARIB_DONE && yarib_concurrent_replace(&table, 0, &aside) == YARIB_WRONG_KIND);
+    compare();
+    /* A table with a forwarding table gets one for each side. */
+    CHECK(yarib_concurrent_fib_attach(&table) == YARIB_DONE);
+    make_other(&aside, YARIB_PLAIN);
+    CHECK(yarib_concurrent_replace(&table, LIMIT, &aside) == YARIB_DONE);
+    for (int k = 0; k < 2; k++) {
+        CHECK(yarib_concurrent_fib_is_attached(&table, &attached) == YARIB_DONE && attached == 1);
+        CHECK(yarib_concurrent_look_up_one(&table, 90u << 24, &found) == YARIB_DONE && found.via == 1);
+        change(command(k ? YARIB_WITHDRAW : YARIB_ADD, 7, 77u << 24, 9, 7));
+    }
+    CHECK(yarib_free(&aside) == YARIB_DONE && yarib_concurrent_free(&table) == YARIB_DONE);
+    /* An empty handle becomes a concurrent table. */
+    CHECK(yarib_concurrent_replace(&table, LIMIT, &model) == YARIB_DONE);
+    compare_both();
+    entered = 0;
+}
+
+static yarib copied = YARIB_EMPTY;
+
+static void busy_copy(void)
+{
+    size_t total;
+    CHECK(yarib_count(&copied, &total) == YARIB_BUSY && yarib_free(&copied) == YARIB_BUSY);
+    CHECK(yarib_concurrent_copy(&table, LIMIT, &copied) == YARIB_BUSY);
+}
+
+/* While a copy is made of the list, changes don't wait for it. The list's own call for memory is the first. */
+static void change_under_copy(void)
+{
+    if (entered++ < 3) {
+        inside = change_under_copy;
+        return;
+    }
+    for (uint32_t k = 0; k < 4; k++) change(add(120 + k, k));
+    busy_copy();
+}
+
+static void copy(void)
+{
+    static yarib_route found[ROOM], expected[ROOM];
+    yarib_concurrent empty = YARIB_CONCURRENT_INIT;
+    yarib_reply reply;
+    const yarib_command one = add(200, 1);
+    size_t total, right;
+    begin();
+    change(command(YARIB_ADD, YARIB_MAX_FEED, 0, 0, 5));
+    CHECK(yarib_new(&copied, 1, YARIB_JOURNALED) == YARIB_DONE && yarib_apply(&copied, &one, &reply) == YARIB_DONE);
+    CHECK(yarib_routes(&model, 0, expected, ROOM, &right) == YARIB_DONE && right == 21);
+    /* What is refused leaves all as it was. */
+    CHECK(yarib_concurrent_copy(&table, 19, &copied) == YARIB_NOT_ADDED && yarib_concurrent_copy(&table, 0, &copied) == YARIB_BAD_NUMBER);
+    CHECK(yarib_concurrent_copy(&empty, 0, &copied) == YARIB_NOTHING);
+    CHECK(yarib_count(&copied, &total) == YARIB_DONE && total == 1);
+    entered = 0;
+    inside = change_under_copy;
+    CHECK(yarib_concurrent_copy(&table, 20, &copied) == YARIB_DONE && entered == 4);
+    CHECK(yarib_routes(&copied, 0, found, ROOM, &total) == YARIB_DONE && total == right && memcmp(found, expected, sizeof found) == 0);
+    CHECK(yarib_apply(&copied, &one, &reply) == YARIB_DONE && reply.code == YARIB_FULL);
+    compare_both();
+    CHECK(yarib_free(&copied) == YARIB_DONE);
+    entered = 0;
+}
+
+/* A table for calls inside which others are made, and a concurrent one to compare with. */
+static yarib other = YARIB_EMPTY;
+static yarib_concurrent second = YARIB_CONCURRENT_EMPTY;
+
+/* So many reading calls are to be under way, each inside another one, and then a comparison has this status. */
+static int to_nest;
+static enum yarib_status nested_status;
+
+static void nest(void)
+{
+    yarib_difference found;
+    yarib_route route;
+    size_t total;
+    if (to_nest-- == 0) {
+        CHECK(yarib_concurrent_first_difference(&table, &second, 1, 0, &found) == nested_status);
+        entered++;
+        return;
+    }
+    inside = nest;
+    CHECK(yarib_routes(&other, 0, &route, 1, &total) == YARIB_DONE && total == 1);
+}
+
+/* A comparison needs two of the 1,024 places. If there is only one, it doesn't wait for the other one. */
+static void compare_in_last_places(void)
+{
+    for (int left = 2; left > 0; left--) {
+        to_nest = 1024 - left;
+        nested_status = left == 2 ? YARIB_NONE_LEFT : YARIB_BUSY;
+        entered = 0;
+        nest();
+        CHECK(entered == 1 && inside == NULL);
+    }
+    entered = 0;
+}
+
+/* Two concurrent tables differ where their models do. */
+static void compare_tables(void)
+{
+    yarib_concurrent empty = YARIB_CONCURRENT_EMPTY;
+    yarib aside = YARIB_EMPTY;
+    yarib_difference found, right;
+    begin();
+    make_other(&aside, YARIB_PLAIN);
+    CHECK(yarib_concurrent_replace(&second, LIMIT, &aside) == YARIB_DONE);
+    for (uint32_t by = 0; by < 2; by++) {
+        int ranges = 0;
+        uint64_t from = 0;
+        enum yarib_status status = YARIB_DONE;
+        for (; from < (uint64_t)1 << 32 && status == YARIB_DONE; from = (uint64_t)found.last + 1, ranges++) {
+            memset(&found, 0, sizeof found);
+            memset(&right, 0, sizeof right);
+            status = yarib_concurrent_first_difference(&table, &second, by, (uint32_t)from, &found);
+            CHECK(status == yarib_first_difference(&model, &aside, by, (uint32_t)from, &right) && memcmp(&found, &right, sizeof found) == 0);
+        }
+        CHECK(ranges > 20);
+    }
+#ifndef YARIB_CHECK
+    CHECK(yarib_concurrent_first_difference(&table, &table, 0, 0, &found) == YARIB_BUSY);
+#endif
+    CHECK(yarib_concurrent_first_difference(&table, &empty, 9, 0, &found) == YARIB_NOTHING);
+    CHECK(yarib_concurrent_first_difference(&empty, &table, 9, 0, &found) == YARIB_NOTHING);
+    CHECK(yarib_concurrent_first_difference(&table, &second, 9, 0, &found) == YARIB_BAD_NUMBER);
+    CHECK(yarib_concurrent_replace(&second, LIMIT, &model) == YARIB_DONE);
+    CHECK(yarib_concurrent_first_difference(&table, &second, 1, 0, &found) == YARIB_NONE_LEFT);
+    compare_in_last_places();
+    /* Neither call left a reader behind. */
+    compare_both();
+    CHECK(yarib_concurrent_free(&second) == YARIB_DONE && yarib_free(&aside) == YARIB_DONE);
+}
+
 static sem_t is_inside, may_leave;
 static atomic_int is_over, is_held;
-static yarib other = YARIB_EMPTY;
 static bool is_lent;
 
 static void stop(void)
@@ -372,7 +573,7 @@ static void *reader(void *unused)
 }
 
 /* The ways to end a table or to change it that wait for the reader. */
-static enum { CHANGE, BATCH, FREE, NEW, ATTACH, WAYS } way;
+static enum { CHANGE, BATCH, FREE, NEW, REPLACE, ATTACH, WAYS } way;
 
 /* While the reader is held, nothing may be allocated for its side, the second one that gets a forwarding table. */
 static void check_side(void)
@@ -391,6 +592,7 @@ static void *writer(void *unused)
     if (way == BATCH) CHECK(yarib_concurrent_apply_each(&table, &one, 1, &reply, 1) == YARIB_DONE);
     if (way == FREE) CHECK(yarib_concurrent_free(&table) == YARIB_DONE);
     if (way == NEW) CHECK(yarib_concurrent_new(&table, LIMIT) == YARIB_DONE);
+    if (way == REPLACE) CHECK(yarib_concurrent_replace(&table, LIMIT, &other) == YARIB_DONE);
     if (way == ATTACH) CHECK(yarib_concurrent_fib_attach(&table) == YARIB_DONE);
     atomic_store(&is_over, 1);
     return unused;
@@ -423,7 +625,7 @@ static void reader_is_held(void)
     nanosleep(&moment, NULL);
     CHECK(!atomic_load(&is_over));
     if (way == FREE) CHECK(yarib_concurrent_count(&table, &total) == YARIB_NOTHING);
-    else if (way == NEW) CHECK(yarib_concurrent_count(&table, &total) == YARIB_DONE && total == 0);
+    else if (way == NEW || way == REPLACE) CHECK(yarib_concurrent_count(&table, &total) == YARIB_DONE && total == (way == REPLACE));
     else if (way == ATTACH) CHECK(yarib_concurrent_count(&table, &total) == YARIB_DONE && total == right);
     else compare();
     CHECK(yarib_concurrent_apply(&table, &one, &reply) == YARIB_BUSY && yarib_concurrent_free(&table) == YARIB_BUSY);
@@ -505,7 +707,7 @@ static const struct {
     void (*run)(void);
 } tests[] = {{"statuses", statuses}, {"change_meets_readers", change_meets_readers}, {"reader_meets_changes", reader_meets_changes},
     {"change_at_random", change_at_random}, {"change_many", change_many}, {"keep_lists", keep_lists},
-    {"reader_meets_end", reader_meets_end}, {"save_meets_changes", save_meets_changes}, {"reader_is_held", reader_is_held_in_each_way}};
+    {"reader_meets_end", reader_meets_end}, {"replace", replace}, {"copy", copy}, {"compare_tables", compare_tables}, {"save_meets_changes", save_meets_changes}, {"reader_is_held", reader_is_held_in_each_way}};
 
 /* With a word, only the test of this name is run; the status is 2 if there is none. */
 int main(int size, char **words)

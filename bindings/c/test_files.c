@@ -382,18 +382,24 @@ static void refuse_memory(void)
     CHECK(number > 3);
     number = 1;
     size_t most = 0;
+    int late = 0;
     for (bool is_refused = true; is_refused; number++) {
         refused_call = number;
         enum yarib_status status = loaded_from(text, size, 50, &loaded);
         is_refused = refused_call == 0;
         refused_call = 0;
-        CHECK(status == (is_refused ? YARIB_NO_MEMORY : YARIB_DONE) && count() == before + loaded.routes);
-        CHECK(is_refused ? loaded.line == loaded.routes + 2 : loaded.line == lines && loaded.routes == lines - 1);
+        /* The second side of a concurrent table gets the routes once they are published, or with the next change. */
+        bool is_late = is_concurrent && is_refused && status == YARIB_DONE, is_whole = !is_refused || is_late;
+        CHECK(status == (is_whole ? YARIB_DONE : YARIB_NO_MEMORY) && count() == before + loaded.routes);
+        bool is_begun = !is_concurrent || is_whole || loaded.line > 0;
+        if (!is_begun) CHECK(loaded.routes == 0);
+        else CHECK(is_whole ? loaded.line == lines && loaded.routes == lines - 1 : loaded.line == loaded.routes + 2);
+        late += is_late;
         CHECK(loaded.routes >= most && (most = loaded.routes) == loaded.routes);
         CHECK(added((yarib_command){.operation = YARIB_PURGE, .feed = 50}) == YARIB_PURGED && count() == before);
         CHECK(added((yarib_command){.operation = YARIB_DUMP, .feed = 50}) == YARIB_DUMPED && count() == before);
     }
-    CHECK(number > 20);
+    CHECK(number > 20 && (late > 9) == is_concurrent);
     free_table();
 }
 
@@ -441,16 +447,15 @@ static void meet_calls(void)
     free_table();
 }
 
-/* Reads the next line of a long file, one at a time, and notes how many routes are published before it. */
+/* Reads the next line of a long file, one at a time. Until its end no route is published. */
 static uint32_t next_line, lines_in_all;
+static long left_at_1024;
 
 static ssize_t read_next(void *cookie, char *bytes, size_t size)
 {
     (void)cookie;
-    seen = next_line / 1024 * 1024;
-    /* The routes of full steps are published by the line that follows them. */
-    if (next_line > 0 && next_line % 1024 == 0) seen -= 1024;
     during_load();
+    if (next_line == 1024) left_at_1024 = refused_call;
     if (next_line == lines_in_all) return 0;
     CHECK(size > 40);
     int used = sprintf(bytes, "add %u.%u.0.0/16 %u 1.1.1.1\n", next_line >> 8, next_line & 255, next_line);
@@ -458,13 +463,14 @@ static ssize_t read_next(void *cookie, char *bytes, size_t size)
     return used;
 }
 
-/* A concurrent table is published in steps, so that its load needs little memory, and at the end. */
-static void load_in_steps(uint32_t lines)
+/* A concurrent table is published once, after all lines, and then both sides have all of them. */
+static void load_many(uint32_t lines)
 {
     const cookie_io_functions_t calls = {.read = read_next};
     FILE *file = fopencookie(NULL, "r", calls);
     yarib_loaded loaded;
     next_line = 0;
+    seen = 0;
     lines_in_all = lines;
     CHECK(file && new_table(YARIB_MAX_LIMIT) == YARIB_DONE);
     CHECK(load(1, file, &loaded) == YARIB_DONE && loaded.routes == lines && loaded.line == lines && count() == lines);
@@ -475,6 +481,28 @@ static void load_in_steps(uint32_t lines)
         CHECK(added((yarib_command){.operation = YARIB_PURGE, .feed = 2}) == YARIB_PURGED);
     }
     free_table();
+}
+
+/* There is room for 1,024 lines at first. If no memory is found for more, the lines before are loaded. */
+static void refuse_room(void)
+{
+    const cookie_io_functions_t calls = {.read = read_next};
+    const long many = 1000000;
+    yarib_loaded loaded;
+    for (long number = many; number > 0; number = number == many ? many - left_at_1024 + 1 : 0) {
+        FILE *file = fopencookie(NULL, "r", calls);
+        next_line = 0;
+        seen = 0;
+        lines_in_all = 1100;
+        CHECK(file && new_table(YARIB_MAX_LIMIT) == YARIB_DONE);
+        refused_call = number;
+        enum yarib_status status = load(1, file, &loaded);
+        CHECK(number == many ? status == YARIB_DONE && count() == 1100 : status == YARIB_NO_MEMORY && count() == 1024);
+        CHECK(number == many || (refused_call == 0 && loaded.routes == 1024 && loaded.line == 1025));
+        refused_call = 0;
+        CHECK(fclose(file) == 0);
+        free_table();
+    }
 }
 
 static void load_lines(bool has_version)
@@ -525,9 +553,10 @@ int main(int size, char **words)
         tests[k / 2].run();
         run++;
     }
-    if (size > 1 && strcmp(words[1], "steps") != 0) return run > 0 ? 0 : 2;
+    if (size > 1 && strcmp(words[1], "many") != 0) return run > 0 ? 0 : 2;
     is_concurrent = true;
-    for (uint32_t lines = 1023; lines <= 1025; lines++) load_in_steps(lines);
-    load_in_steps(5 * 1024);
+    for (uint32_t lines = 1023; lines <= 1025; lines++) load_many(lines);
+    load_many(5 * 1024);
+    refuse_room();
     return 0;
 }

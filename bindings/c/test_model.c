@@ -12,14 +12,13 @@
  *     take_own_place: fetch_add owned SEQ_CST
  *     enter_lent_place: store place->since RELAXED, store place->reading SEQ_CST
  *     mark: load word RELAXED, compare_exchange word SEQ_CST
+ *     unmark: store word RELEASE
  *     see_readers: load owned SEQ_CST, barrier, barrier
  *     is_read: load used SEQ_CST, load place->owner RELAXED, load place->reading ACQUIRE, load place->since ACQUIRE
  *     enter_reading: load handle->inside ACQUIRE
- *     leave_change: store handle->inside RELEASE
  *     publish: store sides->table SEQ_CST, add_fetch publications.number SEQ_CST
- *     end: store table->inside RELEASE
  *     empty: store table->inside SEQ_CST, add_fetch publications.number SEQ_CST
- *     enter: load publications.number SEQ_CST, load table->inside SEQ_CST, load sides->table SEQ_CST
+ *     try_to_enter: load publications.number SEQ_CST, load table->inside SEQ_CST, load sides->table SEQ_CST
  *
  *     test_model         # all of it
  *     test_model NAME    # the wrong protocol of this name; the status is 1 if a wrong state is found */

@@ -12,9 +12,10 @@
 #include <unistd.h>
 #include <yarib.h>
 
-enum { READERS = 4, CHANGES = 200, PREFIXES = 64, CROWD = 400, WAYS = 9 };
+/* The first TELLING ways to ask tell which table it is. */
+enum { READERS = 4, CHANGES = 200, PREFIXES = 64, CROWD = 400, TELLING = 9, WAYS = 11 };
 
-static yarib_concurrent table = YARIB_CONCURRENT_EMPTY;
+static yarib_concurrent table = YARIB_CONCURRENT_EMPTY, nothing = YARIB_CONCURRENT_EMPTY;
 static atomic_int ended;
 static atomic_uint published;
 static atomic_long answered;
@@ -24,8 +25,21 @@ static yarib_command command(uint32_t operation, uint32_t k, uint8_t len, uint32
     return (yarib_command){.operation = operation, .feed = 1, .base = k << 24, .len = len, .hop = YARIB_VIA, .via = via};
 }
 
-/* Publishes table k. */
-static void publish(uint32_t k)
+/* Publishes table k by a table that was made aside. */
+static void publish_aside(uint32_t k)
+{
+    yarib aside = YARIB_INIT;
+    yarib_reply reply;
+    CHECK(yarib_new(&aside, 2 * PREFIXES, YARIB_PLAIN) == YARIB_DONE);
+    for (uint32_t j = 0; j < (k % 2 ? 2 : 1) * PREFIXES; j++) {
+        yarib_command add = command(YARIB_ADD, j % PREFIXES, j < PREFIXES ? 8 : 16, k);
+        CHECK(yarib_apply(&aside, &add, &reply) == YARIB_DONE && reply.code == YARIB_ADDED);
+    }
+    CHECK(yarib_concurrent_replace(&table, 2 * PREFIXES, &aside) == YARIB_DONE && yarib_free(&aside) == YARIB_DONE);
+}
+
+/* Publishes table k by changes of the one before. */
+static void publish_changes(uint32_t k)
 {
     yarib_command batch[2 * PREFIXES];
     yarib_reply replies[2 * PREFIXES];
@@ -38,6 +52,12 @@ static void publish(uint32_t k)
         CHECK(replies[2 * j].code == YARIB_REPLACED);
         CHECK(replies[2 * j + 1].code == (k % 2 ? YARIB_ADDED : YARIB_WITHDRAWN));
     }
+}
+
+static void publish(uint32_t k)
+{
+    if (k % 20 == 7) publish_aside(k);
+    else publish_changes(k);
     atomic_store(&published, k);
 }
 
@@ -55,6 +75,7 @@ static uint32_t read_once(int way)
     static __thread yarib_route found[2 * PREFIXES + 1];
     const yarib_selection within = {.part = YARIB_WITHIN, .base = 5u << 24, .len = 8};
     const yarib_route from = {0};
+    yarib_difference difference;
     uint32_t k = 0;
     size_t total, right;
     for (uint32_t j = 0; j < PREFIXES; j++) asked[j] = j << 24 | (j % 3 == 0 ? 0x010000 : 7);
@@ -69,9 +90,12 @@ static uint32_t read_once(int way)
         CHECK(yarib_concurrent_hops(&table, asked, PREFIXES, UINT32_MAX, UINT32_MAX, hops, PREFIXES) == YARIB_DONE);
         k = hops[0];
         for (uint32_t j = 0; j < PREFIXES; j++) CHECK(hops[j] == k);
-    } else if (way == 3 || way == 4) {
+    } else if (way == 3 || way == 4 || way == 7) {
+        yarib copy = YARIB_INIT;
         if (way == 3) CHECK(yarib_concurrent_routes(&table, 0, found, 2 * PREFIXES + 1, &total) == YARIB_DONE);
-        else CHECK(yarib_concurrent_routes_from(&table, &from, found, 2 * PREFIXES + 1, &total) == YARIB_DONE);
+        if (way == 4) CHECK(yarib_concurrent_routes_from(&table, &from, found, 2 * PREFIXES + 1, &total) == YARIB_DONE);
+        if (way == 7) CHECK(yarib_concurrent_copy(&table, 2 * PREFIXES, &copy) == YARIB_DONE);
+        if (way == 7) CHECK(yarib_routes(&copy, 0, found, 2 * PREFIXES + 1, &total) == YARIB_DONE && yarib_free(&copy) == YARIB_DONE);
         k = found[0].via;
         right = k % 2 ? 2 * PREFIXES : PREFIXES;
         CHECK(total == right);
@@ -85,7 +109,11 @@ static uint32_t read_once(int way)
         k = found[0].via;
         right = k % 2 ? 2 : 1;
         CHECK(total == right && found[right - 1].via == k);
-    } else if (way == 7) {
+    } else if (way == 8) {
+        CHECK(yarib_concurrent_first_difference(&table, &nothing, 1, 5u << 24 | 7, &difference) == YARIB_DONE);
+        check_answer(&difference.before, 5u << 24 | 7, k = difference.before.via);
+        CHECK(difference.last == (k % 2 ? 0x0500ffffu : 0x05ffffffu) && difference.after.hop == YARIB_NO_ROUTE);
+    } else if (way == 9) {
         CHECK(yarib_concurrent_count(&table, &total) == YARIB_DONE && (total == PREFIXES || total == 2 * PREFIXES));
     } else {
         CHECK(yarib_concurrent_memory(&table, &total) == YARIB_DONE && total >= 2 * 48 * PREFIXES);
@@ -99,7 +127,7 @@ static void *reader(void *unused)
     uint32_t last = 0;
     for (int way = 0; !atomic_load(&ended); way = (way + 1) % WAYS) {
         uint32_t least = atomic_load(&published), k = read_once(way);
-        if (way < 7) {
+        if (way < TELLING) {
             CHECK(k >= least && k >= last && k <= CHANGES);
             last = k;
         }
@@ -120,7 +148,7 @@ static void round_of(int is_attached)
     for (uint32_t k = 1; k <= changes; k++) publish(k);
     atomic_store(&ended, 1);
     for (int k = 0; k < READERS; k++) pthread_join(threads[k], NULL);
-    for (int way = 0; way < 7; way++) CHECK(read_once(way) == changes);
+    for (int way = 0; way < TELLING; way++) CHECK(read_once(way) == changes);
 }
 
 static void *visitor(void *unused)
@@ -128,8 +156,8 @@ static void *visitor(void *unused)
     uint32_t last = 0;
     for (int k = 0; k < 2 * WAYS; k++) {
         uint32_t least = atomic_load(&published), found = read_once(k % WAYS);
-        CHECK(k % WAYS >= 7 || (found >= least && found >= last));
-        if (k % WAYS < 7) last = found;
+        CHECK(k % WAYS >= TELLING || (found >= least && found >= last));
+        if (k % WAYS < TELLING) last = found;
         sched_yield();
     }
     return unused;
@@ -178,10 +206,11 @@ static void free_early(void)
 int main(void)
 {
     alarm(600);
+    CHECK(yarib_concurrent_new(&nothing, 1) == YARIB_DONE);
     crowd();
     for (int k = 0; k < 3; k++) round_of(k == 2);
     free_early();
-    CHECK(yarib_concurrent_free(&table) == YARIB_DONE);
+    CHECK(yarib_concurrent_free(&table) == YARIB_DONE && yarib_concurrent_free(&nothing) == YARIB_DONE);
     printf("%ld answered\n", (long)answered);
     return 0;
 }

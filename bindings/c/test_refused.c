@@ -272,6 +272,54 @@ static int refuse_concurrent(long number, int is_attached, int *late)
     return left == 0;
 }
 
+/* A copy of a concurrent table, and its replacement: what is refused leaves both tables as they were. */
+static int refuse_copies(long number, int is_attached)
+{
+    yarib_concurrent table = YARIB_CONCURRENT_EMPTY, fresh = YARIB_CONCURRENT_EMPTY;
+    yarib other = YARIB_EMPTY, copy = YARIB_EMPTY;
+    yarib_command command = put_command(YARIB_ADD, 1, 0, 8, 0, 0);
+    yarib_reply reply;
+    yarib_route answer;
+    uint32_t attached = 9;
+    enum yarib_status status;
+    refused_call = 0;
+    CHECK(yarib_concurrent_new(&table, 100) == YARIB_DONE && yarib_new(&other, 100, YARIB_PLAIN) == YARIB_DONE);
+    CHECK(yarib_concurrent_apply(&table, &command, &reply) == YARIB_DONE);
+    if (is_attached) CHECK(yarib_concurrent_fib_attach(&table) == YARIB_DONE);
+    for (uint32_t k = 0; k < 5; k++) {
+        command = put_command(YARIB_ADD, 1, k << 24, k % 3 ? 8 : 25, k, k);
+        CHECK(yarib_apply(&other, &command, &reply) == YARIB_DONE);
+    }
+    /* A copy has no forwarding table, so one round of them is enough. */
+    if (!is_attached) refused_call = number;
+    while ((status = yarib_concurrent_copy(&table, 100, &copy)) != YARIB_DONE) {
+        CHECK(status == YARIB_NO_MEMORY && copy.inside == NULL);
+        refused++;
+    }
+    if (is_attached) refused_call = number;
+    while ((status = yarib_concurrent_replace(&table, 100, &other)) != YARIB_DONE) {
+        CHECK(status == YARIB_NO_MEMORY);
+        ask_concurrent(&table, 1, 99);
+        refused++;
+    }
+    for (uint32_t k = 5; k < 7; k++) {
+        apply_concurrent(&table, put_command(YARIB_ADD, 1, k << 24, 8, k, k), k, 99);
+        ask_concurrent(&table, k + 1, 99);
+        CHECK(yarib_concurrent_fib_is_attached(&table, &attached) == YARIB_DONE && (attached || !is_attached || refused_call == 0));
+    }
+    while ((status = yarib_concurrent_replace(&fresh, 100, &other)) != YARIB_DONE) {
+        CHECK(status == YARIB_NO_MEMORY && fresh.inside == NULL);
+        refused++;
+    }
+    ask_concurrent(&fresh, 5, 99);
+    CHECK(yarib_look_up_one(&copy, 5, &answer) == YARIB_DONE && answer.hop == YARIB_VIA && answer.via == 0);
+    long left = refused_call;
+    refused_call = 0;
+    CHECK(yarib_concurrent_free(&table) == YARIB_DONE && yarib_concurrent_free(&fresh) == YARIB_DONE);
+    CHECK(yarib_free(&other) == YARIB_DONE && yarib_free(&copy) == YARIB_DONE);
+    return left == 0;
+}
+
 /* A view of a forwarding table with one route: while a call for memory is refused, nothing is written. */
 static int refuse_view(long number)
 {
@@ -327,6 +375,9 @@ int main(int count, char **words)
         int late = 0;
         while (refuse_concurrent(number, is_attached, &late)) number++;
         CHECK(number > (is_attached ? 30 : 80) && late >= (is_attached ? 4 : 10));
+        /* With forwarding tables every third call: each round makes six of them. */
+        for (number = 1; refuse_copies(number, is_attached);) number += is_attached ? 3 : 1;
+        CHECK(number > 20);
     }
     printf("refused %d\n", refused);
     return 0;

@@ -124,6 +124,7 @@ static void compare_tables(uint32_t count, uint32_t routers)
     for (uint32_t k = 0; k < count; k++) change(&table, YARIB_ADD, routers);
     CHECK(yarib_fib_new(&table, &forwarding) == YARIB_DONE && yarib_fib_attach(&table) == YARIB_DONE);
     yarib_view view = written(&forwarding, &room);
+    CHECK(view.block_count <= 256 * ((size_t)count + 1) && room <= (size_t)count + 4);
     freeze(&view, room, PROT_READ);
     compare(&forwarding, &view);
     for (uint32_t k = 0; k < 30 && k < count; k++) change(&table, 1 + draw() % 3, routers);
@@ -172,6 +173,36 @@ static void compare_concurrent(void)
         forget(&view, room);
     }
     CHECK(yarib_concurrent_free(&table) == YARIB_DONE && yarib_free(&model) == YARIB_DONE);
+}
+
+/* The sizes of a new forwarding table: 256 numbers for each /24 with a longer prefix, and a number for each router that an answer
+ * has. A change needs at most one more of each. Catches a yarib_view_sizes that writes sizes of which these are a part. */
+static void bound_sizes(void)
+{
+    const uint32_t changes = 300;
+    for (uint32_t count = 0; count < 40; count += 1 + count / 2) {
+        yarib table = YARIB_EMPTY, forwarding = YARIB_EMPTY;
+        size_t blocks, routers, longer = (count + 2) / 4;
+        CHECK(yarib_new(&table, 100, YARIB_PLAIN) == YARIB_DONE);
+        for (uint32_t k = 0; k < count; k++) {
+            yarib_command command = put_command(YARIB_ADD, 1, 0x0a000000 + (k / 4 << 8) + k % 4, 32, 0, k);
+            if (k % 2 == 0) command.base = 0x0b000000 + (k << 8), command.len = 24;
+            yarib_reply reply;
+            CHECK(yarib_apply(&table, &command, &reply) == YARIB_DONE && reply.code == YARIB_ADDED);
+        }
+        CHECK(yarib_fib_new(&table, &forwarding) == YARIB_DONE && yarib_fib_attach(&table) == YARIB_DONE);
+        CHECK(yarib_view_sizes(&forwarding, &blocks, &routers) == YARIB_DONE);
+        CHECK(blocks == (longer ? 256 * longer : 1) && routers > count + 1 && routers < count + 4);
+        for (uint32_t k = 0; k < changes; k++) {
+            yarib_command command = put_command(k % 2 ? YARIB_WITHDRAW : YARIB_ADD, 2, 0x0c000000 + (k % 7 << 8), 32, 0, k);
+            yarib_reply reply;
+            CHECK(yarib_apply(&table, &command, &reply) == YARIB_DONE);
+        }
+        CHECK(yarib_view_sizes(&table, &blocks, &routers) == YARIB_DONE);
+        CHECK(blocks <= 256 * (longer + changes) && routers < count + 4 + changes);
+        yarib_free(&table);
+        yarib_free(&forwarding);
+    }
 }
 
 /* Each array one number too small, and what is no forwarding table: nothing is written. */
@@ -226,6 +257,7 @@ static void look_up_in_noise(void)
 int main(void)
 {
     refuse();
+    bound_sizes();
     look_up_in_noise();
     compare_concurrent();
     for (uint32_t round = 0; round < 6; round++) compare_tables(1 + draw() % 2000, 1 + draw() % 40);

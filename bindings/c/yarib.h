@@ -19,9 +19,9 @@
  * lowest preference number is preferred; between equal preferences, the lowest feed. Sizes count elements, not bytes.
  *
  * Statuses. Every call returns an enum yarib_status, except yarib_version, yarib_build and yarib_status_text, which return strings, and
- * yarib_view_look_up. YARIB_DONE
- * is 0. If a call returns another status, the handles are unchanged and nothing was written, except by yarib_save, yarib_load and
- * the same calls of a concurrent table. If several statuses apply, the call returns the first of them in this order: YARIB_FORKED,
+ * yarib_view_look_up and yarib_source_feed, which return numbers. YARIB_DONE is 0. If a call returns another status, the handles are
+ * unchanged and nothing was written, except by yarib_save, yarib_load, the same calls of a concurrent table, and
+ * yarib_concurrent_fib_attach. If several statuses apply, the call returns the first of them in this order: YARIB_FORKED,
  * YARIB_NO_BARRIER and YARIB_BUSY (any call with a handle), then the call's Errors as they are listed, from left to right.
  *
  * Ownership. Initialize a handle with YARIB_INIT, fill it with yarib_new, yarib_fib_new or yarib_fib_clone, and release it with yarib_free;
@@ -51,6 +51,7 @@
  *     yarib_new                                      1, n to free   yes          no                no
  *     yarib_free                                     n              no           no                no
  *     yarib_apply, yarib_apply_each                  k (1 + F)      for adds     no                no
+ *     yarib_apply_changed                            1 + F          for adds     no                no
  *     yarib_reserve                                  n              yes          no                no
  *     yarib_load                                     k (1 + F)      yes          for the file      no
  *     yarib_save                                     n              yes          for the file      no
@@ -59,6 +60,7 @@
  *     yarib_look_up_all, yarib_select                k              yes          no                no
  *     yarib_routes                                   n              yes          no                no
  *     yarib_routes_from, yarib_journal               k              no           no                yes
+ *     yarib_purge_changes                            n              no           no                yes
  *     yarib_count, yarib_memory                      1              no           no                yes
  *     yarib_fib_is_attached, yarib_view_sizes        1              no           no                yes
  *     yarib_first_difference                         n              no           no                yes
@@ -67,16 +69,18 @@
  *     yarib_view_write                               n + 2^24       yes          no                no
  *     yarib_view_look_up, yarib_view_look_up_each    k              no           no                yes
  *     yarib_prefix_parse and the other texts         1              no           no                yes
+ *     yarib_concurrent_copy                          n              yes          no                no
+ *     yarib_concurrent_replace                       n (+ 2^24)     yes          for readers       no
  *
- * Each call of a concurrent table costs what the same call of a table does, and may be made in a handler if that may. A change takes
+ * Each other call of a concurrent table costs what the same call of a table does, and may be made in a handler if that may. A change takes
  * twice as long, and waits for readers; so do yarib_concurrent_new and yarib_concurrent_free.
  *
  * Pointers must not be null, even for arrays without elements. No memory that a call writes may overlap other memory that is
- * passed to it. If a call takes two handles, they must be different. Define YARIB_CHECK to have these rules tested by
- * assert, as far as they can be tested.
+ * passed to it. If a call takes two handles, they must be different. Define YARIB_CHECK before you include this header,
+ * and each call first tests by assert what can be tested of these rules (yarib_check.h).
  *
- * docs/LIBRARIES.md of the repository lists the promises under yarib_c, and says which are proved of the library's code and
- * which are tested. Your obligations are the rules in this comment; the proofs assume that you keep them.
+ * docs/LIBRARY-C.md of the repository says what each call promises, and what of that is proved of the library's code and
+ * what is tested. Your obligations are the rules in this comment; the proofs assume that you keep them.
  */
 #ifndef YARIB_H
 #define YARIB_H
@@ -132,7 +136,7 @@ enum yarib_status {
     YARIB_WRONG_KIND = 10,  /* the handle holds something that doesn't support this call */
     YARIB_BUSY = 11,        /* another call uses the handle */
     YARIB_BAD_FILE = 12,    /* the file can't be read or written */
-    YARIB_NOT_ADDED = 13,   /* a file's route isn't added: its feed has one to this prefix, or is at its limit */
+    YARIB_NOT_ADDED = 13,   /* a route isn't added: its feed has one to this prefix, or is at its limit */
     YARIB_NO_BARRIER = 14,  /* the kernel refuses the call membarrier, which it allowed before */
     YARIB_FORKED = 15       /* a thread of the parent process was changing the handle when this process was forked */
 };
@@ -251,6 +255,16 @@ typedef struct yarib_difference {
     yarib_route after;
 } yarib_difference;
 
+/* A prefix whose best route has changed. A route that wasn't there before, or isn't there after, has the hop YARIB_NO_ROUTE. So a program
+ * that installs best routes removes the prefix if `after` has this hop, and installs or replaces its next hop if not. If both have
+ * it, no best route has changed, and all fields are 0. */
+typedef struct yarib_change {
+    yarib_route before;
+    yarib_route after;
+    uint32_t base;
+    uint8_t len;
+} yarib_change;
+
 /* Creates an empty table that allows each feed up to `limit` routes. `limit` is 1 to YARIB_MAX_LIMIT, `kind` an enum yarib_kind.
  * If it succeeds, the handle's previous contents are freed.
  * Errors: YARIB_BAD_NUMBER, YARIB_NO_MEMORY. */
@@ -264,6 +278,12 @@ enum yarib_status yarib_free(yarib *table);
  * add that inserts a route can run out of memory.
  * Errors: YARIB_NOTHING, YARIB_BAD_NUMBER (the feed), YARIB_BAD_COMMAND, YARIB_WRONG_KIND, YARIB_NO_MEMORY. */
 YARIB_STATUS yarib_apply(yarib *table, const yarib_command *command, yarib_reply *reply);
+
+/* Executes an add, a replace or a withdraw as yarib_apply does, and writes what it has changed: the best routes to its prefix before and
+ * after, if they differ. The best routes to all other prefixes are the same. It takes the time of yarib_apply and of two look-ups of the
+ * prefix.
+ * Errors: YARIB_NOTHING, YARIB_BAD_NUMBER (the feed), YARIB_BAD_COMMAND (also for any other command), YARIB_WRONG_KIND, YARIB_NO_MEMORY. */
+YARIB_STATUS yarib_apply_changed(yarib *table, const yarib_command *command, yarib_reply *reply, yarib_change *change);
 
 /* Executes the commands in order and writes each reply at the command's index. If a command fails, its reply has the code
  * YARIB_UNANSWERED and, as `count`, the status that yarib_apply would have returned; the remaining commands are executed. On a
@@ -320,6 +340,12 @@ YARIB_STATUS yarib_routes_from(const yarib *table, const yarib_route *from, yari
  * YARIB_NO_MEMORY. */
 YARIB_STATUS yarib_select(const yarib *table, const yarib_selection *asked, size_t skip, yarib_route *routes, size_t room,
     size_t *total);
+
+/* Writes which best routes a purge of the feed would change, sorted by base and length: the changes from the index `skip` on, up to
+ * `room` of them. Writes their number, skipped ones included, to `total`; it is at most the number of the feed's routes. Call this before
+ * the purge. Doesn't allocate, but visits each prefix.
+ * Errors: YARIB_NOTHING, YARIB_BAD_NUMBER (the feed), YARIB_WRONG_KIND. */
+YARIB_STATUS yarib_purge_changes(const yarib *table, uint32_t feed, size_t skip, yarib_change *changes, size_t room, size_t *total);
 
 /* Writes the number of routes to `total`.
  * Errors: YARIB_NOTHING, YARIB_WRONG_KIND. */
@@ -489,9 +515,22 @@ YARIB_STATUS yarib_concurrent_new(yarib_concurrent *table, uint32_t limit);
  * thread; YARIB_NO_BARRIER; or YARIB_FORKED. */
 enum yarib_status yarib_concurrent_free(yarib_concurrent *table);
 
+/* Publishes a table in one step that allows each feed up to `limit` routes and has the routes of `other`: load a table aside, and let
+ * it replace the one that readers have. Each reading call gets the table before or the new one. `other` is a table of any kind; it is
+ * only read, and its routes are copied. If readers had a forwarding table, they have one again. The previous contents are freed as by
+ * yarib_concurrent_new, and the whole call is one change. Of an empty handle it makes a concurrent table.
+ * Errors: YARIB_NOTHING (`other`), YARIB_WRONG_KIND (`other`), YARIB_NO_MEMORY (to list its routes), YARIB_BAD_NUMBER, YARIB_NO_MEMORY,
+ * YARIB_NOT_ADDED (a feed has more routes than `limit`). */
+YARIB_STATUS yarib_concurrent_replace(yarib_concurrent *table, uint32_t limit, const yarib *other);
+
 /* Executes a command, writes its reply, and publishes the table.
  * Errors: YARIB_NOTHING, YARIB_NO_MEMORY (for the previous change), YARIB_BAD_NUMBER (the feed), YARIB_BAD_COMMAND, YARIB_NO_MEMORY. */
 YARIB_STATUS yarib_concurrent_apply(yarib_concurrent *table, const yarib_command *command, yarib_reply *reply);
+
+/* Executes an add, a replace or a withdraw, writes its reply and what it has changed, as yarib_apply_changed does, and publishes the table.
+ * Errors: those of yarib_concurrent_apply. */
+YARIB_STATUS yarib_concurrent_apply_changed(yarib_concurrent *table, const yarib_command *command, yarib_reply *reply,
+    yarib_change *change);
 
 /* Executes the commands in order, as yarib_apply_each does, and then publishes the table once. If commands fail, the table after all
  * others is published.
@@ -505,10 +544,10 @@ YARIB_STATUS yarib_concurrent_apply_each(yarib_concurrent *table, const yarib_co
  * Errors: YARIB_NOTHING, YARIB_NO_MEMORY. */
 YARIB_STATUS yarib_concurrent_fib_attach(yarib_concurrent *table);
 
-/* Adds the routes of a feed file, as yarib_load does. It publishes the table at the end, and after each 1,024 routes before. The
- * whole call is one change: meanwhile other changes are busy. Its errors are those of yarib_load except YARIB_WRONG_KIND. If it returns
- * YARIB_NO_MEMORY, the line that it reports may be the first one, since no memory is found for the previous change.
- * YARIB_BUSY comes with a result if a reading call of this thread began before the call, and YARIB_NO_BARRIER if it is refused meanwhile. */
+/* Adds the routes of a feed file, as yarib_load does, and then publishes the table once: also if a line can't be added, with the routes of
+ * the lines before it. The whole call is one change: meanwhile other changes are busy. It keeps 24 bytes for each line until its end.
+ * Errors, without a result: YARIB_NOTHING, YARIB_BAD_NUMBER (the feed), YARIB_NO_MEMORY (for the previous change).
+ * Errors, with a result: those of yarib_load. */
 YARIB_STATUS yarib_concurrent_load(yarib_concurrent *table, uint32_t feed, FILE *file, yarib_loaded *loaded);
 
 /* The reading calls. Each does what the call without `concurrent` in its name does to a table, and has its errors except YARIB_BUSY and
@@ -528,6 +567,8 @@ YARIB_STATUS yarib_concurrent_routes_from(const yarib_concurrent *table, const y
     size_t *used);
 YARIB_STATUS yarib_concurrent_select(const yarib_concurrent *table, const yarib_selection *asked, size_t skip, yarib_route *routes,
     size_t room, size_t *total);
+YARIB_STATUS yarib_concurrent_purge_changes(const yarib_concurrent *table, uint32_t feed, size_t skip, yarib_change *changes, size_t room,
+    size_t *total);
 YARIB_STATUS yarib_concurrent_count(const yarib_concurrent *table, size_t *total);
 YARIB_STATUS yarib_concurrent_memory(const yarib_concurrent *table, size_t *bytes);
 YARIB_STATUS yarib_concurrent_save(const yarib_concurrent *table, uint32_t feed, FILE *file);
@@ -543,6 +584,20 @@ YARIB_STATUS yarib_concurrent_fib_is_attached(const yarib_concurrent *table, uin
  * the published table. */
 YARIB_STATUS yarib_concurrent_view_sizes(const yarib_concurrent *table, size_t *blocks, size_t *routers);
 YARIB_STATUS yarib_concurrent_view_write(const yarib_concurrent *table, yarib_view *view);
+
+/* Makes `copy` a table without a journal that allows each feed up to `limit` routes and has the routes of the published table: one that
+ * stays as it is. A change waits only while the routes are listed, not while the copy is made of them. If it succeeds, the previous
+ * contents of `copy` are freed.
+ * Errors: YARIB_NOTHING, YARIB_NO_MEMORY (to list the routes), YARIB_BAD_NUMBER, YARIB_NO_MEMORY, YARIB_NOT_ADDED (a feed has more
+ * routes than `limit`). */
+YARIB_STATUS yarib_concurrent_copy(const yarib_concurrent *table, uint32_t limit, yarib *copy);
+
+/* Does for two published tables what yarib_first_difference does. Each call compares those that are published when it runs: to compare
+ * two tables range by range while they change, copy them before. The handles must be different; one handle twice is YARIB_BUSY, and so is
+ * a call during 1,024 others.
+ * Errors: YARIB_NOTHING (either handle), YARIB_BAD_NUMBER (by), YARIB_NONE_LEFT (no further range). */
+YARIB_STATUS yarib_concurrent_first_difference(const yarib_concurrent *old_table, const yarib_concurrent *new_table, uint32_t by,
+    uint32_t from, yarib_difference *difference);
 
 /* Returns the feed that holds a prefix of a source of more than YARIB_MAX_LIMIT routes: one of `feeds` feeds from `first` on, always the
  * same one. So the table's answers are those of a single feed without its limit. About 1,990,000 routes fit into two feeds before an
@@ -568,414 +623,8 @@ YARIB_STATUS yarib_address_parse(const char *text, size_t size, uint32_t *addres
  * Errors: YARIB_BAD_SIZE. */
 YARIB_STATUS yarib_address_print(uint32_t address, char *text, size_t room, size_t *used);
 
-/* If YARIB_CHECK is defined, each call first tests some of its caller's obligations: no null pointers, two different handles, and no
- * overlap of the commands, addresses, position or selection that it reads with the results that it writes. */
 #ifdef YARIB_CHECK
-#include <assert.h>
-
-/* Returns true if two memory ranges don't overlap. */
-static inline int yarib_are_apart(const void *one, size_t size, const void *other, size_t other_size)
-{
-    uintptr_t first = (uintptr_t)one, second = (uintptr_t)other;
-    return size == 0 || other_size == 0 || first + size <= second || second + other_size <= first;
-}
-
-static inline YARIB_STATUS yarib_new_checked(yarib *table, uint32_t limit, uint32_t kind)
-{
-    assert(table != NULL);
-    return yarib_new(table, limit, kind);
-}
-#define yarib_new yarib_new_checked
-
-static inline enum yarib_status yarib_free_checked(yarib *table)
-{
-    assert(table != NULL);
-    return yarib_free(table);
-}
-#define yarib_free yarib_free_checked
-
-static inline YARIB_STATUS yarib_apply_checked(yarib *table, const yarib_command *command, yarib_reply *reply)
-{
-    assert(table != NULL && command != NULL && reply != NULL);
-    assert(yarib_are_apart(command, sizeof *command, reply, sizeof *reply));
-    return yarib_apply(table, command, reply);
-}
-#define yarib_apply yarib_apply_checked
-
-static inline YARIB_STATUS yarib_apply_each_checked(yarib *table, const yarib_command *commands, size_t size,
-    yarib_reply *replies, size_t room)
-{
-    assert(table != NULL && commands != NULL && replies != NULL);
-    assert(yarib_are_apart(commands, size * sizeof *commands, replies, room * sizeof *replies));
-    return yarib_apply_each(table, commands, size, replies, room);
-}
-#define yarib_apply_each yarib_apply_each_checked
-
-static inline YARIB_STATUS yarib_reserve_checked(yarib *table, size_t entries)
-{
-    assert(table != NULL);
-    return yarib_reserve(table, entries);
-}
-#define yarib_reserve yarib_reserve_checked
-
-static inline YARIB_STATUS yarib_look_up_checked(const yarib *table, const uint32_t *addresses, size_t size,
-    yarib_route *answers, size_t room)
-{
-    assert(table != NULL && addresses != NULL && answers != NULL);
-    assert(yarib_are_apart(addresses, size * sizeof *addresses, answers, room * sizeof *answers));
-    return yarib_look_up(table, addresses, size, answers, room);
-}
-#define yarib_look_up yarib_look_up_checked
-
-static inline YARIB_STATUS yarib_look_up_one_checked(const yarib *table, uint32_t address, yarib_route *answer)
-{
-    assert(table != NULL && answer != NULL);
-    return yarib_look_up_one(table, address, answer);
-}
-#define yarib_look_up_one yarib_look_up_one_checked
-
-static inline YARIB_STATUS yarib_look_up_text_checked(const yarib *table, const char *text, size_t size, yarib_route *answer)
-{
-    assert(table != NULL && text != NULL && answer != NULL);
-    assert(yarib_are_apart(text, size, answer, sizeof *answer));
-    return yarib_look_up_text(table, text, size, answer);
-}
-#define yarib_look_up_text yarib_look_up_text_checked
-
-static inline YARIB_STATUS yarib_hops_checked(const yarib *table, const uint32_t *addresses, size_t size, uint32_t no_route,
-    uint32_t discard, uint32_t *hops, size_t room)
-{
-    assert(table != NULL && addresses != NULL && hops != NULL);
-    assert(yarib_are_apart(addresses, size * sizeof *addresses, hops, room * sizeof *hops));
-    return yarib_hops(table, addresses, size, no_route, discard, hops, room);
-}
-#define yarib_hops yarib_hops_checked
-
-static inline YARIB_STATUS yarib_look_up_all_checked(const yarib *table, uint32_t address, size_t skip,
-    yarib_route *routes, size_t room, size_t *total)
-{
-    assert(table != NULL && routes != NULL && total != NULL);
-    return yarib_look_up_all(table, address, skip, routes, room, total);
-}
-#define yarib_look_up_all yarib_look_up_all_checked
-
-static inline YARIB_STATUS yarib_routes_checked(const yarib *table, size_t skip, yarib_route *routes, size_t room, size_t *total)
-{
-    assert(table != NULL && routes != NULL && total != NULL);
-    return yarib_routes(table, skip, routes, room, total);
-}
-#define yarib_routes yarib_routes_checked
-
-static inline YARIB_STATUS yarib_routes_from_checked(const yarib *table, const yarib_route *from, yarib_route *routes, size_t room,
-    size_t *used)
-{
-    assert(table != NULL && from != NULL && routes != NULL && used != NULL);
-    assert(yarib_are_apart(from, sizeof *from, routes, room * sizeof *routes));
-    return yarib_routes_from(table, from, routes, room, used);
-}
-#define yarib_routes_from yarib_routes_from_checked
-
-static inline YARIB_STATUS yarib_select_checked(const yarib *table, const yarib_selection *asked, size_t skip, yarib_route *routes,
-    size_t room, size_t *total)
-{
-    assert(table != NULL && asked != NULL && routes != NULL && total != NULL);
-    assert(yarib_are_apart(asked, sizeof *asked, routes, room * sizeof *routes));
-    return yarib_select(table, asked, skip, routes, room, total);
-}
-#define yarib_select yarib_select_checked
-
-static inline YARIB_STATUS yarib_count_checked(const yarib *table, size_t *total)
-{
-    assert(table != NULL && total != NULL);
-    return yarib_count(table, total);
-}
-#define yarib_count yarib_count_checked
-
-static inline YARIB_STATUS yarib_journal_checked(const yarib *table, size_t skip, yarib_entry *entries, size_t room,
-    size_t *total)
-{
-    assert(table != NULL && entries != NULL && total != NULL);
-    return yarib_journal(table, skip, entries, room, total);
-}
-#define yarib_journal yarib_journal_checked
-
-static inline YARIB_STATUS yarib_first_difference_checked(const yarib *old_table, const yarib *new_table, uint32_t by,
-    uint32_t from, yarib_difference *difference)
-{
-    assert(old_table != NULL && new_table != NULL && difference != NULL && old_table != new_table);
-    return yarib_first_difference(old_table, new_table, by, from, difference);
-}
-#define yarib_first_difference yarib_first_difference_checked
-
-static inline YARIB_STATUS yarib_fib_new_checked(const yarib *table, yarib *forwarding)
-{
-    assert(table != NULL && forwarding != NULL && table != forwarding);
-    return yarib_fib_new(table, forwarding);
-}
-#define yarib_fib_new yarib_fib_new_checked
-#define yarib_forward yarib_fib_new_checked
-
-static inline YARIB_STATUS yarib_fib_clone_checked(const yarib *forwarding, yarib *other)
-{
-    assert(forwarding != NULL && other != NULL && forwarding != other);
-    return yarib_fib_clone(forwarding, other);
-}
-#define yarib_fib_clone yarib_fib_clone_checked
-#define yarib_share yarib_fib_clone_checked
-
-static inline YARIB_STATUS yarib_fib_attach_checked(yarib *table)
-{
-    assert(table != NULL);
-    return yarib_fib_attach(table);
-}
-#define yarib_fib_attach yarib_fib_attach_checked
-#define yarib_follow yarib_fib_attach_checked
-
-static inline YARIB_STATUS yarib_fib_is_attached_checked(const yarib *table, uint32_t *attached)
-{
-    assert(table != NULL && attached != NULL);
-    return yarib_fib_is_attached(table, attached);
-}
-#define yarib_fib_is_attached yarib_fib_is_attached_checked
-
-static inline YARIB_STATUS yarib_view_sizes_checked(const yarib *table, size_t *blocks, size_t *routers)
-{
-    assert(table != NULL && blocks != NULL && routers != NULL && blocks != routers);
-    return yarib_view_sizes(table, blocks, routers);
-}
-#define yarib_view_sizes yarib_view_sizes_checked
-
-static inline YARIB_STATUS yarib_view_write_checked(const yarib *table, yarib_view *view)
-{
-    assert(table != NULL && view != NULL && view->entries != NULL && view->blocks != NULL && view->routers != NULL);
-    return yarib_view_write(table, view);
-}
-#define yarib_view_write yarib_view_write_checked
-
-static inline uint32_t yarib_view_look_up_checked(const yarib_view *view, uint32_t address)
-{
-    assert(view != NULL && view->entries != NULL && view->blocks != NULL && view->routers != NULL);
-    return yarib_view_look_up(view, address);
-}
-#define yarib_view_look_up yarib_view_look_up_checked
-
-static inline YARIB_STATUS yarib_view_look_up_each_checked(const yarib_view *view, const uint32_t *addresses, size_t size,
-    uint32_t *numbers, size_t room)
-{
-    assert(view != NULL && view->entries != NULL && view->blocks != NULL && view->routers != NULL);
-    assert(addresses != NULL && numbers != NULL);
-    assert(yarib_are_apart(addresses, size * sizeof *addresses, numbers, room * sizeof *numbers));
-    return yarib_view_look_up_each(view, addresses, size, numbers, room);
-}
-#define yarib_view_look_up_each yarib_view_look_up_each_checked
-
-static inline YARIB_STATUS yarib_memory_checked(const yarib *table, size_t *bytes)
-{
-    assert(table != NULL && bytes != NULL);
-    return yarib_memory(table, bytes);
-}
-#define yarib_memory yarib_memory_checked
-
-static inline YARIB_STATUS yarib_concurrent_new_checked(yarib_concurrent *table, uint32_t limit)
-{
-    assert(table != NULL);
-    return yarib_concurrent_new(table, limit);
-}
-#define yarib_concurrent_new yarib_concurrent_new_checked
-
-static inline enum yarib_status yarib_concurrent_free_checked(yarib_concurrent *table)
-{
-    assert(table != NULL);
-    return yarib_concurrent_free(table);
-}
-#define yarib_concurrent_free yarib_concurrent_free_checked
-
-static inline YARIB_STATUS yarib_concurrent_apply_checked(yarib_concurrent *table, const yarib_command *command,
-    yarib_reply *reply)
-{
-    assert(table != NULL && command != NULL && reply != NULL);
-    assert(yarib_are_apart(command, sizeof *command, reply, sizeof *reply));
-    return yarib_concurrent_apply(table, command, reply);
-}
-#define yarib_concurrent_apply yarib_concurrent_apply_checked
-
-static inline YARIB_STATUS yarib_concurrent_apply_each_checked(yarib_concurrent *table, const yarib_command *commands,
-    size_t size, yarib_reply *replies, size_t room)
-{
-    assert(table != NULL && commands != NULL && replies != NULL);
-    assert(yarib_are_apart(commands, size * sizeof *commands, replies, room * sizeof *replies));
-    return yarib_concurrent_apply_each(table, commands, size, replies, room);
-}
-#define yarib_concurrent_apply_each yarib_concurrent_apply_each_checked
-
-static inline YARIB_STATUS yarib_concurrent_fib_attach_checked(yarib_concurrent *table)
-{
-    assert(table != NULL);
-    return yarib_concurrent_fib_attach(table);
-}
-#define yarib_concurrent_fib_attach yarib_concurrent_fib_attach_checked
-
-static inline YARIB_STATUS yarib_concurrent_look_up_checked(const yarib_concurrent *table, const uint32_t *addresses,
-    size_t size, yarib_route *answers, size_t room)
-{
-    assert(table != NULL && addresses != NULL && answers != NULL);
-    assert(yarib_are_apart(addresses, size * sizeof *addresses, answers, room * sizeof *answers));
-    return yarib_concurrent_look_up(table, addresses, size, answers, room);
-}
-#define yarib_concurrent_look_up yarib_concurrent_look_up_checked
-
-static inline YARIB_STATUS yarib_concurrent_look_up_one_checked(const yarib_concurrent *table, uint32_t address,
-    yarib_route *answer)
-{
-    assert(table != NULL && answer != NULL);
-    return yarib_concurrent_look_up_one(table, address, answer);
-}
-#define yarib_concurrent_look_up_one yarib_concurrent_look_up_one_checked
-
-static inline YARIB_STATUS yarib_concurrent_look_up_text_checked(const yarib_concurrent *table, const char *text, size_t size,
-    yarib_route *answer)
-{
-    assert(table != NULL && text != NULL && answer != NULL);
-    assert(yarib_are_apart(text, size, answer, sizeof *answer));
-    return yarib_concurrent_look_up_text(table, text, size, answer);
-}
-#define yarib_concurrent_look_up_text yarib_concurrent_look_up_text_checked
-
-static inline YARIB_STATUS yarib_concurrent_hops_checked(const yarib_concurrent *table, const uint32_t *addresses,
-    size_t size, uint32_t no_route, uint32_t discard, uint32_t *hops, size_t room)
-{
-    assert(table != NULL && addresses != NULL && hops != NULL);
-    assert(yarib_are_apart(addresses, size * sizeof *addresses, hops, room * sizeof *hops));
-    return yarib_concurrent_hops(table, addresses, size, no_route, discard, hops, room);
-}
-#define yarib_concurrent_hops yarib_concurrent_hops_checked
-
-static inline YARIB_STATUS yarib_concurrent_look_up_all_checked(const yarib_concurrent *table, uint32_t address, size_t skip,
-    yarib_route *routes, size_t room, size_t *total)
-{
-    assert(table != NULL && routes != NULL && total != NULL);
-    return yarib_concurrent_look_up_all(table, address, skip, routes, room, total);
-}
-#define yarib_concurrent_look_up_all yarib_concurrent_look_up_all_checked
-
-static inline YARIB_STATUS yarib_concurrent_routes_checked(const yarib_concurrent *table, size_t skip, yarib_route *routes,
-    size_t room, size_t *total)
-{
-    assert(table != NULL && routes != NULL && total != NULL);
-    return yarib_concurrent_routes(table, skip, routes, room, total);
-}
-#define yarib_concurrent_routes yarib_concurrent_routes_checked
-
-static inline YARIB_STATUS yarib_concurrent_routes_from_checked(const yarib_concurrent *table, const yarib_route *from,
-    yarib_route *routes, size_t room, size_t *used)
-{
-    assert(table != NULL && from != NULL && routes != NULL && used != NULL);
-    assert(yarib_are_apart(from, sizeof *from, routes, room * sizeof *routes));
-    return yarib_concurrent_routes_from(table, from, routes, room, used);
-}
-#define yarib_concurrent_routes_from yarib_concurrent_routes_from_checked
-
-static inline YARIB_STATUS yarib_concurrent_select_checked(const yarib_concurrent *table, const yarib_selection *asked,
-    size_t skip, yarib_route *routes, size_t room, size_t *total)
-{
-    assert(table != NULL && asked != NULL && routes != NULL && total != NULL);
-    assert(yarib_are_apart(asked, sizeof *asked, routes, room * sizeof *routes));
-    return yarib_concurrent_select(table, asked, skip, routes, room, total);
-}
-#define yarib_concurrent_select yarib_concurrent_select_checked
-
-static inline YARIB_STATUS yarib_concurrent_count_checked(const yarib_concurrent *table, size_t *total)
-{
-    assert(table != NULL && total != NULL);
-    return yarib_concurrent_count(table, total);
-}
-#define yarib_concurrent_count yarib_concurrent_count_checked
-
-static inline YARIB_STATUS yarib_concurrent_memory_checked(const yarib_concurrent *table, size_t *bytes)
-{
-    assert(table != NULL && bytes != NULL);
-    return yarib_concurrent_memory(table, bytes);
-}
-#define yarib_concurrent_memory yarib_concurrent_memory_checked
-
-static inline YARIB_STATUS yarib_save_checked(const yarib *table, uint32_t feed, FILE *file)
-{
-    assert(table != NULL && file != NULL);
-    return yarib_save(table, feed, file);
-}
-#define yarib_save yarib_save_checked
-
-static inline YARIB_STATUS yarib_load_checked(yarib *table, uint32_t feed, FILE *file, yarib_loaded *loaded)
-{
-    assert(table != NULL && file != NULL && loaded != NULL);
-    return yarib_load(table, feed, file, loaded);
-}
-#define yarib_load yarib_load_checked
-
-static inline YARIB_STATUS yarib_concurrent_save_checked(const yarib_concurrent *table, uint32_t feed, FILE *file)
-{
-    assert(table != NULL && file != NULL);
-    return yarib_concurrent_save(table, feed, file);
-}
-#define yarib_concurrent_save yarib_concurrent_save_checked
-
-static inline YARIB_STATUS yarib_concurrent_load_checked(yarib_concurrent *table, uint32_t feed, FILE *file,
-    yarib_loaded *loaded)
-{
-    assert(table != NULL && file != NULL && loaded != NULL);
-    return yarib_concurrent_load(table, feed, file, loaded);
-}
-#define yarib_concurrent_load yarib_concurrent_load_checked
-
-static inline YARIB_STATUS yarib_concurrent_fib_is_attached_checked(const yarib_concurrent *table, uint32_t *attached)
-{
-    assert(table != NULL && attached != NULL);
-    return yarib_concurrent_fib_is_attached(table, attached);
-}
-#define yarib_concurrent_fib_is_attached yarib_concurrent_fib_is_attached_checked
-
-static inline YARIB_STATUS yarib_concurrent_view_sizes_checked(const yarib_concurrent *table, size_t *blocks, size_t *routers)
-{
-    assert(table != NULL && blocks != NULL && routers != NULL && blocks != routers);
-    return yarib_concurrent_view_sizes(table, blocks, routers);
-}
-#define yarib_concurrent_view_sizes yarib_concurrent_view_sizes_checked
-
-static inline YARIB_STATUS yarib_concurrent_view_write_checked(const yarib_concurrent *table, yarib_view *view)
-{
-    assert(table != NULL && view != NULL && view->entries != NULL && view->blocks != NULL && view->routers != NULL);
-    return yarib_concurrent_view_write(table, view);
-}
-#define yarib_concurrent_view_write yarib_concurrent_view_write_checked
-
-static inline YARIB_STATUS yarib_prefix_parse_checked(const char *text, size_t size, yarib_prefix *prefix)
-{
-    assert(text != NULL && prefix != NULL);
-    return yarib_prefix_parse(text, size, prefix);
-}
-#define yarib_prefix_parse yarib_prefix_parse_checked
-
-static inline YARIB_STATUS yarib_prefix_print_checked(const yarib_prefix *prefix, char *text, size_t room, size_t *used)
-{
-    assert(prefix != NULL && text != NULL && used != NULL);
-    return yarib_prefix_print(prefix, text, room, used);
-}
-#define yarib_prefix_print yarib_prefix_print_checked
-
-static inline YARIB_STATUS yarib_address_parse_checked(const char *text, size_t size, uint32_t *address)
-{
-    assert(text != NULL && address != NULL);
-    return yarib_address_parse(text, size, address);
-}
-#define yarib_address_parse yarib_address_parse_checked
-
-static inline YARIB_STATUS yarib_address_print_checked(uint32_t address, char *text, size_t room, size_t *used)
-{
-    assert(text != NULL && used != NULL);
-    return yarib_address_print(address, text, room, used);
-}
-#define yarib_address_print yarib_address_print_checked
-
+#include "yarib_check.h"
 #endif
 
 #ifdef __cplusplus

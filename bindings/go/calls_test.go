@@ -157,7 +157,7 @@ func TestEveryCallAnswersAsTheModel(t *testing.T) {
 		draw, limit := rand.New(rand.NewSource(seed)), []uint32{3, 1000000}[seed%2]
 		m, plain, journaled := model{int(limit), map[place]Route{}}, table(t, limit, false), table(t, limit, true)
 		if seed%4 == 3 {
-			must(t, plain.Follow())
+			must(t, plain.FibAttach())
 		}
 		entries, commands, outcomes := []Entry{}, []Command{}, []Outcome{}
 		for k := 0; k < 200; k++ {
@@ -241,6 +241,7 @@ func compareReads(t *testing.T, one *common, m *model, draw *rand.Rand) {
 		must(t, err)
 		same(t, fmt.Sprint(chosen), found, wanted)
 	}
+	compareNumbers(t, one, m, draw)
 	longest := onlyBest(m.listed(covering))
 	route, found, err := one.LookUpPrefix(prefix)
 	must(t, err)
@@ -248,6 +249,124 @@ func compareReads(t *testing.T, one *common, m *model, draw *rand.Rand) {
 	if found {
 		same(t, "the longest match of a prefix", route, longest[len(longest)-1])
 	}
+}
+
+// seen has the calls that return next hops as numbers.
+type seen interface {
+	Hops(addresses []uint32, noRoute, discard uint32, hops []uint32) error
+	ViewNew() (*View, error)
+}
+
+// compareNumbers compares next hops as numbers with the model, of a table and, if a forwarding table is attached, of a view.
+func compareNumbers(t *testing.T, one seen, m *model, draw *rand.Rand) {
+	t.Helper()
+	asked, wanted := []uint32{}, []uint32{}
+	for k := draw.Intn(40); k > 0; k-- {
+		address := drawnPrefix(draw).Addr()
+		route, isThere := m.best(address)
+		asked = append(asked, uint32(numberOf(address)))
+		router, isVia := route.Hop.Router()
+		switch {
+		case !isThere:
+			wanted = append(wanted, 1<<31+1)
+		case !isVia:
+			wanted = append(wanted, 1<<31+2)
+		default:
+			wanted = append(wanted, uint32(numberOf(router)))
+		}
+	}
+	found := make([]uint32, len(asked))
+	must(t, one.Hops(asked, 1<<31+1, 1<<31+2, found))
+	same(t, "hops", found, wanted)
+	if err := one.Hops(asked, 0, 1, make([]uint32, len(asked)+1)); !errors.Is(err, ErrSize) {
+		t.Fatal(err)
+	}
+	if draw.Intn(10) > 0 {
+		return
+	}
+	view, err := one.ViewNew()
+	if table, isTable := one.(*common); isTable {
+		if attached, also := table.FibIsAttached(); also != nil || !attached {
+			same(t, "whether there is a view", []bool{view == nil, errors.Is(err, ErrKind)}, []bool{true, true})
+			return
+		}
+	}
+	must(t, err)
+	compareView(t, view, asked, wanted)
+}
+
+func compareView(t *testing.T, view *View, asked, wanted []uint32) {
+	t.Helper()
+	numbers := make([]uint32, len(asked))
+	must(t, view.LookUpEach(asked, numbers))
+	for k := range asked {
+		number, err := view.LookUp(addressOf(asked[k]))
+		must(t, err)
+		same(t, "a number", number, numbers[k])
+		hop, isThere := view.Hop(number)
+		switch wanted[k] {
+		case 1<<31 + 1:
+			same(t, "no route", []any{number, isThere}, []any{uint32(NumberNoRoute), false})
+		case 1<<31 + 2:
+			same(t, "a discard", []any{number, hop, isThere}, []any{uint32(NumberDiscard), Discard, true})
+		default:
+			same(t, "a router", []any{number >= FirstRouter, hop, isThere}, []any{true, Via(addressOf(wanted[k])), true})
+		}
+	}
+	if err := view.LookUpEach(asked, make([]uint32, len(asked)+1)); !errors.Is(err, ErrSize) {
+		t.Fatal(err)
+	}
+}
+
+func TestEveryViewStaysAsItWasMade(t *testing.T) {
+	asked, wanted := []uint32{0x0a000001, 0x0a010001, 0x0b000000}, []uint32{0xc0000201, 1<<31 + 2, 1<<31 + 1}
+	plain, err := New(99)
+	must(t, err)
+	concurrent, err := NewConcurrent(99)
+	must(t, err)
+	views := []*View{}
+	for _, one := range []*common{&plain.common, &concurrent.common} {
+		_, err := one.ApplyEach([]Command{
+			{Operation: Add, Feed: 1, Prefix: netip.MustParsePrefix("10.0.0.0/8"), Hop: Via(addressOf(0xc0000201))},
+			{Operation: Add, Feed: 1, Prefix: netip.MustParsePrefix("10.1.0.0/16"), Hop: Discard},
+		})
+		must(t, err)
+		if _, err := one.ViewNew(); !errors.Is(err, ErrKind) {
+			t.Fatal(err)
+		}
+		must(t, one.FibAttach())
+		view, err := one.ViewNew()
+		must(t, err)
+		views = append(views, view)
+	}
+	fib, err := plain.FibNew()
+	must(t, err)
+	view, err := fib.ViewNew()
+	must(t, err)
+	hops := make([]uint32, 3)
+	must(t, fib.Hops(asked, 1<<31+1, 1<<31+2, hops))
+	same(t, "hops", hops, wanted)
+	fib.Close()
+	for _, one := range []*common{&plain.common, &concurrent.common} {
+		_, err := one.Apply(Command{Operation: Purge, Feed: 1})
+		must(t, err)
+		one.Close()
+	}
+	plain, concurrent, fib = nil, nil, nil
+	runtime.GC()
+	for _, one := range append(views, view) {
+		compareView(t, one, asked, wanted)
+		same(t, "its size", one.Memory() >= 1<<26+12, true)
+		_, isThere := one.Hop(uint32(len(one.routers)))
+		same(t, "a number of another view", isThere, false)
+		if _, err := one.LookUp(netip.MustParseAddr("::1")); !errors.Is(err, ErrCommand) {
+			t.Fatal(err)
+		}
+	}
+	zero := View{}
+	number, err := zero.LookUp(addressOf(5))
+	must(t, err)
+	same(t, "the zero view", []any{number, zero.LookUpEach([]uint32{1}, hops[:1]), hops[0], zero.Memory()}, []any{uint32(0), nil, uint32(0), 0})
 }
 
 func TestBothSidesOfEachDifference(t *testing.T) {
@@ -520,7 +639,9 @@ func TestEveryFaultyLineIsNamed(t *testing.T) {
 		{good + "add 11.0.0.0/8 1 ::1\n", 2, 1, ErrLine},
 		{good + "add 11.0.0.1/8 1 192.0.2.1\n", 2, 1, ErrBits},
 		{good + "add 11.0.0.0/33 1 192.0.2.1\n", 2, 1, ErrLength},
-		{good + "add ::/0 1 192.0.2.1\n", 2, 1, ErrText},
+		{good + "add ::/0 1 192.0.2.1\n", 2, 1, ErrLine},
+		{good + "\x00\n", 2, 1, ErrLine},
+		{good + "add 11.0.0.0/8 1 192.0.2.1\x00\n", 2, 1, ErrLine},
 		{good + "\nadd 11.0.0.0/8 1 192.0.2.1\nadd 12.0.0.0/8 1 192.0.2.1\n", 4, 2, ErrFull},
 	} {
 		one := table(t, 2, false)
@@ -535,15 +656,26 @@ func TestEveryFaultyLineIsNamed(t *testing.T) {
 			t.Fatalf("%q: %v", faulty.text, err)
 		}
 	}
+	// What can't be read whole changes nothing.
 	one, broken := table(t, 2, false), errors.New("broken")
-	if count, err := one.Load(io.MultiReader(strings.NewReader(good), iotest.ErrReader(broken)), 1); count != 1 || !errors.Is(err, broken) {
+	if count, err := one.Load(io.MultiReader(strings.NewReader(good), iotest.ErrReader(broken)), 1); count != 0 || !errors.Is(err, broken) {
 		t.Fatal(count, err)
 	}
+	held, err := one.Count()
+	must(t, err)
+	same(t, "routes of a broken file", held, 0)
 	if err := one.Save(failing{broken}, 1); !errors.Is(err, broken) {
 		t.Fatal(err)
 	}
-	_, err := one.Load(strings.NewReader("add 11.0.0.0/8 x 192.0.2.1\n"), 1)
+	_, err = one.Load(strings.NewReader("add 11.0.0.0/8 x 192.0.2.1\n"), 1)
 	same(t, "a text", err.Error(), "yarib: line 1: not an add line of a feed file: \"add 11.0.0.0/8 x 192.0.2.1\"")
+	_, err = one.Load(strings.NewReader(good+strings.Repeat("#", 9999)), 1)
+	same(t, "a long text", err.Error(), "yarib: line 2: not an add line of a feed file: \""+strings.Repeat("#", 129)+"\"")
+	for _, feed := range []uint32{0, MaxFeed + 1} {
+		_, err = one.Load(strings.NewReader(""), feed)
+		same(t, "a feed", []any{errors.Is(err, ErrNumber), err.Error()},
+			[]any{true, fmt.Sprintf("yarib: a limit or a feed is out of range: feed %d, not 1 to %d", feed, MaxFeed)})
+	}
 }
 
 // failing is a writer that only returns an error.
@@ -647,9 +779,9 @@ func TestWhereEveryPrefixOfASourceIs(t *testing.T) {
 
 func TestAZeroTableIsClosed(t *testing.T) {
 	var zero Table
-	var forwarding Forwarding
+	var fib Fib
 	zero.Close()
-	forwarding.Close()
+	fib.Close()
 	other := table(t, 5, false)
 	same(t, "no answers", Answers{}.Len(), 0)
 	for what, call := range map[string]func() error{
@@ -657,14 +789,18 @@ func TestAZeroTableIsClosed(t *testing.T) {
 		"apply":   func() error { _, err := zero.Apply(Command{Operation: Dump, Feed: 1}); return err },
 		"routes":  func() error { _, err := zero.Routes(); return err },
 		"journal": func() error { _, err := zero.Journal(); return err },
-		"follow":  func() error { return zero.Follow() },
-		"is":      func() error { _, err := zero.IsFollowed(); return err },
-		"forward": func() error { _, err := zero.Forward(); return err },
+		"follow":  func() error { return zero.FibAttach() },
+		"is":      func() error { _, err := zero.FibIsAttached(); return err },
+		"forward": func() error { _, err := zero.FibNew(); return err },
 		"old":     func() error { _, err := zero.Differences(other, ByHop); return err },
 		"new":     func() error { _, err := other.Differences(&zero, ByHop); return err },
 		"both":    func() error { _, err := zero.Differences(&zero, ByHop); return err },
-		"look up": func() error { _, _, err := forwarding.LookUp(netip.MustParseAddr("10.0.0.1")); return err },
-		"share":   func() error { _, err := forwarding.Share(); return err },
+		"view":    func() error { _, err := zero.ViewNew(); return err },
+		"hops":    func() error { return zero.Hops([]uint32{1}, 0, 1, []uint32{0}) },
+		"fib's":   func() error { _, err := fib.ViewNew(); return err },
+		"fib hop": func() error { return fib.Hops([]uint32{1}, 0, 1, []uint32{0}) },
+		"look up": func() error { _, _, err := fib.LookUp(netip.MustParseAddr("10.0.0.1")); return err },
+		"share":   func() error { _, err := fib.Clone(); return err },
 		"each":    func() error { _, err := zero.LookUpEach([]uint32{1}); return err },
 		"page":    func() error { _, err := zero.RoutesFrom(Place{}, 1); return err },
 		"walk":    func() error { return zero.Walk(Place{}, func(Route) bool { return true }) },
@@ -691,9 +827,9 @@ func resident(t *testing.T) int {
 }
 
 // isFollowed tests whether a forwarding table is attached.
-func isFollowed(t *testing.T, table interface{ IsFollowed() (bool, error) }, wanted bool) {
+func isFollowed(t *testing.T, table interface{ FibIsAttached() (bool, error) }, wanted bool) {
 	t.Helper()
-	found, err := table.IsFollowed()
+	found, err := table.FibIsAttached()
 	must(t, err)
 	same(t, "it is followed", found, wanted)
 }
@@ -704,7 +840,7 @@ func TestMemoryIsFreed(t *testing.T) {
 		one, err := New(5)
 		must(t, err)
 		isFollowed(t, one, false)
-		must(t, one.Follow())
+		must(t, one.FibAttach())
 		isFollowed(t, one, true)
 		bytes, err := one.Memory()
 		must(t, err)

@@ -27,7 +27,7 @@ func TestEveryCallOfAConcurrentTableAnswersAsTheModel(t *testing.T) {
 		if seed%4 == 3 {
 			// a change of a short prefix writes up to 128 MB of forwarding tables
 			rounds = 10
-			must(t, one.Follow())
+			must(t, one.FibAttach())
 			bytes, err := one.Memory()
 			must(t, err)
 			if bytes < 2<<26 {
@@ -190,7 +190,7 @@ func TestGoroutinesReadOnePublishedTable(t *testing.T) {
 		one, last, ended := concurrentTable(t, 2*prefixes), uint32(0), make(chan struct{})
 		publish(t, one, 0)
 		if isFollowed {
-			must(t, one.Follow())
+			must(t, one.FibAttach())
 		}
 		var group sync.WaitGroup
 		for k := 0; k < 4; k++ {
@@ -328,8 +328,8 @@ func TestAZeroConcurrentTableIsClosed(t *testing.T) {
 		"count":  func() error { _, err := zero.Count(); return err },
 		"apply":  func() error { _, err := zero.Apply(Command{Operation: Dump, Feed: 1}); return err },
 		"routes": func() error { _, err := zero.Routes(); return err },
-		"follow": func() error { return zero.Follow() },
-		"is":     func() error { _, err := zero.IsFollowed(); return err },
+		"follow": func() error { return zero.FibAttach() },
+		"is":     func() error { _, err := zero.FibIsAttached(); return err },
 		"memory": func() error { _, err := zero.Memory(); return err },
 		"page":   func() error { _, err := zero.RoutesFrom(Place{}, 1); return err },
 	} {
@@ -348,7 +348,7 @@ func TestConcurrentTablesAreFreed(t *testing.T) {
 		one, err := NewConcurrent(5)
 		must(t, err)
 		isFollowed(t, one, false)
-		must(t, one.Follow())
+		must(t, one.FibAttach())
 		isFollowed(t, one, true)
 		if k%2 == 0 {
 			one.Close()
@@ -359,5 +359,141 @@ func TestConcurrentTablesAreFreed(t *testing.T) {
 	}
 	if grown := resident(t) - before; grown > 5<<26 {
 		t.Fatal(grown)
+	}
+}
+
+// Views that are made during changes that need more blocks and routers each time.
+func TestGoroutinesMakeViewsOfOnePublishedTable(t *testing.T) {
+	table, err := NewConcurrent(1000000)
+	must(t, err)
+	defer table.Close()
+	change := func(operation Operation, k uint32) {
+		commands := []Command{}
+		for j := uint32(0); j < 64; j++ {
+			commands = append(commands, Command{Operation: operation, Feed: 1, Prefix: netip.PrefixFrom(addressOf(j<<24), 8), Hop: Via(addressOf(k))},
+				Command{Operation: Add, Feed: 2, Prefix: netip.PrefixFrom(addressOf(200<<24|(k*64+j)<<8), 32), Hop: Via(addressOf(1000 + k*64 + j))})
+		}
+		_, err := table.ApplyEach(commands)
+		must(t, err)
+	}
+	change(Add, 0)
+	must(t, table.FibAttach())
+	asked, ended, readers := []uint32{}, make(chan struct{}), sync.WaitGroup{}
+	for j := uint32(0); j < 64; j++ {
+		asked = append(asked, j<<24)
+	}
+	for k := 0; k < 2; k++ {
+		readers.Add(1)
+		go func() {
+			defer readers.Done()
+			for {
+				select {
+				case <-ended:
+					return
+				default:
+				}
+				view, err := table.ViewNew()
+				if err != nil {
+					t.Error(err)
+					return
+				}
+				numbers, hops := make([]uint32, len(asked)), make([]uint32, len(asked))
+				if view.LookUpEach(asked, numbers) != nil || table.Hops(asked, 1<<31, 1<<31+1, hops) != nil {
+					t.Error("a look-up failed")
+				}
+				for j := range asked {
+					one, _ := view.Hop(numbers[j])
+					first, isThere := view.Hop(numbers[0])
+					if one != first || !isThere || hops[j] != hops[0] {
+						t.Error("answers of two tables", one, first, hops[j], hops[0])
+						return
+					}
+				}
+			}
+		}()
+	}
+	for k := uint32(1); k < 12; k++ {
+		change(Replace, k)
+	}
+	close(ended)
+	readers.Wait()
+}
+
+// A copy has the published routes, and a table replaces another at once. Both have their own limit.
+func TestEveryCopyOfAConcurrentTable(t *testing.T) {
+	table, err := NewConcurrent(5)
+	must(t, err)
+	prefix := func(k uint32) netip.Prefix { return netip.PrefixFrom(addressOf(k<<24), 8) }
+	for k := uint32(10); k < 12; k++ {
+		_, err := table.Add(1, prefix(k), 0, Via(addressOf(k)))
+		must(t, err)
+	}
+	copied, err := table.Copy(2)
+	must(t, err)
+	_, err = table.Withdraw(1, prefix(11))
+	must(t, err)
+	routes, err := copied.Routes()
+	must(t, err)
+	same(t, "routes of a copy", routes, []Route{{prefix(10), 1, 0, Via(addressOf(10))}, {prefix(11), 1, 0, Via(addressOf(11))}})
+	if _, err := copied.Add(1, prefix(12), 0, Discard); !errors.Is(err, ErrFull) {
+		t.Fatal(err)
+	}
+	other, err := NewConcurrent(5)
+	must(t, err)
+	must(t, other.ReplaceAll(copied, 2))
+	routes, err = other.Routes()
+	must(t, err)
+	same(t, "routes of a table that was replaced", len(routes), 2)
+	if _, err := other.Add(1, prefix(12), 0, Discard); !errors.Is(err, ErrFull) {
+		t.Fatal(err)
+	}
+	found, err := table.Differences(other, ByHop)
+	must(t, err)
+	same(t, "how many differences", len(found), 1)
+	same(t, "a difference", []any{found[0].First, found[0].HasOld, found[0].New.Hop}, []any{addressOf(11 << 24), false, Via(addressOf(11))})
+	found, err = table.Differences(table, ByRoute)
+	must(t, err)
+	same(t, "differences of one table", found, []Difference{})
+	for what, call := range map[error][]func() error{
+		ErrFull: {func() error { _, err := other.Copy(1); return err }, func() error { return other.ReplaceAll(copied, 1) }},
+		ErrNumber: {func() error { _, err := other.Copy(0); return err }, func() error { return other.ReplaceAll(copied, MaxLimit+1) },
+			func() error { _, err := table.Differences(other, 2); return err }},
+		ErrClosed: {func() error { return other.ReplaceAll(&Table{}, 1) }, func() error { return (&ConcurrentTable{}).ReplaceAll(copied, 1) },
+			func() error { _, err := (&ConcurrentTable{}).Copy(1); return err },
+			func() error { _, err := table.Differences(&ConcurrentTable{}, ByHop); return err }},
+	} {
+		for _, one := range call {
+			if err := one(); !errors.Is(err, what) {
+				t.Fatal(what, err)
+			}
+		}
+	}
+	var readers sync.WaitGroup
+	readers.Add(1)
+	must(t, other.FibAttach())
+	ended := make(chan struct{})
+	go func() {
+		defer readers.Done()
+		for {
+			select {
+			case <-ended:
+				return
+			default:
+			}
+			if one, found, err := other.LookUp(addressOf(10 << 24)); err != nil || !found || one.Hop != Via(addressOf(10)) {
+				t.Error(one, found, err)
+				return
+			}
+		}
+	}()
+	for k := 0; k < 5; k++ {
+		must(t, other.ReplaceAll(copied, 2))
+	}
+	close(ended)
+	readers.Wait()
+	isFollowed(t, other, true)
+	copied.Close()
+	if err := other.ReplaceAll(copied, 2); !errors.Is(err, ErrClosed) {
+		t.Fatal(err)
 	}
 }

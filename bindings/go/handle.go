@@ -121,7 +121,7 @@ func (one *handle) applyEach(commands *C.yarib_command, replies *C.yarib_reply, 
 	return uint32(C.yarib_apply_each(&one.inside, commands, size, replies, size))
 }
 
-func (one *handle) follow() uint32 {
+func (one *handle) fibAttach() uint32 {
 	if one.isConcurrent {
 		return uint32(C.yarib_concurrent_fib_attach(one.concurrent()))
 	}
@@ -140,6 +140,13 @@ func (one *handle) lookUp(addresses *C.uint32_t, answers *C.yarib_route, size C.
 		return uint32(C.yarib_concurrent_look_up(one.concurrent(), addresses, size, answers, size))
 	}
 	return uint32(C.yarib_look_up(&one.inside, addresses, size, answers, size))
+}
+
+func (one *handle) hops(addresses *C.uint32_t, size C.size_t, noRoute, discard C.uint32_t, hops *C.uint32_t, room C.size_t) uint32 {
+	if one.isConcurrent {
+		return uint32(C.yarib_concurrent_hops(one.concurrent(), addresses, size, noRoute, discard, hops, room))
+	}
+	return uint32(C.yarib_hops(&one.inside, addresses, size, noRoute, discard, hops, room))
 }
 
 func (one *handle) lookUpAll(address C.uint32_t, room []C.yarib_route, total *C.size_t) uint32 {
@@ -172,7 +179,7 @@ func (one *handle) count(total *C.size_t) uint32 {
 	return uint32(C.yarib_count(&one.inside, total))
 }
 
-func (one *handle) isFollowed(attached *C.uint32_t) uint32 {
+func (one *handle) fibIsAttached(attached *C.uint32_t) uint32 {
 	if one.isConcurrent {
 		return uint32(C.yarib_concurrent_fib_is_attached(one.concurrent(), attached))
 	}

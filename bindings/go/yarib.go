@@ -1,7 +1,7 @@
 // Package yarib provides IPv4 routing tables with proved answers.
 //
 // Feeds are 1 to MaxFeed. The lowest preference number is preferred; between equal preferences, the lowest feed. After an error the
-// table is unchanged, except after an error of Load. Goroutines may share a Table and a Forwarding: calls that only read run at the
+// table is unchanged, except after an error of Load. Goroutines may share a Table and a Fib: calls that only read run at the
 // same time, and a change waits until no other call runs. Close frees memory at once; otherwise the garbage collector does.
 package yarib
 
@@ -13,7 +13,7 @@ import (
 	"errors"
 	"fmt"
 	"net/netip"
-	"strconv"
+	"runtime"
 	"strings"
 	"unsafe"
 )
@@ -70,6 +70,8 @@ func failed(status uint32) error {
 		return ErrBarrier
 	case C.YARIB_FORKED:
 		return ErrForked
+	case C.YARIB_NOT_ADDED:
+		return ErrFull
 	}
 	return ErrNumber
 }
@@ -176,11 +178,6 @@ func (route Route) String() string {
 	return fmt.Sprintf("%v feed %d pref %d via %v", route.Prefix, route.Feed, route.Pref, route.Hop)
 }
 
-// line returns the line of a feed file that adds the route.
-func (route Route) line() string {
-	return fmt.Sprintf("add %v %d %v", route.Prefix, route.Pref, route.Hop)
-}
-
 // number returns the number of an IPv4 address, also of one that is mapped into IPv6.
 func number(address netip.Addr) (C.uint32_t, bool) {
 	address = address.Unmap()
@@ -260,31 +257,6 @@ func (command Command) String() string {
 		return fmt.Sprintf("%s %v", line, command.Address)
 	}
 	return line
-}
-
-// parseAdd returns the command of a line that adds a route, without its feed.
-func parseAdd(line string, hasDiscard bool) (Command, error) {
-	fields := strings.Split(line, " ")
-	if len(fields) != 4 || fields[0] != "add" {
-		return Command{}, ErrLine
-	}
-	prefix, err := ParsePrefix(fields[1])
-	if err != nil {
-		return Command{}, err
-	}
-	pref, err := strconv.ParseUint(fields[2], 10, 32)
-	if err != nil || strconv.FormatUint(pref, 10) != fields[2] {
-		return Command{}, ErrLine
-	}
-	hop := Discard
-	if fields[3] != "discard" || !hasDiscard {
-		router, err := parseAddress(fields[3])
-		if err != nil {
-			return Command{}, ErrLine
-		}
-		hop = Via(router)
-	}
-	return Command{Operation: Add, Prefix: prefix, Pref: uint32(pref), Hop: hop}, nil
 }
 
 // numbers returns the command for C. A prefix or hop that isn't IPv4 becomes an invalid length or hop.
@@ -780,6 +752,12 @@ func firstDifference(older, newer *handle, by By, from uint64, raw *C.yarib_diff
 	if older == nil || newer == nil {
 		return C.YARIB_NOTHING
 	}
+	way, start := C.uint32_t(by), C.uint32_t(from)
+	if older.isConcurrent {
+		defer runtime.KeepAlive(older)
+		defer runtime.KeepAlive(newer)
+		return uint32(C.yarib_concurrent_first_difference(older.concurrent(), newer.concurrent(), way, start, raw))
+	}
 	first, second := older, newer
 	if second.number < first.number {
 		first, second = second, first
@@ -788,13 +766,34 @@ func firstDifference(older, newer *handle, by By, from uint64, raw *C.yarib_diff
 	defer first.lock.RUnlock()
 	second.lock.RLock()
 	defer second.lock.RUnlock()
-	return uint32(C.yarib_first_difference(&older.inside, &newer.inside, C.uint32_t(by), C.uint32_t(from), raw))
+	return uint32(C.yarib_first_difference(&older.inside, &newer.inside, way, start, raw))
 }
 
 // Differences returns the ranges of addresses that this table and a newer one answer differently, in order.
 func (table *Table) Differences(newer *Table, by By) ([]Difference, error) {
+	return differences(table.held, newer.held, by)
+}
+
+// Differences returns the ranges of addresses that this table and a newer one answer differently, as WalkDifferences visits them.
+func (table *ConcurrentTable) Differences(newer *ConcurrentTable, by By) ([]Difference, error) {
+	return differences(table.held, newer.held, by)
+}
+
+// WalkDifferences visits the ranges of Differences until visit returns false. The tables may change meanwhile: each range is that of
+// the moment when it is found.
+func (table *Table) WalkDifferences(newer *Table, by By, visit func(Difference) bool) error {
+	return walkDifferences(table.held, newer.held, by, visit)
+}
+
+// WalkDifferences visits the ranges of Differences until visit returns false. Each range is that of the tables that are published when
+// it is found: to compare tables that change, Copy them before.
+func (table *ConcurrentTable) WalkDifferences(newer *ConcurrentTable, by By, visit func(Difference) bool) error {
+	return walkDifferences(table.held, newer.held, by, visit)
+}
+
+func differences(older, newer *handle, by By) ([]Difference, error) {
 	found := []Difference{}
-	err := table.WalkDifferences(newer, by, func(one Difference) bool {
+	err := walkDifferences(older, newer, by, func(one Difference) bool {
 		found = append(found, one)
 		return true
 	})
@@ -804,15 +803,13 @@ func (table *Table) Differences(newer *Table, by By) ([]Difference, error) {
 	return found, nil
 }
 
-// WalkDifferences visits the ranges of Differences until visit returns false. The tables may change meanwhile: each range is that of
-// the moment when it is found.
-func (table *Table) WalkDifferences(newer *Table, by By, visit func(Difference) bool) error {
+func walkDifferences(older, newer *handle, by By, visit func(Difference) bool) error {
 	raw := C.yarib_difference{}
-	if table.held != nil && table.held == newer.held {
+	if older != nil && older == newer {
 		return nil
 	}
 	for from := uint64(0); from < 1<<32; from = uint64(raw.last) + 1 {
-		status := firstDifference(table.held, newer.held, by, from, &raw)
+		status := firstDifference(older, newer, by, from, &raw)
 		if status == C.YARIB_NONE_LEFT {
 			break
 		}
@@ -829,18 +826,45 @@ func (table *Table) WalkDifferences(newer *Table, by By, visit func(Difference) 
 	return nil
 }
 
-// Follow attaches a forwarding table of 64 MiB or more, if none is attached. From then on every command updates it, and look-ups use
-// it. If a command finds no memory for the update, the forwarding table is freed until this is called again. It returns ErrKind if
-// the table keeps a journal.
-func (table *common) Follow() error {
-	return table.held.change(table.held.follow)
+// Copy returns a Table with the published routes, for up to limit routes of each feed. It returns ErrFull if a feed has more.
+func (table *ConcurrentTable) Copy(limit uint32) (*Table, error) {
+	copied, err := New(limit)
+	if err != nil {
+		return nil, err
+	}
+	if err := table.held.read(func() uint32 {
+		return uint32(C.yarib_concurrent_copy(table.held.concurrent(), C.uint32_t(limit), &copied.held.inside))
+	}); err != nil {
+		return nil, err
+	}
+	return copied, nil
 }
 
-// IsFollowed returns true if a forwarding table is attached, which look-ups use. After Follow this is false only once a change found
+// ReplaceAll publishes the routes of a Table at once, which was loaded aside, for up to limit routes of each feed: each call that reads
+// finds those before, or the new ones. It returns ErrFull if a feed has more.
+func (table *ConcurrentTable) ReplaceAll(other *Table, limit uint32) error {
+	return about(table.held.change(func() uint32 {
+		if other.held == nil {
+			return C.YARIB_NOTHING
+		}
+		other.held.lock.RLock()
+		defer other.held.lock.RUnlock()
+		return uint32(C.yarib_concurrent_replace(table.held.concurrent(), C.uint32_t(limit), &other.held.inside))
+	}), "limit %d, not 1 to %d", limit, MaxLimit)
+}
+
+// FibAttach attaches a forwarding table of 64 MiB or more, if none is attached. From then on every command updates it, and look-ups use
+// it. If a command finds no memory for the update, the forwarding table is freed until this is called again. It returns ErrKind if
+// the table keeps a journal.
+func (table *common) FibAttach() error {
+	return table.held.change(table.held.fibAttach)
+}
+
+// FibIsAttached returns true if a forwarding table is attached, which look-ups use. After FibAttach this is false only once a change found
 // no memory to update it. A ConcurrentTable answers for the published one of its two tables.
-func (table *common) IsFollowed() (bool, error) {
+func (table *common) FibIsAttached() (bool, error) {
 	attached := C.uint32_t(0)
-	err := table.held.read(func() uint32 { return table.held.isFollowed(&attached) })
+	err := table.held.read(func() uint32 { return table.held.fibIsAttached(&attached) })
 	return attached == 1, err
 }
 
@@ -855,27 +879,28 @@ func (table *common) Memory() (int, error) {
 	return memory(table.held)
 }
 
-// Forwarding has a table's answers at the time when it was created: 64 MiB or more, for look-ups with two or three memory reads.
-type Forwarding struct {
+// Fib is a forwarding table. It has a table's answers at the time when it was created: 64 MiB or more, for look-ups with two or three
+// memory reads.
+type Fib struct {
 	held *handle
 }
 
-// Forward returns a forwarding table with the current answers of this table.
-func (table *Table) Forward() (*Forwarding, error) {
-	forwarding := &Forwarding{newHandle()}
+// FibNew returns a forwarding table with the current answers of this table.
+func (table *Table) FibNew() (*Fib, error) {
+	fib := &Fib{newHandle()}
 	if err := table.held.read(func() uint32 {
-		return uint32(C.yarib_forward(&table.held.inside, &forwarding.held.inside))
+		return uint32(C.yarib_fib_new(&table.held.inside, &fib.held.inside))
 	}); err != nil {
 		return nil, err
 	}
-	return forwarding, nil
+	return fib, nil
 }
 
-// Share returns another handle to it, for another goroutine. The memory is freed with the last handle.
-func (forwarding *Forwarding) Share() (*Forwarding, error) {
-	other := &Forwarding{newHandle()}
-	if err := forwarding.held.read(func() uint32 {
-		return uint32(C.yarib_share(&forwarding.held.inside, &other.held.inside))
+// Clone returns another handle to it, for another goroutine. The memory is freed with the last handle.
+func (fib *Fib) Clone() (*Fib, error) {
+	other := &Fib{newHandle()}
+	if err := fib.held.read(func() uint32 {
+		return uint32(C.yarib_fib_clone(&fib.held.inside, &other.held.inside))
 	}); err != nil {
 		return nil, err
 	}
@@ -883,23 +908,23 @@ func (forwarding *Forwarding) Share() (*Forwarding, error) {
 }
 
 // Close releases the handle. Closing twice is harmless.
-func (forwarding *Forwarding) Close() {
-	forwarding.held.free()
+func (fib *Fib) Close() {
+	fib.held.free()
 }
 
 // LookUp returns the best route of the longest prefix that covers the address, if there is one.
-func (forwarding *Forwarding) LookUp(address netip.Addr) (Route, bool, error) {
-	return lookUp(forwarding.held, address)
+func (fib *Fib) LookUp(address netip.Addr) (Route, bool, error) {
+	return lookUp(fib.held, address)
 }
 
 // LookUpEach looks up all these addresses, in host byte order.
-func (forwarding *Forwarding) LookUpEach(addresses []uint32) (Answers, error) {
-	return lookUpEach(forwarding.held, addresses)
+func (fib *Fib) LookUpEach(addresses []uint32) (Answers, error) {
+	return lookUpEach(fib.held, addresses)
 }
 
 // Memory returns its size in bytes, counted once for all its handles.
-func (forwarding *Forwarding) Memory() (int, error) {
-	return memory(forwarding.held)
+func (fib *Fib) Memory() (int, error) {
+	return memory(fib.held)
 }
 
 // Source is a source of more routes than a feed may have, in consecutive feeds of a table. Each prefix belongs to exactly one of the
@@ -991,14 +1016,4 @@ func ParsePrefix(text string) (netip.Prefix, error) {
 		return netip.Prefix{}, about(err, "%q", text)
 	}
 	return netip.PrefixFrom(address(read.base), int(read.len)), nil
-}
-
-// parseAddress parses an address such as 10.0.0.1, without leading zeros.
-func parseAddress(text string) (netip.Addr, error) {
-	bytes, read := C.CString(text), C.uint32_t(0)
-	defer C.free(unsafe.Pointer(bytes))
-	if err := failed(uint32(C.yarib_address_parse(bytes, C.size_t(len(text)), &read))); err != nil {
-		return netip.Addr{}, about(err, "%q", text)
-	}
-	return address(read), nil
 }

@@ -150,7 +150,7 @@ func TestRepliesAndRoutesAreTheModels(t *testing.T) {
 			t.Fatal(err, also)
 		}
 		if seed%4 == 3 {
-			if err := plain.Follow(); err != nil {
+			if err := plain.FibAttach(); err != nil {
 				t.Fatal(err)
 			}
 		}
@@ -313,7 +313,7 @@ func TestErrorsLeaveAllAsItWas(t *testing.T) {
 	if err := journaled.Reserve(-1); !errors.Is(err, ErrMemory) {
 		t.Fatal(err)
 	}
-	if err := journaled.Follow(); !errors.Is(err, ErrKind) {
+	if err := journaled.FibAttach(); !errors.Is(err, ErrKind) {
 		t.Fatal(err)
 	}
 }
@@ -325,7 +325,7 @@ func TestGoroutinesLookUpAtOnce(t *testing.T) {
 			t.Fatal(err)
 		}
 	}
-	first, err := table.Forward()
+	first, err := table.FibNew()
 	if err != nil {
 		t.Fatal(err)
 	}
@@ -341,7 +341,7 @@ func TestGoroutinesLookUpAtOnce(t *testing.T) {
 	}
 	var group sync.WaitGroup
 	for k := 0; k < 8; k++ {
-		one, err := first.Share()
+		one, err := first.Clone()
 		if err != nil {
 			t.Fatal(err)
 		}
@@ -372,7 +372,7 @@ func TestGoroutinesMeetOnOneTable(t *testing.T) {
 			t.Fatal(err)
 		}
 		if isFollowed {
-			if err := table.Follow(); err != nil {
+			if err := table.FibAttach(); err != nil {
 				t.Fatal(err)
 			}
 		}

@@ -1,11 +1,14 @@
-"""Makes the package's wheel for pip from plain files. It needs no other package and no network. If YARIB_LIBRARY names
-the shared library, the wheel contains it."""
+"""Makes the package's wheel and its source archive (sdist) for pip from plain files. It needs no other package and no network.
+If YARIB_LIBRARY names the shared library, the wheel contains it. The source archive never does: it has what makes a wheel."""
 import base64
+import gzip
 import hashlib
+import io
 import os
 import pathlib
 import platform
 import re
+import tarfile
 import time
 import zipfile
 
@@ -14,7 +17,10 @@ NAME, VERSION, ABOUT = "yarib", "0.3.0", "IPv4 routing tables whose answers are 
 INFO = f"{NAME}-{VERSION}.dist-info"
 LIBRARY = os.environ.get("YARIB_LIBRARY")
 # The time of each file; the least that a zip file can have, unless a build that can be repeated sets another one.
-WHEN = time.gmtime(int(os.environ.get("SOURCE_DATE_EPOCH", 315532800)))[:6]
+SECONDS = int(os.environ.get("SOURCE_DATE_EPOCH", 315532800))
+WHEN = time.gmtime(SECONDS)[:6]
+# PyPI refuses a package with the first of these: there is no licence yet.
+CLASSIFIERS = ("Private :: Do Not Upload", "Operating System :: POSIX :: Linux", "Topic :: System :: Networking", "Typing :: Typed")
 
 
 def tag():
@@ -25,13 +31,24 @@ def tag():
     return f"py3-none-manylinux_2_{needed}_{platform.machine()}"
 
 
+def metadata():
+    """What pip reads of the package."""
+    classifiers = "".join(f"Classifier: {one}\n" for one in CLASSIFIERS)
+    return (f"Metadata-Version: 2.1\nName: {NAME}\nVersion: {VERSION}\nSummary: {ABOUT}\n{classifiers}Requires-Python: >=3.9\n"
+            f"Description-Content-Type: text/markdown\n\n{(HERE / 'README.md').read_text()}").encode()
+
+
+def modules():
+    """The package's own files, by name."""
+    return {f"{NAME}/{path.name}": path.read_bytes() for path in sorted((HERE / NAME).glob("*")) if path.suffix in (".py", ".typed")}
+
+
 def files_of_wheel():
     """What the wheel holds, by name, but for the list of it."""
-    found = {f"{NAME}/{path.name}": path.read_bytes() for path in sorted((HERE / NAME).glob("*")) if path.is_file()}
+    found = modules()
     if LIBRARY:
         found[f"{NAME}/libyarib.so.0"] = pathlib.Path(LIBRARY).read_bytes()
-    about = f"Metadata-Version: 2.1\nName: {NAME}\nVersion: {VERSION}\nSummary: {ABOUT}\nRequires-Python: >=3.9\n"
-    return found | {f"{INFO}/METADATA": about.encode(),
+    return found | {f"{INFO}/METADATA": metadata(),
                     f"{INFO}/WHEEL": f"Wheel-Version: 1.0\nGenerator: yarib\nRoot-Is-Purelib: {str(not LIBRARY).lower()}\n"
                                      f"Tag: {tag()}\n".encode()}
 
@@ -51,4 +68,19 @@ def build_wheel(folder, config_settings=None, metadata_directory=None):
             entry = zipfile.ZipInfo(file, WHEN)
             entry.compress_type, entry.external_attr = zipfile.ZIP_DEFLATED, 0o644 << 16
             wheel.writestr(entry, content)
+    return name
+
+
+def build_sdist(folder, config_settings=None):
+    """The call that build front ends make: writes the source archive into the folder, and returns its name."""
+    own = ("README.md", "make_wheel.py", "pyproject.toml", "example.py", "example_daemon.py")
+    files = modules() | {name: (HERE / name).read_bytes() for name in own} | {"PKG-INFO": metadata()}
+    packed = io.BytesIO()
+    with tarfile.open(fileobj=packed, mode="w", format=tarfile.PAX_FORMAT) as archive:
+        for file, content in sorted(files.items()):
+            entry = tarfile.TarInfo(f"{NAME}-{VERSION}/{file}")
+            entry.size, entry.mtime = len(content), SECONDS
+            archive.addfile(entry, io.BytesIO(content))
+    name = f"{NAME}-{VERSION}.tar.gz"
+    (pathlib.Path(folder) / name).write_bytes(gzip.compress(packed.getvalue(), mtime=SECONDS))
     return name

@@ -205,6 +205,25 @@ class Limited(unittest.TestCase):
             self.assert_same([len(answers), list(answers), answers[:]], [len(asked), wanted, wanted])
             self.assert_same([answers[k] for k in range(len(asked))], wanted)
             self.assert_same(shown_in(answers), [fields_of(route) for route in wanted])
+            self.compare_hops(table, wanted, asked, addresses if addresses is not asked else iter(asked))
+
+    def compare_hops(self, table, wanted, asked, addresses):
+        """Compares the routers of these answers with those that the table, and a view of it, give as numbers."""
+        hops = [8 if route is None else 9 if route.via is None else route.via for route in wanted]
+        if not isinstance(addresses, map):
+            self.assert_same(list(table.hops(addresses, no_route=8, discard=9)), hops)
+            self.assert_same(list(table.hops(asked, 9, 8)), [17 - hop if hop in (8, 9) else hop for hop in hops])
+        if not isinstance(table, yarib.Fib) and not table.fib_is_attached():
+            return self.assertRaises(yarib.Refused, table.view_new)
+        view = table.view_new()
+        numbers = view.look_up_each(asked)
+        self.assert_same([view.look_up(address) for address in asked], list(numbers))
+        self.assert_same([self.router_in(view, number) for number in numbers], [8, 9, *hops][2:])
+        self.assertTrue(view.routers.readonly)
+        self.assertGreaterEqual(view.memory(), (1 << 26) + 4 * len(view.routers))
+
+    def router_in(self, view, number):
+        return {yarib.NUMBER_NO_ROUTE: 8, yarib.NUMBER_DISCARD: 9}[number] if number < yarib.FIRST_ROUTER else view.routers[number]
 
 
 def fields_of(route):
@@ -283,12 +302,12 @@ class Calls(Limited):
             draw, limit = Drawn(seed), (3, 8, 1_000_000)[seed % 3]
             model, table = Model(limit), yarib.Table(limit, journal=seed % 2 == 1)
             if seed % 4 == 2:
-                table.follow()
+                table.fib_attach()
             for _ in range(100):
                 self.change(table, model, draw)
                 self.compare(table, model, draw)
             self.compare_lists(table, model, draw)
-            self.compare_lists(table.forward(), model, draw)
+            self.compare_lists(table.fib_new(), model, draw)
             if seed % 2:
                 self.assert_same(table.journal(), model.entries)
 
@@ -297,7 +316,7 @@ class Calls(Limited):
             draw, limit = Drawn(seed), (3, 1_000_000)[seed % 2]
             model, table = Model(limit), yarib.ConcurrentTable(limit)
             if seed % 4 == 2:
-                table.follow()
+                table.fib_attach()
             for k in range(100):
                 if k % 10 == 9:
                     commands = [(draw.feed(), *self.drawn_command(draw)) for _ in range(9)]
@@ -306,6 +325,31 @@ class Calls(Limited):
                 self.change(table, model, draw)
                 self.compare(table, model, draw)
             self.compare_lists(table, model, draw)
+
+    def test_which_best_routes_change(self):
+        for seed in range(300, 309):
+            draw, model = Drawn(seed), Model(5)
+            table = yarib.ConcurrentTable(5) if seed % 3 == 2 else yarib.Table(5, journal=seed % 3 == 1)
+            for _ in range(200):
+                feed, command = draw.feed(), self.drawn_command(draw)
+                old = {route[:2]: route for route in model.selected("routes", best=True)}
+                given = self.given_command(draw, *command)
+                if command[0] in ("lookup", "dump"):
+                    self.assertRaises(yarib.Error, table.apply_changed, feed, *given)
+                    continue
+                outcome = model.apply(feed, *command)
+                new = {route[:2]: route for route in model.selected("routes", best=True)}
+                changes = [yarib.Change(*prefix, old.get(prefix), new.get(prefix)) for prefix in sorted({*old, *new})
+                           if old.get(prefix) != new.get(prefix)]
+                if command[0] == "purge":
+                    self.assert_same((table.purge_changes(feed), table.purge(feed)), (changes, outcome.count))
+                else:
+                    self.assert_same(table.apply_changed(feed, *given), (outcome, changes[0] if changes else None))
+            self.compare(table, model, draw)
+        for feed in (0, yarib.MAX_FEED + 1):
+            self.assertRaises(yarib.Invalid, table.purge_changes, feed)
+        self.assertRaises(yarib.Error, table.apply_changed, 1, "purge")
+        self.assert_same(yarib.Change(10 << 24, 8, None, None).prefix, NETWORK("10.0.0.0/8"))
 
     def test_many_commands_in_one_call(self):
         for seed in range(6):
@@ -431,7 +475,7 @@ class Given(Limited):
         for reason, call in reasons.items():
             with self.assertRaisesRegex(ValueError, reason):
                 call()
-        for text, call in (("closed", closed.routes), ("closed", closed.is_followed), ("support", journaled.follow), ("support", table.journal)):
+        for text, call in (("closed", closed.routes), ("closed", closed.fib_is_attached), ("support", journaled.fib_attach), ("support", table.journal)):
             with self.assertRaisesRegex(yarib.Refused, text):
                 call()
         with self.assertRaisesRegex(MemoryError, "out of memory"):
@@ -462,8 +506,8 @@ class Given(Limited):
         self.assertEqual((table.memory(), journaled.memory()), (0, 0))
         table.add("10.0.0.0/8", via=1)
         self.assertEqual(table.memory(), 62)
-        forwarding = table.forward()
-        table.follow()
+        forwarding = table.fib_new()
+        table.fib_attach()
         self.assertGreaterEqual(table.memory(), (1 << 26) + 62)
         self.assertLess(table.memory(), 1 << 27)
         self.assertGreaterEqual(forwarding.memory(), 1 << 26)
@@ -503,7 +547,7 @@ class Conventions(Limited):
             self.assertRaises(KeyError, table.__getitem__, key)
             self.assertRaises(yarib.Missing, table.__getitem__, key)
             self.assert_same((table.get(key), table.get(key, 5), key in table), (None, 5, False))
-        for call in (table.get, table.__getitem__, table.__contains__):
+        for call in (table.get, table.__getitem__, table.__contains__, table.look_up_prefix):
             self.assertRaises(yarib.Invalid, call, ((10 << 24) + 1, 8))
         del table["10.0.0.0/8"]
         self.assert_same(table.routes(), [narrow])
@@ -567,14 +611,14 @@ class Conventions(Limited):
                 self.assertRaises(yarib.Full, other.add, "12.0.0.0/8", None)
                 table.close()
                 self.assertEqual(len(other), 3)
-        forwarding = self.made().forward()
+        forwarding = self.made().fib_new()
         for made in (copy.copy, copy.deepcopy, pickle.dumps):
             self.assertRaises(TypeError, made, forwarding)
 
     def test_with_close_and_repr(self):
         with self.made() as table:
-            with table.forward() as forwarding:
-                self.assertEqual(repr(forwarding), f"<yarib.Forwarding of {forwarding.memory()} bytes>")
+            with table.fib_new() as forwarding:
+                self.assertEqual(repr(forwarding), f"<yarib.Fib of {forwarding.memory()} bytes>")
                 self.assertEqual(forwarding.look_up("10.1.0.0").via, 7)
             forwarding.close()
             self.assertRaises(yarib.Refused, forwarding.look_up, "10.1.0.0")
@@ -594,25 +638,69 @@ class Conventions(Limited):
                 table.add(one[:2], one.via, one.pref, one.feed)
             for feed in (1, 2, 3, yarib.MAX_FEED, 5):
                 table.save(path, feed)
-                other.load(str(path), feed)
+                self.assertEqual(other.load(str(path), feed), len(model.own(feed)))
             self.assert_same(other.routes(), model.listed())
             path.write_text("version 2\n\n# said\nadd 10.0.0.0/8 1 discard\nadd 11.0.0.0/8 2 192.0.2.1")
             other.purge(5)
             other.load(path, 5)
             self.assert_same(other.routes(5), [yarib.Route(10 << 24, 8, 5, 1, None), yarib.Route(11 << 24, 8, 5, 2, 0xC0000201)])
-            with self.assertRaisesRegex(yarib.Exists, "one.feed:4: "):
+            with self.assertRaisesRegex(yarib.Exists, "one.feed:4: feed 5: 'add 10.0.0.0/8 1 discard'"):
                 other.load(path, 5)
-            for line in ("add 12.0.0.0/8 01 discard", "add 12.0.0.0/8 1 discard\r", "add 12.0.0.1/8 1 discard", "purge",
-                         "add 12.0.0.0/8  1 discard", "withdraw 10.0.0.0/8", "version 2", "#" * 129, "add 12.0.0.0/8 -1 discard",
-                         "add 12.0.0.0/8 4294967296 discard", "add 12.0.0.0/8 1 \u00e4"):
+            for line, said in (("add 12.0.0.0/8 01 discard", "not an add line"), ("add 12.0.0.0/8 1 discard\r", "not an add line"),
+                               ("add 12.0.0.1/8 1 discard", "bad bits"), ("purge", "not an add line"), ("add 12.0.0.0/33 1 discard", "bad length"),
+                               ("add 12.0.0.0/8  1 discard", "not an add line"), ("withdraw 10.0.0.0/8", "not an add line"),
+                               ("version 2", "not an add line"), ("#" * 129, "not an add line"), ("#" * 999, "not an add line"), ("add 12.0.0.0/8 -1 discard", "not an add line"),
+                               ("add 12.0.0.0/8 4294967296 discard", "not an add line"), ("add 12.0.0.0/8 1 \u00e4", "not an add line"),
+                               ("add 12.0.0.0/8 1 discard\0", "not an add line"), ("\0", "not an add line")):
                 path.write_text(f"version 2\n{line}\n", encoding="utf-8")
-                with self.assertRaisesRegex(yarib.Invalid, "one.feed:2: "):
+                with self.assertRaisesRegex(yarib.Invalid, f"one.feed:2: {said}: ") as caught:
                     other.load(path, 6)
+                said = str(caught.exception)
+                self.assertTrue(len(said.splitlines()) == 1 and len(said) < len(folder) + 200, said)
             path.write_text("add 12.0.0.0/8 1 discard\n")
             self.assertRaisesRegex(yarib.Invalid, "one.feed:1: ", other.load, path, 6)
             self.assertEqual(other.routes(6), [])
             path.write_text("version 2\nadd 1.0.0.0/8 1 discard\nadd 2.0.0.0/8 1 discard\n")
-            self.assertRaisesRegex(yarib.Full, "one.feed:3: ", yarib.Table(1).load, path)
+            for kind in (yarib.Table, yarib.ConcurrentTable):
+                small = kind(1)
+                self.assertRaisesRegex(yarib.Full, "one.feed:3: ", small.load, path)
+                self.assert_same(small.routes(), [yarib.Route(1 << 24, 8, 1, 1, None)])
+
+    def test_files_that_are_refused(self):
+        """An error of a file is Python's, and one of a feed or a closed table leaves the file as it was."""
+        table = self.made()
+        closed = yarib.Table()
+        closed.close()
+        with tempfile.TemporaryDirectory() as folder:
+            path = pathlib.Path(folder, "one.feed")
+            self.assertRaises(FileNotFoundError, table.load, path)
+            self.assertRaises(IsADirectoryError, table.load, folder)
+            self.assertRaises(IsADirectoryError, table.save, folder)
+            path.write_text("as it was")
+            for feed in (0, yarib.MAX_FEED + 1):
+                self.assertRaisesRegex(yarib.Invalid, f"feed {feed} is not 1 to", table.save, path, feed)
+                self.assertRaisesRegex(yarib.Invalid, f"feed {feed} is not 1 to", table.load, path, feed)
+            self.assertRaises(TypeError, table.save, path, "1")
+            self.assertRaises(yarib.Refused, closed.save, path)
+            self.assertEqual(path.read_text(), "as it was")
+            path.write_text("add 1.0.0.0/8 1 192.0.2.1\n")
+            self.assertRaises(yarib.Refused, closed.load, path)
+            for text, count in (("", 0), ("\n# said\n", 0), ("add 1.0.0.0/8 1 192.0.2.1", 1)):
+                path.write_text(text)
+                self.assertEqual(yarib.Table(journal=True).load(path), count)
+
+    def test_a_large_file(self):
+        """Files are whole beyond any buffer, and readers of a concurrent table get its routes while it is loaded."""
+        table, other = yarib.Table(), yarib.ConcurrentTable()
+        table.apply_each([(7, "add", (k << 12, 20), k, k) for k in range(50_000)])
+        with tempfile.TemporaryDirectory() as folder:
+            path = pathlib.Path(folder, "one.feed")
+            table.save(path, 7)
+            self.assertEqual(other.load(path, 7), 50_000)
+            self.assertEqual(other.routes(), table.routes())
+            other.save(path, 7)
+            lines = path.read_text().split("\n")
+            self.assertEqual((len(lines), lines[0], lines[-2:]), (50_002, "version 2", ["add 12.52.240.0/20 49999 0.0.195.79", ""]))
 
     def test_a_source_of_more_routes_than_a_feed_may_have(self):
         draw, model, table = Drawn(9), Model(1_000_000), yarib.Table(1_000_000)

@@ -146,7 +146,7 @@ class Daemons(unittest.TestCase):
         """Another thread runs several times during each call of over some milliseconds."""
         table, beats = yarib.Table(), []
         table.apply_each([(1, "add", (k << 12, 20), 0, k) for k in range(150000)])
-        table.follow()
+        table.fib_attach()
         stop = threading.Event()
 
         def beat():
@@ -172,10 +172,13 @@ class Daemons(unittest.TestCase):
     def test_calls_that_keep_the_global_lock_are_short(self):
         """Which calls may take over 5 ms: those of a followed table, purges, whole lists and ends."""
         table, other = yarib.Table(journal=True), yarib.Table()
-        other.follow()
+        other.fib_attach()
         wide = {"yarib_routes": lambda: table.routes(), "yarib_select": lambda: table.routes(feed=1),
                 "yarib_reserve": lambda: table.reserve(5), "yarib_journal": lambda: table.journal(),
                 "yarib_first_difference": lambda: list(table.differences(other)), "yarib_free": yarib.Table,
+                "yarib_hops": lambda: table.hops([1], 0, 1), "yarib_view_write": lambda: other.view_new(),
+                "yarib_save": lambda: table.save(os.devnull), "yarib_load": lambda: table.load(os.devnull),
+                "yarib_view_look_up_each": lambda: other.view_new().look_up_each([1]),
                 "yarib_apply": lambda: (table.purge(1), other.put("10.0.0.0/24", 1), other.withdraw("10.0.0.0/24"))}
         keeping = []
 
@@ -277,17 +280,17 @@ class Tables(unittest.TestCase):
     def test_a_followed_table_answers_as_before(self):
         table = yarib.Table()
         table.add("10.0.0.0/8", via=1)
-        self.assertIs(table.is_followed(), False)
-        table.follow()
-        table.follow()
-        self.assertIs(table.is_followed(), True)
+        self.assertIs(table.fib_is_attached(), False)
+        table.fib_attach()
+        table.fib_attach()
+        self.assertIs(table.fib_is_attached(), True)
         self.assertGreaterEqual(table.memory(), 1 << 26)
         table.add("10.1.0.0/16", via=2)
         table.replace("10.0.0.0/8", via=3)
         self.assertEqual([table.look_up(text).via for text in ("10.1.2.3", "10.2.0.0")], [2, 3])
         table.purge()
         self.assertIsNone(table.look_up("10.1.2.3"))
-        self.assertRaises(yarib.Refused, yarib.Table(journal=True).follow)
+        self.assertRaises(yarib.Refused, yarib.Table(journal=True).fib_attach)
 
     def test_what_changes_nothing_is_an_exception(self):
         table = yarib.Table(limit=1)
@@ -328,7 +331,7 @@ class Tables(unittest.TestCase):
         table = yarib.Table()
         table.close()
         table.close()
-        for call in (len, list, yarib.Forwarding):
+        for call in (len, list, yarib.Fib):
             self.assertRaises(yarib.Refused, call, table)
         self.assertRaises(yarib.Refused, table.add, "10.0.0.0/8", None)
         self.assertRaises(yarib.Refused, table.look_up, 1)
@@ -404,11 +407,11 @@ class Buffers(unittest.TestCase):
         self.assertEqual(shown["via"].tolist(), [0xC0000201, 0, 0xC0000201])
 
 
-class Forwarding(unittest.TestCase):
+class Fibs(unittest.TestCase):
     def test_it_stays_as_it_was_made(self):
         table = yarib.Table()
         table.add("10.0.0.0/8", via="192.0.2.1")
-        forwarding = table.forward()
+        forwarding = table.fib_new()
         table.purge()
         self.assertEqual(forwarding.look_up("10.1.2.3"), route("10.0.0.0/8", 1, 0, "192.0.2.1"))
         self.assertGreaterEqual(forwarding.memory(), 1 << 26)
@@ -417,7 +420,7 @@ class Forwarding(unittest.TestCase):
         table = yarib.Table()
         for k in range(256):
             table.add((k << 24, 8), via=k)
-        forwarding, wrong = table.forward(), []
+        forwarding, wrong = table.fib_new(), []
         asked = array.array("I", (k % 256 << 24 | k for k in range(50_000)))
 
         def look_up():
@@ -448,6 +451,114 @@ class Forwarding(unittest.TestCase):
         for thread in threads:
             thread.join()
         self.assertEqual(len(table), 8 * 250)
+
+
+class Views(unittest.TestCase):
+    def made(self, kind=yarib.Table):
+        table = kind()
+        table.add("10.0.0.0/8", via="192.0.2.1")
+        table.add("10.1.0.0/16", via=None)
+        table.fib_attach()
+        return table
+
+    def test_a_view_stays_as_it_was_made(self):
+        """Through changes, a close of the table, its end, and a fork."""
+        for kind in (yarib.Table, yarib.ConcurrentTable):
+            table = self.made(kind)
+            views = [table.view_new(), table.view_new(), *([] if kind is yarib.ConcurrentTable else [table.fib_new().view_new()])]
+            table.purge()
+            table.add("0.0.0.0/0", via=7)
+            later = table.view_new()
+            table.close()
+            self.assertRaises(yarib.Refused, table.view_new)
+            self.assertRaises(yarib.Refused, table.hops, [1], 0, 1)
+            del table
+            gc.collect()
+
+            def compare():
+                for view in views:
+                    numbers = list(view.look_up_each(["10.0.0.1", "10.1.0.1", "11.0.0.0"]))
+                    self.assertEqual((view.routers[numbers[0]], numbers[1:]), (0xC0000201, [yarib.NUMBER_DISCARD, yarib.NUMBER_NO_ROUTE]))
+                    self.assertEqual([view.look_up(text) for text in ("10.0.0.1", 10 << 24 | 1 << 16, ADDRESS("11.0.0.0"))], numbers)
+                self.assertEqual(later.routers[later.look_up(1)], 7)
+
+            compare()
+            child = os.fork()
+            if child == 0:
+                try:
+                    compare()
+                except BaseException:
+                    os._exit(1)
+                os._exit(0)
+            self.assertEqual(os.waitpid(child, 0)[1], 0)
+
+    def test_what_has_no_view(self):
+        for table in (yarib.Table(), yarib.Table(journal=True), yarib.ConcurrentTable()):
+            self.assertRaisesRegex(yarib.Refused, "support", table.view_new)
+            table.close()
+            self.assertRaisesRegex(yarib.Refused, "closed", table.view_new)
+        self.assertRaises(TypeError, yarib.View, "10.0.0.0/8")
+        view = self.made().view_new()
+        for made in (copy.copy, copy.deepcopy):
+            self.assertRaises(TypeError, made, view)
+        self.assertEqual(repr(view), f"<yarib.View of {view.memory()} bytes>")
+        for address in ("10.0.0.256", -1, 1 << 32):
+            self.assertRaises(yarib.Invalid, view.look_up, address)
+        for numbers in ((-1, 0), (0, 1 << 32)):
+            self.assertRaises(yarib.Invalid, self.made().hops, [1], *numbers)
+        self.assertEqual((list(view.look_up_each([])), list(self.made().hops([], 0, 1))), ([], []))
+
+    def test_views_during_changes(self):
+        """Each view, and all hops of a call, are of one table; a view that doesn't fit any more is made again."""
+        for kind in (yarib.Table, yarib.ConcurrentTable):
+            table, faults, ended = self.made(kind), [], threading.Event()
+            table.apply_each([(2, "add", (k << 24, 8), 0, 0) for k in range(64)])
+
+            def read():
+                try:
+                    while not ended.is_set():
+                        view = table.view_new()
+                        seen = {view.routers[number] for number in view.look_up_each([k << 24 for k in range(64) if k != 10])}
+                        seen_by_hops = set(table.hops([k << 24 for k in range(64) if k != 10], 8, 9))
+                        if len(seen) != 1 or len(seen_by_hops) != 1:
+                            faults.append((seen, seen_by_hops))
+                except BaseException as fault:
+                    faults.append(fault)
+
+            readers = [threading.Thread(target=read) for _ in range(2)]
+            for thread in readers:
+                thread.start()
+            for k in range(1, 16):
+                # Each change needs more blocks and more routers than the one before.
+                table.apply_each([*((2, "replace", (j << 24, 8), 0, k) for j in range(64)), *((3, "add", (200 << 24 | k * 64 + j << 8, 32), 0, k * 64 + j)
+                                                                                            for j in range(64))])
+            ended.set()
+            for thread in readers:
+                thread.join()
+            self.assertEqual(faults, [])
+
+    def test_a_view_that_is_too_small_is_made_again(self):
+        table, call, sizes = self.made(), c.freed.yarib_view_write, []
+
+        def write(at, raw):
+            if not sizes:
+                table.apply_each([(1, "add", (k << 16 | 128, 25), 0, k) for k in range(1, 5000)])
+            sizes.append(raw._obj.block_count)
+            return call(at, raw)
+
+        with mock.patch.object(c.freed, "yarib_view_write", write):
+            view = table.view_new()
+        self.assertEqual((len(sizes), view.routers[view.look_up(4999 << 16 | 129)]), (2, 4999))
+
+    def test_numpy_reads_hops_and_routers(self):
+        try:
+            import numpy
+        except ImportError:
+            self.skipTest("numpy is not here")
+        asked, view = numpy.array([10 << 24, 0], dtype=numpy.uint32), self.made().view_new()
+        numbers = numpy.frombuffer(view.look_up_each(asked), numpy.uint32)
+        self.assertEqual(numpy.frombuffer(view.routers, numpy.uint32)[numbers].tolist()[:1], [0xC0000201])
+        self.assertEqual(numpy.frombuffer(self.made().hops(asked, 1, 2), numpy.uint32).tolist(), [0xC0000201, 1])
 
 
 class Threads(unittest.TestCase):
@@ -504,7 +615,7 @@ class Threads(unittest.TestCase):
             for is_followed in (False, True):
                 table = self.made()
                 if is_followed:
-                    table.follow()
+                    table.fib_attach()
                 self.meet(table)
         finally:
             handle._held, handle._changing = kept
@@ -563,9 +674,9 @@ class Threads(unittest.TestCase):
                 faults.append(fault)
 
         publish(0)
-        self.assertIs(table.is_followed(), False)
-        table.follow()
-        self.assertIs(table.is_followed(), True)
+        self.assertIs(table.fib_is_attached(), False)
+        table.fib_attach()
+        self.assertIs(table.fib_is_attached(), True)
         self.assertGreaterEqual(table.memory(), 2 << 26)
         readers = [threading.Thread(target=read) for _ in range(4)]
         for thread in readers:
@@ -580,10 +691,60 @@ class Threads(unittest.TestCase):
         table.close()
         self.assertRaises(yarib.Refused, len, table)
 
+    def test_copies_of_a_concurrent_table(self):
+        """A copy has the published routes, and a table replaces another at once. Both have their own limit."""
+        table, ten, nine = yarib.ConcurrentTable(5), route("10.0.0.0/8", 1, 0, 7), route("9.0.0.0/8", 2, 3, None)
+        table.apply_each([(1, "add", "10.0.0.0/8", 0, 7), (2, "add", "9.0.0.0/8", 3, None)])
+        copied = table.copy(2)
+        table.add("8.0.0.0/8", 5)
+        self.assertEqual((copied.routes(), len(table)), ([nine, ten], 3))
+        copied.add("11.0.0.0/8", 1)
+        self.assertRaises(yarib.Full, copied.add, "12.0.0.0/8", 1)
+        self.assertRaises(yarib.Full, table.copy, 1)
+        for limit in (0, yarib.MAX_LIMIT + 1):
+            self.assertRaises(yarib.Invalid, table.copy, limit)
+            self.assertRaises(yarib.Invalid, table.replace_all, copied, limit)
+        self.assertRaises(yarib.Full, table.replace_all, copied, 1)
+        self.assertRaises(TypeError, table.replace_all, table)
+        self.assertEqual(len(table), 3)
+        faults, ended = [], threading.Event()
+
+        def read():
+            while not ended.is_set():
+                if (seen := tuple(one.via for one in table.look_up_each(["10.0.0.1", "8.0.0.1", "11.0.0.1"]) if one)) not in ((7, 5), (7, 1)):
+                    faults.append(seen)
+
+        reader = threading.Thread(target=read)
+        reader.start()
+        for k in range(50):
+            table.replace_all(copied, limit=2)
+            other = table.copy()
+            other.withdraw("11.0.0.0/8")
+            other.add("8.0.0.0/8", 5)
+            table.replace_all(other, limit=2)
+        ended.set()
+        reader.join()
+        self.assertEqual(faults, [])
+        table.replace_all(copied, limit=2)
+        self.assertRaises(yarib.Full, table.add, "12.0.0.0/8", 1)
+        newer = yarib.ConcurrentTable()
+        newer.replace_all(copied)
+        newer.replace("10.0.0.0/8", 8)
+        found = [(10 << 24, (11 << 24) - 1, ADDRESS(7), ADDRESS(8))]
+        self.assertEqual((list(table.differences(newer)), list(table.differences(table))), (found, []))
+        self.assertEqual(list(newer.differences(table, by="route"))[0].after, ten)
+        for older, other in ((table, copied), (copied, table)):
+            self.assertRaises(TypeError, list, older.differences(other))
+        copied.close()
+        self.assertRaises(yarib.Refused, table.replace_all, copied)
+        table.close()
+        for call in (table.copy, lambda: list(table.differences(newer))):
+            self.assertRaises(yarib.Refused, call)
+
     def test_a_concurrent_table_is_no_table(self):
         with yarib.ConcurrentTable(3) as table:
             self.assertEqual(repr(table), "<yarib.ConcurrentTable of 0 routes>")
-            self.assertRaises(TypeError, yarib.Forwarding, table)
+            self.assertRaises(TypeError, yarib.Fib, table)
             self.assertRaises(TypeError, list, yarib.Table().differences(table))
             self.assertRaises(TypeError, copy.copy, table)
             self.assertRaises(yarib.Invalid, yarib.ConcurrentTable, 0)

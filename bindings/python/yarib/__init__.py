@@ -14,21 +14,22 @@ preferences, the lowest feed. Error is the base class of this package's errors: 
 Invalid, a ValueError, and OutOfMemory is a MemoryError. An argument of the wrong type raises TypeError. After each of
 these the table is unchanged.
 
-Several threads may use a Table or a Forwarding, also in a Python without a global lock. Calls that only read run at the
-same time; a change waits until it is alone. Long calls (look_up_each, apply_each, follow, forward) let other threads run.
+Several threads may use a Table, a Fib or a View, also in a Python without a global lock. Calls that only read run at the
+same time; a change waits until it is alone. Long calls (look_up_each, apply_each, fib_attach, fib_new) let other threads run.
 One thread may change a ConcurrentTable while others read it without waiting.
 """
 from ._library import (
-    MAX_FEED, MAX_LENGTH, MAX_LIMIT, STATUS, VERSION, Error, Invalid, OutOfMemory, Refused, build,
+    FIRST_ROUTER, MAX_FEED, MAX_LENGTH, MAX_LIMIT, NUMBER_DISCARD, NUMBER_NO_ROUTE, STATUS, VERSION, Error, Invalid, OutOfMemory,
+    Refused, build,
 )
 from ._tables import (
-    Answers, ConcurrentTable, Difference, Entry, Exists, Forwarding, Full, Missing, Outcome, Route, Source, Table,
-    prefix_of, address_of,
+    Answers, Change, ConcurrentTable, Difference, Entry, Exists, Fib, Full, Missing, Outcome, Route, Source, Table, View, prefix_of,
+    address_of,
 )
 
 __version__ = VERSION
 __all__ = [
-    "Answers", "ConcurrentTable", "Difference", "Entry", "Error", "Exists", "Forwarding", "Full", "Invalid", "MAX_FEED",
-    "MAX_LENGTH", "MAX_LIMIT", "Missing", "OutOfMemory", "Outcome", "Refused", "Route", "STATUS", "Source", "Table",
-    "address_of", "build", "prefix_of",
+    "Answers", "Change", "ConcurrentTable", "Difference", "Entry", "Error", "Exists", "FIRST_ROUTER", "Fib", "Full", "Invalid", "MAX_FEED",
+    "MAX_LENGTH", "MAX_LIMIT", "Missing", "NUMBER_DISCARD", "NUMBER_NO_ROUTE", "OutOfMemory", "Outcome", "Refused", "Route", "STATUS",
+    "Source", "Table", "View", "address_of", "build", "prefix_of",
 ]

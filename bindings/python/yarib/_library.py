@@ -14,6 +14,8 @@ NAME = "libyarib.so.0"
 
 # The largest feed, limit and prefix length.
 MAX_FEED, MAX_LIMIT, MAX_LENGTH = 64, 1_000_000, 32
+# The largest number of bytes of a line of a feed file, without its end.
+MAX_LINE = 128
 
 # Of the header: what a call returns, by its number.
 STATUS = ("done", "nothing", "bad number", "bad command", "no memory", "bad size", "none left", "bad text",
@@ -28,22 +30,33 @@ CODES = ("unanswered", "added", "exists", "full", "replaced", "withdrawn", "miss
          "dumped", "purged")
 
 
-class RawSelection(ctypes.Structure):
-    _fields_ = [("part", ctypes.c_uint32), ("feed", ctypes.c_uint32), ("base", ctypes.c_uint32),
-                ("len", ctypes.c_uint8), ("only_best", ctypes.c_uint8)]
+class RawView(ctypes.Structure):
+    _fields_ = [("entries", ctypes.c_void_p), ("entry_count", ctypes.c_size_t), ("blocks", ctypes.c_void_p),
+                ("block_count", ctypes.c_size_t), ("routers", ctypes.c_void_p), ("router_count", ctypes.c_size_t)]
 
+
+class RawLoaded(ctypes.Structure):
+    _fields_ = [("routes", ctypes.c_size_t), ("line", ctypes.c_size_t), ("code", ctypes.c_uint32)]
+
+
+# The number of entries of a view, and the numbers that its look-ups return.
+VIEW_ENTRIES, NUMBER_NO_ROUTE, NUMBER_DISCARD, FIRST_ROUTER = 1 << 24, 0, 1, 2
 
 # The header's structures: base, preference, router, feed, length and hop of a route; operation, feed, base, preference, router,
-# length and hop of a command; code and count of a reply, and its route; first and last address of a difference, and two routes.
+# length and hop of a command; code and count of a reply, and its route; first and last address of a difference, and two routes; part,
+# feed, base and length of a selection, and whether it selects only best routes.
 ROUTE, COMMAND, REPLY = struct.Struct("=IIIIBBxx"), struct.Struct("=IIIIIBBxx"), struct.Struct("=IIIIIIBBxx")
 ENTRY, PREFIX, ADDRESS = struct.Struct("=IIIIIBBxxIIIIIIBBxx"), struct.Struct("=IBxxx"), struct.Struct("=I")
-DIFFERENCE = struct.Struct("=IIIIIIBBxxIIIIBBxx")
+DIFFERENCE, SELECTION, COUNT = struct.Struct("=IIIIIIBBxxIIIIBBxx"), struct.Struct("=IIIBBxx"), struct.Struct("@N")
+# Two routes, and base and length of a change.
+CHANGE = struct.Struct("=IIIIBBxxIIIIBBxxIBxxx")
 
 NUMBER, SIZE, POINTER = ctypes.c_uint32, ctypes.c_size_t, ctypes.c_void_p
 CALLS: Dict[str, Tuple[Any, ...]] = {
     "yarib_new": (POINTER, NUMBER, NUMBER),
     "yarib_free": (POINTER,),
     "yarib_apply": (POINTER, POINTER, POINTER),
+    "yarib_apply_changed": (POINTER, POINTER, POINTER, POINTER),
     "yarib_apply_each": (POINTER, POINTER, SIZE, POINTER, SIZE),
     "yarib_reserve": (POINTER, SIZE),
     "yarib_look_up": (POINTER, POINTER, SIZE, POINTER, SIZE),
@@ -53,15 +66,24 @@ CALLS: Dict[str, Tuple[Any, ...]] = {
     "yarib_routes": (POINTER, SIZE, POINTER, SIZE, POINTER),
     "yarib_routes_from": (POINTER, POINTER, POINTER, SIZE, POINTER),
     "yarib_select": (POINTER, POINTER, SIZE, POINTER, SIZE, POINTER),
+    "yarib_purge_changes": (POINTER, NUMBER, SIZE, POINTER, SIZE, POINTER),
     "yarib_count": (POINTER, POINTER),
     "yarib_journal": (POINTER, SIZE, POINTER, SIZE, POINTER),
     "yarib_first_difference": (POINTER, POINTER, NUMBER, NUMBER, POINTER),
-    "yarib_forward": (POINTER, POINTER),
-    "yarib_share": (POINTER, POINTER),
-    "yarib_follow": (POINTER,),
+    "yarib_fib_new": (POINTER, POINTER),
+    "yarib_fib_attach": (POINTER,),
     "yarib_fib_is_attached": (POINTER, POINTER),
     "yarib_memory": (POINTER, POINTER),
+    "yarib_hops": (POINTER, POINTER, SIZE, NUMBER, NUMBER, POINTER, SIZE),
+    "yarib_view_sizes": (POINTER, POINTER, POINTER),
+    "yarib_view_write": (POINTER, POINTER),
+    "yarib_view_look_up": (POINTER, NUMBER),
+    "yarib_view_look_up_each": (POINTER, POINTER, SIZE, POINTER, SIZE),
+    "yarib_save": (POINTER, NUMBER, POINTER),
+    "yarib_load": (POINTER, NUMBER, POINTER, POINTER),
     "yarib_concurrent_new": (POINTER, NUMBER),
+    "yarib_concurrent_copy": (POINTER, NUMBER, POINTER),
+    "yarib_concurrent_replace": (POINTER, NUMBER, POINTER),
     "yarib_prefix_parse": (ctypes.c_char_p, SIZE, POINTER),
     "yarib_prefix_print": (POINTER, POINTER, SIZE, POINTER),
     "yarib_address_parse": (ctypes.c_char_p, SIZE, POINTER),
@@ -69,11 +91,13 @@ CALLS: Dict[str, Tuple[Any, ...]] = {
 }
 # Calls without conversions of their arguments, which take half of a short call's time. Each argument must be a number below 1 << 31
 # or, if C reads 32 bits, 1 << 32; a bytes object or a reference.
-PLAIN = ("yarib_apply", "yarib_look_up_one", "yarib_look_up_text", "yarib_routes_from", "yarib_prefix_parse", "yarib_address_parse")
+PLAIN = ("yarib_apply", "yarib_look_up_one", "yarib_look_up_text", "yarib_routes_from", "yarib_prefix_parse", "yarib_address_parse",
+         "yarib_view_look_up", "yarib_select", "yarib_look_up_all")
 # The calls for a concurrent table that are declared as those for a table.
-CONCURRENT = ("free", "apply", "apply_each", "look_up", "look_up_one", "look_up_text", "look_up_all", "routes", "routes_from", "select", "count",
-              "follow", "fib_is_attached", "memory")
-CALLS.update({"yarib_concurrent_" + (name if name != "follow" else "fib_attach"): CALLS["yarib_" + name] for name in CONCURRENT})
+CONCURRENT = ("free", "apply", "apply_changed", "purge_changes", "apply_each", "look_up", "look_up_one", "look_up_text", "look_up_all",
+              "hops", "routes", "routes_from", "select", "count", "fib_attach", "fib_is_attached", "memory", "view_sizes", "view_write",
+              "save", "load", "first_difference")
+CALLS.update({"yarib_concurrent_" + name: CALLS["yarib_" + name] for name in CONCURRENT})
 
 
 def file_of_library() -> str:
@@ -116,7 +140,7 @@ class Concurrent:
 
     def __init__(self, library: Any) -> None:
         for name in CONCURRENT:
-            setattr(self, "yarib_" + name, getattr(library, "yarib_concurrent_" + (name if name != "follow" else "fib_attach")))
+            setattr(self, "yarib_" + name, getattr(library, "yarib_concurrent_" + name))
 
 
 concurrent_held, concurrent_freed = Concurrent(held), Concurrent(freed)
@@ -125,15 +149,20 @@ concurrent_held, concurrent_freed = Concurrent(held), Concurrent(freed)
 PAUSE = 0.00005
 
 
+# The number of routes of a list that a call writes into its room: a longer list gets memory of its own.
+LISTED = 64
+
+
 class Room:
-    """Memory for what one short call writes. A call takes it out of `rooms`, and puts it back when the results are read:
+    """Memory for what one call writes. A call takes it out of `rooms`, and puts it back when the results are read:
     meanwhile another thread or a signal handler may make a call, which then takes another one."""
-    __slots__ = ("bytes", "at", "size_at")
+    __slots__ = ("bytes", "at", "size_at", "list", "list_at")
 
     def __init__(self) -> None:
-        self.bytes = bytearray(40)
+        self.bytes, self.list = bytearray(40), bytearray(LISTED * ROUTE.size)
         self.at = ctypes.byref((ctypes.c_char * 32).from_buffer(self.bytes))
         self.size_at = ctypes.byref(SIZE.from_buffer(self.bytes, 32))
+        self.list_at = ctypes.byref((ctypes.c_char * len(self.list)).from_buffer(self.list))
 
 
 rooms: List[Room] = []

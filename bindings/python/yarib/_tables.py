@@ -2,9 +2,11 @@
 from __future__ import annotations
 
 import array
+import contextlib
 import ctypes
 import functools
 import ipaddress
+import mmap
 import operator
 import os
 import struct
@@ -12,7 +14,7 @@ import sys
 import threading
 from typing import Any, Callable, Dict, Iterable, Iterator, List, NamedTuple, NoReturn, Optional, Sequence, Tuple, Union
 
-from . import _library as c
+from . import _files, _library as c
 from ._library import (
     COMMAND, ENTRY, REPLY, ROUTE, Error, Invalid, Room, check, concurrent_freed, concurrent_held, done, freed, held, rooms,
     status_of,
@@ -24,8 +26,8 @@ MANY = 1 << 31
 # Of the library, which a short call reads often.
 VIA = c.VIA
 LAST = (1 << 32) - 1
-ADDRESS_FROM, PREFIX_FROM, ROUTE_FROM, REPLY_FROM = (
-    one.unpack_from for one in (c.ADDRESS, c.PREFIX, ROUTE, REPLY))
+ADDRESS_FROM, PREFIX_FROM, ROUTE_FROM, REPLY_FROM, COUNT_FROM = (
+    one.unpack_from for one in (c.ADDRESS, c.PREFIX, ROUTE, REPLY, c.COUNT))
 NETWORK, ADDRESS = ipaddress.IPv4Network, ipaddress.IPv4Address
 Address = Union[str, int, ipaddress.IPv4Address]
 Prefix = Union[str, ipaddress.IPv4Network, Sequence[int]]
@@ -74,6 +76,18 @@ class Difference(NamedTuple):
     last: int
     before: object
     after: object
+
+
+class Change(NamedTuple):
+    """A prefix whose best route has changed: its best Route before, and after; None if there is no route to it."""
+    base: int
+    length: int
+    before: Optional[Route]
+    after: Optional[Route]
+
+    @property
+    def prefix(self) -> ipaddress.IPv4Network:
+        return NETWORK((self.base, self.length))
 
 
 class Outcome(NamedTuple):
@@ -173,8 +187,15 @@ def route_of(base: int, pref: int, via: int, feed: int, length: int, hop: int) -
     return new(Route, (base, length, feed, pref, via if hop == c.VIA else None))
 
 
-def routes_of(block: memoryview) -> List[Route]:
-    return [route for fields in ROUTE.iter_unpack(block) if (route := route_of(*fields)) is not None]
+def routes_of(block: Union[memoryview, bytearray]) -> List[Route]:
+    """Returns the routes of a list, each of which is one."""
+    return [new(Route, (base, length, feed, pref, via if hop == VIA else None))
+            for base, pref, via, feed, length, hop in ROUTE.iter_unpack(block)]
+
+
+def change_of(*fields: int) -> Change:
+    *routes, base, length = fields
+    return Change(base, length, route_of(*routes[:6]), route_of(*routes[6:]))
 
 
 def outcome_of(code: int, count: int, *route: int) -> Outcome:
@@ -224,11 +245,19 @@ def put_in(room: Room, operation: int, feed: int, prefix: Prefix, pref: int, via
         return packed(operation, feed, base, length, pref, address_of(via), VIA)
 
 
+def feed_of(feed: object) -> int:
+    """Returns the number of a feed, or raises."""
+    found = number(feed, "a feed")
+    if not 1 <= found <= c.MAX_FEED:
+        raise Invalid(f"yarib: feed {found} is not 1 to {c.MAX_FEED}")
+    return found
+
+
 def check_command(status: int, command: bytes) -> None:
     """Raises the error that the status of a command means, with its feed or its prefix."""
     _, feed, base, _, _, length, _ = COMMAND.unpack(command)
     if status == c.BAD_NUMBER:
-        raise Invalid(f"yarib: feed {feed} is not 1 to {c.MAX_FEED}")
+        feed_of(feed)
     check(status, (base, length))
 
 
@@ -297,14 +326,7 @@ def addresses_of(addresses: Any) -> Tuple[Any, int]:
     return (kind.from_buffer_copy(view) if view.readonly else kind.from_buffer(view)), len(view)
 
 
-def ask(handle: Any, addresses: Any, calls: Any = freed) -> Answers:
-    block, size = addresses_of(addresses)
-    answers = Answers(size)
-    done(calls.yarib_look_up, handle, block, size, pointer_to(answers.block), size)
-    return answers
-
-
-def pointer_to(block: bytearray) -> Any:
+def pointer_to(block: Union[bytearray, array.array[int]]) -> Any:
     """Returns a reference to a block, also to an empty one, for C."""
     return (ctypes.c_char * len(block)).from_buffer(block) if block else (ctypes.c_char * 1)()
 
@@ -313,6 +335,62 @@ def bytes_of(handle: Any, calls: Any = held) -> int:
     found = ctypes.c_size_t()
     done(calls.yarib_memory, handle, ctypes.byref(found))
     return found.value
+
+
+def memory_of(size: int) -> mmap.mmap:
+    """Returns memory for this many 32-bit numbers, in huge pages if the kernel has them."""
+    block = mmap.mmap(-1, size * 4, mmap.MAP_PRIVATE | mmap.MAP_ANONYMOUS)
+    with contextlib.suppress(OSError):
+        block.madvise(mmap.MADV_HUGEPAGE)
+    return block
+
+
+class View:
+    """The next hops of a table as numbers: NUMBER_NO_ROUTE, NUMBER_DISCARD, or the index of a router in `routers`. It is
+    what the table answered when this was created, and owns its memory, 64 MiB or more: changes, a close of the table and a
+    fork don't change it. Its look-ups are the fastest. Any number of threads may use it, and none waits."""
+
+    def __init__(self, table: Handle) -> None:
+        """Makes a view of a Fib, or of a table to which a forwarding table is attached. Raises Refused for another table."""
+        if not isinstance(table, Handle):
+            raise TypeError(f"yarib: not a table: {table!r}")
+        blocks, routers, status = ctypes.c_size_t(), ctypes.c_size_t(), c.BAD_SIZE
+        entries, table_at = memory_of(c.VIEW_ENTRIES), table._at
+        table._give_way()
+        # Another thread may change the table between the two calls.
+        while status == c.BAD_SIZE:
+            done(table._held.yarib_view_sizes, table_at, ctypes.byref(blocks), ctypes.byref(routers))
+            arrays = [(entries, c.VIEW_ENTRIES), (memory_of(blocks.value), blocks.value), (memory_of(routers.value), routers.value)]
+            # Each has a reference to its memory.
+            self._parts = [(ctypes.c_uint32 * size).from_buffer(block) for block, size in arrays]
+            raw = c.RawView(*(word for part in self._parts for word in (ctypes.addressof(part), len(part))))
+            status = status_of(table._freed.yarib_view_write, table_at, ctypes.byref(raw))
+        check(status)
+        self._raw, self._at = raw, ctypes.byref(raw)
+        self.routers: memoryview = memoryview(arrays[2][0]).cast("I")[:raw.router_count].toreadonly()
+
+    def look_up(self, address: Address) -> int:
+        """Returns the number of the address's next hop."""
+        found: int = held.yarib_view_look_up(self._at, address_of(address))
+        return found
+
+    def look_up_each(self, addresses: Any) -> array.array[int]:
+        """Returns the number of each address's next hop, as an array of 32-bit numbers. The addresses are those of
+        Table.look_up_each. Other threads run meanwhile."""
+        block, size = addresses_of(addresses)
+        found = array.array("I", bytes(4 * size))
+        check(freed.yarib_view_look_up_each(self._at, block, size, pointer_to(found), size))
+        return found
+
+    def memory(self) -> int:
+        """Returns its size in bytes."""
+        return sum(map(ctypes.sizeof, self._parts))
+
+    def __repr__(self) -> str:
+        return f"<yarib.View of {self.memory()} bytes>"
+
+    def __reduce__(self) -> NoReturn:
+        raise TypeError("yarib: a view can't be copied or pickled: copy its table and call view_new()")
 
 
 class Handle:
@@ -342,6 +420,9 @@ class Handle:
                 status = status_of(call, *words)
         return status
 
+    def _give_way(self) -> None:
+        """Waits, before a long call that only reads, until no change waits for such calls."""
+
     def close(self) -> None:
         """Frees the handle's contents, once no other thread's call uses them. Closing twice is harmless."""
         self._change(self._freed.yarib_free, self._at)
@@ -365,6 +446,33 @@ class Handle:
         base, pref, via, feed, length, hop = ROUTE_FROM(room.bytes)
         rooms.append(room)
         return new(Route, (base, length, feed, pref, via if hop == VIA else None)) if hop else None
+
+    def look_up_each(self, addresses: Any) -> Answers:
+        """Looks up all these addresses and returns the Answers: for a ConcurrentTable, all from one published table. The
+        addresses are any iterable, or a buffer of 32-bit numbers. Other threads run meanwhile."""
+        self._give_way()
+        block, size = addresses_of(addresses)
+        answers = Answers(size)
+        done(self._freed.yarib_look_up, self._at, block, size, pointer_to(answers.block), size)
+        return answers
+
+    def hops(self, addresses: Any, no_route: int, discard: int) -> array.array[int]:
+        """Returns the router for each address, as an array of 32-bit numbers: `discard` if packets are discarded, and
+        `no_route` if no prefix covers the address. Choose two numbers that no route has as `via`. The addresses are those
+        of `look_up_each`. Other threads run meanwhile."""
+        self._give_way()
+        block, size = addresses_of(addresses)
+        found = array.array("I", bytes(4 * size))
+        done(self._freed.yarib_hops, self._at, block, size, number(no_route), number(discard), pointer_to(found), size)
+        return found
+
+    def view_new(self) -> View:
+        """Returns a view of the current answers. Raises Refused for a table to which no forwarding table is attached."""
+        return View(self)
+
+    def memory(self) -> int:
+        """Returns its size in bytes: for a table an estimate, with an attached forwarding table."""
+        return bytes_of(self._at, self._held)
 
     def __del__(self) -> None:
         if hasattr(self, "_at"):
@@ -401,6 +509,23 @@ class Routes(Handle):
         replies = bytearray(len(raw) * REPLY.size)
         self._change(self._freed.yarib_apply_each, self._at, b"".join(raw), len(raw), pointer_to(replies), len(raw))
         return [outcome_of(*fields) for fields in REPLY.iter_unpack(replies)]
+
+    def apply_changed(self, feed: int, name: str, *words: Any) -> Tuple[Outcome, Optional[Change]]:
+        """Executes an add, replace or withdraw, given as the arguments of `apply`. Returns its outcome, and the Change of the
+        best route to its prefix, or None if that is the same; the best routes to other prefixes don't change."""
+        command = command_of(feed, name, *words)
+        reply, change = bytearray(REPLY.size), bytearray(c.CHANGE.size)
+        call = self._changing.yarib_apply_changed
+        check_command(self._status(call, self._at, command, pointer_to(reply), pointer_to(change)), command)
+        found = change_of(*c.CHANGE.unpack(change))
+        return outcome_of(*REPLY.unpack(reply)), found if found.before or found.after else None
+
+    def purge_changes(self, feed: int = 1) -> List[Change]:
+        """Returns which best routes a purge of the feed would change, sorted by base and length."""
+        if not 1 <= number(feed, "a feed") <= c.MAX_FEED:
+            c.fail(c.BAD_NUMBER, feed)
+        found = self._pages(c.CHANGE.size, 64, lambda *place: self._freed.yarib_purge_changes(self._at, feed, *place))
+        return [change_of(*fields) for fields in c.CHANGE.iter_unpack(found)]
 
     def _put(self, operation: int, prefix: Prefix, via: Optional[Address], pref: int, feed: int) -> None:
         try:
@@ -440,18 +565,10 @@ class Routes(Handle):
         """Removes all routes of the feed and returns their number."""
         return self.apply(feed, "purge").count
 
-    def look_up_each(self, addresses: Any) -> Answers:
-        """Looks up all these addresses and returns the Answers. They are any iterable, or a buffer of 32-bit numbers. Other
-        threads run meanwhile."""
-        with self._turn:
-            pass
-        return ask(self._at, addresses, self._freed)
-
     def look_up_all(self, address: Address) -> List[Route]:
         """Returns all routes whose prefix covers the address, the best first."""
-        address = address_of(address)
-        found = self._pages(ROUTE.size, 64, lambda *place: self._held.yarib_look_up_all(self._at, address, *place))
-        return routes_of(found)
+        room = room_of_call()
+        return self._listed(room, self._held.yarib_look_up_all, address_in(room, address))
 
     def _pages(self, width: int, size: int, call: Callable[..., int]) -> memoryview:
         """Returns a whole list of elements of `width` bytes, in at most two calls while it doesn't change."""
@@ -462,6 +579,18 @@ class Routes(Handle):
             if total.value <= size:
                 return memoryview(block)[:total.value * width]
             size = total.value
+
+    def _listed(self, room: Room, call: Callable[..., int], asked: Union[int, bytes]) -> List[Route]:
+        """Returns a list of routes, which is in the room if it is short enough."""
+        if call(self._at, asked, 0, room.list_at, c.LISTED, room.size_at):
+            done(call, self._at, asked, 0, room.list_at, c.LISTED, room.size_at)
+        total: int = COUNT_FROM(room.bytes, 32)[0]
+        if total <= c.LISTED:
+            found = routes_of(room.list[:total * ROUTE.size])
+        else:
+            found = routes_of(self._pages(ROUTE.size, total, lambda *place: call(self._at, asked, *place)))
+        rooms.append(room)
+        return found
 
     def __len__(self) -> int:
         total = ctypes.c_size_t()
@@ -478,25 +607,23 @@ class Routes(Handle):
 
     def exact(self, prefix: Prefix, feed: Optional[int] = None, best: bool = False) -> List[Route]:
         """Returns the routes to this prefix, the best first, selected as in `routes`."""
-        return self._select(c.EXACT, prefix_of(prefix), feed, best)
+        return self._select(c.EXACT, prefix, feed, best)
 
     def within(self, prefix: Prefix, feed: Optional[int] = None, best: bool = False) -> List[Route]:
         """Returns the routes to this prefix and to longer prefixes inside it, selected as in `routes`."""
-        return self._select(c.WITHIN, prefix_of(prefix), feed, best)
+        return self._select(c.WITHIN, prefix, feed, best)
 
     def covering(self, prefix: Prefix, feed: Optional[int] = None, best: bool = False) -> List[Route]:
         """Returns the routes to this prefix and to shorter prefixes that contain it, selected as in `routes`."""
-        return self._select(c.COVERING, prefix_of(prefix), feed, best)
+        return self._select(c.COVERING, prefix, feed, best)
 
-    def _select(self, part: int, prefix: Tuple[int, int], feed: Optional[int], best: bool) -> List[Route]:
-        if feed == 0:
-            c.fail(c.BAD_NUMBER, feed)
-        base, length = prefix
-        asked = c.RawSelection(part, number(feed or 0, "a feed"), base, length, int(bool(best)))
+    def _select(self, part: int, prefix: Prefix, feed: Optional[int], best: bool) -> List[Route]:
+        room = room_of_call()
+        base, length = prefix_in(room, prefix)
+        asked = c.SELECTION.pack(part, 0 if feed is None else feed_of(feed), base, length, 1 if best else 0)
         # At most the routes to 511 prefixes, or else any number.
         calls = self._held if part in (c.EXACT, c.COVERING) or part == c.WITHIN and length >= 24 else self._freed
-        found = self._pages(ROUTE.size, 64, lambda *place: calls.yarib_select(self._at, ctypes.byref(asked), *place))
-        return routes_of(found)
+        return self._listed(room, calls.yarib_select, asked)
 
     def routes_from(self, prefix: Prefix, pref: int = 0, feed: int = 0) -> Iterator[Route]:
         """Iterates over the routes, in the order of `routes`, from the position of this prefix, preference and feed on.
@@ -514,8 +641,8 @@ class Routes(Handle):
             base, pref, via, feed, length, hop = ROUTE.unpack_from(page, (PAGE - 1) * ROUTE.size)
             place = ROUTE.pack(base, pref, via, feed + 1, length, hop)
 
-    def is_followed(self) -> bool:
-        """Returns True if a forwarding table is attached, which look-ups use. After `follow` this is False only once a
+    def fib_is_attached(self) -> bool:
+        """Returns True if a forwarding table is attached, which look-ups use. After `fib_attach` this is False only once a
         change found no memory to update it. A ConcurrentTable answers for the published one of its two tables."""
         found = ctypes.c_uint32()
         done(self._held.yarib_fib_is_attached, self._at, ctypes.byref(found))
@@ -527,8 +654,14 @@ class Routes(Handle):
 
     def look_up_prefix(self, prefix: Prefix) -> Optional[Route]:
         """Returns the best route of the longest prefix that contains this prefix, or None."""
-        found = self.covering(prefix, best=True)
-        return found[-1] if found else None
+        room = room_of_call()
+        base, length, found = self._at_base(room, prefix)
+        rooms.append(room)
+        if found[4] <= length and not base & LAST >> length:
+            return route_of(*found)
+        # A longer prefix with this base hides it, or the prefix is invalid.
+        covering = self.covering((base, length), best=True)
+        return covering[-1] if covering else None
 
     def __getitem__(self, key: Union[Address, Prefix]) -> Route:
         """Returns the best route to exactly this prefix, or the answer to a look-up of this address. Raises Missing."""
@@ -543,14 +676,8 @@ class Routes(Handle):
 
     def _best(self, prefix: Prefix) -> Optional[Tuple[int, ...]]:
         """Returns the fields of the best route to exactly this prefix, which is the first one in order, or None."""
-        try:
-            room = rooms.pop()
-        except IndexError:
-            room = Room()
-        base, length = prefix_in(room, prefix)
-        if self._held.yarib_look_up_one(self._at, base, room.at):
-            done(self._held.yarib_look_up_one, self._at, base, room.at)
-        found = ROUTE_FROM(room.bytes)
+        room = room_of_call()
+        base, length, found = self._at_base(room, prefix)
         if found[4] > length or base & LAST >> length:
             # A longer prefix with this base hides it, or the prefix is invalid.
             place = ROUTE.pack(base, 0, 0, 0, length, 0)
@@ -558,6 +685,13 @@ class Routes(Handle):
             found = ROUTE_FROM(room.bytes)
         rooms.append(room)
         return found if found[4] == length and found[5] else None
+
+    def _at_base(self, room: Room, prefix: Prefix) -> Tuple[int, int, Tuple[int, ...]]:
+        """Returns base and length of a prefix, and the fields of the best route for its base."""
+        base, length = prefix_in(room, prefix)
+        if self._held.yarib_look_up_one(self._at, base, room.at):
+            done(self._held.yarib_look_up_one, self._at, base, room.at)
+        return base, length, ROUTE_FROM(room.bytes)
 
     def get(self, key: Union[Address, Prefix], default: Any = None) -> Any:
         """Returns what `table[key]` returns, or the default if there is no such route."""
@@ -578,33 +712,51 @@ class Routes(Handle):
         return (self._best(key) if is_prefix(key) else self.look_up(key)) is not None  # type: ignore[arg-type]
 
     def save(self, path: Union[str, os.PathLike[str]], feed: int = 1) -> None:
-        """Writes the feed's routes as a feed file of version 2."""
-        lines = [f"add {one.prefix} {one.pref} {'discard' if one.via is None else one.next_hop}\n"
-                 for one in self.routes(feed)]
-        with open(path, "w", encoding="ascii", newline="\n") as file:
-            file.writelines(["version 2\n", *lines])
+        """Writes the feed's routes as a feed file of version 2, which `load` and the program read. A ConcurrentTable writes
+        those of one published table."""
+        chosen = feed_of(feed)
+        text = _files.written(lambda stream: status_of(self._freed.yarib_save, self._at, chosen, stream))
+        with open(path, "wb") as file:
+            file.write(text)
 
-    def load(self, path: Union[str, os.PathLike[str]], feed: int = 1) -> None:
-        """Adds the routes of a feed file that consists of `add` lines. Raises Exists, Full or Invalid with the number of
-        the first line that can't be added; the routes of the lines before it stay."""
-        with open(path, encoding="ascii", errors="surrogateescape", newline="\n") as file:
-            lines = [line.rstrip("\n") for line in file]
-        first = lines[:1] == ["version 2"]
-        for at, line in enumerate(lines[first:], 1 + first):
-            if line and line[0] != "#" or len(line) > 128:
-                self._load_line(f"{os.fspath(path)}:{at}", line, feed, has_discard=first)
+    def load(self, path: Union[str, os.PathLike[str]], feed: int = 1) -> int:
+        """Adds the routes of a feed file that consists of `add` lines, and returns their number. Raises Exists, Full or
+        Invalid with the number of the first line that can't be added; the routes of the lines before it stay. The file is
+        read whole before. A Table is changed at once, a ConcurrentTable published once, at the end."""
+        chosen = feed_of(feed)
+        with open(path, "rb") as file:
+            text = file.read()
+        status, loaded = _files.read(lambda *words: self._status(self._freed.yarib_load, self._at, chosen, *words), text)
+        if status != c.DONE:
+            place = f"{os.fspath(path)}:{loaded.line}"
+            line = (text.split(b"\n", loaded.line) + [b""])[max(loaded.line, 1) - 1][:c.MAX_LINE + 1].decode("utf-8", "backslashreplace")
+            if status == c.NOT_ADDED:
+                raise UNCHANGED[loaded.code](f"{place}: feed {feed}: {line!r}")
+            if status in (c.BAD_TEXT, c.BAD_LENGTH, c.BAD_BITS):
+                raise Invalid(f"yarib: {place}: {'not an add line' if status == c.BAD_TEXT else c.STATUS[status]}: {line!r}")
+            check(status)
+        return loaded.routes  # type: ignore[no-any-return]
 
-    def _load_line(self, place: str, line: str, feed: int, has_discard: bool) -> None:
-        try:
-            name, prefix, pref, hop = line.split(" ")
-            if name != "add" or str(int(pref)) != pref:
-                raise ValueError
-            via = None if hop == "discard" and has_discard else address_of(hop)
-            self.add(prefix, via, int(pref), feed)
-        except (Exists, Full) as error:
-            raise type(error)(f"{place}: {error}") from None
-        except ValueError:
-            raise Invalid(f"yarib: {place}: not an add line: {line!r}") from None
+    def differences(self, other: Routes, by: str = "hop") -> Iterator[Difference]:
+        """Iterates over the ranges for which this table and another of its kind give different answers, by "hop" or by
+        "route". Each range is that of the moment when it is found: copy a ConcurrentTable that changes before."""
+        if not isinstance(other, Table if isinstance(self, Table) else ConcurrentTable):
+            raise TypeError(f"yarib: not a {type(self).__name__}: {other!r}")
+        if other is self:
+            return
+        if by not in ("hop", "route"):
+            raise Invalid(f"yarib: {by!r} is not \"hop\" or \"route\"")
+        kinds: Dict[str, Tuple[int, Callable[..., object]]] = {"hop": (0, hop_of), "route": (1, route_of)}
+        kind, told = kinds[by]
+        raw, place = ctypes.create_string_buffer(c.DIFFERENCE.size), 0
+        while place <= LAST:
+            status = status_of(self._freed.yarib_first_difference, self._at, other._at, kind, place, raw)
+            if status == c.NONE_LEFT:
+                return
+            check(status)
+            first, last, *routes = c.DIFFERENCE.unpack(raw)
+            yield Difference(first, last, told(*routes[:6]), told(*routes[6:]))
+            place = last + 1
 
 
 class Table(Routes):
@@ -642,41 +794,21 @@ class Table(Routes):
         """Reserves capacity for this many journal entries, if there is a journal."""
         self._change(freed.yarib_reserve, self._at, number(entries, "a size", ctypes.sizeof(ctypes.c_size_t) * 8))
 
-    def differences(self, other: Table, by: str = "hop") -> Iterator[Difference]:
-        """Iterates over the ranges for which this table and another give different answers, by "hop" or by "route"."""
-        if not isinstance(other, Table):
-            raise TypeError(f"yarib: not a Table: {other!r}")
-        if other is self:
-            return
-        if by not in ("hop", "route"):
-            raise Invalid(f"yarib: {by!r} is not \"hop\" or \"route\"")
-        kinds: Dict[str, Tuple[int, Callable[..., object]]] = {"hop": (0, hop_of), "route": (1, route_of)}
-        kind, told = kinds[by]
-        raw, place = ctypes.create_string_buffer(c.DIFFERENCE.size), 0
-        while place <= LAST:
-            status = status_of(freed.yarib_first_difference, self._at, other._at, kind, place, raw)
-            if status == c.NONE_LEFT:
-                return
-            check(status)
-            first, last, *routes = c.DIFFERENCE.unpack(raw)
-            yield Difference(first, last, told(*routes[:6]), told(*routes[6:]))
-            place = last + 1
-
-    def forward(self) -> Forwarding:
+    def fib_new(self) -> Fib:
         """Returns a forwarding table with the current answers of this table."""
-        return Forwarding(self)
+        return Fib(self)
 
-    def follow(self) -> None:
+    def fib_attach(self) -> None:
         """Attaches a forwarding table of 64 MiB or more, if none is attached. From then on every command updates it, and
         look-ups use it. If a command finds no memory for the update, the forwarding table is freed until this is called
         again. Raises Refused if the table keeps a journal."""
-        self._change(freed.yarib_follow, self._at)
+        self._change(freed.yarib_fib_attach, self._at)
         # A command may rewrite many entries.
         self._changing = freed
 
-    def memory(self) -> int:
-        """Returns an estimate of its size in bytes, including an attached forwarding table."""
-        return bytes_of(self._at, self._held)
+    def _give_way(self) -> None:
+        with self._turn:
+            pass
 
 
 class ConcurrentTable(Routes):
@@ -701,19 +833,29 @@ class ConcurrentTable(Routes):
             return f"<yarib.ConcurrentTable: {error}>"
 
     def __reduce__(self) -> NoReturn:
-        raise TypeError("yarib: a concurrent table can't be copied or pickled")
+        raise TypeError("yarib: a concurrent table can't be pickled: use its method copy")
 
-    def look_up_each(self, addresses: Any) -> Answers:
-        """Looks up all these addresses in one published table and returns the Answers, as Table.look_up_each does."""
-        return ask(self._at, addresses, self._freed)
+    def copy(self, limit: int = c.MAX_LIMIT) -> Table:
+        """Returns a Table with the published routes and this limit. Raises Full if a feed has more routes than the limit."""
+        made = Table(limit)
+        self._check_limit(status_of(freed.yarib_concurrent_copy, self._at, number(limit, "a limit"), made._at), limit)
+        return made
 
-    def follow(self) -> None:
-        """Attaches a forwarding table of 64 MiB or more to each of its two tables, as Table.follow does."""
-        self._change(self._freed.yarib_follow, self._at)
+    def replace_all(self, other: Table, limit: int = c.MAX_LIMIT) -> None:
+        """Publishes the routes of a Table at once, which was loaded aside, with this limit: each reading call finds those
+        before, or the new ones. Raises Full if a feed has more routes than the limit."""
+        if not isinstance(other, Table):
+            raise TypeError(f"yarib: not a Table: {other!r}")
+        self._check_limit(self._status(freed.yarib_concurrent_replace, self._at, number(limit, "a limit"), other._at), limit)
 
-    def memory(self) -> int:
-        """Returns an estimate of the size of both tables in bytes, including attached forwarding tables."""
-        return bytes_of(self._at, self._held)
+    def _check_limit(self, status: int, limit: int) -> None:
+        if status == c.NOT_ADDED:
+            raise Full(f"a feed has more than {limit} routes")
+        check(status, limit)
+
+    def fib_attach(self) -> None:
+        """Attaches a forwarding table of 64 MiB or more to each of its two tables, as Table.fib_attach does."""
+        self._change(self._freed.yarib_fib_attach, self._at)
 
 
 def is_prefix(key: object) -> bool:
@@ -734,7 +876,7 @@ def hop_of(*fields: int) -> object:
     return False if answer is None else answer.next_hop
 
 
-class Forwarding(Handle):
+class Fib(Handle):
     """A table's answers at the time when this was created: 64 MiB or more, for look-ups with two or three memory reads.
     Several threads can query it concurrently."""
 
@@ -742,27 +884,19 @@ class Forwarding(Handle):
         super().__init__()
         if not isinstance(table, Table):
             raise TypeError(f"yarib: not a Table: {table!r}")
-        done(freed.yarib_forward, table._at, self._at)
+        done(freed.yarib_fib_new, table._at, self._at)
 
-    def __enter__(self) -> Forwarding:
+    def __enter__(self) -> Fib:
         return self
 
     def __repr__(self) -> str:
         try:
-            return f"<yarib.Forwarding of {self.memory()} bytes>"
+            return f"<yarib.Fib of {self.memory()} bytes>"
         except Error as error:
-            return f"<yarib.Forwarding: {error}>"
+            return f"<yarib.Fib: {error}>"
 
     def __reduce__(self) -> NoReturn:
-        raise TypeError("yarib: a forwarding table can't be copied or pickled: copy its table and call forward()")
-
-    def look_up_each(self, addresses: Any) -> Answers:
-        """Looks up all these addresses and returns the Answers. Other threads run meanwhile."""
-        return ask(self._at, addresses)
-
-    def memory(self) -> int:
-        """Returns its size in bytes."""
-        return bytes_of(self._at)
+        raise TypeError("yarib: a forwarding table can't be copied or pickled: copy its table and call fib_new()")
 
 
 class Source:

@@ -1,10 +1,8 @@
 //! Feed files of a feed's routes.
-use crate::{Command, ConcurrentTable, Error, Part, Reply, Route, Selection, Table};
+use crate::raw::{self, Loaded};
+use crate::{ConcurrentTable, Error, Table};
 use std::fmt;
-use std::io::{self, BufRead, BufWriter, Write};
-
-/// The first line of a feed file of version 2.
-const VERSION: &[u8] = b"version 2";
+use std::io::{self, Read, Write};
 
 /// The largest number of bytes of a line of a feed file, without its end.
 const MAX_LINE: usize = 128;
@@ -15,7 +13,7 @@ const MAX_LINE: usize = 128;
 pub enum FileError {
     /// The file can't be read or written.
     Io(io::Error),
-    /// The routes of the feed can't be read.
+    /// The call failed, but not because of a line: the feed is out of range, memory ran out, or the system refuses a change.
     Table(Error),
     /// A line isn't an `add` line of a feed file.
     Line {
@@ -74,18 +72,18 @@ impl Table {
     /// Writes the feed's routes as a feed file of version 2, which [`Table::load`] and the program read.
     ///
     /// # Errors
-    /// [`FileError::Table`] as [`Table::select`] returns it, [`FileError::Io`].
-    pub fn save(&self, feed: u32, to: impl Write) -> Result<(), FileError> {
-        save(&self.select(routes_of(feed))?, to)
+    /// [`FileError::Table`] with [`Error::Number`] if the feed is out of range, [`Error::Memory`] or [`Error::Busy`]; [`FileError::Io`].
+    pub fn save(&self, feed: u32, mut to: impl Write) -> Result<(), FileError> {
+        Ok(to.write_all(&self.saved(feed)?)?)
     }
 
-    /// Adds the routes of a feed file that consists of `add` lines, and returns their number. If it returns an error, the routes of
-    /// the lines before it stay.
+    /// Adds the routes of a feed file that consists of `add` lines, and returns their number. The file is read whole before: if it
+    /// can't be read, nothing has changed. After another error, the routes of the lines before it stay.
     ///
     /// # Errors
-    /// [`FileError::Line`] or [`FileError::Route`] of the first line that can't be added, [`FileError::Io`].
-    pub fn load(&mut self, feed: u32, from: impl BufRead) -> Result<usize, FileError> {
-        load(from, |command| self.apply(feed, command)?.done())
+    /// [`FileError::Line`] or [`FileError::Route`] of the first line that can't be added, [`FileError::Io`], [`FileError::Table`].
+    pub fn load(&mut self, feed: u32, from: impl Read) -> Result<usize, FileError> {
+        load(from, |text| self.loaded(feed, text))
     }
 }
 
@@ -94,78 +92,51 @@ impl ConcurrentTable {
     ///
     /// # Errors
     /// Those of [`Table::save`].
-    pub fn save(&self, feed: u32, to: impl Write) -> Result<(), FileError> {
-        save(&self.select(routes_of(feed))?, to)
+    pub fn save(&self, feed: u32, mut to: impl Write) -> Result<(), FileError> {
+        Ok(to.write_all(&self.saved(feed)?)?)
     }
 
-    /// Adds the routes of a feed file one by one, as [`Table::load`] does.
+    /// Adds the routes of a feed file, as [`Table::load`] does. It is one change: other changes wait. The table is published
+    /// once, at the end.
     ///
     /// # Errors
     /// Those of [`Table::load`].
-    pub fn load(&self, feed: u32, from: impl BufRead) -> Result<usize, FileError> {
-        load(from, |command| self.apply(feed, command)?.done())
+    pub fn load(&self, feed: u32, from: impl Read) -> Result<usize, FileError> {
+        load(from, |text| self.loaded(feed, text))
     }
-}
-
-fn routes_of(feed: u32) -> Selection {
-    Selection {
-        feed: Some(feed),
-        ..Selection::of(Part::All)
-    }
-}
-
-fn save(routes: &[Route], to: impl Write) -> Result<(), FileError> {
-    let mut writer = BufWriter::new(to);
-    writer.write_all(VERSION)?;
-    writer.write_all(b"\n")?;
-    for one in routes {
-        writeln!(writer, "{}", one.adding())?;
-    }
-    Ok(writer.flush()?)
 }
 
 fn load(
-    mut from: impl BufRead,
-    mut add: impl FnMut(Command) -> Result<Reply, Error>,
+    mut from: impl Read,
+    call: impl FnOnce(&[u8]) -> (u32, Loaded),
 ) -> Result<usize, FileError> {
-    let (mut added, mut has_discard, mut read) = (0, false, Vec::new());
-    for line in 1.. {
-        read.clear();
-        // A line that is too long is read up to the byte that shows it.
-        let limit = MAX_LINE as u64 + 2;
-        if io::Read::take(&mut from, limit).read_until(b'\n', &mut read)? == 0 {
-            break;
-        }
-        let bytes = read.strip_suffix(b"\n").unwrap_or(&read);
-        if line == 1 && bytes == VERSION {
-            has_discard = true;
-        } else if bytes.len() > MAX_LINE || !matches!(bytes.first(), None | Some(b'#')) {
-            let text =
-                || String::from_utf8_lossy(&bytes[..bytes.len().min(MAX_LINE + 1)]).into_owned();
-            let command = parsed(bytes, has_discard).map_err(|error| match error {
-                Some(error) => FileError::Route {
-                    line,
-                    text: text(),
-                    error,
-                },
-                None => FileError::Line { line, text: text() },
-            });
-            add(command?).map_err(|error| FileError::Route {
-                line,
-                text: text(),
-                error,
-            })?;
-            added += 1;
-        }
-    }
-    Ok(added)
+    let mut text = Vec::new();
+    from.read_to_end(&mut text)?;
+    let (status, loaded) = call(&text);
+    let error = match status {
+        raw::DONE => return Ok(loaded.routes),
+        raw::NOT_ADDED if loaded.code == raw::FULL => Error::Full,
+        raw::NOT_ADDED => Error::Exists,
+        status => Error::of(status),
+    };
+    let line = loaded.line;
+    Err(match status {
+        raw::BAD_TEXT => FileError::Line {
+            line,
+            text: line_of(&text, line),
+        },
+        raw::BAD_LENGTH | raw::BAD_BITS | raw::NOT_ADDED => FileError::Route {
+            line,
+            text: line_of(&text, line),
+            error,
+        },
+        _ => FileError::Table(error),
+    })
 }
 
-/// Returns the command of an `add` line. The error of a prefix says more than that the line isn't one.
-fn parsed(line: &[u8], has_discard: bool) -> Result<Command, Option<Error>> {
-    if line.len() > MAX_LINE {
-        return Err(None);
-    }
-    let text = std::str::from_utf8(line).map_err(|_| None)?;
-    Command::parse_add(text, has_discard)
+/// Returns a line of a text, from 1, without its end: at most the bytes that show that it is too long.
+fn line_of(text: &[u8], number: usize) -> String {
+    let line = text.split(|byte| *byte == b'\n').nth(number - 1);
+    let line = line.unwrap_or_default();
+    String::from_utf8_lossy(&line[..line.len().min(MAX_LINE + 1)]).into_owned()
 }

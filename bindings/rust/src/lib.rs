@@ -18,14 +18,18 @@
 #![deny(unsafe_code)]
 #![warn(missing_docs)]
 
+mod changes;
 mod files;
 mod raw;
 mod source;
+mod views;
 
 use raw::Read;
 
+pub use changes::Change;
 pub use files::FileError;
 pub use source::{ConcurrentSource, Source};
+pub use views::{View, FIRST_ROUTER, NUMBER_DISCARD, NUMBER_NO_ROUTE};
 
 use std::cmp::Ordering;
 use std::fmt;
@@ -53,6 +57,8 @@ pub enum Error {
     Missing,
     /// A limit or a feed is out of range.
     Number,
+    /// The call doesn't execute this command.
+    Command,
     /// Out of memory.
     Memory,
     /// The text isn't a prefix.
@@ -76,11 +82,13 @@ pub enum Error {
 impl Error {
     fn of(status: u32) -> Error {
         match status {
+            3 => Error::Command,
             raw::NO_MEMORY => Error::Memory,
-            5 => Error::Size,
-            7 => Error::Text,
-            8 => Error::Length,
-            9 => Error::Bits,
+            raw::BAD_SIZE => Error::Size,
+            raw::BAD_TEXT => Error::Text,
+            raw::BAD_LENGTH => Error::Length,
+            raw::BAD_BITS => Error::Bits,
+            raw::NOT_ADDED => Error::Full,
             10 => Error::Kind,
             11 => Error::Busy,
             14 => Error::Barrier,
@@ -97,6 +105,7 @@ impl fmt::Display for Error {
             Error::Full => "the feed is at its limit",
             Error::Missing => "the feed has no route to this prefix",
             Error::Number => "a limit or a feed is out of range",
+            Error::Command => "the call doesn't execute this command",
             Error::Memory => "out of memory",
             Error::Text => "the text isn't a prefix",
             Error::Length => "the length is over 32",
@@ -287,13 +296,6 @@ impl Route {
     }
 }
 
-impl Route {
-    /// Returns the command that adds the route.
-    fn adding(&self) -> Command {
-        Command::Add(self.prefix, self.pref, self.hop)
-    }
-}
-
 impl fmt::Display for Route {
     fn fmt(&self, f: &mut fmt::Formatter<'_>) -> fmt::Result {
         write!(
@@ -371,26 +373,6 @@ impl Command {
             5 => Command::Dump,
             _ => Command::Purge,
         }
-    }
-}
-
-impl Command {
-    /// Returns the command of an `add` line. The error of a prefix says more than that the line isn't one.
-    fn parse_add(line: &str, has_discard: bool) -> std::result::Result<Command, Option<Error>> {
-        let fields: Vec<&str> = line.split(' ').collect();
-        let ["add", prefix, pref, hop] = fields[..] else {
-            return Err(None);
-        };
-        let prefix: Prefix = prefix.parse().map_err(Some)?;
-        let number: u32 = pref.parse().map_err(|_| None)?;
-        if number.to_string() != pref {
-            return Err(None);
-        }
-        let hop = match hop {
-            "discard" if has_discard => Hop::Discard,
-            router => Hop::Via(router.parse::<Ipv4Addr>().map_err(|_| None)?),
-        };
-        Ok(Command::Add(prefix, number, hop))
     }
 }
 
@@ -702,8 +684,7 @@ impl Table {
     /// and itself have none.
     pub fn differences<'a>(&'a self, new: &'a Table, by: By) -> Differences<'a> {
         Differences {
-            old: self,
-            new,
+            sides: Sides::Plain(&self.0, &new.0),
             by,
             from: (!std::ptr::eq(self, new)).then_some(0),
         }
@@ -714,16 +695,20 @@ impl Table {
     ///
     /// # Errors
     /// [`Error::Kind`] if the table keeps a journal, [`Error::Memory`], [`Error::Busy`].
-    pub fn follow(&mut self) -> Result<()> {
-        self.0.follow().map_err(Error::of)
+    pub fn fib_attach(&mut self) -> Result<()> {
+        self.0.fib_attach().map_err(Error::of)
+    }
+
+    fn loaded(&mut self, feed: u32, text: &[u8]) -> (u32, raw::Loaded) {
+        self.0.load(feed, text)
     }
 
     /// Returns a forwarding table with the current answers of this table.
     ///
     /// # Errors
     /// [`Error::Memory`], [`Error::Busy`].
-    pub fn forward(&self) -> Result<Forwarding> {
-        self.0.forward().map(Forwarding).map_err(Error::of)
+    pub fn fib_new(&self) -> Result<Fib> {
+        self.0.fib_new().map(Fib).map_err(Error::of)
     }
 }
 
@@ -833,13 +818,46 @@ impl ConcurrentTable {
         self.apply(feed, Command::Withdraw(prefix))?.done()
     }
 
-    /// Attaches a forwarding table of 64 MiB or more to each of its two tables, as [`Table::follow`] does.
+    fn loaded(&self, feed: u32, text: &[u8]) -> (u32, raw::Loaded) {
+        let _turn = self.turn();
+        self.0.load(feed, text)
+    }
+
+    /// Returns a table with the published routes, for up to `limit` routes of each feed.
+    ///
+    /// # Errors
+    /// [`Error::Full`] if a feed has more routes, [`Error::Number`] if the limit is out of range, [`Error::Memory`].
+    pub fn copy(&self, limit: u32) -> Result<Table> {
+        self.0.copy(limit).map(Table).map_err(Error::of)
+    }
+
+    /// Publishes the routes of a table at once, which was loaded aside, for up to `limit` routes of each feed: each call that reads
+    /// finds those before, or the new ones.
+    ///
+    /// # Errors
+    /// Those of [`ConcurrentTable::copy`], and [`Error::Busy`]. Nothing has changed then.
+    pub fn replace_all(&self, other: &Table, limit: u32) -> Result<()> {
+        let _turn = self.turn();
+        self.0.replace_all(limit, &other.0).map_err(Error::of)
+    }
+
+    /// Returns the ranges of addresses that this table and a newer one answer differently, as [`Table::differences`] does. Each is
+    /// that of the tables that are published when it is found: to compare tables that change, copy them before.
+    pub fn differences<'a>(&'a self, new: &'a ConcurrentTable, by: By) -> Differences<'a> {
+        Differences {
+            sides: Sides::Concurrent(&self.0, &new.0),
+            by,
+            from: (!std::ptr::eq(self, new)).then_some(0),
+        }
+    }
+
+    /// Attaches a forwarding table of 64 MiB or more to each of its two tables, as [`Table::fib_attach`] does.
     ///
     /// # Errors
     /// [`Error::Memory`], [`Error::Busy`].
-    pub fn follow(&self) -> Result<()> {
+    pub fn fib_attach(&self) -> Result<()> {
         let _turn = self.turn();
-        self.0.follow().map_err(Error::of)
+        self.0.fib_attach().map_err(Error::of)
     }
 }
 
@@ -906,6 +924,10 @@ macro_rules! reading_calls {
                 Ok(found.iter().filter_map(Route::of).collect())
             }
 
+            fn saved(&self, feed: u32) -> Result<Vec<u8>> {
+                self.0.save(feed).map_err(Error::of)
+            }
+
             /// Returns the number of routes.
             ///
             /// # Errors
@@ -959,13 +981,38 @@ macro_rules! reading_calls {
                 self.0.memory().map_err(Error::of)
             }
 
-            /// Returns true if a forwarding table is attached, which look-ups use. After `follow` this is false only once a change found
+            /// Returns true if a forwarding table is attached, which look-ups use. After `fib_attach` this is false only once a change found
             /// no memory to update it. A concurrent table answers for the published one of its two tables.
             ///
             /// # Errors
             /// [`Error::Busy`].
-            pub fn is_followed(&self) -> Result<bool> {
-                self.0.is_followed().map_err(Error::of)
+            pub fn fib_is_attached(&self) -> Result<bool> {
+                self.0.fib_is_attached().map_err(Error::of)
+            }
+
+            /// Writes the router for each address, both as numbers: `discard` if packets are discarded, and `no_route` if no prefix
+            /// covers the address. Choose two numbers that no route has as its router.
+            ///
+            /// # Errors
+            /// [`Error::Size`] if the lists differ in length, [`Error::Busy`].
+            pub fn hops(
+                &self,
+                addresses: &[u32],
+                no_route: u32,
+                discard: u32,
+                hops: &mut [u32],
+            ) -> Result<()> {
+                self.0
+                    .hops(addresses, (no_route, discard), hops)
+                    .map_err(Error::of)
+            }
+
+            /// Returns a view of the current answers.
+            ///
+            /// # Errors
+            /// [`Error::Kind`] if no forwarding table is attached (`fib_attach`), [`Error::Memory`], [`Error::Busy`].
+            pub fn view_new(&self) -> Result<View> {
+                View::of(&self.0)
             }
         }
     };
@@ -1061,10 +1108,16 @@ impl FusedIterator for RoutesFrom<'_> {}
 #[derive(Debug)]
 #[must_use = "an iterator reads nothing until it is used"]
 pub struct Differences<'a> {
-    old: &'a Table,
-    new: &'a Table,
+    sides: Sides<'a>,
     by: By,
     from: Option<u32>,
+}
+
+/// The old table and the new one.
+#[derive(Debug)]
+enum Sides<'a> {
+    Plain(&'a raw::Handle, &'a raw::Handle),
+    Concurrent(&'a raw::Concurrent, &'a raw::Concurrent),
 }
 
 /// An error is the last item.
@@ -1073,10 +1126,11 @@ impl Iterator for Differences<'_> {
 
     fn next(&mut self) -> Option<Result<Difference>> {
         let by = u32::from(self.by == By::Route);
-        let found = self
-            .old
-            .0
-            .first_difference(&self.new.0, by, self.from.take()?);
+        let from = self.from.take()?;
+        let found = match self.sides {
+            Sides::Plain(old, new) => old.first_difference(new, by, from),
+            Sides::Concurrent(old, new) => old.first_difference(new, by, from),
+        };
         let found = match found {
             Ok(found) => found,
             Err(raw::NONE_LEFT) => return None,
@@ -1096,15 +1150,39 @@ impl FusedIterator for Differences<'_> {}
 
 /// A table's answers at the time when this was created: 64 MiB, for look-ups with two or three memory reads.
 #[derive(Debug)]
-pub struct Forwarding(raw::Handle);
+pub struct Fib(raw::Handle);
 
-impl Forwarding {
+impl Fib {
     /// Returns another handle to it, for another thread. The memory is freed with the last handle.
     ///
     /// # Errors
     /// [`Error::Memory`], [`Error::Busy`].
-    pub fn share(&self) -> Result<Forwarding> {
-        self.0.share().map(Forwarding).map_err(Error::of)
+    pub fn try_clone(&self) -> Result<Fib> {
+        self.0.fib_clone().map(Fib).map_err(Error::of)
+    }
+
+    /// Writes the router for each address, as [`Table::hops`] does. For many addresses this is faster than `look_up_each`.
+    ///
+    /// # Errors
+    /// [`Error::Size`] if the lists differ in length, [`Error::Busy`].
+    pub fn hops(
+        &self,
+        addresses: &[u32],
+        no_route: u32,
+        discard: u32,
+        hops: &mut [u32],
+    ) -> Result<()> {
+        self.0
+            .hops(addresses, (no_route, discard), hops)
+            .map_err(Error::of)
+    }
+
+    /// Returns a view of its answers.
+    ///
+    /// # Errors
+    /// [`Error::Memory`], [`Error::Busy`].
+    pub fn view_new(&self) -> Result<View> {
+        View::of(&self.0)
     }
 
     /// Returns the best route of the longest prefix that covers the address.

@@ -3,12 +3,14 @@
 //! Table k has routes to `PREFIXES` prefixes, all with the next hop k. If k is odd, each prefix also has a longer one in it.
 mod routes;
 
-use routes::route;
+use routes::{line, route};
 use std::net::Ipv4Addr;
 use std::sync::atomic::{AtomicBool, AtomicU32, Ordering};
+use std::sync::Barrier;
 use std::thread;
 use yarib::{
-    Command, ConcurrentTable, Error, Hop, Part, Prefix, Reply, Route, Selection, Source, Table,
+    Answer, By, Command, ConcurrentTable, Error, Hop, Part, Prefix, Reply, Route, Selection,
+    Source, Table,
 };
 
 const PREFIXES: u32 = 64;
@@ -124,7 +126,7 @@ fn threads_read_one_published_table() {
         let table = ConcurrentTable::new(2 * PREFIXES).unwrap();
         publish(&table, 0);
         if is_followed {
-            table.follow().unwrap();
+            table.fib_attach().unwrap();
         }
         let (done, ended) = (AtomicU32::new(0), AtomicBool::new(false));
         let reader = || {
@@ -270,11 +272,11 @@ fn tables_are_freed() {
     let before = resident();
     for _ in 0..8 {
         let table = ConcurrentTable::new(5).unwrap();
-        assert_eq!(table.is_followed(), Ok(false));
-        table.follow().unwrap();
-        assert_eq!(table.is_followed(), Ok(true));
+        assert_eq!(table.fib_is_attached(), Ok(false));
+        table.fib_attach().unwrap();
+        assert_eq!(table.fib_is_attached(), Ok(true));
         drop(table);
-        Table::new(5).unwrap().follow().unwrap();
+        Table::new(5).unwrap().fib_attach().unwrap();
     }
     // Other tests hold two forwarding tables meanwhile.
     assert!(resident() < before + (6 << 26));
@@ -365,5 +367,137 @@ fn a_purge_of_a_source_is_published_once() {
         is_done.store(true, Ordering::SeqCst);
         let seen = reader.join().unwrap();
         assert!(seen[1..PREFIXES as usize].iter().all(|count| *count == 0));
+    });
+}
+
+/// Views that are made during changes that need more blocks and routers each time.
+#[test]
+fn views_are_of_one_published_table() {
+    let (table, is_ended) = (
+        ConcurrentTable::new(1_000_000).unwrap(),
+        AtomicBool::new(false),
+    );
+    publish(&table, 0);
+    table.fib_attach().unwrap();
+    let addresses: Vec<u32> = (0..PREFIXES).map(|k| k << 24 | 1 << 20).collect();
+    let read = || {
+        let mut numbers = vec![0; addresses.len()];
+        while !is_ended.load(Ordering::Relaxed) {
+            let view = table.view_new().unwrap();
+            view.look_up_each(&addresses, &mut numbers).unwrap();
+            let first = view.hop(numbers[0]);
+            assert!(numbers.iter().all(|number| view.hop(*number) == first));
+            let mut hops = vec![0; addresses.len()];
+            table
+                .hops(&addresses, u32::MAX, u32::MAX - 1, &mut hops)
+                .unwrap();
+            assert!(hops.iter().all(|hop| *hop == hops[0]));
+        }
+    };
+    thread::scope(|scope| {
+        let readers = [scope.spawn(read), scope.spawn(read)];
+        for k in 1..12 {
+            let replaced = (0..PREFIXES).map(|j| (1, Command::Replace(prefix(j, 8), 0, via(k))));
+            let added = (0..PREFIXES).map(|j| {
+                let base = Ipv4Addr::from(200 << 24 | (k * PREFIXES + j) << 8);
+                let router = via(1_000 + k * PREFIXES + j);
+                (2, Command::Add(Prefix::from(base), 0, router))
+            });
+            let commands: Vec<(u32, Command)> = replaced.chain(added).collect();
+            table.apply_each(&commands).unwrap();
+        }
+        is_ended.store(true, Ordering::Relaxed);
+        for reader in readers {
+            reader.join().unwrap();
+        }
+    });
+}
+
+#[test]
+fn two_threads_load_at_once() {
+    let table = ConcurrentTable::new(1_000_000).unwrap();
+    let mut lines = String::new();
+    for k in 0..20_000 {
+        let one = Prefix::new(Ipv4Addr::from(k << 12), 20).unwrap();
+        lines += &line(&route(one, 1, 0, via(k)));
+    }
+    thread::scope(|scope| {
+        let load = |feed| table.load(feed, lines.as_bytes()).unwrap();
+        let loads = [scope.spawn(move || load(1)), scope.spawn(move || load(2))];
+        assert_eq!(loads.map(|one| one.join().unwrap()), [20_000, 20_000]);
+    });
+    assert_eq!(table.count(), Ok(40_000));
+}
+
+/// A copy has the published routes and its own limit, and so has a table that replaces another.
+#[test]
+fn copies_of_a_concurrent_table() {
+    let table = ConcurrentTable::new(5).unwrap();
+    for k in 10..12 {
+        table.add(1, prefix(k, 8), 0, via(k)).unwrap();
+    }
+    let mut copied = table.copy(2).unwrap();
+    table.withdraw(1, prefix(11, 8)).unwrap();
+    let both = [
+        route(prefix(10, 8), 1, 0, via(10)),
+        route(prefix(11, 8), 1, 0, via(11)),
+    ];
+    assert_eq!(copied.routes().unwrap(), both);
+    assert_eq!(
+        copied.add(1, prefix(12, 8), 0, Hop::Discard),
+        Err(Error::Full)
+    );
+    let other = ConcurrentTable::new(5).unwrap();
+    other.replace_all(&copied, 2).unwrap();
+    assert_eq!(other.routes().unwrap(), both);
+    assert_eq!(
+        other.add(1, prefix(12, 8), 0, Hop::Discard),
+        Err(Error::Full)
+    );
+    let found: Vec<_> = table
+        .differences(&other, By::Route)
+        .collect::<Result<_, _>>()
+        .unwrap();
+    assert_eq!(found.len(), 1);
+    assert_eq!(u32::from(found[0].first), 11 << 24);
+    assert_eq!(
+        (found[0].old, found[0].new),
+        (Answer::NoRoute, Answer::Route(both[1]))
+    );
+    assert_eq!(table.differences(&table, By::Route).count(), 0);
+    for (limit, error) in [(1, Error::Full), (0, Error::Number)] {
+        assert_eq!(other.copy(limit).unwrap_err(), error);
+        assert_eq!(other.replace_all(&copied, limit), Err(error));
+    }
+    assert_eq!(other.routes().unwrap(), both);
+}
+
+#[test]
+fn a_table_replaces_another_at_once() {
+    let (table, is_ended) = (ConcurrentTable::new(1_000).unwrap(), AtomicBool::new(false));
+    publish(&table, 0);
+    let first = table.copy(1_000).unwrap();
+    publish(&table, 1);
+    let second = table.copy(1_000).unwrap();
+    let begun = Barrier::new(2);
+    thread::scope(|scope| {
+        let reader = scope.spawn(|| {
+            while !is_ended.load(Ordering::Relaxed) {
+                let found = table.routes().unwrap();
+                assert!(found == published(0) || found == published(1));
+            }
+        });
+        let replace = |other: &Table| {
+            begun.wait();
+            (0..1_000).for_each(|_| table.replace_all(other, 1_000).unwrap());
+        };
+        let writers = [
+            scope.spawn(move || replace(&first)),
+            scope.spawn(move || replace(&second)),
+        ];
+        let ended = writers.map(std::thread::ScopedJoinHandle::join);
+        is_ended.store(true, Ordering::Relaxed);
+        reader.join().unwrap();
+        assert!(ended.iter().all(Result::is_ok));
     });
 }

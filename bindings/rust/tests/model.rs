@@ -10,8 +10,9 @@ use std::sync::atomic::{AtomicBool, Ordering};
 use std::sync::RwLock;
 use std::thread;
 use yarib::{
-    Answer, By, Command, ConcurrentTable, Error, FileError, Forwarding, Hop, Part, Prefix, Reply,
-    Route, RoutesFrom, Selection, Source, Table, MAX_FEED,
+    Answer, By, Command, ConcurrentTable, Error, Fib, FileError, Hop, Part, Prefix, Reply, Route,
+    RoutesFrom, Selection, Source, Table, View, FIRST_ROUTER, MAX_FEED, NUMBER_DISCARD,
+    NUMBER_NO_ROUTE,
 };
 
 /// Numbers that look drawn, the same in each run.
@@ -171,8 +172,16 @@ fn replies_and_routes_are_the_models() {
         let forms: Vec<Ipv4Addr> = addresses.iter().copied().map(Ipv4Addr::from).collect();
         assert_eq!(plain.look_up_addresses(&forms).unwrap(), wanted);
         assert_eq!(plain.look_up_addresses(&[]), Ok(Vec::new()));
+        let hops = hops_of(&wanted);
+        let mut found = vec![0; hops.len()];
+        plain.hops(&addresses, NONE, DROP, &mut found).unwrap();
+        assert_eq!(found, hops);
         if seed == 7 {
-            let forwarding = plain.forward().unwrap();
+            let forwarding = plain.fib_new().unwrap();
+            found.fill(0);
+            forwarding.hops(&addresses, NONE, DROP, &mut found).unwrap();
+            assert_eq!(found, hops);
+            compare_view(&forwarding.view_new().unwrap(), &addresses, &wanted);
             assert_eq!(forwarding.look_up_each(&addresses).unwrap(), wanted);
             assert_eq!(forwarding.look_up_addresses(&forms).unwrap(), wanted);
         }
@@ -184,6 +193,37 @@ fn replies_and_routes_are_the_models() {
             assert_eq!((found.first(), &found), (best.as_ref(), &listed));
         }
     }
+}
+
+/// The numbers of no route and of a discard in these tests.
+const NONE: u32 = 1 << 31 | 1;
+const DROP: u32 = 1 << 31 | 2;
+
+/// Returns the routers of answers as numbers.
+fn hops_of(answers: &[Option<Route>]) -> Vec<u32> {
+    let hop = |answer: &Option<Route>| match answer.map(|route| route.hop) {
+        None => NONE,
+        Some(Hop::Discard) => DROP,
+        Some(Hop::Via(router)) => u32::from(router),
+    };
+    answers.iter().map(hop).collect()
+}
+
+fn compare_view(view: &View, addresses: &[u32], wanted: &[Option<Route>]) {
+    let mut numbers = vec![NONE; addresses.len()];
+    view.look_up_each(addresses, &mut numbers).unwrap();
+    for ((address, number), answer) in addresses.iter().zip(&numbers).zip(wanted) {
+        assert_eq!(view.look_up(Ipv4Addr::from(*address)), *number);
+        assert_eq!(view.hop(*number), answer.map(|route| route.hop));
+        let is_router = matches!(view.hop(*number), Some(Hop::Via(_)));
+        assert_eq!(*number >= FIRST_ROUTER, is_router);
+        assert_eq!(*number == NUMBER_NO_ROUTE, answer.is_none());
+    }
+    assert_eq!(view.hop(NUMBER_DISCARD), Some(Hop::Discard));
+    assert_eq!(view.hop(u32::MAX), None);
+    numbers.push(0);
+    assert_eq!(view.look_up_each(addresses, &mut numbers), Err(Error::Size));
+    assert!(view.memory() >= (1 << 26) + 12);
 }
 
 fn contains(prefix: Prefix, other: Prefix) -> bool {
@@ -256,7 +296,7 @@ fn a_concurrent_table_answers_as_the_model() {
         };
         let table = ConcurrentTable::new(limit).unwrap();
         let rounds = if seed % 4 == 3 {
-            table.follow().unwrap();
+            table.fib_attach().unwrap();
             assert!(table.memory().unwrap() >= 2 << 26);
             20 // a change of a short prefix writes up to 128 MB of forwarding tables
         } else {
@@ -331,6 +371,13 @@ fn compare_reads(table: &ConcurrentTable, model: &Model, draw: &mut Draw) {
     let wanted: Vec<Option<Route>> = numbers.iter().map(|one| model.best(*one)).collect();
     assert_eq!(table.look_up_each(&numbers).unwrap(), wanted);
     assert_eq!(table.look_up_addresses(&addresses).unwrap(), wanted);
+    let mut found = vec![0; numbers.len()];
+    table.hops(&numbers, NONE, DROP, &mut found).unwrap();
+    assert_eq!(found, hops_of(&wanted));
+    match table.view_new() {
+        Ok(view) => compare_view(&view, &numbers, &wanted),
+        Err(error) => assert_eq!((error, table.fib_is_attached()), (Error::Kind, Ok(false))),
+    }
     for (address, best) in addresses.iter().zip(&wanted) {
         assert_eq!(table.look_up(*address).unwrap(), *best);
         assert_eq!(table.look_up_prefix(Prefix::from(*address)).unwrap(), *best);
@@ -374,9 +421,12 @@ fn a_followed_table_answers_as_before() {
         },
     );
     let mut table = Table::new(50).unwrap();
-    assert_eq!((table.memory(), table.is_followed()), (Ok(0), Ok(false)));
-    table.follow().unwrap();
-    assert_eq!(table.is_followed(), Ok(true));
+    assert_eq!(
+        (table.memory(), table.fib_is_attached()),
+        (Ok(0), Ok(false))
+    );
+    table.fib_attach().unwrap();
+    assert_eq!(table.fib_is_attached(), Ok(true));
     assert!(table.memory().unwrap() >= 1 << 26);
     for _ in 0..300 {
         let (feed, command) = (1 + draw.below(3), draw.command());
@@ -391,7 +441,10 @@ fn a_followed_table_answers_as_before() {
         }
     }
     assert!(table.memory().unwrap() >= 1 << 26);
-    assert_eq!(Table::with_journal(5).unwrap().follow(), Err(Error::Kind));
+    assert_eq!(
+        Table::with_journal(5).unwrap().fib_attach(),
+        Err(Error::Kind)
+    );
     for feed in [0, MAX_FEED + 1] {
         let asked = Selection {
             feed: Some(feed),
@@ -399,6 +452,49 @@ fn a_followed_table_answers_as_before() {
         };
         assert_eq!(table.select(asked), Err(Error::Number));
     }
+}
+
+#[test]
+fn a_view_stays_as_it_was_made() {
+    let addresses = [0x0a00_0001, 0x0a01_0001, 0x0b00_0000];
+    let router = Hop::Via(Ipv4Addr::from(0xc000_0201));
+    let (wide, narrow): (Prefix, Prefix) = (
+        "10.0.0.0/8".parse().unwrap(),
+        "10.1.0.0/16".parse().unwrap(),
+    );
+    let wanted = [
+        Some(route(wide, 1, 0, router)),
+        Some(route(narrow, 1, 0, Hop::Discard)),
+        None,
+    ];
+    let views = {
+        let (mut table, shared) = (Table::new(9).unwrap(), ConcurrentTable::new(9).unwrap());
+        for one in wanted.iter().flatten() {
+            table.apply(1, adding(one)).unwrap();
+            shared.apply(1, adding(one)).unwrap();
+        }
+        assert_eq!(table.view_new().unwrap_err(), Error::Kind);
+        assert_eq!(shared.view_new().unwrap_err(), Error::Kind);
+        table.fib_attach().unwrap();
+        shared.fib_attach().unwrap();
+        let fib = table.fib_new().unwrap();
+        let views = [
+            table.view_new().unwrap(),
+            shared.view_new().unwrap(),
+            fib.view_new().unwrap(),
+        ];
+        table.apply(1, Command::Purge).unwrap();
+        shared.apply(1, Command::Purge).unwrap();
+        views
+    };
+    thread::scope(|scope| {
+        for view in &views {
+            scope.spawn(|| compare_view(view, &addresses, &wanted));
+        }
+    });
+    let one = Table::new(5).unwrap();
+    assert_eq!(one.hops(&[1], 0, 1, &mut []), Err(Error::Size));
+    assert_eq!(one.hops(&[], 0, 1, &mut []), Ok(()));
 }
 
 #[test]
@@ -469,13 +565,13 @@ fn threads_look_up_at_once() {
         table.add(1, prefix, k, Hop::Discard).unwrap();
     }
     is_send(&table);
-    let first = table.forward().unwrap();
+    let first = table.fib_new().unwrap();
     assert!(first.memory().unwrap() >= 1 << 26);
     table.apply(1, Command::Purge).unwrap();
-    let others: Vec<Forwarding> = (0..8).map(|_| first.share().unwrap()).collect();
+    let others: Vec<Fib> = (0..8).map(|_| first.try_clone().unwrap()).collect();
     drop(first);
     let asked: Vec<u32> = (0..100_000).map(|k| ((k % 256) << 24) | k).collect();
-    let ask = |forwarding: Forwarding| {
+    let ask = |forwarding: Fib| {
         let found = forwarding.look_up_each(&asked).unwrap();
         found
             .iter()
@@ -503,7 +599,7 @@ fn threads_look_up_in_one_table() {
             table.add(1, prefix, k, Hop::Discard).unwrap();
         }
         if is_followed {
-            table.follow().unwrap();
+            table.fib_attach().unwrap();
         }
         is_sync(&table);
         let ask = || {
@@ -801,6 +897,18 @@ fn files_hold_every_route() {
     assert!(matches!(one.save(1, full), Err(FileError::Io(_))));
 }
 
+/// A file of which only the beginning can be read.
+struct Broken<'a>(&'a [u8]);
+
+impl std::io::Read for Broken<'_> {
+    fn read(&mut self, into: &mut [u8]) -> std::io::Result<usize> {
+        match self.0.read(into)? {
+            0 => Err(std::io::Error::from(std::io::ErrorKind::BrokenPipe)),
+            size => Ok(size),
+        }
+    }
+}
+
 #[test]
 fn faulty_lines_are_named() {
     let (good, long) = ("add 10.0.0.0/8 1 192.0.2.1\n", "#".repeat(128));
@@ -841,7 +949,9 @@ fn faulty_lines_are_named() {
             1,
             Some(Error::Length),
         ),
-        (with("add ::/0 1 192.0.2.1\n"), 2, 1, Some(Error::Text)),
+        (with("add ::/0 1 192.0.2.1\n"), 2, 1, None),
+        (with("\0\n"), 2, 1, None),
+        (with("add 11.0.0.0/8 1 192.0.2.1\0\n"), 2, 1, None),
         (
             with("\nadd 11.0.0.0/8 1 192.0.2.1\nadd 12.0.0.0/8 1 192.0.2.1\n"),
             4,
@@ -888,6 +998,11 @@ fn faulty_lines_are_named() {
     // Its reason is an error of its own, for programs that print or compare each error of a chain.
     let reason = |error: &FileError| std::error::Error::source(error).map(ToString::to_string);
     assert_eq!(reason(&full), Some(Error::Full.to_string()));
+    assert!(matches!(
+        table.load(1, Broken(&b"add 1.0.0.0/9 0 0.0.0.0\n"[..])),
+        Err(FileError::Io(_))
+    ));
+    assert_eq!(table.count(), Ok(2), "what can't be read changes nothing");
     let wrong = table.load(0, more).unwrap_err();
     assert_eq!(reason(&wrong), Some(Error::Number.to_string()));
     let other = table.load(1, &b"add x"[..]).unwrap_err();
