@@ -22,12 +22,12 @@ BGP = r"(?:BGP\.|bgp_)"
 OF_BGP = re.compile(r"\) \[(?:AS\d+)?[ie?]\]$")
 # attributes that aren't used, and further lines of long ones: many routes share what remains
 UNUSED = re.compile(rf"\n\t(?:{BGP}(?!next_hop: |origin: |local_pref: |originator_id: |cluster_list: |aigp: ).*|Internal .*|\t.+)")
-VIA = re.compile(r"\tvia (\S+) on .+")
+VIA = re.compile(r"\tvia (\S+) on (\S+).*")
 # the weight of one of several next hops
 WEIGHT = re.compile(r" weight (\d+)(?: |$)")
 # a next hop with MPLS labels
 LABELS = re.compile(r"\tvia \S+ on \S+ mpls .+")
-DEVICE = re.compile(r"\tdev .+")
+DEVICE = re.compile(r"\tdev (\S+).*")
 NEXT_HOP = re.compile(rf"\t{BGP}next_hop: (\S+).*")
 LOCAL_PREF = re.compile(rf"\t{BGP}local_pref: (\d+)")
 ORIGIN = re.compile(rf"\t{BGP}origin: (IGP|EGP|Incomplete)")
@@ -38,6 +38,8 @@ AIGP = re.compile(rf"\t{BGP}aigp: (\d+)")
 SOURCE = re.compile(r"\t(?:Type|source): (\S+).*")
 # an attribute, and a further line of a long one
 ATTRIBUTE = re.compile(r"\t[A-Za-z][^:]*:.*|\tBGP\..*|\t\t.+")
+# the protocol of connected networks, and the preference that its routes have unless BIRD is configured otherwise
+DIRECT, OF_DIRECT = "device", 240
 TABLE = re.compile(r"Table (\S+):")
 # of `show protocols all`: the first line of a protocol, and a line of its data
 PROTOCOL = re.compile(r"\S+ +[A-Z]\w* ")
@@ -83,10 +85,12 @@ class Attributes:
     """The data in the lines after a route's first."""
 
     def __init__(self):
-        # the addresses of next hops, None for those that are only an interface, and their weights
-        self.hops, self.weights = [], []
+        # the addresses of next hops, None for those that are only an interface, their interfaces and their weights
+        self.hops, self.interfaces, self.weights = [], [], []
         self.peer_hop = self.local_pref = self.originator = self.aigp = None
         self.is_labelled = self.is_of_bgp = False
+        # the protocol that made the route, "" if it isn't shown
+        self.source = ""
         self.names = BIRD_2
         self.origin, self.clusters = choice.ORIGINS["INCOMPLETE"], 0
 
@@ -94,22 +98,23 @@ class Attributes:
         """Reads a line; ValueError if it isn't a line of BIRD."""
         if match := VIA.fullmatch(line):
             feeds.is_address(match[1])
-            self.add_hop(match[1], line)
+            self.add_hop(match[1], match[2], line)
             self.is_labelled = self.is_labelled or LABELS.fullmatch(line) is not None
-        elif DEVICE.fullmatch(line):
-            self.add_hop(None, line)
+        elif match := DEVICE.fullmatch(line):
+            self.add_hop(None, match[1], line)
         elif match := SOURCE.fullmatch(line):
-            self.is_of_bgp = match[1] == "BGP"
+            self.source, self.is_of_bgp = match[1], match[1] == "BGP"
             self.names = BIRD_3 if line.startswith("\tsource") else BIRD_2
         elif not self.is_read_of_bgp(line) and not ATTRIBUTE.fullmatch(line):
             raise ValueError
 
-    def add_hop(self, hop, line):
+    def add_hop(self, hop, interface, line):
         """Adds a next hop; the heaviest comes first, and those of the same weight are in the order of the lines."""
         match = WEIGHT.search(line)
         weight = int(match[1]) if match else 1
         place = sum(other >= weight for other in self.weights)
         self.hops.insert(place, hop)
+        self.interfaces.insert(place, interface)
         self.weights.insert(place, weight)
 
     def is_read_of_bgp(self, line):
@@ -153,6 +158,8 @@ class Route:
         self.is_over_device = attributes is not None and None in attributes.hops and attributes.peer_hop is None
         self.is_stale, self.cost = bool(stale), cost
         self.preference = int(preference)
+        # of a connected network, recognized by its preference if the protocol isn't shown
+        self.is_direct = attributes is not None and (attributes.source == DIRECT or not attributes.source and self.preference == OF_DIRECT)
         # the offers, once they are known, and for BGP the values it is compared by: those before MED, without the path's length,
         # and all by its peer's address
         self.offers, self.merit, self.standings = None, None, {}
@@ -210,35 +217,55 @@ def route_of(entry):
     return (prefix, route) if route else (None, None)
 
 
-def groups(entries, tables):
+class Place:
+    """Where in a listing its reader is: the table, whether routes have all their attributes, which is None before the first
+    one, the tables so far, and those of them with IPv4 routes that may be meant."""
+
+    def __init__(self, table=None, in_full=None):
+        self.table, self.in_full = table, in_full
+        self.tables = {} if table is None else {table: None}
+        self.with_routes = list(self.tables)
+
+    def state(self):
+        """What matters to a piece of the listing; None before the first route, and in a table that isn't converted."""
+        is_known = self.in_full is not None and self.with_routes == [self.table]
+        return (self.table, self.in_full) if is_known else None
+
+
+def groups(entries, place):
     """For each prefix of each table: the table, the prefix, whether it is IPv4, and its routes with their entries in
     BIRD's order. Prefix and `of_ipv4` are None for routes of another kind. A further route to a prefix has blanks
     instead of it."""
-    table = prefix = of_ipv4 = in_full = None
+    prefix = of_ipv4 = None
     routes = []
     for entry in entries:
-        text, route = route_of(entry) if table is not None else (None, None)
-        if in_full is None and route:
-            in_full = IN_FULL.search(entry) is not None
+        if entry is feeds.BOUNDARY:
+            if routes:
+                yield place.table, prefix, of_ipv4, routes
+            prefix, routes = None, []
+            continue
+        text, route = route_of(entry) if place.table is not None else (None, None)
+        if place.in_full is None and route:
+            place.in_full = IN_FULL.search(entry) is not None
         if text == "" and routes:
             routes.append((route, entry))
             continue
         if routes:
-            yield table, prefix, of_ipv4, routes
+            yield place.table, prefix, of_ipv4, routes
         if text and "/" in text:
             prefix, of_ipv4, routes = text, feeds.prefix_of(text) is not None, [(route, entry)]
             continue
         first, behind, more = entry.partition("\n")
-        if table is not None and OTHER.fullmatch(first) and (first[0] != " " or prefix is None and routes):
+        if place.table is not None and OTHER.fullmatch(first) and (first[0] != " " or prefix is None and routes):
             attributes_of(behind + more)
             prefix, of_ipv4, routes = None, None, [(OF_OTHER_KIND, entry)]
         else:
             prefix, routes = None, []
-            table = around(first, more, table, tables)
+            place.table = around(first, more, place.table, place.tables)
     if routes:
-        if in_full:
+        if place.in_full:
             refuse_cut(routes[-1][1])
-        yield table, prefix, of_ipv4, routes
+        yield place.table, prefix, of_ipv4, routes
 
 
 def refuse_cut(entry):

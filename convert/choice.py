@@ -43,6 +43,8 @@ CONFEDERATION = re.compile(r"\([^)]*\)|\[[^]]*\]")
 # how the path begins that came from a peer of the same confederation
 INSIDE = ("(", "[")
 SET = re.compile(r"\{[^}]*\}")
+# how a path begins with a segment that isn't a sequence, or is empty
+OPENING = ("", "(", "[", "{")
 # the neighbouring AS of a path that names none
 OWN = ""
 # the bits at which the steps before MED begin in their number
@@ -88,11 +90,10 @@ def length_of(path):
 def neighbour_of(path):
     """The neighbouring AS: the first of the path after a confederation's segments, or the own AS if that isn't in a
     sequence (RFC 4271, section 9.1.2.2 c; RFC 5065, section 5.3)."""
-    first = path.partition(" ")[0]
-    if first[:1] in "([{":
+    if path[:1] in OPENING:
         outside = CONFEDERATION.sub(" ", path).split()
         return outside[0] if outside and not outside[0].startswith("{") else OWN
-    return first
+    return path.partition(" ")[0]
 
 
 def before_med(local_pref, length, origin, ahead=0, aigp=NO_AIGP):
@@ -143,14 +144,11 @@ def best_of_each(candidates, in_turn=False):
 
 def med_decides(candidates):
     """Returns True if two candidates of the same neighbouring AS are equal before MED and have different MEDs."""
-    if len({candidate[MED] for candidate in candidates}) == 1:
-        return False
-    neighbours = [neighbour_of(candidate[PATH]) for candidate in candidates]
-    if len(set(neighbours)) == len(candidates):
+    if len({candidate[MED] for candidate in candidates}) < 2:
         return False
     meds = {}
-    for candidate, neighbour in zip(candidates, neighbours):
-        if meds.setdefault((candidate[BEFORE], neighbour), candidate[MED]) != candidate[MED]:
+    for before, _, _, med, path, *_ in candidates:
+        if meds.setdefault((before, neighbour_of(path)), med) != med:
             return True
     return False
 

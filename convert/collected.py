@@ -83,7 +83,7 @@ class Converter:
         # values that many routes share are kept once
         self.same = {}
         # of the dump: the prefixes so far, the text and the prefix of the last one, and its routes
-        self.met, self.text, self.prefix, self.group = set(), None, None, []
+        self.met, self.text, self.prefix, self.group = feeds.prefix_set(), None, None, []
         self.updates = self.states = False
 
     def peer(self, key, identifier=0):
@@ -132,9 +132,9 @@ class Converter:
             return
         if self.group:
             self.end_group()
-        if prefix in self.met:
-            raise feeds.Refused(f"{text} occurs twice: the input has more than one table dump")
         if prefix is not None:
+            if prefix in self.met:
+                raise feeds.Refused(f"{text} occurs twice: the input has more than one table dump")
             self.met.add(prefix)
         self.prefix = prefix
 
@@ -150,6 +150,37 @@ class Converter:
         for rank, (merit, order, _, _, _, peer, hop) in enumerate(routes, 1):
             peer.lines.append(f"add {prefix} {rank if by_rank else merit >> self.preference_at} {hop}\n")
             peer.merits.append(peer.numbers.get((merit, order)) or self.merit_number(merit, order, peer))
+
+    def end_piece(self):
+        """Ends a part of the dump, after which another prefix comes."""
+        self.end_group()
+        self.text = self.prefix = None
+
+    def state(self):
+        """What matters to a piece of the dump of what came before it: nothing, as long as there are no updates."""
+        return None if self.updates else True
+
+    def gathered(self):
+        """What was read, for `join`."""
+        if self.updates:
+            raise feeds.Refused("there are updates")
+        peers = [(key, peer.announced, [(number, merit) for (merit, _), number in peer.numbers.items()], peer.merits.tobytes())
+                 for key, peer in self.peers.items()]
+        return self.met.kept(), peers, self.files.gathered(), self.notes.counted()
+
+    def join(self, gathered):
+        """Adds what was read of a later part of the dump; returns False if a prefix occurs twice."""
+        prefixes, peers, texts, counted = gathered
+        if not self.met.join(prefixes):
+            return False
+        for key, announced, numbers, merits in peers:
+            peer = self.peers.get(key) or self.peer(key)
+            peer.announced = peer.announced or announced
+            own = {number: peer.numbers.get((merit, peer.order)) or self.merit_number(merit, peer.order, peer) for number, merit in numbers}
+            peer.merits.extend(map(own.__getitem__, array.array("I", merits)))
+        self.files.join(texts)
+        self.notes.join(counted)
+        return True
 
     def begin_updates(self):
         """From the first update on it has to be known which routes a peer has."""
@@ -281,15 +312,24 @@ class Converter:
         return [f"{address}_AS{system}" if address in several else address for address, system in self.files.waiting]
 
 
-def convert(arguments, given, take):
-    """Converts what `take(given, converter)` reads."""
+def convert(arguments, given, take, is_in_pieces=False):
+    """Converts what `take(given, converter)` reads. If it can be read in pieces, other processes convert some of these."""
     notes = feeds.Notes()
     with feeds.FeedFiles(arguments) as files:
         converter = Converter(arguments, notes, files)
         given.after_block = files.flush_many
+        if is_in_pieces:
+            feeds.read_ahead(given, converter.state, functools.partial(of_piece, arguments, take), converter.join, files)
         with given.named():
             take(given, converter)
         return converter.finish()
+
+
+def of_piece(arguments, take, data, _state):
+    """What is in a piece of a dump."""
+    converter = Converter(arguments, feeds.Notes(), feeds.Gathered(arguments))
+    take([*feeds.text_of(data).split("\n"), feeds.BOUNDARY], converter)
+    return converter.gathered()
 
 
 def parser(documentation):

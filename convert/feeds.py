@@ -19,6 +19,7 @@ import typing
 from socket import AF_INET, inet_pton
 
 import dealing
+import pieces
 from ending import NAME, NO_MEMORY
 from errors import Missing, Refused, Wrong, in_words, naming, printable
 from folders import Folder
@@ -41,6 +42,11 @@ FURTHER_HOPS = "further next hops of multipath routes"
 MULTIPATH = ("prefixes have a route with several next hops, and the feeds have the heaviest, which is the first of equal ones: "
              "use --all-hops for a feed of each further one, or accept this with --one-hop")
 BLOCK = 1 << 20
+# how much of the input a process converts at once, how many such pieces are read ahead for each process, and the number of
+# processes, 0 for as many as there are processors
+PIECE, AHEAD, PROCESSES = 1 << 20, 2, 0
+# what is read between two entries if nothing before it matters to what comes after it
+BOUNDARY = None
 # seconds between two lines of progress
 EACH = 1
 # a longer line or value isn't a table's, and a table has fewer bytes
@@ -48,12 +54,16 @@ LONGEST, MOST_BYTES = 1 << 24, 10**11
 # JSON: the maximum length of what isn't a string, and what may be between values
 LONGEST_WORD, BLANKS = 16, re.compile(r"[ \t\r\n]*")
 KINDS = {"[": "a list", "{": "an object"}
+# a member of an object whose name is a prefix
+MEMBER = re.compile(rb',\s*"\d+\.\d+\.\d+\.\d+/\d+"\s*:\s*[\[{]')
 # the cache size for values that many routes share
 MOST_KNOWN = 16384
 # why FRR doesn't use a path that is valid
 SET_ASIDE = frozenset(("damped", "history", "removed"))
 # the number of lines that are kept before they are written
 MOST_WAITING = 200000
+# the number of texts that other processes made and that are kept before they are written
+MOST_TEXTS = 1000
 # how a text begins whose encoding is marked
 MARKED = {b"\xef\xbb\xbf": "UTF-8", b"\xff\xfe": "UTF-16", b"\xfe\xff": "UTF-16"}
 # how a compressed file begins, and what reads it
@@ -124,6 +134,20 @@ class Notes:
             self.tell(MULTIPATH, differs=True)
         self.last_multipath = prefix
 
+    def counted(self):
+        """What was counted, for `join`."""
+        return self.left_out, self.told, self.differs, self.choices.counted()
+
+    def join(self, counted):
+        """Adds what was counted in a later part of the input."""
+        left_out, told, differs, choices = counted
+        for name, number in left_out.items():
+            self.leave_out(name, number, differs)
+        for name, number in told.items():
+            self.tell(name, number, differs)
+        self.differs = self.differs or differs
+        self.choices.join(choices)
+
     def may_differ(self):
         """Returns True if some addresses may get another answer than from the daemon."""
         return self.differs or self.choices.differs()
@@ -192,6 +216,8 @@ class Input:
         self.size = status.st_size if stat.S_ISREG(status.st_mode) else 0
         self.done = self.before = self.lines = 0
         self.after_block = lambda: None
+        # the pieces to convert here, if there are several processes
+        self.ahead = None
         PROGRESS.input = self
 
     def blocks(self):
@@ -205,6 +231,34 @@ class Input:
                 yield data
         if self.done == 0:
             raise Refused("the input is empty")
+
+
+    def pieces(self):
+        """The input in pieces. Each begins and ends where this kind of input can be cut, or if it can't, between entries."""
+        rest, lines, begins = b"", 0, False
+        for data in self.blocks():
+            rest += data
+            # the first ones are converted as they come, which is all of a small input
+            while len(rest) > PIECE or self.done <= PIECE:
+                cut = self.last_cut(rest, PIECE) if len(rest) > PIECE else 0
+                ends = cut > 0
+                if not ends:
+                    cut = self.last_end(rest, 0) + 1
+                if cut <= 0:
+                    self.refuse_long(rest, lines)
+                    break
+                piece = pieces.Piece(rest[:cut], rest.count(b"\n", 0, cut), begins, ends)
+                yield piece
+                rest, lines, begins = rest[cut:], lines + piece.lines, ends
+        yield pieces.Piece(rest, rest.count(b"\n"), begins, False, is_last=True)
+
+    def refuse_long(self, rest, lines):
+        """Refuses what is too long for a part of the input; there are this many lines before it."""
+
+    def skip(self, piece):
+        """Takes up a piece that another process has converted."""
+        self.lines += piece.lines
+        self.after_block()
 
 
 def refuse_other_forms(data):
@@ -232,21 +286,40 @@ class Lines(Input):
     def split(self, text):
         return text.split("\n")
 
+    def last_cut(self, data, size):
+        """Where a piece can end, which has about that size; 0 if that isn't known of this kind of input."""
+        return 0
+
     def texts(self):
-        """Whole entries; bytes that aren't UTF-8 occur only in parts that aren't used."""
+        """Whole entries; bytes that aren't UTF-8 occur only in parts that aren't used. The second value is True if a boundary
+        follows."""
+        if self.ahead is None:
+            yield from self.texts_of(self.blocks())
+            return
+        for piece in self.ahead:
+            if piece.is_last:
+                yield from self.texts_of([piece.data])
+            else:
+                yield text_of(piece.data), piece.ends
+
+    def texts_of(self, blocks):
         rest = b""
-        for data in self.blocks():
+        for data in blocks:
             begin = max(0, len(rest) - 1)
             rest += data
             end = self.last_end(rest, begin)
             if end >= 0:
-                yield text_of(rest[: end + 1])
+                yield text_of(rest[: end + 1]), False
                 rest = rest[end + 1 :]
-            if len(rest) > LONGEST:
-                raise Refused(f"line {self.lines + 1} begins an entry that is too long for a table: {decoded(rest[:100])!r}")
+            self.refuse_long(rest, self.lines)
         if rest:
             self.refuse_cut(rest)
-            yield text_of(rest)
+            yield text_of(rest), False
+
+    def refuse_long(self, rest, lines):
+        """Refuses an entry that is too long; there are this many lines before it."""
+        if len(rest) > LONGEST:
+            raise Refused(f"line {lines + 1} begins an entry that is too long for a table: {decoded(rest[:100])!r}")
 
     def refuse_cut(self, rest):
         """Refuses input that doesn't end with a line end, as the output of these daemons and programs does."""
@@ -256,12 +329,14 @@ class Lines(Input):
             raise Refused(f"line {number} has no line end (LF), so the input is truncated: {decoded(last[:100])!r}")
 
     def __iter__(self):
-        for text in self.texts():
+        for text, ends in self.texts():
             self.before = self.lines
             self.lines += text.count("\n") + 1
             self.entries = self.split(text)
             self.rest = iter(self.entries)
             yield from self.rest
+            if ends:
+                yield BOUNDARY
             self.after_block()
 
     @contextlib.contextmanager
@@ -292,6 +367,14 @@ class Entries(Lines):
     def split(self, text):
         return re.split(r"\n(?!\t)", text)
 
+    def last_cut(self, data, size):
+        """An entry that begins with a blank belongs to the one before."""
+        end = size
+        while (end := data.rfind(b"\n", 0, end)) >= 0:
+            if data[end + 1 : end + 2] not in (b"", b"\t", b" ", b"\r", b"\n"):
+                return end + 1
+        return 0
+
 
 def decoded(data):
     return data.decode("utf-8", errors="replace")
@@ -310,19 +393,51 @@ class Json(Input):
     def __init__(self, most, command):
         super().__init__(most)
         self.command = command
-        self.pieces = codecs.iterdecode(self.blocks(), "utf-8", errors="replace")
+        self.decoded = self.texts()
         self.decode = json.JSONDecoder().raw_decode
         # the unread text begins at `at`
         self.text, self.at, self.ended = "", 0, False
 
+    def texts(self):
+        """The text of the blocks, or of the pieces to convert here."""
+        if self.ahead is None:
+            yield from codecs.iterdecode(self.blocks(), "utf-8", errors="replace")
+            return
+        decoder = codecs.getincrementaldecoder("utf-8")(errors="replace")
+        for piece in self.ahead:
+            yield decoder.decode(piece.data, piece.ends or piece.is_last)
+
+    def last_cut(self, data, size):
+        """Where a member begins whose name is an IPv4 prefix, with the comma before it. In a string it would have backslashes."""
+        window = 1 << 16
+        while True:
+            begin = max(0, size - window)
+            if cuts := [match.start() for match in MEMBER.finditer(data, begin, size)]:
+                return cuts[-1]
+            if begin == 0:
+                return 0
+            window *= 8
+
+    def last_end(self, data, begin):
+        """A part that isn't a piece may end anywhere."""
+        return len(data) - 1
+
+    def skip(self, piece):
+        self.before += piece.lines
+        super().skip(piece)
+
     def more(self):
-        """Reads on, by at least as much as is unread, so that parsing a long value is repeated only a few times."""
+        """Reads on, by at least as much as is unread, so that parsing a long value is repeated only a few times. What comes
+        after a piece is read when the piece is converted."""
         self.lines = self.before = self.before + self.text.count("\n", 0, self.at)
-        texts, wanted = [self.text[self.at :]], max(BLOCK, len(self.text) - self.at)
+        unread, self.text, self.at = self.text[self.at :], "", 0
+        texts, wanted = [unread], 1 if self.ahead else max(BLOCK, len(unread))
         while wanted > 0 and not self.ended:
-            texts.append(next(self.pieces, ""))
-            wanted, self.ended = wanted - len(texts[-1]), not texts[-1]
-        self.text, self.at = "".join(texts), 0
+            text = next(self.decoded, None)
+            self.ended = text is None
+            texts.append(text or "")
+            wanted -= len(texts[-1])
+        self.text = "".join(texts)
         self.after_block()
 
     def wrong(self, what, at):
@@ -365,7 +480,7 @@ class Json(Input):
                 raise self.wrong(str(error), self.at) from None
             else:
                 # a number may go on
-                if end < len(self.text) or self.ended:
+                if end < len(self.text) or self.ended or self.text[end - 1] in "]}":
                     self.at = end
                     return value
             self.more()
@@ -404,6 +519,14 @@ class Json(Input):
     def end(self):
         if self.sign():
             raise self.wrong("there is more after its end", self.at)
+
+    @classmethod
+    def of_members(cls, data, command):
+        """The document of a piece: an object with these members, before each of which there is a comma."""
+        made = cls.__new__(cls)
+        made.command, made.decode, made.ahead = command, json.JSONDecoder().raw_decode, None
+        made.text, made.at, made.ended, made.before = "{" + decoded(data)[1:] + "}", 0, True, 0
+        return made
 
     @contextlib.contextmanager
     def named(self):
@@ -547,9 +670,10 @@ def of_hop(source):
 def is_usable(path, valid):
     """Returns True if the daemon may choose the path: it is valid, and neither damped nor removed (FRR shows that
     separately)."""
-    # hardly any path has one of these
-    may_be = type(path) is not dict or not SET_ASIDE.isdisjoint(path)
-    unused = may_be and any(member(path, name, bool, False) for name in SET_ASIDE)
+    if type(path) is dict and SET_ASIDE.isdisjoint(path) and (valid is None or path.get(valid) is True):
+        # as most paths are
+        return True
+    unused = any(member(path, name, bool, False) for name in SET_ASIDE)
     return not unused and (valid is None or member(path, valid, bool, False))
 
 
@@ -565,7 +689,8 @@ def chosen_first(prefix, paths, notes, valid="valid", best="best", in_order=True
     if len(usable) > 1:
         if in_order:
             notes.choices.meet(member(usable[0], best, bool, False) or not any(member(path, best, bool, False) for path in usable))
-        usable.sort(key=lambda path: not member(path, best, bool, False))
+        if usable[0].get(best) is not True or any(best in path for path in usable[1:]):
+            usable.sort(key=lambda path: not member(path, best, bool, False))
     if usable and not member(usable[0], best, bool, False):
         notes.leave_out("of prefixes without a chosen path", len(usable))
         return []
@@ -637,19 +762,12 @@ def file_names(sources):
     return [f"{name}.feed" for name in names]
 
 
-class FeedFiles:
-    """Feed files in a new directory, which replaces the given one only when everything is written.
-
-    A source's lines are appended to its list in `waiting`. Until they are named, the files are numbered in the order of
-    `waiting`."""
+class Gathered:
+    """The lines of the sources' feeds. A source's lines are appended to its list in `waiting`."""
 
     def __init__(self, arguments):
-        if arguments.merge and arguments.by != "rank":
-            raise Refused("--merge compares ranks of the whole table: leave out --by")
         self.has_all_hops = getattr(arguments, "all_hops", False)
-        if self.has_all_hops and arguments.by != "rank":
-            raise Refused("--all-hops ranks the next hops of a route: leave out --by")
-        self.arguments, self.folder = arguments, Folder(arguments.folder, NAME)
+        # of each source, in the order of `waiting`, the number of lines that don't wait any more
         self.waiting, self.counts = {}, []
         # the sources with the addresses that the daemon looked up for them, and of these sources, for each line, whether the
         # next hop was looked up
@@ -658,6 +776,43 @@ class FeedFiles:
         self.found = {}
         # by option and interface, the number of routes whose interface the feeds don't show
         self.over = {}
+
+    def lines(self, source):
+        return self.waiting.setdefault(source, [])
+
+    def mark(self, source, is_looked_up):
+        """Keeps whether the next hop of the source's next line was looked up."""
+        marks = self.looked_up.get(source)
+        if marks is None:
+            marks = self.looked_up[source] = bytearray(self.count_of(source))
+        marks.append(is_looked_up)
+
+    def count_of(self, source):
+        """The number of a source's lines so far."""
+        number = list(self.waiting).index(source)
+        return (self.counts[number] if number < len(self.counts) else 0) + len(self.waiting[source])
+
+    def gathered(self):
+        """What was gathered, for `join`."""
+        texts = [(source, len(lines), "".join(lines)) for source, lines in self.waiting.items()]
+        over = [(option.name, interface, number) for (option, interface), number in self.over.items()]
+        return texts, self.sought, {source: bytes(marks) for source, marks in self.looked_up.items()}, self.found, over
+
+
+class FeedFiles(Gathered):
+    """Feed files in a new directory, which replaces the given one only when everything is written.
+
+    Until they are named, the files are numbered in the order of `waiting`."""
+
+    def __init__(self, arguments):
+        super().__init__(arguments)
+        if arguments.merge and arguments.by != "rank":
+            raise Refused("--merge compares ranks of the whole table: leave out --by")
+        if self.has_all_hops and arguments.by != "rank":
+            raise Refused("--all-hops ranks the next hops of a route: leave out --by")
+        self.arguments, self.folder = arguments, Folder(arguments.folder, NAME)
+        # the texts of each source that aren't written yet
+        self.texts = {}
         self.taken = 0
         PROGRESS.files = self
 
@@ -668,33 +823,52 @@ class FeedFiles:
     def __exit__(self, *_):
         self.folder.__exit__()
 
-    def lines(self, source):
-        return self.waiting.setdefault(source, [])
-
-    def mark(self, source, is_looked_up):
-        """Keeps whether the next hop of the source's next line was looked up."""
-        marks = self.looked_up.get(source)
-        if marks is None:
-            number = list(self.waiting).index(source)
-            written = self.counts[number] if number < len(self.counts) else 0
-            marks = self.looked_up[source] = bytearray(written + len(self.waiting[source]))
-        marks.append(is_looked_up)
-
     def flush_many(self):
-        """Writes what waits, if that is many lines."""
-        if sum(map(len, self.waiting.values())) > MOST_WAITING:
+        """Writes what waits, if that is much."""
+        if sum(map(len, self.waiting.values())) > MOST_WAITING or sum(map(len, self.texts.values())) > MOST_TEXTS:
             self.flush()
 
-    def flush(self):
-        """Writes what waits."""
+    def settle(self):
+        """Makes texts of the lines that wait."""
         self.counts += [0] * (len(self.waiting) - len(self.counts))
-        for number, lines in enumerate(self.waiting.values()):
+        for number, (source, lines) in enumerate(self.waiting.items()):
             if lines:
-                with self.folder.directory.open(str(number), "a") as file:
-                    file.write("".join(lines))
+                self.texts.setdefault(source, []).append("".join(lines))
                 self.taken += len(lines)
                 self.counts[number] += len(lines)
                 lines.clear()
+
+    def flush(self):
+        """Writes what waits."""
+        self.settle()
+        numbers = {source: str(number) for number, source in enumerate(self.waiting)}
+        for source, texts in self.texts.items():
+            with self.folder.directory.open(numbers[source], "a") as file:
+                file.writelines(texts)
+        self.texts.clear()
+
+    def join(self, gathered):
+        """Adds the lines of a later part of the input."""
+        texts, sought, looked_up, found, over = gathered
+        self.settle()
+        for source, number, _ in texts:
+            self.lines(source)
+            if marks := looked_up.get(source):
+                self.looked_up.setdefault(source, bytearray(self.count_of(source))).extend(marks)
+            elif source in self.looked_up:
+                self.looked_up[source].extend(bytes(number))
+        self.counts += [0] * (len(self.waiting) - len(self.counts))
+        places = {source: place for place, source in enumerate(self.waiting)}
+        for source, number, text in texts:
+            self.texts.setdefault(source, []).append(text)
+            self.counts[places[source]] += number
+            self.taken += number
+        self.sought |= sought
+        self.found |= found
+        options = {option.name: option for option in (self.arguments.connected, self.arguments.ipv6_hop)}
+        for name, interface, number in over:
+            key = options[name], interface
+            self.over[key] = self.over.get(key, 0) + number
 
     def name(self, source):
         """The name of a source's file while it is written."""
@@ -796,11 +970,128 @@ def end_by_signals():
             signal.signal(number, end)
 
 
-def convert_table(arguments, given, read):
-    """Converts the table that `read(given, arguments, notes)` yields: each prefix with its offers, best first."""
-    notes, met = Notes(), set()
+class Prefixes:
+    """The prefixes of a table, in little memory: those that share the bits before their last eight are one number, with a bit
+    for each. Prefixes that aren't IPv4 are kept as they are."""
+
+    def __init__(self):
+        self.bits, self.others, self.number = {}, set(), 0
+
+    @staticmethod
+    def place(prefix):
+        """The key of a prefix and its bit, which is its place in a tree of eight levels."""
+        address, _, length = prefix.partition("/")
+        number, length = NUMBER(inet_pton(AF_INET, address))[0], int(length)
+        level = (length - 1) // 8 if length else 0
+        own = length - 8 * level
+        return level << 32 | number >> 32 - 8 * level, 1 << (1 << own | number >> 32 - length & (1 << own) - 1)
+
+    def __contains__(self, prefix):
+        if ":" in prefix:
+            return prefix in self.others
+        key, bit = self.place(prefix)
+        return self.bits.get(key, 0) & bit != 0
+
+    def __len__(self):
+        return self.number
+
+    def add(self, prefix):
+        self.number += 1
+        if ":" in prefix:
+            self.others.add(prefix)
+        else:
+            key, bit = self.place(prefix)
+            self.bits[key] = self.bits.get(key, 0) | bit
+
+    def kept(self):
+        """The prefixes, for `join`."""
+        return self.bits, self.others, self.number
+
+    def join(self, kept):
+        """Adds these prefixes; returns False if one of them is there already, and then adds none."""
+        bits, others, number = kept
+        if not self.others.isdisjoint(others) or any(self.bits.get(key, 0) & more for key, more in bits.items()):
+            return False
+        for key, more in bits.items():
+            self.bits[key] = self.bits.get(key, 0) | more
+        self.others |= others
+        self.number += number
+        return True
+
+
+def prefix_set():
+    """An empty set of prefixes; if there are several processes, one that theirs can be joined to."""
+    return Prefixes() if several_processes() else set()
+
+
+def prefixes_of(texts):
+    made = Prefixes()
+    for text in texts:
+        made.add(text)
+    return made
+
+
+def several_processes():
+    """The number of processes that convert pieces; 0 if this one converts all."""
+    number = PROCESSES or pieces.processors()
+    return number if number > 1 else 0
+
+
+def read_ahead(given, state, work, join, files):
+    """Has other processes convert pieces of the input, if there are several processors. `join(result)` adds a result, or
+    returns False if it can't."""
+
+    def join_piece(result, piece):
+        if not join(result):
+            return False
+        given.skip(piece)
+        return True
+
+    if number := several_processes():
+        given.ahead = pieces.Ahead(given.pieces(), state, work, join_piece, number, AHEAD, files.folder.descriptors())
+
+
+class Parts:
+    """How pieces of a table are converted: `state()` is what matters to a piece of what came before it, and `read(data, state,
+    notes)` yields the prefixes of a piece with their offers; `counted()` is what else a piece gives, and `join(counted)` adds
+    it."""
+
+    def __init__(self, arguments, reader):
+        self.arguments, self.reader = arguments, reader
+
+    def work(self, data, state):
+        """The result of a piece."""
+        notes, files, met = Notes(), Gathered(self.arguments), set()
+        reader = self.reader.of_piece(state, notes)
+        for prefix, offers in reader.read_piece(data):
+            if prefix in met:
+                raise Refused(f"{prefix} occurs twice")
+            met.add(prefix)
+            add_lines(files, prefix, offers, self.arguments.by == "rank", notes)
+        if reader.state() != state:
+            raise Refused("the state after the piece is another")
+        return prefixes_of(met).kept(), files.gathered(), notes.counted(), reader.counted()
+
+    def join(self, files, met, notes, result):
+        """Adds the result of a piece; returns False if a prefix occurs twice."""
+        prefixes, gathered, counted, more = result
+        if not met.join(prefixes):
+            return False
+        files.join(gathered)
+        notes.join(counted)
+        self.reader.join(more)
+        return True
+
+
+def convert_table(arguments, given, read, reader=None):
+    """Converts the table that `read(given, arguments, notes)` yields: each prefix with its offers, best first. Of a table that
+    can be read in pieces, `reader` is the reader."""
+    notes, met = Notes(), prefix_set() if reader else set()
     with FeedFiles(arguments) as files:
         given.after_block = files.flush_many
+        if reader:
+            parts = Parts(arguments, reader)
+            read_ahead(given, reader.state, parts.work, functools.partial(parts.join, files, met, notes), files)
         with given.named():
             for prefix, offers in read(given, arguments, notes):
                 if prefix in met:
@@ -851,6 +1142,27 @@ def is_found_without(finder, hop, seeker, routes):
     return other is not None and of_hop(other.source) != seeker and not other.is_looked_up and other.hop == hop
 
 
+def ways_to(address, routes, sought):
+    """The routes by which the daemon finds a next hop. If the next hop of the first of these was itself looked up, the routes to
+    that follow, and so on."""
+    met = set()
+    while address in routes and routes[address] and address not in met:
+        met.add(address)
+        found = routes[address]
+        yield found
+        address = found[0].hop if found[0].is_looked_up and (found[0].source, found[0].hop) in sought else None
+
+
+def tell_of_ways(told, seeker, address, ways):
+    """Adds the next hop to those of each source by whose routes it is found, if others would be found without them."""
+    before = seeker
+    for found in ways:
+        finder, hop = of_hop(found[0].source), found[0].hop
+        if finder != before and hop != CONNECTED and not is_found_without(finder, hop, before, found):
+            told.setdefault(finder, {})[address] = seeker
+        before = finder
+
+
 def tell_of_finders(files, met, notes):
     """Reports the sources whose routes the daemon used to find next hops of other sources, if it would find others
     without them. The table without such a source's feed keeps the next hops that were found with it."""
@@ -859,12 +1171,10 @@ def tell_of_finders(files, met, notes):
     files.flush()
     routes, told = routes_to(files, met, {address for _, address in files.sought if is_address(address)}), {}
     for seeker, address in sorted({(of_hop(source), address) for source, address in files.sought}):
-        if found := routes.get(address):
-            finder, hop = of_hop(found[0].source), found[0].hop
-            # if another next hop was found, it wasn't by that route
-            is_found_here = files.found.get((seeker, address), hop) == hop
-            if is_found_here and finder != seeker and hop != CONNECTED and not is_found_without(finder, hop, seeker, found):
-                told.setdefault(finder, {})[address] = seeker
+        ways = list(ways_to(address, routes, files.sought))
+        # if another next hop was found, it wasn't by these routes
+        if ways and files.found.get((seeker, address), ways[-1][0].hop) == ways[-1][0].hop:
+            tell_of_ways(told, seeker, address, ways)
     for finder, found in told.items():
         notes.tell(f"next hops ({listed(list(found))}) of {listed(sorted(set(found.values())))} are found by routes of {finder}: "
                    f"without {finder} the daemon finds others, and the table without its feed keeps these", len(found))

@@ -197,6 +197,11 @@ class Folder:
         finally:
             self.leave()
 
+    def descriptors(self):
+        """The descriptors that lock, which no other process may have."""
+        opened = [self.directory.descriptor, self.record.fileno()]
+        return opened if self.record_before is None else [*opened, self.record_before.fileno()]
+
     def leave(self):
         """Takes back what was begun, and unlocks."""
         if self.directory.is_at(self.new):

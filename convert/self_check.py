@@ -18,6 +18,17 @@ class SelfCheck:
             self.other += 1
             self.by_age += by_age
 
+    def counted(self):
+        """The numbers, for `join`."""
+        return self.ranked, self.other, self.by_age
+
+    def join(self, counted):
+        """Adds the numbers of a later part of the input."""
+        ranked, other, by_age = counted
+        self.ranked += ranked
+        self.other += other
+        self.by_age += by_age
+
     def differs(self):
         """Returns True if age can't be the reason for some prefix."""
         return self.other > self.by_age

@@ -28,6 +28,8 @@ JSON = [
     ("gobgp-to-feeds", "gobgp/rib.json"),
     ("gobgp-to-feeds", "debian-sid/ranks/gobgp.json"),
     ("openbgpd-to-feeds", "openbgpd/own.json"),
+    ("birdwatcher-to-feeds", "by-hand/birdwatcher.json"),
+    ("pmacct-to-feeds", "debian-13/ranks/pmacct-bmp.json"),
     ("openbgpd-to-feeds --discard-community BLACKHOLE", "openbgpd/blackhole-detail.json"),
 ]
 LINES = [

@@ -4,12 +4,14 @@ import csv
 import io
 import json
 
-from trial import SAMPLES, Failed, files_of, run, run_here, text_of
+from trial import SAMPLES, Failed, best_of, files_of, longest, run, run_here, state, text_of
 
 COLUMNS = "--separator ; --header --prefix dst --next-hop gw --source peer"
 # the same as RANKS in `test`
 PMACCT = "debian-sid/ranks/pmacct.json"
-RANKS = [("pmacct-to-feeds", PMACCT, "debian-sid/ranks/frr-pmacct-answers", ("127.0.0.23", "127.0.0.21"), ())]
+ENDED = ("127.0.0.23", "127.0.0.21")
+RANKS = [("pmacct-to-feeds", PMACCT, "debian-sid/ranks/frr-pmacct-answers", ENDED, ()),
+         ("pmacct-to-feeds", "debian-13/ranks/pmacct-bmp.json", "debian-13/ranks/frr-bmp-answers", ENDED, ())]
 REFUSED = (
     ("text-to-feeds", "10.0.0.0/8\n", "line 1: it has 1 columns"),
     ("text-to-feeds", "10.0.0.0/8 192.0.2\n", "line 1: '192.0.2' is not an address"),
@@ -65,14 +67,51 @@ def check_pmacct(made):
     for name, changed, told in (
         ("cut", "".join(lines[:-1]), "the dumps of 127.0.0.25 have no end (dump_close), so the input is truncated"),
         ("no begin", "".join(lines[1:]), "line 1: there is no begin of a dump of 127.0.0.21 before it"),
-        ("twice", text + text, "the peer 127.0.0.21 has a second dump"),
+        ("twice", text + text, "127.0.0.21 has a second dump: give one of each"),
         ("update", text.replace('"event_type": "dump",', '"event_type": "log",', 1), "line 2: it isn't of a table dump"),
-        ("BMP", text.replace('"event_type": "dump",', '"event_type": "dump", "bmp_msg_type": "route_monitor",', 1), "line 2: it isn't of"),
+        ("BMP", text.replace('"event_type": "dump",', '"event_type": "dump", "bmp_msg_type": "route_monitor",', 1), "line 2: it is of BMP, and those before it are of BGP"),
         ("list", "[]\n", "line 1: it isn't of a table dump"), ("text", "x\n", "line 1: it isn't JSON of pmacct"),
     ):
         status, said = run_here("pmacct-to-feeds", changed.encode(), made / "pmacct")
         if status != 1 or told not in said or said.count("\n") != 1:
             raise Failed(f"pmacct's dumps ({name}) have status {status} and it says {said}")
+
+
+def check_bmp(made):
+    """What pmacct's BMP daemon dumped of FRR's routes: FRR's choice is the first rank, also where its policy sets local
+    preferences, which BMP doesn't show; that is reported."""
+    data = (SAMPLES / "debian-13/ranks/pmacct-bmp-policy.json").read_bytes()
+    status, said = run_here("pmacct-to-feeds", data, made / "policy")
+    if status != 3 or "in 17 of 36 prefixes the daemon's choice isn't what these rules give" not in said:
+        raise Failed(f"BMP of a router with a policy has status {status} and it says {said}")
+    best = best_of(state(files_of(made / "policy")))
+    for line in (SAMPLES / "debian-13/ranks/frr-bmp-policy-answers.txt").read_text().splitlines():
+        address, answer = line.split(" ", 1)
+        if longest(best, address)[1] != answer:
+            raise Failed(f"BMP of a router with a policy: {address} goes via {longest(best, address)[1]}, and FRR said {answer}")
+
+
+def check_bmp_kinds(made):
+    """Routes before the policy, routes that the router announces, its own ones, and prefixes without its choice."""
+    lines = (SAMPLES / "debian-13/ranks/pmacct-bmp.json").read_text().splitlines(keepends=True)
+    first, second, last = lines[1:2], [line for line in lines if '"is_loc": 1, "event_type": "dump"' in line and "10.0.0.0/16" in line], lines[-1:]
+    route, whole = json.loads(first[0]), "".join(lines)
+    dump = lambda *records: "".join([lines[0], *(json.dumps(record) + "\n" for record in records), *last])
+    chosen = json.loads(second[0]) | {"ip_prefix": route["ip_prefix"]}
+    for name, text, wanted, told, feed in (
+        ("before", dump(route | {"is_post": 0}), 3, "1 routes are those from before the router's policy (is_post 0)", "127.0.0.23"),
+        ("both", dump(route, route | {"is_post": 0, "bgp_nexthop": "192.0.2.9"}), 0, "omitted 1 from before the router's policy", "127.0.0.23"),
+        ("out", dump(route, route | {"is_in": 0, "is_out": 1}), 0, "omitted 1 that the router announces (is_out)", "127.0.0.23"),
+        ("own", dump(chosen | {"bgp_nexthop": "192.0.2.9"}), 0, "accepted 1 routes", "local"),
+        ("no choice", dump(route, chosen, route | {"ip_prefix": "10.200.0.0/16"}), 0, "omitted 1 of prefixes without a chosen path", "127.0.0.23"),
+        ("routers", whole + whole.replace('"bmp_router": "127.0.0.1"', '"bmp_router": "127.0.0.2"'), 1,
+         "it is of the router 127.0.0.2, and those before it are of 127.0.0.1", None),
+        ("cut", "".join(lines[:-1]), 1, "the dumps of 127.0.0.1 have no end (dump_close)", None),
+    ):
+        status, said = run_here("pmacct-to-feeds", text.encode(), made / f"bmp {name}")
+        feeds = [file.stem for file in files_of(made / f"bmp {name}")]
+        if status != wanted or told not in said or feeds != [feed] * (feed is not None):
+            raise Failed(f"BMP ({name}) has status {status}, says {said} and has the feeds {feeds}")
 
 
 def check(made):
@@ -81,3 +120,5 @@ def check(made):
     check_same(folder)
     check_refused(folder)
     check_pmacct(folder)
+    check_bmp(folder)
+    check_bmp_kinds(folder)

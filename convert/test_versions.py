@@ -135,9 +135,39 @@ def check_openbgpd_found(made):
     expect("OpenBGPD 7", (status, "found by" in said), (0, False))
 
 
+def check_openbgpd_chain(made):
+    """A next hop that is found by a route whose own next hop is found by another is reported with both sources. When the
+    second had ended, OpenBGPD found another way to each of these next hops."""
+    _, said, _ = feeds_of(made, "chain", "openbgpd-to-feeds", read("debian-13/ranks/openbgpd-chain.json"))
+    expect("a chain of OpenBGPD's next hops", [line.partition(": ")[0] for line in said.splitlines()[1:]], [
+        "2 next hops (10.0.0.9, 10.1.0.9) of 127.0.0.22, 127.0.0.25 are found by routes of 127.0.0.21",
+        "1 next hops (10.1.0.9) of 127.0.0.25 are found by routes of 127.0.0.22"])
+    found = [{path["exit_nexthop"]: path["true_nexthop"] for path in json.loads(read(f"debian-13/ranks/openbgpd-chain{number}.json"))["rib"]}
+             for number in ("", "-1")]
+    expect("the next hops that OpenBGPD found", [(one["10.0.0.9"], one["10.1.0.9"]) for one in found],
+           [("192.0.2.21",) * 2, ("192.0.2.23",) * 2])
+
+
+def check_frr_interface(made):
+    """Of a link-local next hop whose interface isn't shown the address is the name of the interface."""
+    shown = json.loads(read("debian-13/frr/unnumbered.json"))
+    for paths in shown["routes"].values():
+        for path in paths:
+            path["nexthops"][1].pop("interface")
+            path["peerId"] = path["nexthops"][1]["ip"] = f"fe80::{path['path'][-1]}"
+    data = json.dumps(shown).encode()
+    status, said, _ = feeds_of(made, "hidden", "frr-to-feeds --ipv6-hop 192.0.2.7", data)
+    told = "9 routes have an IPv6 next hop (4 over fe80::1, 5 over fe80::2), and the next hop 192.0.2.7 in the feeds"
+    if status != 3 or told not in said:
+        raise Failed(f"link-local next hops without interfaces have status {status} and it says {said}")
+    status, _, written = feeds_of(made, "named", "frr-to-feeds --ipv6-hop fe80::1=192.0.2.1 --ipv6-hop fe80::2=192.0.2.2", data)
+    expect("named link-local next hops", (status, "add 10.1.0.0/16 1 192.0.2.1" in written, "add 10.2.0.0/16 1 192.0.2.2" in written),
+           (0, True, True))
+
+
 def check(made):
     folder = made / "versions"
     folder.mkdir()
     for each in (check_frr_forms, check_frr_header, check_frr_stale, check_frr_aigp, check_frr_order, check_frr_few, check_gobgp_peers,
-                 check_openbgpd_found):
+                 check_openbgpd_found, check_openbgpd_chain, check_frr_interface):
         each(folder)

@@ -16,6 +16,8 @@ from rows import row_text
 
 HERE = pathlib.Path(__file__).resolve().parent
 SAMPLES = HERE / "samples"
+# whether the compared files are written again
+KEEP = "--keep" in sys.argv[1:]
 # It is read, since feeds.py takes the name for its messages from the process that loads it.
 MAX_FEED_FILES = int(re.search(r"^MAX_FEED_FILES = (\d+)$", (HERE / "feeds.py").read_text(), re.M)[1])
 # Python compiles the modules of the converters once, to where nothing else looks for them.

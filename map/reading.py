@@ -25,6 +25,7 @@ MOST_KNOWN = 65536
 NUMBER = struct.Struct(">I").unpack
 # the bits past a prefix of that length
 HOST_BITS = {str(length): (1 << 32 - length) - 1 for length in range(33)}
+PREFIXES = "this is a prefix and not a range: call yarib diff without --prefixes"
 MIXED = "some answers are next hops and some are routes: the input has more than one output"
 # a route's numbers in the order in which they are printed, and what they are if no route is printed
 NUMBERS = ("pref",)
@@ -261,6 +262,8 @@ def change_text(line):
     if not line.startswith("{"):
         return line
     found = object_of(line)
+    if list(found) == ["prefix", "old", "new"]:
+        raise Wrong(PREFIXES)
     if list(found) != ["first", "last", "old", "new"]:
         raise ValueError
     old, new = text_of_answer(found["old"]), text_of_answer(found["new"])
@@ -377,7 +380,7 @@ def read_diff(stream):
         span, _, said = change_text(line).partition(" ")
         first, dash, last = span.partition("-")
         if not dash:
-            raise ValueError
+            raise Wrong(PREFIXES) if "/" in span and " -> " in said else ValueError
         first, last = address_number(first), address_number(last)
         old, new, prefixes, form = change(said)
         if are_routes not in (None, form):
