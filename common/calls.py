@@ -168,8 +168,8 @@ length 16 routes 2
 10.0.0.3 route 10.0.0.0/8 feed 1 pref 30 via 192.0.2.8
 """, 2, """\
 yarib: odd.txt: faulty lines: 2, the first is line 2: E3: the field is no prefix or address
-yarib: again.feed: duplicate adds: 1
-yarib: again.feed: replaces and withdraws without a route: 2
+yarib: again.feed: duplicate adds: 1, the first is line 2
+yarib: again.feed: replaces and withdraws without a route: 2, the first is line 3
 """),
     call("table north.feed south.feed east.feed", """\
 10.0.0.0/8 feed 2 pref 30 via 192.0.2.2
@@ -210,7 +210,7 @@ yarib: again.feed: replaces and withdraws without a route: 2
          "10.1.2.3 route 10.1.2.0/24 feed 1 pref 1 via 192.0.2.7\n"),
     # If preferences are equal, the route of the first file wins.
     call("lookup --address 10.0.0.1 --limit 1 equal.feed south.feed",
-         "10.0.0.1 route 10.0.0.0/8 feed 1 pref 30 via 192.0.2.5\n", 2, "yarib: south.feed: adds over the limit: 1\n"),
+         "10.0.0.1 route 10.0.0.0/8 feed 1 pref 30 via 192.0.2.5\n", 2, "yarib: south.feed: adds over the limit: 1, the first is line 4\n"),
     call("table --best equal.feed south.feed equal.feed", "10.0.0.0/8 feed 1 pref 30 via 192.0.2.5\n"),
     # The ends of the addresses.
     call("lookup --address 255.255.255.255 --address 0.0.0.0 --address 255.255.255.254 zero.feed", """\
@@ -224,8 +224,8 @@ yarib: again.feed: replaces and withdraws without a route: 2
 10.0.0.0/8 feed 2 pref 50 via 192.0.2.1
 """, 2, """\
 yarib: west.feed: faulty lines: 2, the first is line 2: E5: a bit past the prefix's length is set
-yarib: west.feed: adds over the limit: 1
-yarib: north.feed: adds over the limit: 1
+yarib: west.feed: adds over the limit: 1, the first is line 3
+yarib: north.feed: adds over the limit: 1, the first is line 3
 """),
     # Commands that found another state than they expected are reported, and aren't faults.
     call("table again.feed equal.feed again.feed", """\
@@ -233,22 +233,29 @@ yarib: north.feed: adds over the limit: 1
 10.0.0.0/8 feed 2 pref 30 via 192.0.2.5
 10.0.0.0/8 feed 3 pref 30 via 192.0.2.8
 """, err="""\
-yarib: again.feed: duplicate adds: 1
-yarib: again.feed: replaces and withdraws without a route: 2
-yarib: again.feed: duplicate adds: 1
-yarib: again.feed: replaces and withdraws without a route: 2
+yarib: again.feed: duplicate adds: 1, the first is line 2
+yarib: again.feed: replaces and withdraws without a route: 2, the first is line 3
+yarib: again.feed: duplicate adds: 1, the first is line 2
+yarib: again.feed: replaces and withdraws without a route: 2, the first is line 3
 """),
     call("lookup --addresses odd.txt again.feed", """\
 10.0.0.1 route 10.0.0.0/8 feed 1 pref 30 via 192.0.2.8
 10.0.0.3 route 10.0.0.0/8 feed 1 pref 30 via 192.0.2.8
 """, 2, """\
 yarib: odd.txt: faulty lines: 2, the first is line 2: E3: the field is no prefix or address
-yarib: again.feed: duplicate adds: 1
-yarib: again.feed: replaces and withdraws without a route: 2
+yarib: again.feed: duplicate adds: 1, the first is line 2
+yarib: again.feed: replaces and withdraws without a route: 2, the first is line 3
 """),
     # An invalid line is not an address and has no answer.
     call("lookup --addresses odd.txt equal.feed", """\
 10.0.0.1 route 10.0.0.0/8 feed 1 pref 30 via 192.0.2.5
+10.0.0.3 route 10.0.0.0/8 feed 1 pref 30 via 192.0.2.5
+""", 2, f"yarib: odd.txt: faulty lines: 2, the first is line 2: {E3}\n"),
+    # With --keep-invalid it has one in its place.
+    call("lookup --keep-invalid --addresses odd.txt equal.feed", """\
+10.0.0.1 route 10.0.0.0/8 feed 1 pref 30 via 192.0.2.5
+2 invalid
+3 invalid
 10.0.0.3 route 10.0.0.0/8 feed 1 pref 30 via 192.0.2.5
 """, 2, f"yarib: odd.txt: faulty lines: 2, the first is line 2: {E3}\n"),
     call("lookup --addresses cr.txt none.feed",
@@ -294,6 +301,18 @@ COMPARED = [
 10.0.0.0-10.0.255.255 via 192.0.2.1 -> via 192.0.2.2
 10.2.0.0-10.8.255.255 via 192.0.2.1 -> via 192.0.2.2
 10.10.0.0-10.255.255.255 via 192.0.2.1 -> via 192.0.2.2
+""", 1),
+    call("diff --prefixes north.feed east.feed -- north.feed south.feed east.feed", """\
+10.0.0.0/16 via 192.0.2.1 -> via 192.0.2.2
+10.2.0.0/15 via 192.0.2.1 -> via 192.0.2.2
+10.4.0.0/14 via 192.0.2.1 -> via 192.0.2.2
+10.8.0.0/16 via 192.0.2.1 -> via 192.0.2.2
+10.10.0.0/15 via 192.0.2.1 -> via 192.0.2.2
+10.12.0.0/14 via 192.0.2.1 -> via 192.0.2.2
+10.16.0.0/12 via 192.0.2.1 -> via 192.0.2.2
+10.32.0.0/11 via 192.0.2.1 -> via 192.0.2.2
+10.64.0.0/10 via 192.0.2.1 -> via 192.0.2.2
+10.128.0.0/9 via 192.0.2.1 -> via 192.0.2.2
 """, 1),
     call("diff --by route --names north.feed east.feed -- south.feed north.feed east.feed", """\
 10.0.0.0-10.0.255.255 10.0.0.0/8 feed north pref 50 via 192.0.2.1 -> 10.0.0.0/8 feed south pref 30 via 192.0.2.2

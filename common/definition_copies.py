@@ -9,7 +9,7 @@ import re
 
 from .crates import CRATES, below, crate_of, needs
 from .definition_reader import constructors, example_files, imports, parse_module, uncommented
-from .mutant_lists import Body
+from .mutant_lists import BadMutant
 from .prover import said_by, said_of
 from .workspaces import lay_out
 
@@ -34,8 +34,13 @@ class Change:
         _, self.file, pairs, self.example = self.form.groups() if self.form else ("", "", "", "")
         self.pairs = re.findall(r"^old: (.+)\nnew: ?(.*)$", pairs, re.M)
 
-    # A change replaces its pairs as a listed mutant does.
-    changed = Body.changed
+    def changed(self, text):
+        """Returns the file's text after each pair was replaced, one after another."""
+        for old, new in self.pairs:
+            if text.count(old) != 1:
+                raise BadMutant(f"an 'old:' text is in {self.file} {text.count(old)} times, and not once: {old}")
+            text = text.replace(old, new)
+        return text
 
 
 def listing_crates():
@@ -271,7 +276,7 @@ def by_check(seconds):
 
 
 def by_gate(seconds):
-    """Returns the check for the gate: it only checks the crate of copies, based on the libraries that `rt ci` just built."""
+    """Returns the check for ./test: it only checks the crate of copies, based on the libraries that `rt ci` just built."""
     return lambda scratch: with_verdict(said_of(COPIES, scratch.named, scratch.folder, seconds=seconds))
 
 

@@ -10,7 +10,7 @@ from .crates import TOP, below
 from .versions import VERSION
 
 ROOTS = ("rt_app", "yarib_c")
-LAYER = ("places.c", "handles.c", "readers.c", "files.c", "about.c", "heap.c", "layer.h", "yarib.h")
+LAYER = ("places.c", "handles.c", "readers.c", "copies.c", "files.c", "about.c", "heap.c", "layer.h", "yarib.h", "yarib_check.h")
 
 
 class Missing(Exception):

@@ -1,7 +1,7 @@
-"""What earlier gates on this machine passed: an entry of the user's cache, named by a checksum of everything on which the
-result depends. That is summed before the result is found and again afterwards; if it changed meanwhile, nothing is kept.
-An entry that can't be read or written counts for nothing. Whoever can write to the directory is trusted, as with what `rt
-ci` keeps."""
+"""What earlier runs of ./test on this machine passed: an entry of the user's cache, named by a checksum of everything
+on which the result depends. That is summed before the result is found and again afterwards; if it changed meanwhile,
+nothing is kept. An entry that can't be read or written counts for nothing. Whoever can write to the directory is
+trusted, as with what `rt ci` keeps."""
 import functools
 import hashlib
 import os

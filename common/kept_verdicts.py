@@ -1,5 +1,5 @@
-"""The mutants that earlier gates on this machine saw refused. A later gate checks a mutant again only if something changed
-on which its verdict can depend.
+"""The mutants that earlier runs of ./test on this machine saw refused. A later run checks a mutant again only if
+something changed on which its verdict can depend.
 
 A function is proved from its own text, the contracts of what it calls, types, definitions and lemmas, never from the
 body of another function. So the name of an entry is a sum of the toolchain, the code of SCRIPTS, the mutant and its
@@ -13,7 +13,7 @@ import re
 
 from . import kept
 from .crates import CRATES, TOP, below, heads
-from .mutant_lists import bodies_of, controls_of
+from .mutant_lists import controls_of, mutants_of
 from .rust_sources import Source
 
 SCRIPTS = ("tools/mutants", *(f"common/{name}.py" for name in ("mutant_lists", "prover", "mutant_copy", "rust_sources", "crates")))
@@ -60,7 +60,7 @@ class Sums:
         return self.without[path]
 
     def shared(self, crate):
-        """Returns the sum of what the verdicts on all bodies of a crate rest on."""
+        """Returns the sum of what the verdicts on all mutants of a crate rest on."""
         if crate not in self.shared_by:
             named = below([crate])
             found = [self.scripts, [line for line in heads() if line[0][0] in named]]
@@ -71,11 +71,11 @@ class Sums:
             self.shared_by[crate] = hashlib.sha256(repr(found).replace(str(TOP), "").encode()).hexdigest()
         return self.shared_by[crate]
 
-    def own_proofs(self, body):
-        """Returns the files of the proofs of a body's function and of closures, with what these cite; or None if they cite
+    def own_proofs(self, mutant):
+        """Returns the files of the proofs of a mutant's function and of closures, with what these cite; or None if they cite
         the goals of another function, or the function calls itself."""
-        proofs, name = CRATES / body.crate / "proofs", body.function.rpartition("::")[2]
-        waiting = [path for path in files(body.crate, "proofs")
+        proofs, name = CRATES / mutant.crate / "proofs", mutant.function.rpartition("::")[2]
+        waiting = [path for path in files(mutant.crate, "proofs")
                    if {name, f"+{name}", "fn"} & set(path.relative_to(proofs).parts)]
         found = set()
         while waiting:
@@ -90,17 +90,17 @@ class Sums:
                 if parts[-1] in ("Goals", "Given") and name not in parts and "fn" not in parts:
                     return None
                 file = proofs.joinpath(*parts).with_suffix(".antt")
-                if file.exists() and not is_of_lemmas(body.crate, file):
+                if file.exists() and not is_of_lemmas(mutant.crate, file):
                     waiting.append(file)
         return sorted(found)
 
-    def of_body(self, body):
-        """Returns all on which the verdict on a body depends."""
-        own = self.own_proofs(body)
-        read = [CRATES / body.crate / body.file, *own] if own is not None else [
-            path for part in ("src", "specs", "proofs") for path in files(body.crate, part)]
+    def of_mutant(self, mutant):
+        """Returns all on which the verdict on a mutant depends."""
+        own = self.own_proofs(mutant)
+        read = [CRATES / mutant.crate / mutant.file, *own] if own is not None else [
+            path for part in ("src", "specs", "proofs") for path in files(mutant.crate, part)]
         texts = [(str(path.relative_to(TOP)), self.text_of(path)) for path in read]
-        return self.shared(body.crate), texts, body.name, body.without_goal()
+        return self.shared(mutant.crate), texts, mutant.name, mutant.without_goal()
 
 
 def files(crate, part):
@@ -112,18 +112,19 @@ class Kept:
 
     def __init__(self, crate):
         self.before, self.after = Sums(), None
-        self.entries = {body.name: kept.Entry("bodies", lambda body=body: (self.after or self.before).of_body(body))
-                        for body in bodies_of(crate) + controls_of(crate) if body.form}
+        depends = lambda mutant: (self.after or self.before).of_mutant(mutant)
+        self.entries = {mutant.name: kept.Entry("mutants", lambda mutant=mutant: depends(mutant))
+                        for mutant in mutants_of(crate) + controls_of(crate) if mutant.form}
 
-    def said_of(self, body):
-        """Returns what was said of the body as it was refused, by the goal that it names, or of the control as it was
+    def said_of(self, mutant):
+        """Returns what was said of the mutant as it was refused, by the goal that it names, or of the control as it was
         taken; or None."""
-        said = self.entries[body.name].said() if body.form else None
-        return said if said and (not body.goal or body.is_control or f"`{body.goal}`" in said) else None
+        said = self.entries[mutant.name].said() if mutant.form else None
+        return said if said and (not mutant.goal or mutant.is_control or f"`{mutant.goal}`" in said) else None
 
     def keep(self, results):
         """Keeps what was said of each of these that are as they must be, unless something has changed since."""
         self.after = Sums()
-        for body, (is_so, said) in results.items():
+        for mutant, (is_so, said) in results.items():
             if is_so:
-                self.entries[body.name].keep(said)
+                self.entries[mutant.name].keep(said)

@@ -2,16 +2,15 @@
 about many mutants and the prover has less to check.
 
 A function is proved from its own text and the contracts of what it calls, never from the body of another function. So
-further mutants of one function can stand beside it under names of their own, each with a copy of its proof. And only
-the bodies in question stay. Every other function waits forever, and its proof is a hole: the prover takes it by its
-contract. A function stays whole if others see more of it than its contract, if its proof is for several functions, or if
-another proof cites a part of its proof."""
+further mutants of one function are functions of their own in the copy, each with a copy of its proof. Every function
+without a mutant waits forever, and its proof is a hole: the prover takes it by its contract. It stays whole only if others
+see more of it than its contract, if its proof is for several functions, or if another proof cites a part of its proof."""
 import re
 import shutil
 
 from .rust_sources import Source, closing
 
-BODY = "loop {}"
+EMPTY = "loop {}"
 CITED = re.compile(r"\bproofs\.([\w.+'-]+)")
 PROOF = """use Rattle.{crate}.proofs.{path}.Statement as stated
 
@@ -28,8 +27,7 @@ def module_of(file, src):
 
 def functions(src):
     """Returns the sources below this directory, each with its functions outside traits and their paths as the prover writes
-    them. A method is below its type, wherever its impl is. One of the trait `Tr<A>` for the type `T` is below `TTrA`,
-    or `TTr` if `A` is `T`, and that of `Drop` below `T`."""
+    them. A method is below the module of its type, wherever its impl is."""
     files = {file: Source(file) for file in src.rglob("*.rt")}
     homes = {item.name: module_of(file, src) for file, one in files.items() for item in one.items
              if item.kind in ("struct", "enum")}
@@ -39,11 +37,7 @@ def functions(src):
             if item.kind == "fn":
                 yield (*module_of(file, src), item.name), item
             elif item.kind == "impl":
-                trait, owner = item.of_impl()
-                trait = None if trait == "Drop" else trait
-                given = re.search(rf"\b{trait}<(?:\w+::)*(\w+)>", " ".join(item.lines)) if trait else None
-                given = given[1] if given and given[1] != owner else ""
-                path = (*homes.get(owner, module_of(file, src)), f"{owner}{trait or ''}{given}")
+                path = (*homes.get(item.of_impl()[1], module_of(file, src)), item.impl_name())
                 yield from (((*path, one.name), one) for one in item.members() if one.kind == "fn")
 
     return {file: list(found(file)) for file in files}
@@ -65,17 +59,17 @@ def is_seen(item):
     return re.search(r"\bconst fn\b|-> *[^{]*\bimpl\b", "\n".join(item.lines[:item.clauses_end()]))
 
 
-def changed_by(body, text):
+def changed_by(mutant, text):
     """Returns the function that a mutant changes, as it stands in this source with the mutant."""
-    return Source(None, body.changed(text)).function_at(min(body.places(text))[0])
+    return Source(None, mutant.changed(text)).named(mutant.function)
 
 
-def may_copy(folder, body):
+def may_copy(folder, mutant):
     """Returns whether a mutant can be a function beside the one that it changes: a function of a module or of a type, and not
     of a trait, that doesn't call itself, and whose proof is its own."""
-    *path, name = body.function.split("::")
-    text = (folder / body.file).read_text()
-    item, home = changed_by(body, text), folder.joinpath("proofs", *path)
+    *path, name = mutant.function.split("::")
+    text = (folder / mutant.file).read_text()
+    item, home = changed_by(mutant, text), folder.joinpath("proofs", *path)
     around = next(one for one in Source(None, text).items if one.start <= item.start < one.end)
     is_method = around.kind == "impl"
     is_free = around.kind == "fn" or is_method and not around.of_impl()[0]
@@ -84,23 +78,24 @@ def may_copy(folder, body):
     return is_free and not is_apart and not re.search(itself, "\n".join(item.lines[1:]))
 
 
-def plant(folder, file, bodies):
+def plant(folder, file, mutants):
     """Puts mutants of functions into a source of the copy, and returns the path of each one's function. The first of a
     function takes its place; the others are below it, each with a name of its own."""
     text = (folder / file).read_text()
     lines, places, paths = text.split("\n"), {}, {}
-    for body in bodies:
-        places.setdefault(min(body.places(text))[0], []).append(body)
-    for start, its in sorted(places.items(), reverse=True):
+    for mutant in mutants:
+        item = Source(None, text).named(mutant.function)
+        places.setdefault((item.start, item.end), []).append(mutant)
+    for (start, end), its in sorted(places.items(), reverse=True):
         written = []
-        for number, body in enumerate(its, 1):
-            item = changed_by(body, text)
+        for number, mutant in enumerate(its, 1):
+            item = changed_by(mutant, text)
             head, *rest = item.written()
             name = item.name if number == 1 else f"{item.name}_mutant_{number}"
             above = [" " * item.margin + line for line in item.above() if number > 1]
             written += [*above, head.replace(f"fn {item.name}", f"fn {name}", 1), *rest]
-            paths[body] = "::".join([*body.function.split("::")[:-1], name])
-        lines[start:Source(None, text).function_at(start).end] = written
+            paths[mutant] = "::".join([*mutant.function.split("::")[:-1], name])
+        lines[start:end] = written
     (folder / file).write_text("\n".join(lines))
     return paths
 
@@ -131,7 +126,7 @@ def empty(crate, folder, whole):
             is_whole = "::".join(path) in whole or is_seen(item) or is_cited or "#[cycle(" in "\n".join(item.above())
             if is_whole or lines[end - 1].strip() != "}":
                 continue
-            lines[start:end - 1] = [BODY] if lines[start - 1].rstrip().endswith("{") else ["{", BODY]
+            lines[start:end - 1] = [EMPTY] if lines[start - 1].rstrip().endswith("{") else ["{", EMPTY]
             for proof in (own, cycle):
                 shutil.rmtree(proof, ignore_errors=True)
             own.mkdir(parents=True)

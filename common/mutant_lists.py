@@ -10,15 +10,15 @@ FORM = re.compile(r"([\w-]+)\n\n```\nfile: (src/\S+\.rt)\n((?:old: .+\nnew:.*\n)
 NAMED = re.compile(r"^(refused in: [\w:]+?): [\w-]+$", re.M)
 
 
-class BadBody(Exception):
-    """The reason why a mutant can't be checked."""
+class BadMutant(Exception):
+    """The reason why a mutant can't be made."""
 
 
-class Body:
-    """A mutant of a list: its crate, text and name. If its form is valid, it also has its file, its pairs of old and new,
-    the function that the prover refuses, as the prover names it, optionally a goal of that function, and whether the
-    prover has to search for all goals at once, since the function's answers need more steps than the first round allows.
-    In a pair `⏎` denotes the end of a line."""
+class Mutant:
+    """A mutant of a list, or a control: its crate, text and name. If its form is valid, it also has its file, its pairs of
+    old and new, the function that the prover refuses, as the prover names it, optionally a goal of that function, and
+    whether the prover has to search for all goals at once, since the function's answers need more steps than the first
+    check allows. In a pair `⏎` denotes the end of a line."""
 
     def __init__(self, crate, section):
         self.crate, self.section, self.name = crate, section, section.partition("\n")[0]
@@ -32,45 +32,52 @@ class Body:
         """Returns its text without the name of the goal: a verdict that reports this goal holds with and without it."""
         return NAMED.sub(r"\1", self.section)
 
+    def places(self, text, old):
+        """Returns where a text begins in the mutant's function, and where it begins outside all functions."""
+        source, own, outside = Source(None, text), [], []
+        item = source.named(self.function)
+        start, end = (source.offset(item.start), source.offset(item.end)) if item else (0, 0)
+        for found in re.finditer(f"(?={re.escape(old)})", text):
+            if start <= found.start() and found.start() + len(old) <= end:
+                own.append(found.start())
+            elif not source.function_at(text.count("\n", 0, found.start())):
+                outside.append(found.start())
+        return own, outside
+
+    def steps(self, text):
+        """Yields for each pair, one after another, whether it changes text outside functions, and the file's text
+        afterwards. An old text is searched in the mutant's function and, if that doesn't have it, outside functions."""
+        for old, new in self.pairs:
+            own, outside = self.places(text, old)
+            if len(found := own or outside) != 1:
+                where = self.function if own else f"{self.function} 0 times, and outside the functions of {self.file}"
+                raise BadMutant(f"an 'old:' text is in {where} {len(found)} times, and not once: {old}")
+            text = text[: found[0]] + new + text[found[0] + len(old) :]
+            yield not own, text
+
     def changed(self, text):
         """Returns the file's text after each pair was replaced, one after another."""
-        for old, new in self.pairs:
-            if text.count(old) != 1:
-                raise BadBody(f"an 'old:' text is in {self.file} {text.count(old)} times, and not once: {old}")
-            text = text.replace(old, new)
-        return text
-
-    def places(self, text):
-        """Returns the first line and the name of each function that it changes; the name is None for text outside
-        functions."""
-        found = set()
-        for old, new in self.pairs:
-            if text.count(old) == 1:
-                line = text[: text.index(old)].count("\n")
-                function = Source(None, text).function_at(line)
-                found.add((function.start, function.name) if function else (line, None))
-                text = text.replace(old, new)
-        return found
+        return [text, *(changed for _, changed in self.steps(text))][-1]
 
     def fault(self, folder):
         """Returns the reason why it can't be checked on the current crate, or None."""
         if not self.form:
-            return "it isn't written as a body is"
+            return "it isn't written as a mutant is"
         if not (folder / self.file).exists():
             return f"there is no file {self.file}"
-        text = (folder / self.file).read_text()
         try:
-            self.changed(text)
-        except BadBody as fault:
+            steps = list(self.steps((folder / self.file).read_text()))
+        except BadMutant as fault:
             return str(fault)
-        changed = {name for _, name in self.places(text)}
-        if changed not in ({self.function.rpartition("::")[2]}, {None}):
-            return f"it changes more than the text of {self.function}, or of one type"
+        if len({is_outside for is_outside, _ in steps}) > 1:
+            return f"it changes both {self.function} and text outside functions"
+        if not steps[0][0] and not Source(None, steps[-1][1]).named(self.function):
+            return f"it leaves no function {self.function}"
         return None
 
     def is_of_type(self, text):
         """Returns true if it changes text outside functions, so that other functions are refused as well."""
-        return {name for _, name in self.places(text)} == {None}
+        return any(is_outside for is_outside, _ in self.steps(text))
 
 
 def listing_crates(crates=CRATES):
@@ -79,11 +86,11 @@ def listing_crates(crates=CRATES):
 
 def listed(crate, name, crates):
     file = crates / crate / f"must-fail/{name}.md"
-    return [Body(crate, section)
+    return [Mutant(crate, section)
             for section in re.split(r"^## ", file.read_text(), flags=re.M)[1:]] if file.exists() else []
 
 
-def bodies_of(crate, crates=CRATES):
+def mutants_of(crate, crates=CRATES):
     """Returns the mutants that a crate lists, in order."""
     return listed(crate, "mutants", crates)
 

@@ -1,6 +1,6 @@
 """A copy of the toolchain, made of links, whose `rt try` compiles with -O2 in place of -O0. Large inputs run some thirty
 times faster with it. It depends on the layout of the toolchain. Its prover does nothing: `rt try` has the prover look for
-reserved names meanwhile, which takes a third of the time, and the gate finds such a name anyway."""
+reserved names meanwhile, which takes a third of the time, and ./test finds such a name anyway."""
 import shutil
 import subprocess
 

@@ -1,5 +1,5 @@
-"""Makes what a user without the toolchain installs: Debian packages, an archive for any Linux, a wheel, and the sources of
-the bindings for Go and Rust with the library.
+"""Makes what a user without the toolchain installs: Debian packages, an archive for any Linux, a wheel, a source archive for
+Python (sdist), and the sources of the bindings for Go and Rust with the library.
 
 The bytes depend only on the tree, the program, the archive of the library, the evidence and the commit's time."""
 import ast
@@ -51,7 +51,7 @@ class Release:
             self.add_package(package)
         self.add_archive()
         self.add_sources()
-        self.add_wheel()
+        self.add_wheel_and_sdist()
         sums = (f"{hashlib.sha256(content).hexdigest()}  {name}\n" for name, content in sorted(self.files.items()))
         self.files["SHA256SUMS"] = "".join(sums).encode()
 
@@ -93,9 +93,9 @@ class Release:
                                         f"    {self.commit}.\n\n -- {NOBODY}  {day}\n")
         tree.compress(f"{folder}/changelog")
 
-    def take(self, tree, *names, to="usr/"):
+    def take(self, tree, *names, at="", to="usr/"):
         for name in names:
-            tree.files[to + name] = self.staged.files[name]
+            tree.files[to + name] = self.staged.files[at + name]
 
     def program_package(self):
         tree, staged = Tree(), self.staged.files
@@ -126,17 +126,20 @@ class Release:
 
     def header_package(self):
         tree = Tree()
-        self.take(tree, "include/yarib.h")
+        self.take(tree, "include/yarib.h", "include/yarib_check.h", "share/man/man3/yarib.3")
+        tree.compress("usr/share/man/man3/yarib.3")
+        self.take(tree, *(f"cmake/yarib/yarib-config{part}.cmake" for part in ("", "-version")), at="lib/", to=f"{LIBRARIES}/")
         tree.files[f"{LIBRARIES}/libyarib.a"] = self.staged.files["lib/libyarib.a"]
         tree.link(f"{LIBRARIES}/libyarib.so", "libyarib.so.0")
         settings = self.staged.files["lib/pkgconfig/yarib.pc.in"][0].replace(b"@PREFIX@", b"/usr")
         tree.add(f"{LIBRARIES}/pkgconfig/yarib.pc", settings.replace(b"/lib\n", b"/lib/x86_64-linux-gnu\n"))
         tree.copy(TOP / "bindings/c/README.md", "usr/share/doc/libyarib-dev/README.md")
         tree.compress("usr/share/doc/libyarib-dev/README.md")
-        tree.copy(TOP / "bindings/c/example.c", "usr/share/doc/libyarib-dev/examples/example.c")
+        for name in ("example.c", "example_readers.c", "example_daemon.c", "example.feed"):
+            tree.copy(TOP / "bindings/c" / name, f"usr/share/doc/libyarib-dev/examples/{name}")
         return Package("libyarib-dev", "libdevel", f"libyarib0 (= {VERSION})", (
             "IPv4 routing tables with proved answers - headers\n"
-            " Header, static library and pkg-config file of libyarib."), tree)
+            " Headers, static library, manual, and pkg-config and CMake files of libyarib."), tree)
 
     def python_package(self):
         tree = Tree()
@@ -172,19 +175,21 @@ class Release:
                 tree.copy(TOP / path, path.removeprefix("bindings/"))
             tree.copy(TOP / "NOTICES.md", "NOTICES.md")
             tree.copy_all(TOP / "licences", "licences/")
-            tree.files["c/yarib.h"] = self.staged.files["include/yarib.h"]
+            for header in ("yarib.h", "yarib_check.h"):
+                tree.files[f"c/{header}"] = self.staged.files[f"include/{header}"]
             tree.files["out/libyarib.a"] = self.staged.files["lib/libyarib.a"]
             self.add_tar(f"yarib-{VERSION}-{name}", tree)
 
-    def add_wheel(self):
+    def add_wheel_and_sdist(self):
         with tempfile.TemporaryDirectory() as folder:
             library = pathlib.Path(folder) / "libyarib.so.0"
             library.write_bytes(self.staged.files["lib/libyarib.so.0"][0])
             environment = os.environ | {"YARIB_LIBRARY": str(library), "SOURCE_DATE_EPOCH": str(self.time), "PYTHONDONTWRITEBYTECODE": "1"}
-            made = subprocess.run(["python3", "-c", "import make_wheel, sys; print(make_wheel.build_wheel(sys.argv[1]))", folder],
+            calls = "import make_wheel, sys; print(make_wheel.build_wheel(sys.argv[1])); print(make_wheel.build_sdist(sys.argv[1]))"
+            made = subprocess.run(["python3", "-c", calls, folder],
                                   cwd=TOP / "bindings/python", env=environment, stdout=subprocess.PIPE, text=True, check=True)
-            name = made.stdout.strip()
-            self.files[name] = (pathlib.Path(folder) / name).read_bytes()
+            for name in made.stdout.split():
+                self.files[name] = (pathlib.Path(folder) / name).read_bytes()
 
 
 # -- the files of the repository that are packed

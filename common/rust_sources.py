@@ -85,6 +85,15 @@ class Item:
         owner = type_name(owner.strip())
         return (re.match(r"(?:\w+::)*(\w+)", trait.strip())[1] if parted else None), owner
 
+    def impl_name(self):
+        """Returns the name of an impl as the prover writes it: `T` for the methods of a type, or of `Drop` for it; `TTrA` for
+        those of the trait `Tr<A>` for `T`, or `TTr` if `A` is `T` or missing."""
+        trait, owner = self.of_impl()
+        if trait in (None, "Drop"):
+            return owner
+        given = re.search(rf"\b{trait}<(?:\w+::)*(\w+)>", " ".join(self.lines))
+        return f"{owner}{trait}{given[1] if given and given[1] != owner else ''}"
+
     def members(self):
         """Returns the members of an impl, a trait or a module."""
         owner = self.of_impl()[1] if self.kind == "impl" else self.name if self.kind == "trait" else None
@@ -132,6 +141,18 @@ class Source:
     def function_at(self, line):
         """Returns the function that contains this line, counted from 0."""
         return next((one for one in self.functions if one.start <= line < one.end), None)
+
+    def named(self, path):
+        """Returns the function of this source that the prover names by this path, or None."""
+        *owners, name = path.split("::")
+        is_method = owners and owners[-1][0].isupper()
+        found = [one for item in self.items if item.kind == "impl" and item.impl_name() == owners[-1]
+                 for one in item.members()] if is_method else self.items
+        return next((one for one in found if one.kind == "fn" and one.name == name), None)
+
+    def offset(self, line):
+        """Returns where this line, counted from 0, begins in the text."""
+        return sum(len(one) + 1 for one in self.lines[:line])
 
     @functools.cached_property
     def uses(self):

@@ -8,7 +8,7 @@ import tomllib
 
 from . import prover
 from .crates import CRATES, TOP, all_crates
-from .definition_reader import Definition, imports, parse_module, rests_on, rust_named, unique, words_of
+from .definition_reader import Definition, imports, parse_module, rests_on, rust_named, type_of, unique, words_of
 from .rust_sources import source, sources
 
 
@@ -38,22 +38,36 @@ WORDS = tomllib.loads(pathlib.Path(__file__).with_suffix(".toml").read_text())
 # The signs that a reader has to know, the definitions of which the pages print only the first line, and the words of the
 # kit's library.
 LEGEND, BRIEF, KIT = WORDS["signs"], WORDS["brief"], WORDS["words"]
+# The types and traits of the kit that the pages name.
+KIT_TYPES = WORDS["types"]
 PAGES = [page_of(said) for said in WORDS["page"]]
 PLAIN = {"Bool", "Err", "List", "None", "Ok", "Option", "Result", "Some", "false", "true", "none", "some", "ℕ"}
 
 
+# A field of a struct, on one line.
+FIELD = re.compile(r"\s*(?:pub(?:\(\w+\))? )?(\w+):")
+
+
 class Tie:
-    """Members of an `impl` that tie a definition to the sources: read like a clause."""
+    """Members of an `impl`, or fields of a struct, that tie a definition to the sources: read like a clause."""
 
     def __init__(self, file, head, members, said):
         self.file, self.said = CRATES / file, said
         item = next(item for item in source(self.file).items if item.lines[0] == head + " {")
-        kept = [line for member in item.members() if member.name in members for line in member.lines]
+        parts = {one.name: one.lines for one in item.members()}
+        if item.kind == "struct":
+            parts = {field[1]: [line] for line in item.lines if (field := FIELD.match(line))}
+        if missing := set(members) - set(parts):
+            sys.exit(f"tools/statement: {head}: no " + ", ".join(sorted(missing)))
+        kept = [line for name in members for line in parts[name]]
         self.name, self.comment, self.lines = head, [], [item.lines[0], *kept, "}"]
 
     def rests_on(self):
-        ghosts = imports(source(self.file).text)
-        return [one for one in unique(words_of("\n".join(self.lines[1:-1]), {}, ghosts)) if isinstance(one, Definition)]
+        ghosts, text = imports(source(self.file).text), "\n".join(self.lines[1:-1])
+        found, head = list(words_of(text, {}, ghosts)), self.lines[0] if self.lines[0].startswith("impl") else ""
+        for word in re.findall(r"(?<![\w.])[A-Z]\w*", head + text):
+            found += [] if word in ghosts else rust_named(self.file, word)
+        return [one for one in unique(found) if isinstance(one, Definition)]
 
 
 class Clause:
@@ -70,8 +84,7 @@ class Clause:
             sys.exit(f"tools/statement: no public function {said}")
         self.file, self.comment = function.file, function.comment()
         self.head, self.clauses = [], []
-        for line in function.written()[:function.clauses_end()]:
-            line = line[function.margin:]
+        for line in contract_of(function):
             if re.match(r"\s*(requires|ensures)\b", line):
                 self.clauses.append([line])
             else:
@@ -95,6 +108,11 @@ class Clause:
         for word in rust:
             found += rust_named(self.file, word)
         return unique(found)
+
+
+def contract_of(function):
+    """The lines of a function's head and of its clauses, without its margin."""
+    return [line[function.margin:] for line in function.written()[:function.clauses_end()]]
 
 
 def public_function(crate, owner, name):
@@ -160,7 +178,7 @@ def shown_clause(clause):
 def fenced(language, parts):
     """A fence with these parts, an empty line between each two; nothing if there are none."""
     lines = [line for part in parts for line in ["", *part]]
-    return [f"```{language}", *lines[1:], "```", ""] if parts else []
+    return [f"```{language}", *lines[1:], "```", ""] if lines else []
 
 
 def places(ones, link):
@@ -195,8 +213,11 @@ class Written:
 
     def has(self, definition, brief):
         self.home[definition.key] = None if definition.key in brief else self.page
-        self.definitions += 1
-        self.lines += 1 if definition.key in brief else definition.count()
+        self.counts(1, 1 if definition.key in brief else definition.count())
+
+    def counts(self, definitions, lines):
+        self.definitions += definitions
+        self.lines += lines
 
 
 def from_above(old, spoken_of, written):
@@ -232,29 +253,56 @@ def chapter(one, written, link):
     out = [f"## {one.title}", "", *wrapped(one.said), "", *wrapped(f"*Premises:* {one.premises}"), ""]
     out += places(speakers, link) + fenced("rust", [shown_clause(speaker) for speaker in speakers])
     for said in one.kit:
-        out += [*wrapped(said["said"]), "", *fenced("agda", kit_definitions(said["file"], said["names"]))]
+        out += of_kit(written=written, **said)
     return out + definitions_of(speakers, written, BRIEF, link)
 
 
+def of_kit(said, types, functions, definitions, written):
+    """What the toolchain says of a chapter: its types and the contracts of its functions, and the definitions in these.
+    Each table is of files, with the names that are taken of each."""
+    kinds = [one for file, names in types.items() for one in kit_types(file, names)]
+    terms = [one for file, names in definitions.items() for one in kit_definitions(file, names)]
+    written.counts(len(kinds + terms), sum(one.count() for one in kinds + terms))
+    calls = [call for file, names in functions.items() for call in kit_functions(file, names)]
+    return [*wrapped(said), "", *fenced("rust", [*map(shown_of_kit, kinds), *calls]),
+            *fenced("agda", map(shown_of_kit, terms))]
+
+
+def shown_of_kit(definition):
+    """The lines of a definition of the toolchain, below its comment."""
+    mark = "--" if definition.file.suffix == ".antt" else "///"
+    return [*(f"{mark} {line}" for line in wrapped(" ".join(definition.comment), width=116)), *definition.lines]
+
+
 def kit_definitions(file, names):
-    """The lines of definitions of the toolchain, with their comments."""
     found = parse_module(file, prover.kit() / "rattle" / file)
-    return [[*(f"-- {line}" for line in wrapped(" ".join(found[name].comment), width=116)), *found[name].lines]
-            for name in names]
+    return [found[name] for name in names]
+
+
+def kit_types(file, names):
+    items = {item.name: item for item in source(prover.kit() / "rattle" / file).items if item.kind in ("struct", "trait")}
+    return [type_of(file.partition("/")[0], items[name]) for name in names]
+
+
+def kit_functions(file, names):
+    found = {one.name: one for one in source(prover.kit() / "rattle" / file).functions if one.is_pub}
+    return [[*commented("///", found[name].comment()), *contract_of(found[name])] for name in names]
 
 
 def legend():
     return ["| Sign | How to read it |", "|---|---|", *(f"| {sign} | {said} |" for sign, said in LEGEND.items()), ""]
 
 
-def kit_words(written):
-    """The kit's words of a page with what they say. Each that isn't Rust's or the legend's has to be told."""
+def kit_words(written, text):
+    """The kit's words of a page with what they say, and those of its types that the text names. Each word that isn't Rust's
+    or the legend's has to be told."""
     told = {word for words in KIT for word in re.findall(r"[^\W\d][\w?]*", words)}
     used = {name for names in written.library.values() for name in names if name and "◌" not in name}
     if missing := used - told - PLAIN:
         sys.exit("tools/statement: statement_pages.toml has no meaning for: " + ", ".join(sorted(missing)))
     rows = [f"| `{words}` | {said} |" for words, said in KIT.items()
             if used & set(re.findall(r"[^\W\d][\w?]*", words)) or words.startswith("m ")]
+    rows += [f"| `{word}` | {said} |" for word, said in KIT_TYPES.items() if re.search(rf"\b{word}\b", text)]
     return ["## Words of the kit's library", "", "| Word | What it says |", "|---|---|", *rows, ""]
 
 
@@ -263,7 +311,7 @@ def head_of(page, table, written):
         "Each clause is proved. To judge what it says, read it and the definitions below it: "
         f"{written.lines} lines on this page, comments not counted, in {written.definitions} definitions and types. Each "
         "definition is printed once, below all that use it, with its comment; a list above names its file. "
-        "Proofs and bodies need not be read. `tools/statement --write` generates this page from the sources."), "",
+        "Proofs and the bodies of functions need not be read. `tools/statement --write` generates this page from the sources."), "",
         *legend(), "| Chapter | New definitions | Their lines |", "|---|---|---|", *table, ""]
 
 
@@ -280,7 +328,7 @@ def statement_page(page, written):
         body += chapter(one, written, "../")
         counts = f"{written.definitions - definitions} | {written.lines - lines}"
         table.append(f"| [{one.title}](#{anchor(one.title)}) | {counts} |")
-    return page_text(head_of(page, table, written) + body + kit_words(written))
+    return page_text(head_of(page, table, written) + body + kit_words(written, "\n".join(body)))
 
 
 def page_text(lines):

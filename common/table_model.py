@@ -190,7 +190,7 @@ HAS_CR = " (the CR of CRLF is part of it)"
 E8 = "E8: the line has over 128 bytes"
 NOT_TAKEN = {
     "full": "adds over the limit", "exists": "duplicate adds",
-    "missing": "replaces and withdraws without a route", "refused": "commands failed, out of memory",
+    "missing": "replaces and withdraws without a route",
 }
 
 
@@ -204,8 +204,8 @@ def told_text(texts, names, limit=65_536):
         if faulty:
             told += f"yarib: {name}: faulty lines: {len(faulty)}, the first is line {faulty[0]}: {E1}\n"
         for answer, what in NOT_TAKEN.items():
-            if count := sum(found == answer for _, found in answers):
-                told += f"yarib: {name}: {what}: {count}\n"
+            if lines := [place.split(":")[1] for place, found in answers if found == answer]:
+                told += f"yarib: {name}: {what}: {len(lines)}, the first is line {lines[0]}\n"
     return told
 
 

@@ -1,4 +1,4 @@
-"""Runs a test that may never end, as those of wrong variants do. How busy the machine is decides nothing: a process that
+"""Runs a test that may never end, as those of mutants do. How busy the machine is decides nothing: a process that
 waits forever is told by its threads, all of which sleep, and one that goes on and on gets no verdict."""
 import os
 import pathlib

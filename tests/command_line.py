@@ -439,7 +439,7 @@ def examples_of_the_help(yarib):
         help_text = yarib(name, "--help")[1]
         for words, shown in re.findall(r"^  \$ yarib (.*)\n((?:  [^$].*\n)*)", help_text, re.M):
             listed.append(calls.call(words, textwrap.dedent(shown), 1 if name == "diff" else 0))
-    expect("how many examples the help has", len(listed), 11)
+    expect("how many examples the help has", len(listed), 12)
     make(yarib, texts, listed)
 
 
@@ -772,7 +772,7 @@ def not_taken(yarib):
     pathlib.Path("asked.txt").write_text("10.0.0.1\n" + "#" * 129 + "\nx\n10.0.0.2\n")
     answer = "10.0.0.1 route " + route(1)
     faulty = f"yarib: three.feed: faulty lines: 2, the first is line 2: {E1}\n"
-    over = "yarib: three.feed: adds over the limit: 2\n"
+    over = "yarib: three.feed: adds over the limit: 2, the first is line 3\n"
     asked = f"yarib: asked.txt: faulty lines: 2, the first is line 2: {E8}\n"
     one, by_file = ["--limit", "1"], ["--addresses", "asked.txt"]
     expect("faulty lines", yarib("lookup", "--address", "10.0.0.1", "three.feed"), (2, answer, faulty))
@@ -887,6 +887,35 @@ def compared_as_json(yarib):
     expect("too many new files, as JSON", ended, TOO_MANY)
 
 
+# Catches a comparison that ignores `--prefixes`, or prints halves of a prefix, prefixes beyond the range, or too few:
+# `prefixes of`.
+def compared_as_prefixes(yarib):
+    """Each range of the same command without --prefixes is the prefixes that Python's ipaddress makes of it."""
+    choice = random.Random(88)
+    options = ["--by", "hop"], ["--by", "route"], ["--by", "route", "--names"], ["--by", "route", "--json"], ["--json"]
+    for number in range(12):
+        (_, old), (_, new) = (random_table(choice, side, number) for side in ("old", "new"))
+        for more in options:
+            status, lines, _ = yarib("diff", *more, *old, "--", *new)
+            ended = yarib("diff", "--prefixes", *more, *old, "--", *new)
+            compare(f"prefixes of {more} {number}", ended, status, "".join(map(as_prefixes, lines.splitlines(True))))
+    pathlib.Path("halves.feed").write_text("add 0.0.0.0/1 1 192.0.2.1\nadd 128.0.0.0/1 1 192.0.2.1\n")
+    ended = yarib("diff", "--prefixes", "empty.feed", "--", "halves.feed")
+    compare("two halves are one prefix", ended, 1, "0.0.0.0/0 no route -> via 192.0.2.1\n")
+    compare("no prefix", yarib("diff", "--prefixes", "row.feed", "--", "row.feed"), 0, "")
+    misused("--prefixes twice", yarib("diff", "--prefixes", "--prefixes", "row.feed", "--", "row.feed"), "--prefixes")
+    misused("--prefixes of a table", yarib("table", "--prefixes", "row.feed"), "--prefixes")
+
+
+def as_prefixes(line):
+    """The lines of the prefixes of a range, from the line of the range."""
+    first, last = re.findall(r"\d+\.\d+\.\d+\.\d+", line)[:2]
+    head = f'"first":"{first}","last":"{last}"' if line[0] == "{" else f"{first}-{last}"
+    form = '"prefix":"{}"' if line[0] == "{" else "{}"
+    made = ipaddress.summarize_address_range(ipaddress.ip_address(first), ipaddress.ip_address(last))
+    return "".join(line.replace(head, form.format(prefix), 1) for prefix in made)
+
+
 # Catches a comparison that pairs feeds by number instead of name: `a file that one side lacks`.
 def compared_by_name(yarib):
     """Ranges of random feeds whose files have another order on the other side, or are missing there: feeds with the
@@ -965,7 +994,7 @@ def random_table(choice, side, count):
 # Catches a program that reports the new files first: `what was not taken of the old files comes first`.
 def old_first(yarib):
     pathlib.Path("gone.feed").write_text("withdraw 10.0.0.0/8\n")
-    told = ["yarib: gone.feed: replaces and withdraws without a route: 1\n",
+    told = ["yarib: gone.feed: replaces and withdraws without a route: 1, the first is line 1\n",
             f"yarib: faulty.feed: faulty lines: 1, the first is line 1: {E1}\n"]
     for sides, lines in ((("gone", "faulty"), told), (("faulty", "gone"), told[::-1])):
         old, new = (f"{side}.feed" for side in sides)
@@ -981,6 +1010,8 @@ def old_first(yarib):
 # Catches a program that prints only the last component of a path: `all kinds of one file`.
 # Catches a program that reports a duplicate `add` as one over the limit: `an add of what is there`.
 # Catches counts of rejected input that stop at 255, 1,000 or 65,535: `tens of thousands of each kind`.
+# Catches a program that reports the last line of a kind, the first line of another kind, or a number that leaves out
+# skipped or faulty lines: `all kinds of one file`.
 # Catches status 0 of `table` if there were only `add`s over the limit: `adds over the limit alone`.
 def files_told(yarib):
     """Each file is reported, by the whole of its name and each time it is given."""
@@ -991,10 +1022,10 @@ def files_told(yarib):
     pathlib.Path("again.feed").write_text(ROW + ROW)
     pathlib.Path("gone.feed").write_text("withdraw 10.0.0.0/8\n")
     kinds = "".join(f"yarib: {long}: {what}\n" for what in (
-        f"faulty lines: 2, the first is line 9: {E1}", "adds over the limit: 1", "duplicate adds: 1",
-        "replaces and withdraws without a route: 3"))
-    again = "yarib: again.feed: duplicate adds: 1\n"
-    gone = "yarib: gone.feed: replaces and withdraws without a route: 1\n"
+        f"faulty lines: 2, the first is line 9: {E1}", "adds over the limit: 1, the first is line 8",
+        "duplicate adds: 1, the first is line 4", "replaces and withdraws without a route: 3, the first is line 5"))
+    again = "yarib: again.feed: duplicate adds: 1, the first is line 2\n"
+    gone = "yarib: gone.feed: replaces and withdraws without a route: 1, the first is line 1\n"
     table = lambda *names: yarib("table", "--best", "--limit", "1", *names)
     expect("all kinds of one file", table(long), (2, route(1), kinds))
     expect("an add of what is there", table("again.feed"), (0, route(1), again))
@@ -1003,7 +1034,7 @@ def files_told(yarib):
     expect("a third file and one that is named again", ended, (2, route(1), gone + kinds + again + kinds + gone))
     pathlib.Path("over.feed").write_text(ROW + "add 11.0.0.0/8 1 192.0.2.1\n")
     over = yarib("table", "--limit", "1", "over.feed")
-    expect("adds over the limit alone", over, (2, route(1), "yarib: over.feed: adds over the limit: 1\n"))
+    expect("adds over the limit alone", over, (2, route(1), "yarib: over.feed: adds over the limit: 1, the first is line 2\n"))
     turns, more = divmod(MAX_FEEDS, 3)
     many = [f"{name}.feed" for name in ("again", "gone", "row")] * turns + ["again.feed", "gone.feed"][:more]
     told = (again + gone) * turns + "".join([again, gone][:more])
@@ -1011,8 +1042,9 @@ def files_told(yarib):
     counts = {"frob\n": 70_001, "add 11.0.0.0/8 1 192.0.2.1\n": 70_002, ROW: 70_003, "withdraw 12.0.0.0/8\n": 70_004}
     pathlib.Path("many.feed").write_text(ROW + "".join(line * count for line, count in counts.items()))
     told = "".join(f"yarib: many.feed: {what}\n" for what in (
-        f"faulty lines: 70001, the first is line 2: {E1}", "adds over the limit: 70002",
-        "duplicate adds: 70003", "replaces and withdraws without a route: 70004"))
+        f"faulty lines: 70001, the first is line 2: {E1}", "adds over the limit: 70002, the first is line 70003",
+        "duplicate adds: 70003, the first is line 140005",
+        "replaces and withdraws without a route: 70004, the first is line 210008"))
     expect("tens of thousands of each kind", table("many.feed"), (2, route(1), told))
 
 
@@ -1080,6 +1112,60 @@ def addresses_told(yarib):
         with open("/dev/full", "w") as full:
             ended = yarib(*words, "faulty.feed", "row.feed", stdout=full)
         expect(f"nothing is told where the output is full: {words}", ended, CANNOT_WRITE)
+
+
+# Catches a program that prints invalid lines before or after all answers, with their number among the invalid lines, or
+# before the named addresses: `lines in their places`.
+# Catches an invalid line that is left out after the last address or before the first, or a piece of 256 addresses that is
+# answered twice or not at all: the same.
+# Catches an object for an invalid line without `--json`, or a line with it; also one with `"also"`: the same, with `--json`.
+# Catches a program that writes nothing, or doesn't notice that it can't write, if no line is an address: `no address`.
+# Catches other output without `--keep-invalid`: `without the option`.
+def invalid_lines(yarib):
+    """With --keep-invalid each line of the address file that isn't skipped has its answer in its place."""
+    choice = random.Random(88)
+    lines = ["frob", "10.0.0.1", "11.0.0.1", "", "10.0.0.2/32"]
+    for count in (1, 255, 256, 257, 600):
+        lines += choice.choices(["10.0.0.1", "10.9.9.9", "11.0.0.1"], k=count)
+        lines += choice.sample(["", "# note", "frob", "10.0.0", "x" * 129, " 10.0.0.1"], k=4)
+    lines += ["10.0.0.3", "frob"]
+    pathlib.Path("asked.txt").write_text("\n".join(lines))
+    pathlib.Path("second.feed").write_text("add 10.0.0.0/8 200 192.0.2.2\n")
+    skipped = lambda line: line == "" or line.startswith("#") and len(line) <= 128
+    first = next(number for number, line in enumerate(lines, 1) if not skipped(line) and not is_address(line))
+    count = sum(not skipped(line) and not is_address(line) for line in lines)
+    told = f"yarib: asked.txt: faulty lines: {count}, the first is line {first}: {E3}\n"
+    for words in ([], ["--all"], ["--names"], ["--names", "--all"], ["--json"], ["--json", "--names"], ["--json", "--all"]):
+        each = {}
+        for address in {"10.0.0.2", *filter(is_address, lines)}:
+            status, out, err = yarib("lookup", *words, "--address", address, "row.feed", "second.feed")
+            expect(f"one address {words}", (status, err), (0, ""))
+            each[address] = out
+        invalid = '{{"line":{},"invalid":true}}\n' if "--json" in words else "{} invalid\n"
+        rows = [(line, each.get(line, invalid.format(number))) for number, line in enumerate(lines, 1) if not skipped(line)]
+        asked = ["lookup", *words, "--address", "10.0.0.2", "--addresses", "asked.txt", "row.feed", "second.feed"]
+        expect(f"lines in their places {words}", yarib(*asked, "--keep-invalid"),
+               (2, each["10.0.0.2"] + "".join(row for _, row in rows), told))
+        expect(f"without the option {words}", yarib(*asked),
+               (2, each["10.0.0.2"] + "".join(row for line, row in rows if is_address(line)), told))
+    pathlib.Path("asked.txt").write_text("# none\nfrob\n\nfrob\n")
+    told = f"yarib: asked.txt: faulty lines: 2, the first is line 2: {E3}\n"
+    for words in ([], ["--all"]):
+        none = ["lookup", *words, "--addresses", "asked.txt", "row.feed", "--keep-invalid"]
+        expect(f"no address {words}", yarib(*none), (2, "2 invalid\n4 invalid\n", told))
+        expect(f"no address {words}, without the option", yarib(*none[:-1]), (2, "", told))
+        with open("/dev/full", "w") as full:
+            expect(f"no address {words}, to a full device", yarib(*none, stdout=full), CANNOT_WRITE)
+    expect("without a file of addresses", yarib("lookup", "--keep-invalid", "--address", "10.0.0.1", "row.feed"),
+           (0, "10.0.0.1 route " + route(1), ""))
+
+
+def is_address(line):
+    """Returns true if the line is an address, as an address file has it."""
+    try:
+        return str(ipaddress.IPv4Address(line)) == line
+    except ipaddress.AddressValueError:
+        return False
 
 
 # Catches status 0 if help or version can't be written: `['--help'] to a closed output`.
@@ -1259,8 +1345,8 @@ def progress_of_long_runs(yarib):
 CASES = (
     runs, any_name, what_the_table_says, what_two_tables_answer_otherwise, file_order, many_files, unreadable, names,
     texts, limits, batches, twice, replays, finished_tables, parts_of_tables, left_out, routes_of_feeds,
-    unknown_feeds, counted_tables, totalled_tables, compared_tables,
-    compared_as_json, compared_by_name, old_first, not_taken, not_asked, files_told, cut_off, addresses_told, pages, advice,
+    unknown_feeds, counted_tables, totalled_tables, compared_tables, compared_as_json, compared_as_prefixes,
+    compared_by_name, old_first, not_taken, not_asked, files_told, cut_off, addresses_told, invalid_lines, pages, advice,
     examples_of_the_help, help_is_true, closed_outputs, progress, line_each_second, progress_of_long_runs,
 )
 

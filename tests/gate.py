@@ -3,7 +3,7 @@
 
 tests/gate.py [CASE..], or --list for the names of the cases. Needs git and python3, proves nothing, and takes about half a
 minute. In the repository, ./test, .ci/run, tools/verdict and what this uses are the real ones. Each other script is a
-stub, which ends as BREAKS says, a list of `SCRIPT=END`, and notes its words and the gate's variables.
+stub, which ends as BREAKS says, a list of `SCRIPT=END`, and notes its words and the variables of ./test.
 """
 import concurrent.futures
 import json
@@ -51,12 +51,12 @@ case " $BREAKS " in
   *" $name=is-kept "*) echo "$name: passed in an earlier run on this machine" ;;
   *" $name=none "*) echo "0 passed, 0 failed"; exit ;;
   *" $name=fewer "*) echo "1 passed, 0 failed"; exit ;;
-  *" $name=one-fails "*) echo "body x/y: NOT REFUSED in z"; echo "COUNT_LESS passed, 1 failed"; exit 1 ;;
+  *" $name=one-fails "*) echo "mutant x/y: NOT REFUSED in z"; echo "COUNT_LESS passed, 1 failed"; exit 1 ;;
   *" $name=count-and-status "*) echo "COUNT passed, 0 failed"; exit 1 ;;
-  *" $name=no-count "*) echo "body x/y: refused, as it must be: z"; exit ;;
+  *" $name=no-count "*) echo "mutant x/y: refused, as it must be: z"; exit ;;
 esac
 case $name in
-  tools/mutants) echo "body x/y: refused, as it must be: z"; echo "COUNT passed, 0 failed" ;;
+  tools/mutants) echo "mutant x/y: refused, as it must be: z"; echo "COUNT passed, 0 failed" ;;
   tools/definitions) echo "definition x/y: refused, as it must be: z"; echo "COUNT passed, 0 failed" ;;
   tools/archive) mkdir -p crates/yarib_c/out; echo a >crates/yarib_c/out/libyarib_c.a ;;
   tools/unproved) echo "$PWD/prog" ;;
@@ -85,7 +85,7 @@ exec "${words[@]}"
 
 
 class Repository:
-    """A repository of git with the gate and stubs, in a directory that has the temporary files of its runs too."""
+    """A repository of git with ./test and stubs, in a directory that has the temporary files of its runs too."""
 
     def __init__(self, folder):
         self.folder, self.top, self.made = folder, folder / "top", folder / "made"
@@ -204,7 +204,7 @@ def counts(new):
         tool, end = row
         status, lines, _ = one.test(breaks=f"{tool}={end}")
         expect(f"the status of ./test after {end} of {tool}", status, 1)
-        expect(f"it names {tool} after {end}", any(tool in line or "body x/y" in line for line in lines
+        expect(f"it names {tool} after {end}", any(tool in line or "mutant x/y" in line for line in lines
                                                    if line.startswith("  ")), True)
 
     ends = ("none", "fewer", "one-fails", "count-and-status", "no-count")

@@ -1,5 +1,5 @@
 #!/usr/bin/env python3
-"""Calls what keeps verdicts for later gates in a small repository, with a stub of the toolchain: tools/once, tools/archive,
+"""Calls what keeps verdicts for later runs of ./test in a small repository, with a stub of the toolchain: tools/once, tools/archive,
 tools/definitions, tools/mutants and tests/libraries.py keep a verdict for the files that were judged, and for nothing else.
 
 tests/kept.py [CASE..], or --list for the names of the cases. Needs python3, proves nothing, and takes seconds. A stub can
@@ -70,7 +70,7 @@ if ! command -v other >/dev/null; then echo "left out: what needs other"; fi
 grep -q right "$top/read.txt" && { [ -z "$MORE" ] || cat "$top/$MORE"; } || exit ${STATUS-1}
 """
 FILES = {
-    "crates.txt": "one:\nabove staticlib: one\none_examples: one\nlow:\nsmall: low\n",
+    "crates.txt": "one:\nabove staticlib: one\none_examples: one\nlow:\nsmall: low\ndeep:\n",
     "HANDLES": "",
     "crates/one/src/lib.rt": "//! One.\n#![tactic(auto)]\n",
     "crates/one/specs/One.antt": "-- One.\npub one : Nat\none = 1\n",
@@ -103,6 +103,15 @@ FILES = {
             ("right", "    n + n", "    2 * n", "twice: returns"))),
     "crates/small/must-fail/controls.md": "# Controls\n\n## the-same\n\n```\nfile: src/lib.rt\nold:     n⏎\nnew:     n + 0⏎\n"
                                           "taken in: same\n```\n",
+    "crates/deep/src/lib.rt": "//! Deep.\n\n" + "\n".join(
+        f"pub fn {name}(n: u64) -> u64\n    ensures {{ result ≡ n }}\n{{\n    n\n}}\n" for name in ("any", "down", "other", "plain")),
+    "crates/deep/proofs/fn/any/all/Answers.antt": "-- An answer of a closure in any.\n",
+    "crates/deep/proofs/+down/Answers.antt": "-- An answer of down, which calls itself.\n",
+    "crates/deep/proofs/other/Answers.antt": "-- An answer of other.\n",
+    "crates/deep/proofs/plain/Answers.antt": "use Rattle.deep.proofs.other.Goals as goal\n-- An answer of plain.\n",
+    "crates/deep/must-fail/mutants.md": "# Mutants\n\n" + "\n".join(
+        f"## {name}-wrong\n\n```\nfile: src/lib.rt\nold:     n⏎\nnew:     wrong⏎\nrefused in: {name}: returns\n```\n"
+        for name in ("any", "down", "other", "plain")),
     "read.txt": "right\n",
     "other.txt": "other\n",
 }
@@ -268,7 +277,9 @@ DECIDING = (
     ("crates.txt", "low:", "low: std"), ("crates.txt", "small: low", "small: low std"), ("crates/small/src/lib.rt", "//! Small", "//! Tiny"),
     ("crates/small/src/other.rt", "result ≡ 2", "result ≡ 2 + 0"), ("crates/small/specs/Small.antt", "small = 1", "small = 2"),
     ("crates/small/proofs/Lemma.antt", "lemma", "theorem"), ("tools/mutants", "not proved|no proof", "no proof|not proved"),
-    ("common/mutant_copy.py", "= 200_000,", "= 200_001,"),
+    ("common/mutant_copy.py", "= 200_000,", "= 200_001,"), ("common/mutant_lists.py", "it isn't written", "it is not written"),
+    ("common/prover.py", '"--jobs", "1"', '"--jobs", "2"'), ("common/rust_sources.py", '" " * 16', '" " * 17'),
+    ("common/crates.py", '"staticlib" in kind', '"staticlib" in [*kind]'),
 )
 WITHOUT_WEIGHT = (
     ("crates/low/src/lib.rt", "{\n    1\n}\n\npub", "{\n    1 + 0\n}\n\npub"), ("crates/low/proofs/low/Answers.antt", "answer", "reply"),
@@ -278,7 +289,7 @@ WITHOUT_WEIGHT = (
 
 
 # Catches a verdict on a mutant that is kept without the crates below, without the toolchain or for another mutant; a mutant
-# that isn't refused and is kept; `--anew` that tries nothing; a gate that tries only some: `the first gate`, `.. again`,
+# that isn't refused and is kept; `--anew` that tries nothing; a run that tries only some: `the first run`, `.. again`,
 # `.. is changed`.
 def mutants(new):
     one = new()
@@ -287,15 +298,18 @@ def mutants(new):
     def gate(*words, **how):
         status, said, _ = one.call("tools/mutants", "--gate", "--crate", "small", *words, **how)
         tried = {line.split()[1].removesuffix("_mutant_2") for line in one.notes.read_text().splitlines()}
-        lines = re.findall(r"^(?:body|control) small/([\w-]+): (?:refused|taken), as it must be", said, re.M)
+        lines = re.findall(r"^(?:mutant|control) small/([\w-]+): (?:refused|taken), as it must be", said, re.M)
         return status, said.splitlines()[-1], tried, sorted(lines)
 
     whole, kept = (1, "3 passed, 1 failed", {"twice", "same"}, ["one-wrong", "other-wrong", "the-same"]), {"twice"}
-    expect("the first gate", gate(), whole)
-    expect("the gate again: only the mutant that isn't refused", gate(), (*whole[:2], kept, whole[3]))
-    expect("the gate again: what it says", "small: 3 of 4 bodies were as they must be in earlier runs" in one.call(
+    expect("the first run", gate(), whole)
+    expect("the run again: only the mutant that isn't refused", gate(), (*whole[:2], kept, whole[3]))
+    expect("the run again: what it says", "small: 3 of 4 mutants were as they must be in earlier runs" in one.call(
         "tools/mutants", "--gate", "--crate", "small")[1], True)
     expect("--anew", gate("--anew"), whole)
+    shutil.rmtree(one.room / "cache")
+    expect("--anew without what was kept", gate("--anew"), whole)
+    expect("the run after --anew", gate(), (*whole[:2], kept, whole[3]))
     expect("one mutant by its name", gate("--anew", "other-wrong"), (0, "1 passed, 0 failed", {"same"}, ["other-wrong"]))
 
     def is_changed(path, old, text, tried):
@@ -316,7 +330,7 @@ def mutants(new):
         # Only the mutants of `twice` depend on these.
         one.put(one.top / f"crates/small/proofs/{name}.antt", FILES[f"crates/small/proofs/{name}.antt"] + "-- more\n")
         tried = one.call("tools/mutants", "--gate", "--crate", "small", "one-wrong", "other-wrong")
-        expect(f"{name} is changed: the mutant of twice", ("1 of 2 bodies" in tried[1], tried[2]), (True, 1))
+        expect(f"{name} is changed: the mutant of twice", ("1 of 2 mutants" in tried[1], tried[2]), (True, 1))
     is_changed(one.top / "crates/small/must-fail/mutants.md", "    wrong⏎", "    wrong + 1⏎", whole[2])
     is_changed(one.top / "crates/small/must-fail/controls.md", "    n + 0⏎", "    0 + n⏎", whole[2])
     # Verdicts report the goal, so that they hold for a mutant that names it, and only then.
@@ -335,6 +349,27 @@ def mutants(new):
     expect("a definition is saved meanwhile", gate()[2], whole[2])
 
 
+# Catches a verdict on a mutant that is kept though a proof changed on which it depends: that of a closure, of its function
+# that calls itself, or of another function whose goals its own proof cites: `.. of deep is changed`.
+def proofs(new):
+    one = new()
+    one.put(one.kit / "bin/rattle", CHECK)
+
+    def tried():
+        status, said, _ = one.call("tools/mutants", "--gate", "--crate", "deep")
+        return status, said.splitlines()[-1], {line.split()[1] for line in one.notes.read_text().splitlines()}
+
+    every = {"any", "down", "other", "plain"}
+    expect("the first run", tried(), (0, "4 passed, 0 failed", every))
+    expect("the run again", tried(), (0, "4 passed, 0 failed", set()))
+    for name, functions in (("fn/any/all", every), ("+down", {"down", "plain"}), ("other", {"down", "other", "plain"}),
+                            ("plain", {"down", "plain"})):
+        path = one.top / f"crates/deep/proofs/{name}/Answers.antt"
+        path.write_text(path.read_text() + "-- more\n")
+        expect(f"what is tried if the proof {name} of deep is changed", tried()[2], functions)
+    expect("the run after all changes", tried()[2], set())
+
+
 # Catches a time limit that counts as a verdict, or a wait that doesn't: `.. that goes on`, `.. that waits`.
 def variants(new):
     wait = "import threading; lock = threading.Lock(); lock.acquire(); lock.acquire()"
@@ -343,10 +378,10 @@ def variants(new):
             ("that is killed", ["sh", "-c", "kill -9 $$"], -9), ("that waits", [sys.executable, "-c", wait], WAITS),
             ("that goes on", ["sh", "-c", "while :; do :; done"], None),
             ("whose child goes on", ["sh", "-c", "(while :; do :; done); exit 1"], None)):
-        expect(f"a wrong variant {name}", watched(words, seconds=8), wanted)
+        expect(f"a mutant {name}", watched(words, seconds=8), wanted)
 
 
-CASES = (once, archive, libraries, definitions, mutants, variants)
+CASES = (once, archive, libraries, definitions, mutants, proofs, variants)
 
 
 def main():

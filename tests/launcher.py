@@ -86,7 +86,7 @@ class Copy:
         common = [f"common/{name}.py" for name in ("built", "building", "crates", "prover", "versions")]
         for name in ("yarib", "VERSION", "crates.txt", "tools/build", "tools/common.py", *common, "bindings/build",
                      "bindings/c/yarib.map", "bindings/c/yarib.h", "bindings/c/layer.h",
-                     "bindings/c/places.c", "bindings/c/handles.c", "bindings/c/readers.c", "bindings/c/files.c", "bindings/c/about.c",
+                     "bindings/c/places.c", "bindings/c/handles.c", "bindings/c/readers.c", "bindings/c/copies.c", "bindings/c/files.c", "bindings/c/about.c",
                      "bindings/c/heap.c"):
             (self.top / name).parent.mkdir(parents=True, exist_ok=True)
             shutil.copy(TOP / name, self.top / name)
@@ -184,7 +184,8 @@ def what_it_is_given(copy):
 # Catches a build for a changed edit that the prover must refuse, or for a crate on which the program doesn't depend:
 # `not built where crates/walkthrough/src/lib.rt is another`.
 # Catches a build that uses a library of another toolchain or logic: `built where the toolchain is another`.
-# Catches a build that keeps each older product, or removes a program that may be starting: `how many of each are kept`.
+# Catches a build that keeps each older product or its checksum, or removes a program that may be starting: `how many of each
+# are kept`, `checksums that are kept ..`.
 # Catches a build that makes only the missing library again: `built where a library is gone`.
 def what_is_built_anew(copy):
     whole = below(["rt_app"])
@@ -227,6 +228,8 @@ def what_is_built_anew(copy):
             if path.suffix != ".sha256"]
     numbers = {crate: sum(name.startswith(f"{crate}-") for name in kept) for crate in whole}
     expect("how many of each are kept", numbers, {crate: 2 if crate == "rt_app" else 1 for crate in whole})
+    sums = (copy.top / "out/build").glob("*.sha256")
+    expect("checksums that are kept without their product", [path.name for path in sums if not path.with_suffix("").exists()], [])
 
 
 # Catches a launcher that starts a program that is empty, cut or changed: `not started where the program is ..`.
@@ -303,7 +306,7 @@ def taken_back(copy):
 
 # Catches a build that leaves a file or a link that `rt ci` refuses, during the build or afterwards: `what the toolchain
 # says of the tree ..`.
-# Catches a build that depends on the gate's files, or removes or changes them: `the gate's own files`.
+# Catches a build that depends on the files of ./test, or removes or changes them: `the files of ./test ..`.
 def beside_the_gate(copy):
     unread = copy.top / "out/old.rlib/interface/lang/src/lib.rt"
     unread.parent.mkdir(parents=True)
@@ -319,13 +322,13 @@ def beside_the_gate(copy):
         judged = {crate: copy.top / f"crates/{crate}/out/{crate}" for crate in ("rt_app", "yarib_c")}
         for path in judged.values():
             path.parent.mkdir(exist_ok=True)
-            path.write_text(f"of the gate's {round} run")
+            path.write_text(f"of the {round} run of ./test")
         copy.change("crates/rt_app/src/main.rt")
         copy.start("run", "x")
         copy.start("yarib_c", by=copy.top / "tools/build")
-        expect(f"the gate's own files after the {round} run",
+        expect(f"the files of ./test after the {round} run",
                (kept.read_text(), [path.read_text() for path in judged.values()]),
-               ("kept\n", [f"of the gate's {round} run"] * 2))
+               ("kept\n", [f"of the {round} run of ./test"] * 2))
     expect("a library is built", copy.start(by=copy.top / "bindings/build")[0], 0)
     expect("what the toolchain says of the tree after bindings/build", refused_files(copy.top), None)
     copy.change("crates/rt_cidr/src/lib.rt")
@@ -387,13 +390,15 @@ def is_alive(pid):
         return False
 
 
-# Catches a signal after which a prover goes on, or a temporary file of the build or a lock remains: `what is left ..`,
-# `built after ..`.
+# Catches a signal after which a prover goes on, or a temporary file of the build, half a product or a lock remains: `what is
+# left ..`, `built after ..`.
+# Catches a build that has its files elsewhere than in $TMPDIR: `where a build has its files`.
 # Catches another status of an ended build: `a build that .. ends`.
 def interrupted(copy):
     for number in (signal.SIGTERM, signal.SIGINT, signal.SIGHUP, signal.SIGKILL):
         copy.change("crates/rt_trie/src/lib.rt")
         with begun_build(copy, "rt_rib") as (call, prover):
+            expect("where a build has its files", len([*copy.folder.iterdir()]), 1)
             if number == signal.SIGKILL:
                 builder = next(pid for pid in children(call.pid) if b"tools/build" in command(pid))
                 os.kill(builder, number)
@@ -406,8 +411,11 @@ def interrupted(copy):
             os.killpg(prover, signal.SIGKILL)
         wait_until(lambda: not is_alive(prover))
         expect(f"what is built after {number.name}", [path.name for path in (copy.top / "out/build").glob("*.new")], [])
+        for name in ("rt_trie.new", "rt_trie.new.sha256"):
+            (copy.top / "out/build" / name).write_text("half of a product\n")
         copy.built()
         noted = begun(copy.built_by_call())
+        expect(f"what is left of a product that was half made before {number.name}", [*(copy.top / "out/build").glob("*.new*")], [])
         expect(f"built after {number.name}: rt_trie is not proved again", ("rt_trie" in noted, "rt_app" in noted),
                (False, True))
         expect(f"what is left after {number.name}", [*copy.folder.iterdir()], [])

@@ -4,7 +4,7 @@
 tests/mutants.py, with the toolchain on PATH. Among the mutants are equivalent ones, by an answer and by a named goal, one
 that can't be read and is in a round with another, and one whose function calls another that is refused in the same
 round. The kept verdict on a refused mutant has to be forgotten if a text changes that the verdict can depend on, and
-only then.
+only then. No listed mutant may depend on the text of another function.
 """
 import os
 import pathlib
@@ -15,7 +15,8 @@ import sys
 import tempfile
 
 from common.checks import TOP
-from common.mutant_lists import bodies_of
+from common.crates import CRATES
+from common.mutant_lists import BadMutant, controls_of, listing_crates, mutants_of
 from common.rust_sources import Source
 
 SOURCE = """\
@@ -39,6 +40,39 @@ pub fn four_times(n: u64) -> u64
 {
     twice(twice(n))
 }
+
+/// Twice the number, by the same text as `twice`.
+pub fn double(n: u64) -> u64
+    requires { n < 1000 }
+    ensures { result ≡ n + n }
+{
+    n + n
+}
+
+/// The least number.
+pub const LEAST: u64 = 1;
+
+/// A number.
+#[derive(Clone, Copy)]
+pub struct Number(pub u64);
+
+impl Number {
+    /// Twice the number, by the same text as `double`.
+    pub fn twice(self) -> u64
+        requires { self.0 < 1000 }
+        ensures { result ≡ self.0 + self.0 }
+    {
+        let n = self.0;
+        n + n
+    }
+
+    /// The least number.
+    pub fn least() -> u64
+        ensures { result ≡ 1 }
+    {
+        LEAST
+    }
+}
 """
 # An answer to a goal that the prover would prove by itself.
 ANSWERS = """\
@@ -50,23 +84,28 @@ returns c = search rules
 """
 # For each mutant: its old and new text, the function in which it has to be refused, and the beginning of its line in
 # the output.
-BODIES = {
+MUTANTS = {
     "answers-the-number": ("{⏎    n + n⏎}", "{⏎    n⏎}", "twice", "refused, as it must be: "),
     "answers-the-number-by-its-goal": ("{⏎    n + n⏎}", "{⏎    n⏎}", "twice: returns", "refused, as it must be: "),
     "changes-another-function": ("twice(twice(n))", "twice(n)", "twice",
-                                 "BAD BODY: it changes more than the text of twice"),
+                                 "BAD MUTANT: an 'old:' text is in twice 0 times"),
     "four-times-given-up": ("twice(twice(n))", "twice(n)", "four_times", "refused, as it must be: "),
+    "has-no-function": ("{⏎    n + n⏎}", "{⏎    n⏎}", "thrice", "BAD MUTANT: an 'old:' text is in thrice 0 times"),
+    "in-a-method-of-the-same-name": ("        n + n⏎", "        n⏎", "Number::twice", "refused, as it must be: "),
+    "in-the-second-of-two-equal-texts": ("    n + n⏎", "    n⏎", "double", "refused, as it must be: "),
+    "leaves-no-function": ("pub fn twice", "pub fn thrice", "twice", "BAD MUTANT: it leaves no function twice"),
+    "outside-functions": ("LEAST: u64 = 1", "LEAST: u64 = 2", "Number::least", "refused, as it must be: "),
     "right": ("twice(twice(n))", "twice(n) + twice(n)", "four_times", "NOT REFUSED in four_times"),
     "right-by-its-goal": ("{⏎    n + n⏎}", "{⏎    let other = n; n + other⏎}", "twice: returns", "NOT REFUSED in twice"),
-    "standing-twice": ("n + n", "n", "twice", "BAD BODY: an 'old:' text is in src/lib.rt 4 times"),
-    "unreadable": ("    n + n", "    n +", "twice", "BAD BODY: the prover gave no verdict"),
+    "standing-twice": ("n + n", "n", "twice", "BAD MUTANT: an 'old:' text is in twice 2 times"),
+    "unreadable": ("    n + n⏎", "    n +⏎", "twice", "BAD MUTANT: the prover gave no verdict"),
 }
 # For each control: its old and new text, its function, and the beginning of its line.
 CONTROLS = {
     "four-times-by-steps": ("twice(twice(n))", "let two = twice(n); twice(two)", "four_times", "taken, as it must be"),
     "two-of-it-turned": ("{⏎    n + n⏎}", "{⏎    let other = n; other + n⏎}", "twice", "taken, as it must be"),
     "wrong-control": ("{⏎    n + n⏎}", "{⏎    n⏎}", "twice", "NOT TAKEN in twice: "),
-    "unfit-control": ("twice(n))", "twice(n)", "twice", "BAD BODY: "),
+    "unfit-control": ("twice(n))", "twice(n)", "twice", "BAD MUTANT: "),
 }
 # The one that is also tried during an `rt ci` that has proved the crate.
 LATE = "answers-the-number"
@@ -76,11 +115,11 @@ def listed(name, old, new, function, what="refused"):
     return f"## {name}\n\n```\nfile: src/lib.rt\nold: {old}\nnew: {new}\n{what} in: {function}\n```\n"
 
 
-# Prints what is kept of two bodies of a crate, and keeps that the first was refused.
+# Prints what is kept of two mutants of a crate, and keeps that the first was refused.
 KEEPS = """
 from common.kept_verdicts import Kept
-from common.mutant_lists import bodies_of
-kept, (one, other, *_) = Kept("rt_cidr"), bodies_of("rt_cidr")
+from common.mutant_lists import mutants_of
+kept, (one, other, *_) = Kept("rt_cidr"), mutants_of("rt_cidr")
 print("kept" if kept.said_of(one) else None, kept.said_of(other))
 kept.keep({one: (True, f"`{one.goal}` kept")})
 """
@@ -88,8 +127,8 @@ kept.keep({one: (True, f"`{one.goal}` kept")})
 
 def changes(top):
     """Changes of files under a kept verdict: the file, its new text, and whether the verdict stays."""
-    cidr, body = top / "crates/rt_cidr", bodies_of("rt_cidr")[0]
-    own, name = cidr / body.file, body.function.rpartition("::")[2]
+    cidr, mutant = top / "crates/rt_cidr", mutants_of("rt_cidr")[0]
+    own, name = cidr / mutant.file, mutant.function.rpartition("::")[2]
     proofs = sorted((cidr / "proofs").rglob("*.antt"))
     other = next(file for file in sorted((cidr / "src").rglob("*.rt")) if file != own and has_body(file))
     yield own, own.read_text() + "\n", False
@@ -148,7 +187,34 @@ def wrongly_kept():
     return wrong
 
 
-# Catches a run beside `rt ci` that passes over the bodies of a crate which isn't proved, or never ends: `bodies of a crate`.
+# Catches mutants whose texts are searched in the whole file, so that an equal loop in another function breaks them: `.. if
+# its function's text is in the file twice`.
+def broken_by_equal_texts():
+    """Each mutant and control that breaks, or changes another text, if a copy of its function is above or below it in the
+    file, under another name."""
+    wrong, files = [], set()
+    for crate in listing_crates():
+        for mutant in mutants_of(crate) + controls_of(crate):
+            text = (CRATES / crate / mutant.file).read_text()
+            item = Source(None, text).named(mutant.function)
+            if not item or mutant.is_of_type(text):
+                continue
+            files.add((crate, mutant.file))
+            start = Source(None, text).offset(item.start)
+            copy = "\n".join(item.written()).replace(f"fn {item.name}", f"fn {item.name}_again") + "\n"
+            wanted = mutant.changed(text)
+            for both, changed in ((text[:start] + copy + text[start:], wanted[:start] + copy + wanted[start:]),
+                                  (text + "\n" + copy, wanted + "\n" + copy)):
+                try:
+                    is_same = mutant.changed(both) == changed
+                except BadMutant:
+                    is_same = False
+                if not is_same:
+                    wrong.append(f"{crate}/{mutant.name} if its function's text is in the file twice")
+    return wrong if len(files) > 2 else ["fewer than three files"]
+
+
+# Catches a run beside `rt ci` that passes over the mutants of a crate which isn't proved, or never ends: `mutants of a crate`.
 def during(room, proved, *names):
     """The output of tools/mutants, for all mutants or those of these names, during an `rt ci` that has ended and printed
     this of the crate."""
@@ -166,25 +232,26 @@ def main():
         (folder / "src/lib.rt").write_text(SOURCE)
         (folder / "proofs/four_times").mkdir(parents=True)
         (folder / "proofs/four_times/Answers.antt").write_text(ANSWERS)
-        sections = [listed(name, *body[:3]) for name, body in sorted(BODIES.items())]
+        sections = [listed(name, *mutant[:3]) for name, mutant in sorted(MUTANTS.items())]
         (folder / "must-fail/mutants.md").write_text("\n".join(["# Mutants\n", *sections]))
-        sections = [listed(name, *body[:3], "taken") for name, body in sorted(CONTROLS.items())]
+        sections = [listed(name, *control[:3], "taken") for name, control in sorted(CONTROLS.items())]
         (folder / "must-fail/controls.md").write_text("\n".join(["# Controls\n", *sections]))
         ran = subprocess.run([TOP / "tools/mutants", "--of", room], stdout=subprocess.PIPE, text=True)
         early, late = during(room, ""), during(room, "rt: small proved\n", LATE)
-    lines = dict(re.sub("^(body|control) small/", "", line).split(": ", 1) for line in ran.stdout.splitlines()
-                 if line.startswith(("body ", "control ")))
-    listed_all = BODIES | CONTROLS
-    wrong = [name for name, body in listed_all.items() if not lines.get(name, "").startswith(body[3])] + wrongly_kept()
+    lines = dict(re.sub("^(mutant|control) small/", "", line).split(": ", 1) for line in ran.stdout.splitlines()
+                 if line.startswith(("mutant ", "control ")))
+    listed_all = MUTANTS | CONTROLS
+    wrong = [name for name, one in listed_all.items() if not lines.get(name, "").startswith(one[3])]
+    wrong += wrongly_kept() + broken_by_equal_texts()
     if early.count("NOT TRIED") != len(listed_all) or not early.endswith(f"\n0 passed, {len(listed_all)} failed\n"):
-        wrong.append("bodies of a crate that isn't proved")
-    if late != f"body small/{LATE}: {lines[LATE]}\n1 passed, 0 failed\n":
-        wrong.append("bodies of a crate that `rt ci` has proved")
-    right = sum(body[3].startswith(("refused", "taken")) for body in listed_all.values())
+        wrong.append("mutants of a crate that isn't proved")
+    if late != f"mutant small/{LATE}: {lines[LATE]}\n1 passed, 0 failed\n":
+        wrong.append("mutants of a crate that `rt ci` has proved")
+    right = sum(one[3].startswith(("refused", "taken")) for one in listed_all.values())
     if wrong or ran.returncode != 1 or not ran.stdout.endswith(f"\n{right} passed, {len(listed_all) - right} failed\n"):
         said = ", ".join(wrong) or "their number"
         sys.exit(f"tests/mutants.py: tools/mutants tells of {said} something else than is so\n{ran.stdout}")
-    print(f"tests/mutants.py: tools/mutants tells what is so of {len(listed_all)} bodies")
+    print(f"tests/mutants.py: tools/mutants tells what is so of {len(listed_all)} mutants and controls")
 
 
 if __name__ == "__main__":

@@ -19,7 +19,7 @@ import tempfile
 from common.checks import TOP, built_file, chosen, end, expect, run, run_each
 from common.crates import cache
 from common.evidence import git
-from common.packages import Release, tools
+from common.packages import Release, tools, tracked
 from common.versions import VERSION
 from texts import ROW, ROW_OUT
 
@@ -41,6 +41,8 @@ LIBRARY_CALLS = """set -e
 cd /tmp
 cc -o example /usr/share/doc/libyarib-dev/examples/example.c $(pkg-config --cflags --libs yarib)
 ./example
+test -e /usr/lib/x86_64-linux-gnu/cmake/yarib/yarib-config.cmake
+gzip -cd /usr/share/man/man3/yarib.3.gz | grep -q '^.SH TYPES AND CALLS'
 python3 /usr/share/doc/python3-yarib/examples/example.py
 """
 
@@ -111,6 +113,29 @@ def the_wheel(packages):
     shutil.copy(TOP / "bindings/python/example.py", "example.py")
     shown = run([sys.executable, "example.py"], env=os.environ | {"PYTHONPATH": "site"})
     expect("the wheel", (shown[0], shown[2], shown[1].count("\n")), (0, "", 3))
+
+
+# Catches a source archive that lacks a file, or of which pip makes no package: `the sdist ..`.
+def the_sdist(packages):
+    [sdist] = [file for file in packages.folder.glob("*.tar.gz") if file.name == f"yarib-{VERSION}.tar.gz"]
+    with tarfile.open(sdist) as archive:
+        archive.extractall(".")
+        expect("the sdist: owners and times", {(one.uid, one.gid, one.mode, one.mtime) for one in archive.getmembers()},
+               {(0, 0, 0o644, int(git("log", "-1", "--format=%ct")))})
+    folder = pathlib.Path(f"yarib-{VERSION}")
+    files = [path.removeprefix("bindings/python/") for path in tracked("bindings/python")]
+    expect("the sdist: files", sorted(str(path.relative_to(folder)) for path in folder.rglob("*") if path.is_file()),
+           sorted(["PKG-INFO", *(name for name in files if not name.startswith("test_"))]))
+    if run([sys.executable, "-m", "pip", "--version"])[0]:
+        return print("left out: an installation of the sdist (no pip)", flush=True)
+    environment = {name: value for name, value in os.environ.items() if name != "YARIB_LIBRARY"} | {"PIP_ROOT_USER_ACTION": "ignore"}
+    words = [sys.executable, "-m", "pip", "--disable-pip-version-check", "install", "-q", "--no-index", "--target", "built", sdist]
+    expect("the sdist is installed", run(words, env=environment)[::2], (0, ""))
+    with tarfile.open(packages.folder / f"{ARCHIVE}.tar.gz") as archive:
+        archive.extractall("staged")
+    [library] = pathlib.Path("staged").resolve().rglob("libyarib.so.0")
+    shown = run([sys.executable, folder / "example_daemon.py"], env=environment | {"PYTHONPATH": "built", "YARIB_LIBRARY": str(library)})
+    expect("the sdist", (shown[0], shown[2], shown[1].count("\n")), (0, "", 5))
 
 
 def root_of(suite):
@@ -187,7 +212,7 @@ class Packages:
         made(program, folder)
 
 
-CASES = (made_twice, their_form, the_archive, the_wheel, in_roots)
+CASES = (made_twice, their_form, the_archive, the_wheel, the_sdist, in_roots)
 
 
 def main():

@@ -9,7 +9,7 @@ once more with all requests after the refused one refused as well. The cases are
 (the lock, the shared table, feeds on gates), and runs and replays of the program. After each run the answers, the
 journal, the routes and the output are compared whole with a model that leaves out what was refused. No run may end by a
 signal. All cases together must have met each kind of refusal. The requests are refused before the C library sees them.
-So the launchers' settings change nothing here, and each case is run once. The gate runs the cases of bench/benches
+So the launchers' settings change nothing here, and each case is run once. ./test runs the cases of bench/benches
 unproved (tests/refused_calls.py), and a few requests of some runs (tests/refused_few.py).
 """
 import collections

@@ -199,23 +199,29 @@ NO_ADDRESS = [
 
 
 # Catches a reader that ignores a carriage return after an address.
+# Catches a row for a skipped line, or none for an invalid one: `--keep-invalid`.
 def addresses(yarib):
     pathlib.Path("each.feed").write_text("".join(f"add {address}/32 1 192.0.2.1\n"
                                                  for address in ["1.2.3.4", *ADDRESSES]))
     found = lambda address: f"{address} route {route_text(f'{address}/32')}\n"
 
-    def asked(lines):
+    def asked(lines, *words):
         pathlib.Path("asked.txt").write_bytes("\n".join(lines).encode())
-        return yarib("lookup", "--addresses", "asked.txt", "each.feed")
+        return yarib("lookup", *words, "--addresses", "asked.txt", "each.feed")
 
     for line in ADDRESSES:
         expect(f"the address {line}", asked([line, "1.2.3.4"]), (0, found(line) + found("1.2.3.4"), ""))
+        expect(f"--keep-invalid: the address {line}", asked([line, "1.2.3.4"], "--keep-invalid"),
+               (0, found(line) + found("1.2.3.4"), ""))
     for line in SKIPPED:
-        expect(f"{line!r}, which is skipped", asked([line, "1.2.3.4"]), (0, found("1.2.3.4"), ""))
+        for words in ([], ["--keep-invalid"]):
+            expect(f"{words} {line!r}, which is skipped", asked([line, "1.2.3.4"], *words), (0, found("1.2.3.4"), ""))
     for line in [*NO_ADDRESS, "#" * 129, "1" * 129]:
         fault = E8 if len(line) > 128 else E3 + HAS_CR * line.endswith("\r") + IPV6 * ("::" in line)
         told = f"yarib: asked.txt: faulty lines: 1, the first is line 1: {fault}\n"
         expect(f"{line!r}, which is no address", asked([line, "1.2.3.4"]), (2, found("1.2.3.4"), told))
+        expect(f"--keep-invalid: {line!r}", asked([line, "1.2.3.4"], "--keep-invalid"),
+               (2, "1 invalid\n" + found("1.2.3.4"), told))
 
 
 # Answers of look-ups

@@ -13,9 +13,8 @@ No clause can say that an allocation succeeds if there is memory. So the cases a
 
 `lookup` and `table` are called on each number of files, on 300,000 routes and with 100,000 addresses. `lookup` is also
 called with just fewer and just more addresses and routes than a forwarding table needs to answer. Most options that
-change the output are given at, just above and far above these sizes; not the choice of feeds by `diff`, and `--count` with
-names or JSON. All cases run with the memory settings of the
-launchers. With the C library's default, many threads share several arenas. This matters in cases with many threads and
+change the output are given at, just above and far above these sizes; not `--total`, `--prefixes`, `--keep-invalid`, the
+choice of feeds by `diff`, and `--count` with names or JSON. All cases run with the memory settings of the launchers. With the C library's default, many threads share several arenas. This matters in cases with many threads and
 in cases that fill large pages. In these (`OF_MEMORY`) each `run` is called with both; the other commands have one
 thread. The other cases are about numbers in the code.
 """
@@ -230,7 +229,7 @@ def at_greatest_limit(yarib):
     pathlib.Path("none.feed").write_text("")
     pathlib.Path("full.feed").write_text("".join(f"add {place}/32 1 192.0.2.1\n" for place in places[:MOST]))
     pathlib.Path("over.feed").write_text("".join(f"add {place}/32 1 192.0.2.1\n" for place in places))
-    over = "yarib: over.feed: adds over the limit: 1\n"
+    over = f"yarib: over.feed: adds over the limit: 1, the first is line {MOST + 1}\n"
     listed = "".join([row(f"{place}/32") for place in places[:MOST]])
     asked = ["--address", places[MOST - 1], "--address", places[MOST]]
     answers = f"{places[MOST - 1]} route {row(places[MOST - 1] + '/32')}{places[MOST]} no route\n"

@@ -2,7 +2,7 @@
 """Changes laws and pages in a copy of the repository, and checks that `tools/statement --check` refuses each change that
 means something, and no other.
 
-tests/statements.py [CASE..], or --list for the names of the cases. Needs the toolchain and python3, and about ten seconds.
+tests/statements.py [CASE..], or --list for the names of the cases. Needs the toolchain and python3, and about fifteen seconds.
 """
 import pathlib
 import re
@@ -71,6 +71,18 @@ def a_definition_on_no_page(copy):
     copy.expect_check("definitions on no page", 1, "with_pair is on no statement page, and no example tests it")
 
 
+# Catches a page that doesn't say which table the lock has.
+def a_table_of_another_type(copy):
+    copy.change("crates/ya_lock/src/tree_lock.rt", "    pub(crate) table: LockTable<V>,", "    pub(crate) table: FreeTable<V>,")
+    copy.expect_check("a table of another type", 1, "docs/STATEMENT-LOCK.md is not what tools/statement --write would write")
+
+
+# Catches a page that goes on saying what nothing ties to the sources any more.
+def a_tie_that_is_gone(copy):
+    copy.change("crates/ya_lock/src/rule.rt", "    ghost first = { λ _. Unused };\n", "")
+    copy.expect_check("a tie that is gone", 1, "for LockRule: no first")
+
+
 # Catches a page that is refused because of where a definition is, not of what it says.
 def a_definition_that_moved(copy):
     text = (copy.top / LAWS).read_text()
@@ -78,7 +90,9 @@ def a_definition_that_moved(copy):
     copy.expect_check("a definition that moved", 0)
 
 
-CASES = (the_pages_as_they_are, a_weaker_law, a_law_on_no_page, a_definition_on_no_page, a_definition_that_moved)
+CASES = (
+    the_pages_as_they_are, a_weaker_law, a_law_on_no_page, a_definition_on_no_page, a_table_of_another_type,
+    a_tie_that_is_gone, a_definition_that_moved)
 
 
 def main():
