@@ -8,6 +8,7 @@ The packages are installed in roots of Debian. YARIB_ROOTS names directories tha
 pkg-config; they are copied. Otherwise mmdebstrap makes a root of Debian 12 and one of 13, once for this machine, in the
 user's cache. If that can't be done, it is said what is left out."""
 import gzip
+import json
 import os
 import pathlib
 import shutil
@@ -18,7 +19,7 @@ import tempfile
 
 from common.checks import TOP, built_file, chosen, end, expect, run, run_each
 from common.crates import cache
-from common.evidence import git
+from common.evidence import git, sum_of
 from common.packages import Release, tools, tracked
 from common.versions import VERSION
 from texts import ROW, ROW_OUT
@@ -70,6 +71,55 @@ def made_twice(packages):
            run([TOP / "release", "--verify", packages.folder], env={"PATH": "/usr/bin:/bin"})[0], 0)
     (again / "EVIDENCE.json").write_text("{}\n")
     expect("./release --verify of a changed file", run([TOP / "release", "--verify", again], env={"PATH": "/usr/bin:/bin"})[0], 1)
+
+
+# Stubs of a commit that is proved again: a build, and a release whose evidence says of which files it was made.
+STUBS = {"tools/build": "#!/bin/sh\necho of \"$1\"\n", "release": """#!/bin/sh
+mkdir -p "$2"
+cp "${0%/*}/EVIDENCE" "$2/EVIDENCE.json"
+"""}
+
+
+def released(top):
+    """Makes a repository with this one's ./release, and a release of a commit of it in which stubs prove and build."""
+    shutil.copytree(TOP / "common", top / "common", ignore=shutil.ignore_patterns("__pycache__"))
+    shutil.copy(TOP / "VERSION", top)
+    said = {name: name for name in ("sha256", "crates", "unproved files", "tree", "logic")}
+    for name, text in (STUBS | {"EVIDENCE": json.dumps(said)}).items():
+        (top / name).parent.mkdir(exist_ok=True)
+        (top / name).write_text(text)
+        (top / name).chmod(0o755)
+    in_top = ["git", "-C", top, "-c", "user.name=a", "-c", "user.email=a@invalid.invalid"]
+    commit = ["commit", "-q", "--allow-empty", "-m", "stubs"]
+    # HEAD is on no branch: of such a repository `git clone -q` prints advice.
+    for words in (["init", "-q"], commit, ["checkout", "-q", "--detach"], ["add", "."], commit):
+        subprocess.run([*in_top, *words], check=True)
+    said["commit"] = subprocess.run([*in_top, "rev-parse", "HEAD"], check=True, stdout=subprocess.PIPE, text=True).stdout.strip()
+    shutil.copy(TOP / "release", top / "release")
+    (top / "made").mkdir()
+    (top / "made/EVIDENCE.json").write_text(json.dumps(said))
+    (top / "made/SHA256SUMS").write_text(f"{sum_of(top / 'made/EVIDENCE.json')}  EVIDENCE.json\n")
+
+
+# Catches a check of a release that can't read the repository of another user, or isn't silent: `./release --verify by ..`.
+def verified_by_another(_):
+    users = {"its owner": {}}
+    if os.geteuid() == 0:
+        users["another user"] = {"user": 65534, "group": 65534, "extra_groups": [], "umask": 0o077}
+    else:
+        print("left out: ./release --verify by another user, which needs root", flush=True)
+    folder = pathlib.Path.cwd()
+    folder.chmod(0o755)
+    released(folder / "top")
+    (folder / "bin").mkdir()
+    (folder / "bin/rt").symlink_to("/bin/true")
+    for path in (folder / "bin", folder / "top", *(folder / "top").rglob("*")):
+        path.chmod(path.stat().st_mode | (0o755 if path.is_dir() else 0o444))
+    # What the user and the machine say of other repositories must not decide.
+    environment = {"PATH": f"{folder}/bin:/usr/bin:/bin", "HOME": "/nonexistent", "GIT_CONFIG_NOSYSTEM": "1"}
+    for name, user in users.items():
+        status, out, said = run([folder / "top/release", "--verify", folder / "top/made"], env=environment, **user)
+        expect(f"./release --verify by {name}", (status, said, out.count("proved and built again")), (0, "", 1))
 
 
 # Catches a package with an error of its form: `lintian`.
@@ -212,7 +262,7 @@ class Packages:
         made(program, folder)
 
 
-CASES = (made_twice, their_form, the_archive, the_wheel, the_sdist, in_roots)
+CASES = (made_twice, verified_by_another, their_form, the_archive, the_wheel, the_sdist, in_roots)
 
 
 def main():
