@@ -278,15 +278,47 @@ def one_line(copy):
         expect(f"{words}: a source that can't be read, in one line", (status, out, len(err.splitlines())), (126, "", 1))
     unread.unlink()
     # The build doesn't end by itself: a program that it made, which is Python here, would print a traceback.
-    how = {"env": copy.names() | {"HANGS": "rt_app"}, "stdin": subprocess.DEVNULL, "cwd": copy.top, "text": True,
-           "start_new_session": True, "stdout": subprocess.PIPE, "stderr": subprocess.PIPE, "preexec_fn": heed_signals}
     for delay in range(0, 400, 20):
-        with subprocess.Popen([copy.top / "yarib", "run", "x"], **how) as call:
+        with subprocess.Popen([copy.top / "yarib", "run", "x"], **waiting(copy, "rt_app")) as call:
             time.sleep(delay / 1000)
             with contextlib.suppress(ProcessLookupError):
                 os.killpg(call.pid, signal.SIGINT)
             out, err = call.communicate()
-        expect(f"interrupted after {delay} ms, without a traceback", ("Traceback" in err, out), (False, ""))
+        expect(f"interrupted after {delay} ms, without a traceback", (b"Traceback" in err, out), (False, b""))
+
+
+# Has bash report each command of the launcher before it runs it, and interrupt the launcher before the command of a number.
+EACH_COMMAND = """
+at=0
+note() {
+  if [ "$BASHPID" != "$$" ]; then return; fi
+  printf '%s\\n' "$1" >>"$COMMANDS"
+  if [ "$((at++))" = "$STOP" ]; then kill -INT "$$"; fi
+}
+trap 'note "${BASH_COMMAND%%$'"'\\n'"'*}"' DEBUG
+set -T
+"""
+
+
+# Catches a launcher that is interrupted between two of its commands and leaves its builder running, goes on, or starts the
+# program: `interrupted before ..`.
+def before_each_command(copy):
+    hook, noted = copy.folder / "each_command", copy.folder / "commands"
+    hook.write_text(EACH_COMMAND)
+    names = {"BASH_ENV": hook, "COMMANDS": noted, "STOP": "none"}
+    with begun_build(copy, "rt_app", **names):
+        commands = noted.read_text().splitlines()
+    expect("the command that waits for the builder", commands[-1], 'wait "$!"')
+    for number, command in enumerate(commands):
+        names["STOP"] = str(number)
+        with subprocess.Popen([copy.top / "yarib", "run", "x"], **waiting(copy, "rt_app", **names)) as call:
+            try:
+                out, err = call.communicate(timeout=60)
+            except subprocess.TimeoutExpired:
+                os.killpg(call.pid, signal.SIGKILL)
+                out, err = b"", b"the builder still runs"
+        # Before the first trap bash has its own way.
+        expect(f"interrupted before {command}", (call.returncode in (130, -signal.SIGINT), out, err), (True, b"", b""))
 
 
 # Catches a launcher that starts the program of a reverted edit, or counts anything below crates/ as built: `the edit
@@ -354,17 +386,21 @@ for name in sorted(os.listdir()):
 
 
 @contextlib.contextmanager
-def begun_build(copy, crate):
+def begun_build(copy, crate, **names):
     """A call of ./yarib whose prover is working on a crate and doesn't end."""
     pid = pathlib.Path(f"{copy.notes}.pid")
     pid.unlink(missing_ok=True)
-    how = {"env": copy.names() | {"HANGS": crate}, "stdin": subprocess.DEVNULL, "cwd": copy.top,
-           "stdout": subprocess.PIPE, "stderr": subprocess.PIPE, "start_new_session": True, "preexec_fn": heed_signals}
-    with subprocess.Popen([copy.top / "yarib", "run", "x"], **how) as call:
+    with subprocess.Popen([copy.top / "yarib", "run", "x"], **waiting(copy, crate, **names)) as call:
         wait_until(lambda: pid.exists() and pid.read_text().endswith("\n"))
         yield call, int(pid.read_text())
         if call.poll() is None:
             call.terminate()
+
+
+def waiting(copy, crate, **names):
+    """How a process is started that can be signalled with its children, and whose prover doesn't end on this crate."""
+    return {"env": copy.names() | {"HANGS": crate} | names, "stdin": subprocess.DEVNULL, "cwd": copy.top,
+            "stdout": subprocess.PIPE, "stderr": subprocess.PIPE, "start_new_session": True, "preexec_fn": heed_signals}
 
 
 def heed_signals():
@@ -704,9 +740,9 @@ def put_tools(folder):
 
 
 CASES = (
-    what_it_is_given, what_is_built_anew, damaged, unread_files, one_line, taken_back, beside_the_gate, interrupted, what_is_missing, words_for_the_prover,
-    in_order, one_at_a_time, failed_builds, libraries, beside_a_run, changed_meanwhile, nothing_to_build_with,
-    without_a_program, completions,
+    what_it_is_given, what_is_built_anew, damaged, unread_files, one_line, before_each_command, taken_back, beside_the_gate,
+    interrupted, what_is_missing, words_for_the_prover, in_order, one_at_a_time, failed_builds, libraries, beside_a_run,
+    changed_meanwhile, nothing_to_build_with, without_a_program, completions,
 )
 
 
