@@ -1,5 +1,6 @@
 """The pages of statements: public clauses, and below them the definitions that they rest on (tools/statement). Their
-sentences are in statement_pages.toml."""
+sentences are in statement_pages.toml. A chapter has one fence of clauses and one of definitions. A line in a fence names the
+file of what is below it; there are no numbers of lines, since a page changes only if what it says does."""
 import pathlib
 import re
 import sys
@@ -26,7 +27,6 @@ class Page:
 
     def __init__(self, name, title, said, chapters):
         self.name, self.title, self.said, self.chapters = name, title, said, chapters
-        self.file = TOP / "docs" / name
 
 
 def page_of(said):
@@ -35,9 +35,9 @@ def page_of(said):
 
 
 WORDS = tomllib.loads(pathlib.Path(__file__).with_suffix(".toml").read_text())
-# The signs that a reader has to know, the definitions of which the pages print only the first line, and the words of the
-# kit's library.
-LEGEND, BRIEF, KIT = WORDS["signs"], WORDS["brief"], WORDS["words"]
+# The page that explains signs and words, the signs that a reader has to know, the definitions of which the pages print only
+# the first line, and the words of the kit's library.
+SIGNS, LEGEND, BRIEF, KIT = (WORDS[key] for key in ("signs_page", "signs", "brief", "words"))
 # The types and traits of the kit that the pages name.
 KIT_TYPES = WORDS["types"]
 PAGES = [page_of(said) for said in WORDS["page"]]
@@ -60,7 +60,7 @@ class Tie:
         if missing := set(members) - set(parts):
             sys.exit(f"tools/statement: {head}: no " + ", ".join(sorted(missing)))
         kept = [line for name in members for line in parts[name]]
-        self.name, self.comment, self.lines = head, [], [item.lines[0], *kept, "}"]
+        self.type, self.comment, self.lines = None, [], [item.lines[0], *kept, "}"]
 
     def rests_on(self):
         ghosts, text = imports(source(self.file).text), "\n".join(self.lines[1:-1])
@@ -78,17 +78,12 @@ class Clause:
         parts = path.split("::")
         if len(parts) < 3 or parts[0] not in all_crates():
             sys.exit(f"tools/statement: {said}: not CRATE::MODULE::FUNCTION or CRATE::TYPE::FUNCTION")
-        self.name, self.owner = said, parts[-2]
         function = public_function(parts[0], *parts[-2:])
         if not function:
             sys.exit(f"tools/statement: no public function {said}")
+        self.name, self.owner, self.type = said, parts[-2], function.owner
         self.file, self.comment = function.file, function.comment()
-        self.head, self.clauses = [], []
-        for line in contract_of(function):
-            if re.match(r"\s*(requires|ensures)\b", line):
-                self.clauses.append([line])
-            else:
-                (self.clauses[-1] if self.clauses else self.head).append(line)
+        self.head, self.clauses = parts_of_contract(function)
         if label:
             self.clauses = [one for one in self.clauses if re.match(rf"\s*(requires\b|ensures\*? {label}\b)", one[0])]
             if not any("ensures" in clause[0] for clause in self.clauses):
@@ -110,9 +105,24 @@ class Clause:
         return unique(found)
 
 
+def parts_of_contract(function):
+    """The lines of a function's head and those of each clause, without its margin. The arguments of a head that is broken
+    before each are filled into lines."""
+    head, clauses = [], []
+    for line in function.written()[:function.clauses_end()]:
+        if re.match(r"\s*(requires|ensures)\b", line):
+            clauses.append([])
+        (clauses[-1] if clauses else head).append(line[function.margin:])
+    if head[0].endswith("(") and not any("//" in line for line in head):
+        whole = head[0] + " ".join(line.strip() for line in head[1:]).replace(", )", ")", 1)
+        head = [line.replace("->_", "-> ") for line in wrapped(whole.replace("-> ", "->_"), "        ")]
+    return head, clauses
+
+
 def contract_of(function):
-    """The lines of a function's head and of its clauses, without its margin."""
-    return [line[function.margin:] for line in function.written()[:function.clauses_end()]]
+    """The lines of a function's head and of its clauses."""
+    head, clauses = parts_of_contract(function)
+    return head + [line for clause in clauses for line in clause]
 
 
 def public_function(crate, owner, name):
@@ -145,6 +155,20 @@ def in_order(speakers, known, brief=()):
     return [one for one in order if one.key not in known], [one for one in order if one.key in known], library
 
 
+def by_file(order, brief):
+    """The definitions in an order in which each is below all that speak of it, those of a file together as far as that
+    allows."""
+    uses = {one.key: () if one.key in brief else {used.key for used in speaks_of(one) if isinstance(used, Definition)}
+            for one in order}
+    found, waiting = [], list(order)
+    while waiting:
+        ready = [one for one in waiting if not any(one.key in uses[other.key] for other in waiting if other is not one)]
+        ready = ready or waiting[:1]
+        found.append(next((one for one in ready if found and one.file == found[-1].file), ready[0]))
+        waiting.remove(found[-1])
+    return found
+
+
 def speaks_of(one):
     return rests_on(one) if isinstance(one, Definition) else one.rests_on()
 
@@ -166,7 +190,7 @@ SOURCE_LINK = re.compile(r"\[(`[^`]+`)\]\([\w:]+\)")
 
 
 def commented(mark, lines):
-    return [f"{mark} {SOURCE_LINK.sub(lambda link: link[1], line)}".rstrip() for line in lines]
+    return [f"{mark} {SOURCE_LINK.sub(lambda link: link[1], line)}" for line in lines if line.strip()]
 
 
 def shown_clause(clause):
@@ -175,21 +199,25 @@ def shown_clause(clause):
     return [*commented("///", said + clause.comment), *clause.lines]
 
 
-def fenced(language, parts):
-    """A fence with these parts, an empty line between each two; nothing if there are none."""
-    lines = [line for part in parts for line in ["", *part]]
-    return [f"```{language}", *lines[1:], "```", ""] if lines else []
-
-
-def places(ones, link):
-    """A list of the files that have these clauses, ties or definitions, each with their names in the order of the page.
-    There are no numbers of lines, since a page changes only if what it says does."""
-    names = {}
+def headings(mark, ones, lines_of):
+    """Yields the lines of each of these, with a line above the first of each file, or of each type's functions in a file."""
+    last = None
     for one in ones:
-        names.setdefault(one.file, []).append(one.name)
-    rows = [f"- [{file.relative_to(CRATES)}]({link}{file.relative_to(TOP)}): " + ", ".join(f"`{name}`" for name in said)
-            for file, said in names.items()]
-    return [*(line for row in rows for line in wrapped(row, "  ")), ""] if rows else []
+        place = str(name_of_file(one.file)) + (f", {one.type}" if getattr(one, "type", None) else "")
+        if place != last:
+            yield from [*[""] * bool(last), f"{mark}{mark} {place}"]
+        last = place
+        yield from lines_of(one)
+
+
+def name_of_file(file):
+    """A file of a crate, or of the toolchain, as a page names it."""
+    return file.relative_to(CRATES if file.is_relative_to(CRATES) else prover.kit() / "rattle")
+
+
+def fenced(language, lines):
+    """A fence with these lines; nothing if there are none."""
+    return [f"```{language}", *lines, "```", ""] if lines else []
 
 
 def wrapped(prose, margin="", width=120):
@@ -231,15 +259,16 @@ def from_above(old, spoken_of, written):
         yield from [*wrapped(f"From {place}: {named(definitions)}, and what they rest on."), ""]
 
 
-def definitions_of(speakers, written, brief, link):
+def definitions_of(speakers, written, brief):
     """What the speakers rest on, as far as it isn't further up."""
     new, old, words = in_order(speakers, written.home, brief)
+    new = by_file(new, brief)
     bare = [one.key for one in new if not one.comment]
     if bare:
         sys.exit("tools/statement: no comment says what this is: " + ", ".join(bare))
     spoken_of = {one.key for speaker in speakers + new for one in speaks_of(speaker) if isinstance(one, Definition)}
     out = list(from_above(old, spoken_of, written))
-    out += places(new, link) + fenced("agda", [shown(definition, brief) for definition in new])
+    out += fenced("agda", [*headings("--", new, lambda definition: shown(definition, brief))])
     for definition in new:
         written.has(definition, brief)
     for module, names in words.items():
@@ -247,14 +276,14 @@ def definitions_of(speakers, written, brief, link):
     return out
 
 
-def chapter(one, written, link):
+def chapter(one, written):
     """A chapter: its sentence and its premises, its clauses, and what they rest on."""
     speakers = [*map(Clause, one.clauses), *(Tie(**tie) for tie in one.ties)]
     out = [f"## {one.title}", "", *wrapped(one.said), "", *wrapped(f"*Premises:* {one.premises}"), ""]
-    out += places(speakers, link) + fenced("rust", [shown_clause(speaker) for speaker in speakers])
+    out += fenced("rust", [*headings("//", speakers, shown_clause)])
     for said in one.kit:
         out += of_kit(written=written, **said)
-    return out + definitions_of(speakers, written, BRIEF, link)
+    return out + definitions_of(speakers, written, BRIEF)
 
 
 def of_kit(said, types, functions, definitions, written):
@@ -264,14 +293,18 @@ def of_kit(said, types, functions, definitions, written):
     terms = [one for file, names in definitions.items() for one in kit_definitions(file, names)]
     written.counts(len(kinds + terms), sum(one.count() for one in kinds + terms))
     calls = [call for file, names in functions.items() for call in kit_functions(file, names)]
-    return [*wrapped(said), "", *fenced("rust", [*map(shown_of_kit, kinds), *calls]),
-            *fenced("agda", map(shown_of_kit, terms))]
+    code = [*headings("//", kinds, shown_of_kit), "", *headings("//", calls, shown_function)]
+    return [*wrapped(said), "", *fenced("rust", code), *fenced("agda", [*headings("--", terms, shown_of_kit)])]
 
 
 def shown_of_kit(definition):
     """The lines of a definition of the toolchain, below its comment."""
     mark = "--" if definition.file.suffix == ".antt" else "///"
     return [*(f"{mark} {line}" for line in wrapped(" ".join(definition.comment), width=116)), *definition.lines]
+
+
+def shown_function(function):
+    return [*commented("///", function.comment()), *contract_of(function)]
 
 
 def kit_definitions(file, names):
@@ -286,33 +319,38 @@ def kit_types(file, names):
 
 def kit_functions(file, names):
     found = {one.name: one for one in source(prover.kit() / "rattle" / file).functions if one.is_pub}
-    return [[*commented("///", found[name].comment()), *contract_of(found[name])] for name in names]
+    return [found[name] for name in names]
 
 
-def legend():
-    return ["| Sign | How to read it |", "|---|---|", *(f"| {sign} | {said} |" for sign, said in LEGEND.items()), ""]
-
-
-def kit_words(written, text):
-    """The kit's words of a page with what they say, and those of its types that the text names. Each word that isn't Rust's
-    or the legend's has to be told."""
+def check_words(written):
+    """Ends with a fault if a page uses a word of the kit that its table of words lacks, and that isn't Rust's."""
     told = {word for words in KIT for word in re.findall(r"[^\W\d][\w?]*", words)}
     used = {name for names in written.library.values() for name in names if name and "◌" not in name}
     if missing := used - told - PLAIN:
         sys.exit("tools/statement: statement_pages.toml has no meaning for: " + ", ".join(sorted(missing)))
-    rows = [f"| `{words}` | {said} |" for words, said in KIT.items()
-            if used & set(re.findall(r"[^\W\d][\w?]*", words)) or words.startswith("m ")]
-    rows += [f"| `{word}` | {said} |" for word, said in KIT_TYPES.items() if re.search(rf"\b{word}\b", text)]
-    return ["## Words of the kit's library", "", "| Word | What it says |", "|---|---|", *rows, ""]
+
+
+def signs_page():
+    """The page that explains the signs and the kit's words of the other pages, with a list of these."""
+    return page_text([
+        f"# {SIGNS['title']}", "", *wrapped(SIGNS["said"]), "", *(f"- [{page.title}]({page.name})" for page in PAGES), "",
+        "## Signs", "", "| Sign | How to read it |", "|---|---|", *rows(LEGEND), "",
+        "## Words of the kit's library", "", "| Word | What it says |", "|---|---|",
+        *rows({f"`{word}`": said for word, said in {**KIT, **KIT_TYPES}.items()})])
+
+
+def rows(table):
+    return [f"| {word} | {said} |" for word, said in table.items()]
 
 
 def head_of(page, table, written):
     return [f"# {page.title}", "", *wrapped(page.said), "", *wrapped(
         "Each clause is proved. To judge what it says, read it and the definitions below it: "
-        f"{written.lines} lines on this page, comments not counted, in {written.definitions} definitions and types. Each "
-        "definition is printed once, below all that use it, with its comment; a list above names its file. "
-        "Proofs and the bodies of functions need not be read. `tools/statement --write` generates this page from the sources."), "",
-        *legend(), "| Chapter | New definitions | Their lines |", "|---|---|---|", *table, ""]
+        f"{written.lines} lines on this page, comments not counted, in {written.definitions} definitions and types. "
+        f"[{SIGNS['title']}]({SIGNS['file']}) explains the signs and the words of the kit. A definition is printed once, below "
+        "all that use it; a line with its file's name is above it, or above others of that file. Proofs and the bodies of "
+        "functions need not be read. `tools/statement --write` generates this page from the sources."), "",
+        "| Chapter | New definitions | Their lines |", "|---|---|---|", *table, ""]
 
 
 def anchor(title):
@@ -320,15 +358,16 @@ def anchor(title):
 
 
 def statement_page(page, written):
-    """A page of chapters, with the kit's words."""
+    """A page of chapters."""
     written.turn_to(page)
     body, table = [], []
     for one in page.chapters:
         definitions, lines = written.definitions, written.lines
-        body += chapter(one, written, "../")
+        body += chapter(one, written)
         counts = f"{written.definitions - definitions} | {written.lines - lines}"
         table.append(f"| [{one.title}](#{anchor(one.title)}) | {counts} |")
-    return page_text(head_of(page, table, written) + body + kit_words(written, "\n".join(body)))
+    check_words(written)
+    return page_text(head_of(page, table, written) + body)
 
 
 def page_text(lines):
@@ -350,19 +389,26 @@ def check():
     """Ends with a fault if a page that is kept or its number of lines on the front page differs. Returns what the pages
     have."""
     readme, written = (TOP / "README.md").read_text(), Written()
+    check_page(SIGNS["file"], signs_page())
     for page, text, lines in pages(written):
-        if not page.file.exists() or page.file.read_text() != text:
-            sys.exit(f"docs/{page.name} is not what tools/statement --write would write")
+        check_page(page.name, text)
         said = figure(page).search(readme)
         if not said or int(said[1]) != lines:
             sys.exit(f"README.md: docs/{page.name} has {lines} lines of definitions")
     return written
 
 
+def check_page(name, text):
+    file = TOP / "docs" / name
+    if not file.exists() or file.read_text() != text:
+        sys.exit(f"docs/{name} is not what tools/statement --write would write")
+
+
 def write():
     readme = TOP / "README.md"
+    (TOP / "docs" / SIGNS["file"]).write_text(signs_page())
     for page, text, lines in pages(Written()):
-        page.file.write_text(text)
+        (TOP / "docs" / page.name).write_text(text)
         readme.write_text(figure(page).sub(lambda old: old[0].replace(old[1], str(lines), 1), readme.read_text()))
         print(f"docs/{page.name}: {lines} lines")
 
@@ -370,8 +416,7 @@ def write():
 def print_clauses(said):
     """Any clauses and what they rest on, on standard output."""
     speakers, written = [Clause(one) for one in said], Written(PAGES[0])
-    out = places(speakers, "") + fenced("rust", [shown_clause(speaker) for speaker in speakers])
-    out += definitions_of(speakers, written, BRIEF, "")
+    out = fenced("rust", [*headings("//", speakers, shown_clause)]) + definitions_of(speakers, written, BRIEF)
     library = [f"- `{module}`: " + ", ".join(f"`{name}`" for name in sorted(name for name in names if name))
                for module, names in sorted(written.library.items())]
     counts = f"{written.definitions} definitions, {written.lines} lines"
