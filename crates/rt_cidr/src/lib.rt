@@ -16,7 +16,7 @@
 //! No call allocates. A writer may accept any part of what it is given. A clause of std's `Write` says that it never
 //! reports more, so an implementation that does is rejected when it is proved.
 //!
-//! Only tested: which error is returned if the writer fails, and that no writer is flushed.
+//! Only tested: that [`put`] returns the error of [`put_counted`], and that no writer is flushed.
 #![tactic(auto)]
 
 mod address;
@@ -28,6 +28,6 @@ mod short_text;
 
 pub use address::Addr;
 pub use decimals::decimal_u32;
-pub use output::{put, put_counted};
+pub use output::{Sink, put, put_counted};
 pub use prefixes::{Prefix, TextFault};
 pub use short_text::{SHORT_TEXT_BYTES, ShortText};

@@ -6,7 +6,7 @@ use Rattle.rt_cidr.proofs.output.put_counted.Given as goal
 abbrev pub invariant-loop-done : goal.invariant-loop-done
 invariant-loop-done g l = record {
   within : l.done ≤ length l.bytes;
-  appended : Appends (g.W.Write.contents l.initial.w) (g.W.Write.contents l.w) (take l.done l.bytes);
+  appended : Appends (g.S.Sink.contents l.initial.w) (g.S.Sink.contents l.w) (take l.done l.bytes);
 }
 
 abbrev pub decreases-loop-done : goal.decreases-loop-done
