@@ -151,7 +151,7 @@ pub record IsSoundLevel (node side : ℕ → ℕ) (phase : ℕ → Phase) (claim
 abbrev pub SomeRival : (node side : ℕ → ℕ) (phase : ℕ → Phase) → ℕ → (Phase → Bool) → Type 0
 SomeRival node side phase p kind = (q : ℕ) × Rivals node side p q × IsTrue (kind (phase q))
 
--- wake: each waiting process is owed a word
+-- wake: each waiting process is owed a store in its spin word
 pub record IsOwed (node side : ℕ → ℕ) (phase : ℕ → Phase) (turn spin : ℕ → ℕ) (p : ℕ) : Type 0 where
   -- a process that was not woken (0) has a rival that claims its side or is to let it in. A process that was woken (1)
   -- and not let in has a rival that has announced itself or is to let it in
@@ -174,7 +174,7 @@ IsSoundAt levels s level =
     (λ n d. s.words (C level n d))
     (λ n. s.words (T level n)) (λ p. s.words (P level p))
 
--- each waiting process is owed a word at the level of a state
+-- each waiting process is owed a store in its spin word at the level of a state
 abbrev pub IsOwedAt : ℕ → State → ℕ → Type 0
 IsOwedAt levels s level =
     (p : ℕ) → IsOwed (node_of level) (side_of level) (λ q. phase_of levels level (s.processes q))
@@ -207,7 +207,8 @@ IsProper levels place (Entering level point) = IsOnItsWay levels place level (En
 IsProper levels place Inside = place < 2 ^ levels
 IsProper levels place (Leaving level point) = IsOnItsWay levels place level (ExitIsProper level place point)
 
--- the invariant: each process is proper, each level is sound, and at each level each waiting process is owed a word
+-- the invariant: each process is proper, each level is sound, and at each level each waiting process is owed a store in its
+-- spin word
 pub record IsSoundState (levels : ℕ) (s : State) : Type 0 where
   pub proper : (p : ℕ) → IsProper levels p (s.processes p)
   pub sound : (level : ℕ) → 1 ≤ level → level ≤ levels → IsSoundAt levels s level

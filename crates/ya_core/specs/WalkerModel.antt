@@ -18,8 +18,8 @@ use Rattle.ya_core.specs.ArbitrationTree.{node_of, side_of, number_of, count_of_
 use Rattle.ya_core.specs.Steps.{access_of, next_of}
 use Rattle.ya_core.specs.Soundness.{IsProper}
 
--- a process with its place and tree. `begun` is true if it is idle or inside and its entry or exit was begun; `remote`
--- counts its remote accesses since its entry began
+-- a process with its place and tree. `begun` is true if it is idle or inside and its acquisition or release was
+-- begun; `remote` counts its remote accesses since its acquisition began
 pub record Walk : Type 0 where
   pub levels : ℕ
   pub place : ℕ
@@ -32,7 +32,7 @@ abbrev pub walk : ℕ → ℕ → Process → Bool → ℕ → Walk
 walk levels place process begun remote =
     record { levels = levels; place = place; process = process; begun = begun; remote = remote }
 
--- the due access; `None` if the process is idle or inside and its entry or exit was not begun
+-- the due access; `None` if the process is idle or inside and its acquisition or release was not begun
 abbrev pub due_of : ℕ → ℕ → Process → Bool → Option Access
 due_of levels place Idle begun = if begun then Some (access_of levels place Idle) else None
 due_of levels place (Entering level point) begun = Some (access_of levels place (Entering level point))
@@ -192,7 +192,7 @@ abbrev pub WalkLeadsTo : Walk → List ℕ → Walk → Type 0
 WalkLeadsTo w [] v = v ≡ w
 WalkLeadsTo w (value ∷ values) v = MayBeTold (due w) value × WalkLeadsTo (walk_after w value) values v
 
--- the walk of an idle place whose entry was begun and whose remote accesses are counted from 0
+-- the walk of an idle place whose acquisition was begun and whose remote accesses are counted from 0
 pub record BeginsEntry (w : Walk) : Type 0 where
   pub process : w.process ≡ Idle
   pub begun : w.begun ≡ true

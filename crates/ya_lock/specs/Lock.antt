@@ -20,8 +20,8 @@ pub record IdlePass (V : Type 0) : Type 0 where
   pub remote : ℕ
   pub view : View V
 
--- a guard: its lock and place, the lent value as it was found and as it is now, the remote accesses of its entry, and the
--- view of its seat
+-- a guard: its lock and place, the lent value as it was found and as it is now, the remote accesses of its acquisition,
+-- and the view of its seat
 pub record OpenGuard (V : Type 0) : Type 0 where
   pub lock : LockId
   pub place : ℕ
@@ -30,7 +30,7 @@ pub record OpenGuard (V : Type 0) : Type 0 where
   pub remote : ℕ
   pub view : View V
 
--- the guard that a pass becomes, after an entry that found this value with `remote` remote accesses: its process
+-- the guard that a pass becomes, after an acquisition that found this value with `remote` remote accesses: its process
 -- is inside
 abbrev pub guard_of : {V : Type 0} → IdlePass V → V → ℕ → OpenGuard V
 guard_of pass found remote = record {

@@ -57,14 +57,16 @@ least_at E3 = 2
 least_at E4 = 2
 least_at _ = 3
 
--- the minimum number of remote accesses of a process since its last entry began: three for each level that it has won
+-- the minimum number of remote accesses of a process since its last acquisition began: three for each level that it has
+-- won
 abbrev pub least_count : ℕ → Process → ℕ
 least_count levels Idle = 0
 least_count levels (Entering level point) = 3 * (level - 1) + least_at point
 least_count levels Inside = 3 * levels
 least_count levels (Leaving level point) = 3 * levels
 
--- the remote accesses of a process since its last entry began: the next access of an idle process begins an entry
+-- the remote accesses of a process since its last acquisition began: the next access of an idle process begins an
+-- acquisition
 abbrev pub count_from : Process → ℕ → ℕ
 count_from Idle last = 0
 count_from _ count = count

@@ -10,11 +10,11 @@ use crate::rule::{LockTable, Ruled, View};
 
 /// The rule of a lock's table holds at every moment between two atomic steps of its seats. It has these
 /// consequences. The invariant of the core holds of the words and of the processes that the seats show, so each
-/// waiting process is owed a word. If some process takes part, some process that takes part goes on with the
-/// words as they are. No place has two seats, and at most one seat is inside. Once the value was given, it is in
-/// its slot exactly if no process is inside. The current value is what other places may have made (`since`) of
-/// the value that a place away has seen, or that a place was given whose pass is still to be made. One seat makes
-/// the passes; before it begins, no seat knows anything.
+/// waiting process is owed a store in its spin word. If some process takes part, some process that takes part goes on
+/// with the words as they are. No place has two seats, and at most one seat is inside. Once the value was given, it is
+/// in its slot exactly if no process is inside. The current value is what other places may have made (`since`) of the
+/// value that a place away has seen, or that a place was given whose pass is still to be made. One seat makes the
+/// passes; before it begins, no seat knows anything.
 pub fn rule<V: Kept, const L: u32>()
     requires { 1 ≤ L }
     ensures { (s : _) → ⟦<LockTable<V> as Ruled<Option<V>, View<V>, u32>>⟧.rule L s

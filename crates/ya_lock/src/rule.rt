@@ -26,7 +26,7 @@ pub enum View<V> {
     /// It gave the value home, and is to make the passes of the places from this one on; with the value that it gave.
     HandingOut(usize, V),
     /// A process: its place, its state, the value that it has seen (inside: that it found), and the number of remote
-    /// accesses since its last entry began.
+    /// accesses since its last acquisition began.
     Seated(usize, Process, V, u64),
     /// The same, and its process waits: since the seat last stored in its own bell, it has looked at its spin word in
     /// vain. Only such a seat parks without a time limit.
