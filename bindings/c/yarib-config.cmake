@@ -1,7 +1,8 @@
 # find_package(yarib) finds the installed library: link yarib::yarib, which is libyarib.so, or yarib::static, which is libyarib.a.
 # This file is in LIBRARIES/cmake/yarib, and the headers are in ../include of LIBRARIES, or of its parent if that has the
-# name of an architecture.
-get_filename_component(_yarib_libraries "${CMAKE_CURRENT_LIST_DIR}/../.." ABSOLUTE)
+# name of an architecture. /lib may be a link to /usr/lib, so the headers are sought from where it leads.
+get_filename_component(_yarib_libraries "${CMAKE_CURRENT_LIST_DIR}" REALPATH)
+get_filename_component(_yarib_libraries "${_yarib_libraries}/../.." ABSOLUTE)
 foreach(_yarib_up ".." "../..")
   get_filename_component(_yarib_headers "${_yarib_libraries}/${_yarib_up}/include" ABSOLUTE)
   if(EXISTS "${_yarib_headers}/yarib.h")

@@ -16,8 +16,8 @@ HERE = pathlib.Path(__file__).resolve().parent
 NAME, VERSION, ABOUT = "yarib", "0.3.0", "IPv4 routing tables whose answers are proved"
 INFO = f"{NAME}-{VERSION}.dist-info"
 LIBRARY = os.environ.get("YARIB_LIBRARY")
-# The time of each file; the least that a zip file can have, unless a build that can be repeated sets another one.
-SECONDS = int(os.environ.get("SOURCE_DATE_EPOCH", 315532800))
+# The time of each file: the earliest that a zip file can have, unless a build that can be repeated sets a later one.
+SECONDS = max(315532800, int(os.environ.get("SOURCE_DATE_EPOCH", 0)))
 WHEN = time.gmtime(SECONDS)[:6]
 # PyPI refuses a package with the first of these: there is no licence yet.
 CLASSIFIERS = ("Private :: Do Not Upload", "Operating System :: POSIX :: Linux", "Topic :: System :: Networking", "Typing :: Typed")
