@@ -38,7 +38,10 @@ class Task:
 
 
 def processors():
-    return len(os.sched_getaffinity(0))
+    # neither BSD nor macOS has it
+    if hasattr(os, "sched_getaffinity"):
+        return len(os.sched_getaffinity(0))
+    return os.cpu_count() or 1
 
 
 def read(descriptor, size):

@@ -40,6 +40,10 @@ def serve_one(requests, results, work):
     serve_all(requests, results, work_once)
 pieces.serve = serve_one
 """
+# as on BSD and on macOS
+WITHOUT_AFFINITY = """
+del pieces.os.sched_getaffinity
+"""
 WITHOUT_FORK = """
 def no_fork():
     raise BlockingIOError(11, "Resource temporarily unavailable")
@@ -205,6 +209,15 @@ def check_one_processor(made):
         raise Failed(f"on one processor the status is {status} and it says {said}")
 
 
+def check_system(made):
+    """Where the system doesn't say which processors may be used, that is no error."""
+    for number, (command, sample, _) in enumerate(JOINED):
+        data = (SAMPLES / sample).read_bytes()
+        one = result(made, f"system{number}", command, data, constants(1 << 20, 1))
+        expect(f"{command} of {sample} on another system",
+               result(made, f"system{number}-other", command, data, constants(2000, 0) + WITHOUT_AFFINITY), one)
+
+
 def check_closed(made):
     """Without standard error a pipe to another process could have its number, and no other process is made."""
     data = (SAMPLES / "debian-13/ranks/bird.txt").read_bytes()
@@ -264,5 +277,6 @@ def check(made, conversions):
     check_order_of_frr(folder)
     check_processes(folder)
     check_one_processor(folder)
+    check_system(folder)
     check_closed(folder)
     check_signal(folder)
