@@ -144,7 +144,7 @@ PYTHON = {
     "the routes of a change are exchanged": (TABLES, "route_of(*routes[:6]), route_of(*routes[6:]))\n\n\ndef outcome",
                                              "route_of(*routes[6:]), route_of(*routes[:6]))\n\n\ndef outcome"),
     "no change is a change": (TABLES, "found if found.before or found.after else None", "found"),
-    "a purge's changes are the first feed's": (TABLES, "yarib_purge_changes(self._at, feed,", "yarib_purge_changes(self._at, 1,"),
+    "a purge's changes are the first feed's": (TABLES, "yarib_purge_changes(self._at, chosen,", "yarib_purge_changes(self._at, 1,"),
     "an invalid text of an address is overlooked": (TABLES,
         "                check(status_of(self._held.yarib_look_up_text, self._at, text, size, room.at), address)\n",
         "                pass\n"),

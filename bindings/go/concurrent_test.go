@@ -468,6 +468,8 @@ func TestEveryCopyOfAConcurrentTable(t *testing.T) {
 			}
 		}
 	}
+	// The limit is none that is out of range.
+	same(t, "a table that is replaced with too low a limit", other.ReplaceAll(copied, 1), ErrFull)
 	var readers sync.WaitGroup
 	readers.Add(1)
 	must(t, other.FibAttach())

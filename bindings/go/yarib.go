@@ -843,14 +843,18 @@ func (table *ConcurrentTable) Copy(limit uint32) (*Table, error) {
 // ReplaceAll publishes the routes of a Table at once, which was loaded aside, for up to limit routes of each feed: each call that reads
 // finds those before, or the new ones. It returns ErrFull if a feed has more.
 func (table *ConcurrentTable) ReplaceAll(other *Table, limit uint32) error {
-	return about(table.held.change(func() uint32 {
+	err := table.held.change(func() uint32 {
 		if other.held == nil {
 			return C.YARIB_NOTHING
 		}
 		other.held.lock.RLock()
 		defer other.held.lock.RUnlock()
 		return uint32(C.yarib_concurrent_replace(table.held.concurrent(), C.uint32_t(limit), &other.held.inside))
-	}), "limit %d, not 1 to %d", limit, MaxLimit)
+	})
+	if err == ErrNumber {
+		return about(err, "limit %d, not 1 to %d", limit, MaxLimit)
+	}
+	return err
 }
 
 // FibAttach attaches a forwarding table of 64 MiB or more, if none is attached. From then on every command updates it, and look-ups use

@@ -347,7 +347,8 @@ class Calls(Limited):
                     self.assert_same(table.apply_changed(feed, *given), (outcome, changes[0] if changes else None))
             self.compare(table, model, draw)
         for feed in (0, yarib.MAX_FEED + 1):
-            self.assertRaises(yarib.Invalid, table.purge_changes, feed)
+            with self.assertRaisesRegex(yarib.Invalid, f"feed {feed} is not 1 to {yarib.MAX_FEED}"):
+                table.purge_changes(feed)
         self.assertRaises(yarib.Error, table.apply_changed, 1, "purge")
         self.assert_same(yarib.Change(10 << 24, 8, None, None).prefix, NETWORK("10.0.0.0/8"))
 

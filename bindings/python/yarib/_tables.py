@@ -522,9 +522,8 @@ class Routes(Handle):
 
     def purge_changes(self, feed: int = 1) -> List[Change]:
         """Returns which best routes a purge of the feed would change, sorted by base and length."""
-        if not 1 <= number(feed, "a feed") <= c.MAX_FEED:
-            c.fail(c.BAD_NUMBER, feed)
-        found = self._pages(c.CHANGE.size, 64, lambda *place: self._freed.yarib_purge_changes(self._at, feed, *place))
+        chosen = feed_of(feed)
+        found = self._pages(c.CHANGE.size, 64, lambda *place: self._freed.yarib_purge_changes(self._at, chosen, *place))
         return [change_of(*fields) for fields in c.CHANGE.iter_unpack(found)]
 
     def _put(self, operation: int, prefix: Prefix, via: Optional[Address], pref: int, feed: int) -> None:
