@@ -3,8 +3,9 @@
 
 tests/mutants.py, with the toolchain on PATH. Among the mutants are equivalent ones, by an answer and by a named goal, one
 that can't be read and is in a round with another, and one whose function calls another that is refused in the same
-round. The kept verdict on a refused mutant has to be forgotten if a text changes that the verdict can depend on, and
-only then. No listed mutant may depend on the text of another function.
+round. A proof that names what a mutant took away doesn't refuse it, even if the prover breaks the line that says so. The
+kept verdict on a refused mutant has to be forgotten if a text changes that the verdict can depend on, and only then. No
+listed mutant may depend on the text of another function.
 """
 import os
 import pathlib
@@ -39,6 +40,15 @@ pub fn four_times(n: u64) -> u64
     ensures { result ≡ (n + n) + (n + n) }
 {
     twice(twice(n))
+}
+
+/// Four times the number, by a name with which the prover breaks the lines of its report.
+pub fn four_times_the_number_as_twice_the_number_and_then_twice_what_that_is(n: u64) -> u64
+    requires { n < 100 }
+    ensures { result ≡ (n + n) + (n + n) }
+{
+    let once = twice(n);
+    twice(once)
 }
 
 /// Twice the number, by the same text as `twice`.
@@ -82,6 +92,18 @@ use Rattle.small.proofs.four_times.Goals as goal
 pub returns : goal.returns
 returns c = search rules
 """
+LONG = "four_times_the_number_as_twice_the_number_and_then_twice_what_that_is"
+# Answers that name a call, and answer a goal of another.
+LONG_ANSWERS = f"""\
+use Rattle.std.proofs.Common.{{arith}}
+use Rattle.small.proofs.{LONG}.Goals as goal
+
+pub twice-requires : goal.twice-requires
+twice-requires c = omega (arith, c.twice-once.ensures, c.requires)
+
+pub returns : goal.returns
+returns c = rw c.twice-once.ensures at c.twice.ensures
+"""
 # For each mutant: its old and new text, the function in which it has to be refused, and the beginning of its line in
 # the output.
 MUTANTS = {
@@ -94,7 +116,12 @@ MUTANTS = {
     "in-a-method-of-the-same-name": ("        n + n⏎", "        n⏎", "Number::twice", "refused, as it must be: "),
     "in-the-second-of-two-equal-texts": ("    n + n⏎", "    n⏎", "double", "refused, as it must be: "),
     "leaves-no-function": ("pub fn twice", "pub fn thrice", "twice", "BAD MUTANT: it leaves no function twice"),
+    "names-a-call-that-is-gone": ("let once = twice(n);⏎    twice(once)", "twice(n)", f"{LONG}: returns",
+                                  "BAD MUTANT: a proof names what it took away"),
+    "names-only-calls-that-are-there": ("    twice(once)", "    twice(n)", f"{LONG}: returns", "refused, as it must be: "),
     "outside-functions": ("LEAST: u64 = 1", "LEAST: u64 = 2", "Number::least", "refused, as it must be: "),
+    "refused-by-a-goal-that-is-gone": ("    twice(once)", "    once", f"{LONG}: twice-requires",
+                                       "BAD MUTANT: a proof names what it took away"),
     "right": ("twice(twice(n))", "twice(n) + twice(n)", "four_times", "NOT REFUSED in four_times"),
     "right-by-its-goal": ("{⏎    n + n⏎}", "{⏎    let other = n; n + other⏎}", "twice: returns", "NOT REFUSED in twice"),
     "standing-twice": ("n + n", "n", "twice", "BAD MUTANT: an 'old:' text is in twice 2 times"),
@@ -230,8 +257,9 @@ def main():
         for part in ("src", "must-fail"):
             (folder / part).mkdir(parents=True)
         (folder / "src/lib.rt").write_text(SOURCE)
-        (folder / "proofs/four_times").mkdir(parents=True)
-        (folder / "proofs/four_times/Answers.antt").write_text(ANSWERS)
+        for name, text in (("four_times", ANSWERS), (LONG, LONG_ANSWERS)):
+            (folder / "proofs" / name).mkdir(parents=True)
+            (folder / "proofs" / name / "Answers.antt").write_text(text)
         sections = [listed(name, *mutant[:3]) for name, mutant in sorted(MUTANTS.items())]
         (folder / "must-fail/mutants.md").write_text("\n".join(["# Mutants\n", *sections]))
         sections = [listed(name, *control[:3], "taken") for name, control in sorted(CONTROLS.items())]
