@@ -5,9 +5,9 @@
  *
  *   bindings/build && gcc -O2 -I bindings/c bench/changes.c bindings/out/libyarib.a -o changes && ./changes 1000000 3000000 */
 #define _POSIX_C_SOURCE 200809L
+#include "measured.h"
+
 #include <routes.h>
-#include <stdlib.h>
-#include <time.h>
 
 struct prefix {
     uint32_t base;
@@ -15,45 +15,7 @@ struct prefix {
     uint8_t is_in;
 };
 
-static uint64_t state = 88172645463325252ULL;
-
-static uint32_t draw(void)
-{
-    state ^= state << 13;
-    state ^= state >> 7;
-    state ^= state << 17;
-    return (uint32_t)(state >> 16);
-}
-
-static double now(void)
-{
-    struct timespec time;
-    clock_gettime(CLOCK_THREAD_CPUTIME_ID, &time);
-    return (double)time.tv_sec * 1e6 + (double)time.tv_nsec / 1e3;
-}
-
-static void need(int holds)
-{
-    if (holds) return;
-    fputs("bench/changes.c: a call failed\n", stderr);
-    exit(1);
-}
-
-/* The lengths of a full table, in thousandths. */
-static uint8_t length(void)
-{
-    static const struct { uint16_t upto; uint8_t len; } parts[] = {{600, 24}, {690, 23}, {800, 22}, {850, 21}, {897, 20}, {922, 19},
-        {936, 18}, {944, 17}, {958, 16}, {960, 15}, {962, 14}, {963, 13}, {964, 12}, {976, 32}, {984, 29}, {990, 28}, {1000, 25}};
-    uint32_t drawn = draw() % 1000;
-    for (size_t k = 0; ; k++) if (drawn < parts[k].upto) return parts[k].len;
-}
-
-static uint32_t base(uint8_t len)
-{
-    /* Unicast addresses: 1.0.0.0 to 223.255.255.255. */
-    uint32_t address = 0x01000000 + (uint32_t)((uint64_t)draw() * 0xdf000000 >> 32);
-    return len == 0 ? 0 : address & 0xffffffffu << (32 - len);
-}
+static double now(void) { return time_of(CLOCK_THREAD_CPUTIME_ID, 1e6); }
 
 /* Executes a random command on the prefix, and returns the time that it took. */
 static double change(yarib *table, struct prefix *prefix)
@@ -96,8 +58,8 @@ int main(int count, char **words)
     yarib table = YARIB_EMPTY;
     need(prefixes && times && yarib_new(&table, YARIB_MAX_LIMIT, YARIB_PLAIN) == YARIB_DONE);
     for (size_t k = 0; k < routes; k++) {
-        prefixes[k].len = length();
-        prefixes[k].base = base(prefixes[k].len);
+        prefixes[k].len = draw_full_length();
+        prefixes[k].base = draw_base(prefixes[k].len);
         prefixes[k].is_in = 0;
         change(&table, &prefixes[k]);
     }
@@ -115,7 +77,7 @@ int main(int count, char **words)
     for (uint8_t len = 0; len <= 24; len += 4) {
         size_t tried = len == 0 ? 6 : len == 4 ? 60 : 400;
         for (size_t k = 0; k < tried; k++) {
-            struct prefix prefix = {.base = base(len), .len = len};
+            struct prefix prefix = {.base = draw_base(len), .len = len};
             times[k] = (float)change(&table, &prefix);
             if (prefix.is_in && k % 2) change(&table, &prefix);
         }

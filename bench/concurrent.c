@@ -3,11 +3,10 @@
  *
  *     bindings/build && gcc -O2 -I bindings/c bench/concurrent.c bindings/out/libyarib.a -pthread -o concurrent && ./concurrent */
 #define _POSIX_C_SOURCE 200809L
+#include "measured.h"
+
 #include <pthread.h>
 #include <stdatomic.h>
-#include <stdio.h>
-#include <stdlib.h>
-#include <time.h>
 #include <yarib.h>
 
 enum { PREFIXES = 200000, ASKED = 1 << 20, CHANGES = 20000, BATCH = 1000, ROUNDS = 7, WAYS = 12 };
@@ -20,27 +19,7 @@ static uint32_t asked[ASKED];
 static atomic_int ended;
 static unsigned long sum;
 
-static void need(int holds)
-{
-    if (!holds) {
-        fputs("bench/concurrent.c: a call failed\n", stderr);
-        exit(1);
-    }
-}
-
-static uint32_t draw(void)
-{
-    static uint64_t last = 7;
-    last = last * 6364136223846793005u + 1442695040888963407u;
-    return (uint32_t)(last >> 32);
-}
-
-static double now(void)
-{
-    struct timespec time;
-    clock_gettime(CLOCK_THREAD_CPUTIME_ID, &time);
-    return (double)time.tv_sec * 1e9 + (double)time.tv_nsec;
-}
+static double now(void) { return time_of(CLOCK_THREAD_CPUTIME_ID, 1e9); }
 
 static void *look_up(void *unused)
 {

@@ -3,10 +3,7 @@
    each prefix, then the addresses (bench/library.py writes it). The program prints names and nanoseconds of processor time
    for all calls together, the bytes of the table, and the sum of the bases and lengths of the prefixes that look-ups find. */
 #define _POSIX_C_SOURCE 200809L
-#include <stdint.h>
-#include <stdio.h>
-#include <stdlib.h>
-#include <time.h>
+#include "measured.h"
 
 enum { ENTRIES = 1 << 24, AT_ONCE = 16, CHUNK = 256 };
 #define LONG 0x80000000u
@@ -18,14 +15,6 @@ struct answer {
 
 static uint32_t (*blocks)[CHUNK], *entries, block_count;
 static struct answer *answers;
-
-static void need(int holds)
-{
-    if (!holds) {
-        fputs("bench/fib_peer.c: a call failed\n", stderr);
-        exit(1);
-    }
-}
 
 static uint64_t nanoseconds(void)
 {

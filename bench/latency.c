@@ -4,9 +4,8 @@
  *
  *     bindings/build && gcc -O2 -I bindings/c bench/latency.c bindings/out/libyarib.a -pthread -o latency && ./latency */
 #define _POSIX_C_SOURCE 200809L
-#include <stdio.h>
-#include <stdlib.h>
-#include <time.h>
+#include "measured.h"
+
 #include <yarib.h>
 
 enum { ROUTES = 1000000, CHANGES = 200000 };
@@ -19,21 +18,6 @@ static yarib_concurrent table = YARIB_CONCURRENT_INIT;
 static yarib_command routes[ROUTES];
 static double processor[CHANGES], clock_time[CHANGES];
 
-static void need(int holds)
-{
-    if (!holds) {
-        fputs("bench/latency.c: a call failed\n", stderr);
-        exit(1);
-    }
-}
-
-static uint32_t draw(void)
-{
-    static uint64_t last = 7;
-    last = last * 6364136223846793005u + 1442695040888963407u;
-    return (uint32_t)(last >> 32);
-}
-
 static uint8_t draw_length(void)
 {
     uint32_t drawn = draw() % 100000;
@@ -42,12 +26,7 @@ static uint8_t draw_length(void)
     return length;
 }
 
-static double now(clockid_t which)
-{
-    struct timespec time;
-    clock_gettime(which, &time);
-    return (double)time.tv_sec * 1e6 + (double)time.tv_nsec / 1e3;
-}
+static double now(clockid_t which) { return time_of(which, 1e6); }
 
 /* Fills the table with routes to random prefixes. */
 static void fill(void)

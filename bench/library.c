@@ -1,9 +1,9 @@
 /* Times the library for C over the prefixes and addresses of a file of 32-bit numbers: how many there are of each, then base and
  * length of each prefix, then the addresses. It prints names and nanoseconds of processor time, each for one prefix or address. */
 #define _POSIX_C_SOURCE 200809L
+#include "measured.h"
+
 #include <routes.h>
-#include <stdlib.h>
-#include <time.h>
 
 enum { CHUNK = 4096 };
 
@@ -11,20 +11,7 @@ static uint32_t *numbers, prefixes, addresses;
 static const uint32_t *asked;
 static yarib_route *answers;
 
-static void need(int holds)
-{
-    if (!holds) {
-        fputs("bench/library.c: a call failed\n", stderr);
-        exit(1);
-    }
-}
-
-static double seconds(void)
-{
-    struct timespec now;
-    clock_gettime(CLOCK_PROCESS_CPUTIME_ID, &now);
-    return (double)now.tv_sec + (double)now.tv_nsec / 1e9;
-}
+static double seconds(void) { return time_of(CLOCK_PROCESS_CPUTIME_ID, 1); }
 
 static void say(const char *name, double from, uint32_t count)
 {

@@ -2,26 +2,12 @@
  for C: a number * of 24 bits for each prefix instead of a route. It prints names and nanoseconds of processor time,
  each for one prefix or address. */
 #define _POSIX_C_SOURCE 200809L
+#include "measured.h"
+
 #include <rte_eal.h>
 #include <rte_lpm.h>
-#include <stdio.h>
-#include <stdlib.h>
-#include <time.h>
 
-static double seconds(void)
-{
-    struct timespec now;
-    clock_gettime(CLOCK_PROCESS_CPUTIME_ID, &now);
-    return (double)now.tv_sec + (double)now.tv_nsec / 1e9;
-}
-
-static void need(int holds)
-{
-    if (!holds) {
-        fputs("bench/library_lpm.c: a call failed\n", stderr);
-        exit(1);
-    }
-}
+static double seconds(void) { return time_of(CLOCK_PROCESS_CPUTIME_ID, 1); }
 
 int main(int count, char **words)
 {

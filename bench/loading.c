@@ -4,51 +4,23 @@
  *
  *     bindings/build && gcc -O2 -I bindings/c bench/loading.c bindings/out/libyarib.a -pthread -o loading && ./loading 1000000 3 */
 #define _POSIX_C_SOURCE 200809L
+#include "measured.h"
+
 #include <pthread.h>
 #include <routes.h>
-#include <stdlib.h>
-#include <time.h>
 
 static yarib_command *commands;
 static size_t prefixes = 1000000;
 
-static void need(int holds)
-{
-    if (holds) return;
-    fputs("bench/loading.c: a call failed\n", stderr);
-    exit(1);
-}
-
-static uint32_t draw(void)
-{
-    static uint64_t last = 5;
-    last = last * 6364136223846793005u + 1442695040888963407u;
-    return (uint32_t)(last >> 32);
-}
-
-static double now(void)
-{
-    struct timespec time;
-    clock_gettime(CLOCK_THREAD_CPUTIME_ID, &time);
-    return (double)time.tv_sec * 1e3 + (double)time.tv_nsec / 1e6;
-}
-
-/* The lengths of a full table, in thousandths. */
-static uint8_t length(void)
-{
-    static const struct { uint16_t upto; uint8_t len; } parts[] = {{600, 24}, {690, 23}, {800, 22}, {850, 21}, {897, 20}, {922, 19},
-        {936, 18}, {944, 17}, {958, 16}, {960, 15}, {962, 14}, {963, 13}, {964, 12}, {976, 32}, {984, 29}, {990, 28}, {1000, 25}};
-    uint32_t drawn = draw() % 1000;
-    for (size_t k = 0; ; k++) if (drawn < parts[k].upto) return parts[k].len;
-}
+static double now(void) { return time_of(CLOCK_THREAD_CPUTIME_ID, 1e3); }
 
 static void draw_commands(void)
 {
     need((commands = calloc(prefixes, sizeof *commands)) != NULL);
     for (size_t k = 0; k < prefixes; k++) {
-        uint8_t len = length();
-        uint32_t base = 0x01000000 + (uint32_t)((uint64_t)draw() * 0xdf000000 >> 32);
-        commands[k] = put_command(YARIB_ADD, 1, base >> (32 - len) << (32 - len), len, (uint32_t)k, draw() % 64);
+        uint8_t len = draw_full_length();
+        uint32_t base = draw_base(len);
+        commands[k] = put_command(YARIB_ADD, 1, base, len, (uint32_t)k, draw() % 64);
     }
 }
 

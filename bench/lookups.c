@@ -7,12 +7,11 @@
  *     gcc -O2 -march=native -I bindings/c bench/lookups.c bindings/out/libyarib.a -pthread $(pkg-config --cflags --libs libdpdk) -o lookups
  *     ./lookups 200000 9 */
 #define _GNU_SOURCE
+#include "measured.h"
+
 #include <rte_eal.h>
 #include <rte_lpm.h>
-#include <stdio.h>
-#include <stdlib.h>
 #include <sys/mman.h>
-#include <time.h>
 #include <yarib.h>
 
 enum { ASKED = 4000000, SLICE = 1000000, AT_ONCE = 256, ROUTERS = 64 };
@@ -25,27 +24,7 @@ static uint32_t *asked, *slice, found[AT_ONCE];
 static yarib_route routes[AT_ONCE];
 static uint64_t sum;
 
-static void need(int holds)
-{
-    if (!holds) {
-        fputs("bench/lookups.c: a call failed\n", stderr);
-        exit(1);
-    }
-}
-
-static uint32_t draw(void)
-{
-    static uint64_t last = 3;
-    last = last * 6364136223846793005u + 1442695040888963407u;
-    return (uint32_t)(last >> 32);
-}
-
-static double now(void)
-{
-    struct timespec time;
-    clock_gettime(CLOCK_THREAD_CPUTIME_ID, &time);
-    return (double)time.tv_sec * 1e9 + (double)time.tv_nsec;
-}
+static double now(void) { return time_of(CLOCK_THREAD_CPUTIME_ID, 1e9); }
 
 static void by_lpm(struct rte_lpm *table)
 {

@@ -5,49 +5,16 @@
  *
  *   bindings/build && gcc -O2 -I bindings/c bench/purges.c bindings/out/libyarib.a -o purges && ./purges 1000000 */
 #define _POSIX_C_SOURCE 200809L
+#include "measured.h"
+
 #include <routes.h>
-#include <stdlib.h>
-#include <time.h>
 
 struct prefix {
     uint32_t base;
     uint8_t len;
 };
 
-static uint64_t state = 88172645463325252ULL;
-
-static uint32_t draw(void)
-{
-    state ^= state << 13;
-    state ^= state >> 7;
-    state ^= state << 17;
-    return (uint32_t)(state >> 16);
-}
-
-static double now(void)
-{
-    struct timespec time;
-    clock_gettime(CLOCK_THREAD_CPUTIME_ID, &time);
-    return (double)time.tv_sec * 1e3 + (double)time.tv_nsec / 1e6;
-}
-
-static void need(int holds)
-{
-    if (holds) return;
-    fputs("bench/purges.c: a call failed\n", stderr);
-    exit(1);
-}
-
-/* A prefix with the lengths of a full table, in thousandths, of unicast addresses: 1.0.0.0 to 223.255.255.255. */
-static struct prefix drawn(void)
-{
-    static const struct { uint16_t upto; uint8_t len; } parts[] = {{600, 24}, {690, 23}, {800, 22}, {850, 21}, {897, 20}, {922, 19},
-        {936, 18}, {944, 17}, {958, 16}, {960, 15}, {962, 14}, {963, 13}, {964, 12}, {976, 32}, {984, 29}, {990, 28}, {1000, 25}};
-    uint32_t part = draw() % 1000, address = 0x01000000 + (uint32_t)((uint64_t)draw() * 0xdf000000 >> 32);
-    size_t k = 0;
-    while (part >= parts[k].upto) k++;
-    return (struct prefix){.base = address & 0xffffffffu << (32 - parts[k].len), .len = parts[k].len};
-}
+static double now(void) { return time_of(CLOCK_THREAD_CPUTIME_ID, 1e3); }
 
 static yarib_reply applied(yarib *table, uint32_t operation, uint32_t feed, struct prefix prefix, uint32_t preference)
 {
@@ -76,7 +43,10 @@ int main(int count, char **words)
     struct prefix *prefixes = malloc(routes * sizeof *prefixes);
     yarib table = YARIB_EMPTY;
     need(routes >= 10 && prefixes && yarib_new(&table, YARIB_MAX_LIMIT, YARIB_PLAIN) == YARIB_DONE);
-    for (size_t k = 0; k < routes; k++) prefixes[k] = drawn();
+    for (size_t k = 0; k < routes; k++) {
+        prefixes[k].len = draw_full_length();
+        prefixes[k].base = draw_base(prefixes[k].len);
+    }
     double from = now();
     for (size_t k = 0; k < routes; k++) applied(&table, YARIB_ADD, 1, prefixes[k], 1);
     printf("insertion %.1f ns\n", (now() - from) * 1e6 / (double)routes);
