@@ -26,15 +26,17 @@ PYTHON = {
     "a feed out of range isn't named": (TABLES, "    if status == c.BAD_NUMBER:\n", "    if status == c.BAD_SIZE:\n"),
     "any number of arguments is a command": (TABLES, "    if len(words) != len(TAKES[operation]):\n", "    if operation == c.LOOKUP and len(words) != 1:\n"),
     "a full feed is overlooked": (TABLES, "{c.EXISTS: Exists, c.FULL: Full, c.MISSING: Missing}", "{c.EXISTS: Exists, c.MISSING: Missing}"),
-    **{f"{forgotten[0]} is forgotten in {call}": (TABLES, f"self._select(c.{call.upper()}, prefix, feed, best)",
+    **{f"{forgotten[0]} is forgotten in {call}": (TABLES, f"self._select(c.{call.upper()}, prefix, feed, best, via)",
                                                   f"self._select(c.{call.upper()}, prefix, {forgotten[1]})")
        for call in ("exact", "within", "covering")
-       for forgotten in (("best", "feed, False"), ("feed", "None, best"))},
-    "best is forgotten in routes": (TABLES, "self._select(c.ALL, (0, 0), feed, best)", "self._select(c.ALL, (0, 0), feed, False)"),
-    "feed is forgotten in routes": (TABLES, "self._select(c.ALL, (0, 0), feed, best)", "self._select(c.ALL, (0, 0), None, best)"),
+       for forgotten in (("best", "feed, False, via"), ("feed", "None, best, via"), ("via", "feed, best, 'any'"))},
+    **{f"{forgotten[0]} is forgotten in routes": (TABLES, "self._select(c.ALL, (0, 0), feed, best, via)", f"self._select(c.ALL, (0, 0), {forgotten[1]})")
+       for forgotten in (("best", "feed, False, via"), ("feed", "None, best, via"), ("via", "feed, best, 'any'"))},
+    "routes(via=None) gives all": (TABLES, 'best or via != "any":', 'best or via not in ("any", None):'),
+    "routes that discard are selected via 0.0.0.0": (TABLES, "(c.DISCARD, 0) if via is None", "(VIA, 0) if via is None"),
     "within and covering are exchanged": (TABLES, "return self._select(c.WITHIN,", "return self._select(c.COVERING,"),
     "feed 0 selects all": (TABLES, "    if not 1 <= found <= c.MAX_FEED:\n", "    if not 0 <= found <= c.MAX_FEED:\n"),
-    "routes(feed=0) gives all": (TABLES, "if feed is not None or best:", "if feed or best:"),
+    "routes(feed=0) gives all": (TABLES, "if feed is not None or best or", "if feed or best or"),
     "an entry without its prefix": (TABLES, "        return feed, name, prefix\n", "        return feed, name, None\n"),
     "an added entry without its prefix": (TABLES, "return feed, name, prefix, pref,",
                                           "return feed, name, None, pref,"),
@@ -161,6 +163,8 @@ GO = {name: ("yarib.go", *texts) for name, texts in {
                          "return Entry{command, Reply{Code: Code(raw.reply.code)}}"),
     "only best is forgotten": ("if asked.OnlyBest {", "if asked.OnlyBest && asked.Feed > 64 {"),
     "a selection's feed is forgotten": ("feed: C.uint32_t(asked.Feed)}", "feed: 0}"),
+    "a selection's hop is forgotten": ("table.held.chosen(&raw, C.uint32_t(hop), via, room, total)", "table.held.chosen(&raw, C.uint32_t(hop)*0, via, room, total)"),
+    "a selection's router of IPv6 is accepted": ("hop, via, isRight = asked.Hop.numbers()\n", "hop, via, _ = asked.Hop.numbers()\n"),
     "by route as by hop": ("C.uint32_t(by), C.uint32_t(from)", "C.uint32_t(ByHop), C.uint32_t(from)"),
     "by hop as by route": ("C.uint32_t(by), C.uint32_t(from)", "C.uint32_t(ByRoute), C.uint32_t(from)"),
     "the sides are exchanged": ("one.Old, one.HasOld = routeOf(&raw.before)\n\t\tone.New, one.HasNew = routeOf(&raw.after)",
@@ -279,6 +283,7 @@ RUST = {name: ("src/lib.rs", *texts) for name, texts in {
     "an entry's preference": ("1 => Command::Add(prefix, raw.pref, hop)", "1 => Command::Add(prefix, 0, hop)"),
     "an entry's length": ("let prefix = Prefix::of(raw.base, raw.len);\n        let hop", "let prefix = Prefix::of(raw.base, 32);\n        let hop"),
     "only best is forgotten": ("only_best: u8::from(self.only_best),", "only_best: 0,"),
+    "a selection's hop is forgotten": ("asked.hop.map_or((0, 0), Hop::numbers)", "asked.hop.map_or((0, 0), |_| (0, 0))"),
     "a selection's feed is forgotten": (".map_or(0, |feed| if feed == 0 { u32::MAX } else { feed })", ".map_or(0, |feed| feed / 65)"),
     "within and covering are exchanged": ("Part::Within(prefix) => (1, prefix),\n            Part::Covering(prefix) => (2, prefix)",
                                           "Part::Within(prefix) => (2, prefix),\n            Part::Covering(prefix) => (1, prefix)"),
@@ -635,6 +640,8 @@ PYTHON = noticed_by({
     "test_calls.Calls.test_each_call_answers_as_the_model": (
         "best is forgotten in within", "numpy's fields are exchanged", "numpy's length and hop are exchanged",
         "put keeps an old route", "put overlooks a full feed", "a replace is an add", "the text of an address is cut",
+        "via is forgotten in exact", "via is forgotten in within", "via is forgotten in covering", "via is forgotten in routes",
+        "routes(via=None) gives all", "routes that discard are selected via 0.0.0.0",
         "no route and a discard are exchanged", "a view's routers are cut", "a view's routers may be written", "an address in a view is another",
     ),
     "test_calls.Given.test_numbers_out_of_range": (
@@ -719,11 +726,11 @@ GO = noticed_by({
     ),
     "TestEveryCallAnswersAsTheModel": (
         "an entry's feed", "an entry's prefix", "an entry's preference", "an entry's hop", "an entry's address",
-        "an entry's reply", "only best is forgotten", "the best of a prefix is the shortest",
+        "an entry's reply", "only best is forgotten", "a selection's hop is forgotten", "the best of a prefix is the shortest",
         "all matches are cut to the best", "lists of hops may differ in length", "an address in a view is another",
     ),
     "TestWhatIsRefusedIsNamed": (
-        "a selection's feed is forgotten", "by route as by hop", "by hop as by route", "an error blames the prefix",
+        "a selection's feed is forgotten", "a selection's router of IPv6 is accepted", "by route as by hop", "by hop as by route", "an error blames the prefix",
     ),
     "TestBothSidesOfEachDifference": (
         "the sides are exchanged", "differences end at the first", "a walk over differences doesn't stop",
@@ -818,7 +825,7 @@ RUST = noticed_by({
     ),
     "model replies_and_routes_are_the_models": (
         "an entry's discard is a router", "addresses are read backwards", "a selection's feed is forgotten",
-        "no route and a discard are exchanged", "an address in a view is another",
+        "a selection's hop is forgotten", "no route and a discard are exchanged", "an address in a view is another",
     ),
     "model lists_at_page_boundaries": (
         "an entry's feed", "an entry's preference", "an entry's length",

@@ -67,6 +67,7 @@ static enum yarib_status reading(void)
     CHECK(yarib_routes(&table, 0, &route, 1, &total) == status);
     CHECK(yarib_routes_from(&table, &start, &route, 1, &total) == status);
     CHECK(yarib_select(&table, &all, 0, &route, 1, &total) == status);
+    CHECK(yarib_select_by_hop(&table, &all, YARIB_VIA, 1, 0, &route, 1, &total) == status);
     CHECK(yarib_purge_changes(&table, 1, 0, &one, 1, &total) == status);
     CHECK(yarib_count(&table, &total) == status);
     CHECK(yarib_memory(&table, &total) == status);

@@ -52,6 +52,7 @@ static void nothing(yarib *empty)
     CHECK(yarib_routes(empty, 0, &route, 1, &total) == YARIB_NOTHING && is_marked(&route, sizeof route));
     CHECK(yarib_routes_from(empty, &start, &route, 1, &total) == YARIB_NOTHING && is_marked(&route, sizeof route));
     CHECK(yarib_select(empty, &all, 0, &route, 1, &total) == YARIB_NOTHING && is_marked(&route, sizeof route));
+    CHECK(yarib_select_by_hop(empty, &all, YARIB_VIA, 1, 0, &route, 1, &total) == YARIB_NOTHING && is_marked(&route, sizeof route));
     CHECK(yarib_count(empty, &total) == YARIB_NOTHING && yarib_follow(empty) == YARIB_NOTHING);
     CHECK(yarib_journal(empty, 0, &entry, 1, &total) == YARIB_NOTHING);
     CHECK(yarib_first_difference(empty, &other, 0, 0, &range) == YARIB_NOTHING);
@@ -125,6 +126,7 @@ static void kinds(void)
     CHECK(yarib_routes(&forwarding, 0, &route, 1, &total) == YARIB_WRONG_KIND);
     CHECK(yarib_routes_from(&forwarding, &start, &route, 1, &total) == YARIB_WRONG_KIND);
     CHECK(yarib_select(&forwarding, &all, 0, &route, 1, &total) == YARIB_WRONG_KIND);
+    CHECK(yarib_select_by_hop(&forwarding, &all, YARIB_VIA, 1, 0, &route, 1, &total) == YARIB_WRONG_KIND);
     CHECK(yarib_look_up_all(&forwarding, address, 0, &route, 1, &total) == YARIB_WRONG_KIND);
     CHECK(yarib_journal(&forwarding, 0, &entry, 1, &total) == YARIB_WRONG_KIND);
     CHECK(yarib_forward(&forwarding, &other) == YARIB_WRONG_KIND);
@@ -160,6 +162,7 @@ static void parts(void)
 {
     const yarib_command commands[] = {add(1, 10u << 24, 8, 5), add(2, 10u << 24, 8, 4), add(1, 10u << 24, 16, 1), add(2, 11u << 24, 8, 1),
                                       add(3, 0, 0, 9), add(3, 0x0a00ffff, 32, 2)};
+    const yarib_selection best = {.only_best = 1}, by_two = {.feed = 2}, within = {.part = YARIB_WITHIN, .base = 10u << 24, .len = 8};
     yarib_selection faulty = {.part = 4};
     yarib table = YARIB_EMPTY;
     yarib_reply replies[6];
@@ -177,9 +180,21 @@ static void parts(void)
     CHECK(selected(&table, YARIB_EXACT, 10u << 24, 8, 0, 0, &first) == 2 && is_put_by(&first, &commands[1]));
     CHECK(selected(&table, YARIB_EXACT, 10u << 24, 9, 0, 0, &first) == 0);
     CHECK(yarib_select(&table, &all, 4, rest, 6, &total) == YARIB_DONE && total == 6 && rest[0].base == 0x0a00ffff && rest[1].base == 11u << 24);
+    CHECK(yarib_select_by_hop(&table, &all, YARIB_VIA, 1, 0, rest, 6, &total) == YARIB_DONE && total == 2
+        && is_put_by(&rest[0], &commands[0]) && is_put_by(&rest[1], &commands[2]));
+    CHECK(yarib_select_by_hop(&table, &best, YARIB_VIA, 1, 0, rest, 6, &total) == YARIB_DONE && total == 1
+        && is_put_by(&rest[0], &commands[2]));
+    CHECK(yarib_select_by_hop(&table, &within, YARIB_VIA, 3, 0, rest, 6, &total) == YARIB_DONE && total == 1
+        && is_put_by(&rest[0], &commands[5]));
+    CHECK(yarib_select_by_hop(&table, &by_two, YARIB_VIA, 1, 0, rest, 6, &total) == YARIB_DONE && total == 0);
+    CHECK(yarib_select_by_hop(&table, &all, YARIB_DISCARD, 1, 0, rest, 6, &total) == YARIB_DONE && total == 0);
+    CHECK(yarib_select_by_hop(&table, &all, 0, 1, 0, rest, 6, &total) == YARIB_DONE && total == 6);
     total = 99;
     memset(rest, MARK, sizeof rest);
     CHECK(yarib_select(&table, &faulty, 0, rest, 6, &total) == YARIB_BAD_NUMBER);
+    CHECK(yarib_select_by_hop(&table, &faulty, YARIB_VIA, 1, 0, rest, 6, &total) == YARIB_BAD_NUMBER);
+    CHECK(yarib_select_by_hop(&table, &all, YARIB_DISCARD + 1, 1, 0, rest, 6, &total) == YARIB_BAD_NUMBER);
+    CHECK(yarib_select_by_hop(&table, &all, 256 + YARIB_VIA, 1, 0, rest, 6, &total) == YARIB_BAD_NUMBER);
     faulty = (yarib_selection){.feed = YARIB_MAX_FEED + 1};
     CHECK(yarib_select(&table, &faulty, 0, rest, 6, &total) == YARIB_BAD_NUMBER);
     faulty = (yarib_selection){.only_best = 2};

@@ -127,7 +127,28 @@ static void purge(void)
     memset(routes[feed], 0, sizeof routes[feed]);
 }
 
-/* The forwarding plane has the table's best routes. */
+static enum yarib_status select_by_hop(uint32_t hop, uint32_t via, size_t skip, yarib_route *found, size_t room, size_t *total)
+{
+    const yarib_selection best = {.only_best = 1};
+    if (way == CONCURRENT) return yarib_concurrent_select_by_hop(&concurrent, &best, hop, via, skip, found, room, total);
+    return yarib_select_by_hop(&table, &best, hop, via, skip, found, room, total);
+}
+
+/* The best routes that use a next hop, or any for 0, are those of the forwarding plane: in one piece and in pieces; and their number. */
+static void compare_hop(uint32_t hop, uint32_t via)
+{
+    yarib_route found[PREFIXES], one;
+    size_t total, seen, next = 0;
+    CHECK(select_by_hop(hop, via, 0, found, PREFIXES, &total) == YARIB_DONE);
+    for (int k = 0; k < PREFIXES; k++) {
+        if (is_none(&plane[k]) || (hop != 0 && plane[k].hop != hop) || (hop == YARIB_VIA && plane[k].via != via)) continue;
+        CHECK(next < total && is_same_route(&plane[k], &found[next]));
+        CHECK(select_by_hop(hop, via, next++, &one, 1, &seen) == YARIB_DONE && seen == total && is_same_route(&plane[k], &one));
+    }
+    CHECK(next == total && select_by_hop(hop, via, 0, &one, 0, &seen) == YARIB_DONE && seen == total);
+}
+
+/* The forwarding plane has the table's best routes, and those of each next hop. Only a router has an address. */
 static void compare(void)
 {
     const yarib_selection best = {.only_best = 1};
@@ -137,6 +158,9 @@ static void compare(void)
         : yarib_select(&table, &best, 0, found, PREFIXES, &total)) == YARIB_DONE);
     for (int k = 0; k < PREFIXES; k++) if (!is_none(&plane[k])) CHECK(next < total && is_same_route(&plane[k], &found[next++]));
     CHECK(next == total);
+    compare_hop(0, 1);
+    for (uint32_t via = 0; via < 3; via++) compare_hop(YARIB_VIA, via);
+    compare_hop(YARIB_DISCARD, 1);
 }
 
 /* What the calls don't do: they write nothing, and change nothing. */

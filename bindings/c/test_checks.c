@@ -96,6 +96,11 @@ static int fault(int number)
     FAULT(yarib_select(&t, &selection, 0, NULL, 2, &size));
     FAULT(yarib_select(&t, &selection, 0, routes, 2, NULL));
     FAULT(yarib_select(&t, &both.selection, 0, both.routes, 2, &size));
+    FAULT(yarib_select_by_hop(NULL, &selection, 0, 0, 0, routes, 2, &size));
+    FAULT(yarib_select_by_hop(&t, NULL, 0, 0, 0, routes, 2, &size));
+    FAULT(yarib_select_by_hop(&t, &selection, 0, 0, 0, NULL, 2, &size));
+    FAULT(yarib_select_by_hop(&t, &selection, 0, 0, 0, routes, 2, NULL));
+    FAULT(yarib_select_by_hop(&t, &both.selection, 0, 0, 0, both.routes, 2, &size));
     FAULT(yarib_count(NULL, &size));
     FAULT(yarib_count(&t, NULL));
     FAULT(yarib_journal(NULL, 0, &entry, 1, &size));
@@ -198,6 +203,11 @@ static int fault(int number)
     FAULT(yarib_concurrent_select(&k, &selection, 0, NULL, 2, &size));
     FAULT(yarib_concurrent_select(&k, &selection, 0, routes, 2, NULL));
     FAULT(yarib_concurrent_select(&k, &both.selection, 0, both.routes, 2, &size));
+    FAULT(yarib_concurrent_select_by_hop(NULL, &selection, 0, 0, 0, routes, 2, &size));
+    FAULT(yarib_concurrent_select_by_hop(&k, NULL, 0, 0, 0, routes, 2, &size));
+    FAULT(yarib_concurrent_select_by_hop(&k, &selection, 0, 0, 0, NULL, 2, &size));
+    FAULT(yarib_concurrent_select_by_hop(&k, &selection, 0, 0, 0, routes, 2, NULL));
+    FAULT(yarib_concurrent_select_by_hop(&k, &both.selection, 0, 0, 0, both.routes, 2, &size));
     FAULT(yarib_concurrent_count(NULL, &size));
     FAULT(yarib_concurrent_count(&k, NULL));
     FAULT(yarib_concurrent_memory(NULL, &size));

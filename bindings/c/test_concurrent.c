@@ -668,6 +668,7 @@ static void statuses(void)
     CHECK(yarib_concurrent_routes(&empty, 0, &route, 1, &total) == YARIB_NOTHING);
     CHECK(yarib_concurrent_routes_from(&empty, &start, &route, 1, &total) == YARIB_NOTHING);
     CHECK(yarib_concurrent_select(&empty, &all, 0, &route, 1, &total) == YARIB_NOTHING && route.via == 99);
+    CHECK(yarib_concurrent_select_by_hop(&empty, &all, YARIB_VIA, 1, 0, &route, 1, &total) == YARIB_NOTHING && route.via == 99);
     CHECK(yarib_concurrent_count(&empty, &total) == YARIB_NOTHING && yarib_concurrent_memory(&empty, &total) == YARIB_NOTHING);
     CHECK(total == 99 && yarib_concurrent_free(&empty) == YARIB_DONE);
     CHECK(yarib_concurrent_new(&empty, 0) == YARIB_BAD_NUMBER && yarib_concurrent_new(&empty, 1000001) == YARIB_BAD_NUMBER);
@@ -687,6 +688,7 @@ static void statuses(void)
     CHECK(yarib_concurrent_view_write(&table, &view) == YARIB_WRONG_KIND && view.router_count == 1 && address == 1);
     CHECK(yarib_concurrent_select(&table, &no_part, 0, &route, 1, &total) == YARIB_BAD_NUMBER);
     CHECK(yarib_concurrent_select(&table, &no_len, 0, &route, 1, &total) == YARIB_BAD_LENGTH);
+    CHECK(yarib_concurrent_select_by_hop(&table, &all, YARIB_DISCARD + 1, 1, 0, &route, 1, &total) == YARIB_BAD_NUMBER);
     CHECK(yarib_concurrent_routes_from(&table, &no_place, &route, 1, &total) == YARIB_BAD_LENGTH);
     CHECK(yarib_concurrent_routes_from(&table, &no_bits, &route, 1, &total) == YARIB_BAD_BITS && route.via == 99);
     compare_both();

@@ -57,7 +57,8 @@
  *     yarib_save                                     n              yes          for the file      no
  *     yarib_look_up, yarib_hops                      k              no           no                yes
  *     yarib_look_up_one, yarib_look_up_text          1              no           no                yes
- *     yarib_look_up_all, yarib_select                k              yes          no                no
+ *     yarib_look_up_all                              k              yes          no                no
+ *     yarib_select, yarib_select_by_hop              n in the part  yes          no                no
  *     yarib_routes                                   n              yes          no                no
  *     yarib_routes_from, yarib_journal               k              no           no                yes
  *     yarib_purge_changes                            n              no           no                yes
@@ -341,6 +342,14 @@ YARIB_STATUS yarib_routes_from(const yarib *table, const yarib_route *from, yari
 YARIB_STATUS yarib_select(const yarib *table, const yarib_selection *asked, size_t skip, yarib_route *routes, size_t room,
     size_t *total);
 
+/* Writes those of the selected routes that have a next hop, as yarib_select writes them. `hop` is YARIB_VIA for the routes via the router
+ * with the address `via`, YARIB_DISCARD for those that discard packets, or 0 for all next hops; `via` is only read with YARIB_VIA. With
+ * `only_best` these are the best routes that use the next hop: before a router goes down, the prefixes that will need another one. `total`
+ * is their number, also if `room` is 0.
+ * Errors: those of yarib_select; also YARIB_BAD_NUMBER (hop). */
+YARIB_STATUS yarib_select_by_hop(const yarib *table, const yarib_selection *asked, uint32_t hop, uint32_t via, size_t skip,
+    yarib_route *routes, size_t room, size_t *total);
+
 /* Writes which best routes a purge of the feed would change, sorted by base and length: the changes from the index `skip` on, up to
  * `room` of them. Writes their number, skipped ones included, to `total`; it is at most the number of the feed's routes. Call this before
  * the purge. Doesn't allocate, but visits each prefix.
@@ -567,6 +576,8 @@ YARIB_STATUS yarib_concurrent_routes_from(const yarib_concurrent *table, const y
     size_t *used);
 YARIB_STATUS yarib_concurrent_select(const yarib_concurrent *table, const yarib_selection *asked, size_t skip, yarib_route *routes,
     size_t room, size_t *total);
+YARIB_STATUS yarib_concurrent_select_by_hop(const yarib_concurrent *table, const yarib_selection *asked, uint32_t hop, uint32_t via,
+    size_t skip, yarib_route *routes, size_t room, size_t *total);
 YARIB_STATUS yarib_concurrent_purge_changes(const yarib_concurrent *table, uint32_t feed, size_t skip, yarib_change *changes, size_t room,
     size_t *total);
 YARIB_STATUS yarib_concurrent_count(const yarib_concurrent *table, size_t *total);

@@ -128,6 +128,15 @@ static inline YARIB_STATUS yarib_select_checked(const yarib *table, const yarib_
 }
 #define yarib_select yarib_select_checked
 
+static inline YARIB_STATUS yarib_select_by_hop_checked(const yarib *table, const yarib_selection *asked, uint32_t hop,
+    uint32_t via, size_t skip, yarib_route *routes, size_t room, size_t *total)
+{
+    assert(table != NULL && asked != NULL && routes != NULL && total != NULL);
+    assert(yarib_are_apart(asked, sizeof *asked, routes, room * sizeof *routes));
+    return yarib_select_by_hop(table, asked, hop, via, skip, routes, room, total);
+}
+#define yarib_select_by_hop yarib_select_by_hop_checked
+
 static inline YARIB_STATUS yarib_purge_changes_checked(const yarib *table, uint32_t feed, size_t skip, yarib_change *changes,
     size_t room, size_t *total)
 {
@@ -346,6 +355,15 @@ static inline YARIB_STATUS yarib_concurrent_select_checked(const yarib_concurren
     return yarib_concurrent_select(table, asked, skip, routes, room, total);
 }
 #define yarib_concurrent_select yarib_concurrent_select_checked
+
+static inline YARIB_STATUS yarib_concurrent_select_by_hop_checked(const yarib_concurrent *table, const yarib_selection *asked, uint32_t hop,
+    uint32_t via, size_t skip, yarib_route *routes, size_t room, size_t *total)
+{
+    assert(table != NULL && asked != NULL && routes != NULL && total != NULL);
+    assert(yarib_are_apart(asked, sizeof *asked, routes, room * sizeof *routes));
+    return yarib_concurrent_select_by_hop(table, asked, hop, via, skip, routes, room, total);
+}
+#define yarib_concurrent_select_by_hop yarib_concurrent_select_by_hop_checked
 
 static inline YARIB_STATUS yarib_concurrent_purge_changes_checked(const yarib_concurrent *table, uint32_t feed, size_t skip,
     yarib_change *changes, size_t room, size_t *total)

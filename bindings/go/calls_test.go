@@ -227,13 +227,16 @@ func compareReads(t *testing.T, one *common, m *model, draw *rand.Rand) {
 		Exact: func(route Route) bool { return route.Prefix == prefix },
 	} {
 		chosen := Selection{Part: part, Prefix: prefix, Feed: uint32(draw.Intn(6)), OnlyBest: draw.Intn(2) == 1}
+		if hop := drawnHop(draw); draw.Intn(2) == 1 {
+			chosen.Hop = &hop
+		}
 		routes := m.listed(isIn)
 		if chosen.OnlyBest {
 			routes = onlyBest(routes)
 		}
 		wanted := []Route{}
 		for _, route := range routes {
-			if chosen.Feed == 0 || route.Feed == chosen.Feed {
+			if (chosen.Feed == 0 || route.Feed == chosen.Feed) && (chosen.Hop == nil || route.Hop == *chosen.Hop) {
 				wanted = append(wanted, route)
 			}
 		}
@@ -525,6 +528,7 @@ func TestWhatIsRefusedIsNamed(t *testing.T) {
 	one, ten := table(t, 1, false), netip.MustParsePrefix("10.0.0.0/8")
 	_, err := one.Add(1, ten, 7, Discard)
 	must(t, err)
+	far := Via(netip.MustParseAddr("::1"))
 	refused := func(command Command) func() error {
 		return func() error { _, err := one.Apply(command); return err }
 	}
@@ -557,6 +561,7 @@ func TestWhatIsRefusedIsNamed(t *testing.T) {
 		{func() error { _, err := one.LookUpAll(netip.MustParseAddr("::1")); return err }, ErrCommand, "yarib: a prefix or an address isn't IPv4: ::1"},
 		{selected(Selection{Feed: MaxFeed + 1}), ErrNumber, fmt.Sprintf("yarib: a limit or a feed is out of range: all invalid Prefix of feed %d", MaxFeed+1)},
 		{selected(Selection{Part: Exact, Prefix: netip.MustParsePrefix("::/0")}), ErrCommand, "yarib: a prefix or an address isn't IPv4: ::/0"},
+		{selected(Selection{Hop: &far}), ErrCommand, "yarib: a prefix or an address isn't IPv4: ::1"},
 		{func() error {
 			_, err := one.RoutesFrom(Place{Prefix: netip.MustParsePrefix("10.0.0.1/8")}, 1)
 			return err

@@ -156,11 +156,11 @@ func (one *handle) lookUpAll(address C.uint32_t, room []C.yarib_route, total *C.
 	return uint32(C.yarib_look_up_all(&one.inside, address, 0, &room[0], C.size_t(len(room)), total))
 }
 
-func (one *handle) chosen(asked *C.yarib_selection, room []C.yarib_route, total *C.size_t) uint32 {
+func (one *handle) chosen(asked *C.yarib_selection, hop, via C.uint32_t, room []C.yarib_route, total *C.size_t) uint32 {
 	if one.isConcurrent {
-		return uint32(C.yarib_concurrent_select(one.concurrent(), asked, 0, &room[0], C.size_t(len(room)), total))
+		return uint32(C.yarib_concurrent_select_by_hop(one.concurrent(), asked, hop, via, 0, &room[0], C.size_t(len(room)), total))
 	}
-	return uint32(C.yarib_select(&one.inside, asked, 0, &room[0], C.size_t(len(room)), total))
+	return uint32(C.yarib_select_by_hop(&one.inside, asked, hop, via, 0, &room[0], C.size_t(len(room)), total))
 }
 
 // The room has space for one element more than its length, so that there is a first one.

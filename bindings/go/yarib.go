@@ -166,6 +166,15 @@ func (hop Hop) String() string {
 	return hop.via.String()
 }
 
+// numbers returns the kind and the router of a next hop for C, unless the router's address isn't IPv4.
+func (hop Hop) numbers() (C.uint8_t, C.uint32_t, bool) {
+	if !hop.isVia {
+		return C.YARIB_DISCARD, 0, true
+	}
+	via, isRight := number(hop.via)
+	return C.YARIB_VIA, via, isRight
+}
+
 // Route is one feed's route to a prefix.
 type Route struct {
 	Prefix netip.Prefix
@@ -271,13 +280,10 @@ func (command Command) numbers() C.yarib_command {
 		return raw
 	}
 	raw.base, raw.len, _ = numbersOf(command.Prefix)
-	raw.hop = C.YARIB_DISCARD
-	if router, isThere := command.Hop.Router(); isThere {
-		via, isRight := number(router)
-		raw.hop, raw.via = C.YARIB_VIA, via
-		if !isRight {
-			raw.hop = 255
-		}
+	hop, via, isRight := command.Hop.numbers()
+	raw.hop, raw.via = hop, via
+	if !isRight {
+		raw.hop = 255
 	}
 	return raw
 }
@@ -355,12 +361,13 @@ func (part Part) String() string {
 	return parts[part]
 }
 
-// Selection selects routes: their prefixes, their feed (0 for all feeds) and, with OnlyBest, only the best route of each
-// prefix.
+// Selection selects routes: their prefixes, their feed (0 for all feeds), their next hop (nil for all next hops) and, with OnlyBest,
+// only the best route of each prefix: with a feed or a next hop, only those best routes that belong to the feed and use the next hop.
 type Selection struct {
 	Part     Part
 	Prefix   netip.Prefix
 	Feed     uint32
+	Hop      *Hop
 	OnlyBest bool
 }
 
@@ -625,8 +632,15 @@ func (table *common) Select(asked Selection) ([]Route, error) {
 		}
 		raw.base, raw.len = base, length
 	}
+	hop, via, isRight := C.uint8_t(0), C.uint32_t(0), true
+	if asked.Hop != nil {
+		hop, via, isRight = asked.Hop.numbers()
+	}
+	if !isRight {
+		return nil, about(ErrCommand, "%v", asked.Hop)
+	}
 	found, err := table.held.whole(func(room []C.yarib_route, total *C.size_t) uint32 {
-		return table.held.chosen(&raw, room, total)
+		return table.held.chosen(&raw, C.uint32_t(hop), via, room, total)
 	})
 	return found, about(err, "%v %v of feed %d", asked.Part, asked.Prefix, asked.Feed)
 }

@@ -51,12 +51,12 @@ class Model:
     def listed(self):
         return sorted(self.stored.values(), key=in_order)
 
-    def selected(self, part, prefix=(0, 0), feed=None, best=False):
+    def selected(self, part, prefix=(0, 0), feed=None, best=False, via="any"):
         routes = [route for route in self.listed() if PARTS[part](prefix, route[:2])]
         if best:
             routes = [route for before, route in zip([None, *routes], routes)
                       if before is None or before[:2] != route[:2]]
-        return [route for route in routes if feed in (None, route.feed)]
+        return [route for route in routes if feed in (None, route.feed) and via in ("any", route.via)]
 
     def all(self, address):
         found = self.selected("covering", (address, 32))
@@ -152,7 +152,11 @@ class Drawn(random.Random):
         return self.choice((1, 2, 3, yarib.MAX_FEED))
 
     def selection(self):
-        return {"feed": self.choice((None, None, 1, 2, 3, yarib.MAX_FEED)), "best": self.choice((False, True))}
+        return {"feed": self.choice((None, None, 1, 2, 3, yarib.MAX_FEED)), "best": self.choice((False, True)),
+                "via": self.choice(("any", self.via()))}
+
+    def given_selection(self, chosen):
+        return chosen if chosen["via"] == "any" else chosen | {"via": self.given(chosen["via"])}
 
 
 class Limited(unittest.TestCase):
@@ -179,10 +183,10 @@ class Limited(unittest.TestCase):
         self.assert_same(table.look_up(draw.given(address)), model.best(address))
         self.assert_same(table.look_up_all(draw.given(address)), model.all(address))
         chosen = draw.selection()
-        self.assert_same(table.routes(**chosen), model.selected("routes", **chosen))
+        self.assert_same(table.routes(**draw.given_selection(chosen)), model.selected("routes", **chosen))
         for part in ("exact", "within", "covering"):
             chosen = draw.selection()
-            found = getattr(table, part)(draw.given_prefix(prefix), **chosen)
+            found = getattr(table, part)(draw.given_prefix(prefix), **draw.given_selection(chosen))
             self.assert_same(found, model.selected(part, prefix, **chosen))
         exact = model.selected("exact", prefix)
         self.assert_same(draw.given_prefix(prefix) in table, bool(exact))

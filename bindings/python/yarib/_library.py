@@ -66,6 +66,7 @@ CALLS: Dict[str, Tuple[Any, ...]] = {
     "yarib_routes": (POINTER, SIZE, POINTER, SIZE, POINTER),
     "yarib_routes_from": (POINTER, POINTER, POINTER, SIZE, POINTER),
     "yarib_select": (POINTER, POINTER, SIZE, POINTER, SIZE, POINTER),
+    "yarib_select_by_hop": (POINTER, POINTER, NUMBER, NUMBER, SIZE, POINTER, SIZE, POINTER),
     "yarib_purge_changes": (POINTER, NUMBER, SIZE, POINTER, SIZE, POINTER),
     "yarib_count": (POINTER, POINTER),
     "yarib_journal": (POINTER, SIZE, POINTER, SIZE, POINTER),
@@ -95,8 +96,8 @@ PLAIN = ("yarib_apply", "yarib_look_up_one", "yarib_look_up_text", "yarib_routes
          "yarib_view_look_up", "yarib_select", "yarib_look_up_all")
 # The calls for a concurrent table that are declared as those for a table.
 CONCURRENT = ("free", "apply", "apply_changed", "purge_changes", "apply_each", "look_up", "look_up_one", "look_up_text", "look_up_all",
-              "hops", "routes", "routes_from", "select", "count", "fib_attach", "fib_is_attached", "memory", "view_sizes", "view_write",
-              "save", "load", "first_difference")
+              "hops", "routes", "routes_from", "select", "select_by_hop", "count", "fib_attach", "fib_is_attached", "memory",
+              "view_sizes", "view_write", "save", "load", "first_difference")
 CALLS.update({"yarib_concurrent_" + name: CALLS["yarib_" + name] for name in CONCURRENT})
 
 

@@ -579,15 +579,15 @@ class Routes(Handle):
                 return memoryview(block)[:total.value * width]
             size = total.value
 
-    def _listed(self, room: Room, call: Callable[..., int], asked: Union[int, bytes]) -> List[Route]:
+    def _listed(self, room: Room, call: Callable[..., int], *asked: Union[int, bytes]) -> List[Route]:
         """Returns a list of routes, which is in the room if it is short enough."""
-        if call(self._at, asked, 0, room.list_at, c.LISTED, room.size_at):
-            done(call, self._at, asked, 0, room.list_at, c.LISTED, room.size_at)
+        if call(self._at, *asked, 0, room.list_at, c.LISTED, room.size_at):
+            done(call, self._at, *asked, 0, room.list_at, c.LISTED, room.size_at)
         total: int = COUNT_FROM(room.bytes, 32)[0]
         if total <= c.LISTED:
             found = routes_of(room.list[:total * ROUTE.size])
         else:
-            found = routes_of(self._pages(ROUTE.size, total, lambda *place: call(self._at, asked, *place)))
+            found = routes_of(self._pages(ROUTE.size, total, lambda *place: call(self._at, *asked, *place)))
         rooms.append(room)
         return found
 
@@ -596,33 +596,37 @@ class Routes(Handle):
         done(self._held.yarib_count, self._at, ctypes.byref(total))
         return total.value
 
-    def routes(self, feed: Optional[int] = None, best: bool = False) -> List[Route]:
-        """Returns the routes, sorted by base, length, preference and feed: all, or those of a feed. With `best` only the
-        best of each prefix; with a feed, only those best routes that belong to the feed."""
-        if feed is not None or best:
-            return self._select(c.ALL, (0, 0), feed, best)
+    def routes(self, feed: Optional[int] = None, best: bool = False, via: Optional[Address] = "any") -> List[Route]:
+        """Returns the routes, sorted by base, length, preference and feed: all, those of a feed, or those via a next hop, which
+        is a router or, for routes that discard packets, None. With `best` only the best of each prefix; with a feed or a
+        next hop, only those best routes that belong to the feed and use the next hop."""
+        if feed is not None or best or via != "any":
+            return self._select(c.ALL, (0, 0), feed, best, via)
         found = self._pages(ROUTE.size, len(self) + 1, lambda *place: self._freed.yarib_routes(self._at, *place))
         return routes_of(found)
 
-    def exact(self, prefix: Prefix, feed: Optional[int] = None, best: bool = False) -> List[Route]:
+    def exact(self, prefix: Prefix, feed: Optional[int] = None, best: bool = False, via: Optional[Address] = "any") -> List[Route]:
         """Returns the routes to this prefix, the best first, selected as in `routes`."""
-        return self._select(c.EXACT, prefix, feed, best)
+        return self._select(c.EXACT, prefix, feed, best, via)
 
-    def within(self, prefix: Prefix, feed: Optional[int] = None, best: bool = False) -> List[Route]:
+    def within(self, prefix: Prefix, feed: Optional[int] = None, best: bool = False, via: Optional[Address] = "any") -> List[Route]:
         """Returns the routes to this prefix and to longer prefixes inside it, selected as in `routes`."""
-        return self._select(c.WITHIN, prefix, feed, best)
+        return self._select(c.WITHIN, prefix, feed, best, via)
 
-    def covering(self, prefix: Prefix, feed: Optional[int] = None, best: bool = False) -> List[Route]:
+    def covering(self, prefix: Prefix, feed: Optional[int] = None, best: bool = False, via: Optional[Address] = "any") -> List[Route]:
         """Returns the routes to this prefix and to shorter prefixes that contain it, selected as in `routes`."""
-        return self._select(c.COVERING, prefix, feed, best)
+        return self._select(c.COVERING, prefix, feed, best, via)
 
-    def _select(self, part: int, prefix: Prefix, feed: Optional[int], best: bool) -> List[Route]:
+    def _select(self, part: int, prefix: Prefix, feed: Optional[int], best: bool, via: Optional[Address]) -> List[Route]:
         room = room_of_call()
         base, length = prefix_in(room, prefix)
         asked = c.SELECTION.pack(part, 0 if feed is None else feed_of(feed), base, length, 1 if best else 0)
         # At most the routes to 511 prefixes, or else any number.
         calls = self._held if part in (c.EXACT, c.COVERING) or part == c.WITHIN and length >= 24 else self._freed
-        return self._listed(room, calls.yarib_select, asked)
+        if via == "any":
+            return self._listed(room, calls.yarib_select, asked)
+        hop, router = (c.DISCARD, 0) if via is None else (VIA, address_of(via))
+        return self._listed(room, calls.yarib_select_by_hop, asked, hop, router)
 
     def routes_from(self, prefix: Prefix, pref: int = 0, feed: int = 0) -> Iterator[Route]:
         """Iterates over the routes, in the order of `routes`, from the position of this prefix, preference and feed on.

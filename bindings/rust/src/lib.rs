@@ -553,7 +553,10 @@ pub struct Selection {
     pub part: Part,
     /// Their feed, or `None` for all feeds.
     pub feed: Option<u32>,
-    /// True to select only the best route of each prefix; with a feed, only those best routes that belong to the feed.
+    /// Their next hop, or `None` for all next hops.
+    pub hop: Option<Hop>,
+    /// True to select only the best route of each prefix; with a feed or a next hop, only those best routes that belong to the
+    /// feed and use the next hop.
     pub only_best: bool,
 }
 
@@ -564,6 +567,7 @@ impl Selection {
         Selection {
             part,
             feed: None,
+            hop: None,
             only_best: false,
         }
     }
@@ -968,8 +972,9 @@ macro_rules! reading_calls {
             /// # Errors
             /// [`Error::Number`] if the feed is out of range, [`Error::Memory`], [`Error::Busy`].
             pub fn select(&self, asked: Selection) -> Result<Vec<Route>> {
+                let hop = asked.hop.map_or((0, 0), Hop::numbers);
                 let asked = asked.numbers();
-                let found = whole(64, |part| self.0.select(&asked, part))?;
+                let found = whole(64, |part| self.0.select(&asked, hop, part))?;
                 Ok(found.iter().filter_map(Route::of).collect())
             }
 

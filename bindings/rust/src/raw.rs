@@ -198,9 +198,11 @@ extern "C" {
         room: usize,
         used: *mut usize,
     ) -> u32;
-    fn yarib_select(
+    fn yarib_select_by_hop(
         table: *const Handle,
         asked: *const Selection,
+        hop: u32,
+        via: u32,
         skip: usize,
         routes: *mut Route,
         room: usize,
@@ -290,9 +292,11 @@ extern "C" {
         room: usize,
         used: *mut usize,
     ) -> u32;
-    fn yarib_concurrent_select(
+    fn yarib_concurrent_select_by_hop(
         table: *const Concurrent,
         asked: *const Selection,
+        hop: u32,
+        via: u32,
         skip: usize,
         routes: *mut Route,
         room: usize,
@@ -474,7 +478,8 @@ pub trait Read: Debug + Sync {
     fn look_up_all(&self, address: u32, routes: &mut [Route]) -> Result<usize, u32>;
     fn routes(&self, routes: &mut [Route]) -> Result<usize, u32>;
     fn routes_from(&self, from: &Route, routes: &mut [Route]) -> Result<usize, u32>;
-    fn select(&self, asked: &Selection, routes: &mut [Route]) -> Result<usize, u32>;
+    fn select(&self, asked: &Selection, hop: (u8, u32), routes: &mut [Route])
+        -> Result<usize, u32>;
     fn count(&self) -> Result<usize, u32>;
     fn memory(&self) -> Result<usize, u32>;
     fn fib_is_attached(&self) -> Result<bool, u32>;
@@ -520,9 +525,15 @@ macro_rules! read_by {
                 Ok(used)
             }
 
-            fn select(&self, asked: &Selection, routes: &mut [Route]) -> Result<usize, u32> {
-                let (mut total, room) = (0, routes.len());
-                told(unsafe { $select(self, asked, 0, routes.as_mut_ptr(), room, &mut total) })?;
+            fn select(
+                &self,
+                asked: &Selection,
+                hop: (u8, u32),
+                routes: &mut [Route],
+            ) -> Result<usize, u32> {
+                let (mut total, room, (hop, via)) = (0, routes.len(), hop);
+                let at = routes.as_mut_ptr();
+                told(unsafe { $select(self, asked, hop.into(), via, 0, at, room, &mut total) })?;
                 Ok(total)
             }
 
@@ -574,10 +585,10 @@ macro_rules! read_by {
 }
 
 read_by!(Handle: yarib_fib_is_attached, yarib_look_up, yarib_look_up_one, yarib_look_up_all, yarib_routes, yarib_routes_from,
-    yarib_select, yarib_count, yarib_memory, yarib_hops, yarib_view_sizes, yarib_view_write, yarib_save);
+    yarib_select_by_hop, yarib_count, yarib_memory, yarib_hops, yarib_view_sizes, yarib_view_write, yarib_save);
 read_by!(Concurrent: yarib_concurrent_fib_is_attached, yarib_concurrent_look_up, yarib_concurrent_look_up_one,
     yarib_concurrent_look_up_all, yarib_concurrent_routes,
-    yarib_concurrent_routes_from, yarib_concurrent_select, yarib_concurrent_count, yarib_concurrent_memory,
+    yarib_concurrent_routes_from, yarib_concurrent_select_by_hop, yarib_concurrent_count, yarib_concurrent_memory,
     yarib_concurrent_hops, yarib_concurrent_view_sizes, yarib_concurrent_view_write, yarib_concurrent_save);
 
 /// The arrays of a view. Look-ups only read them.

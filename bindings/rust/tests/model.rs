@@ -241,12 +241,14 @@ fn check_parts(
     for _ in 0..20 {
         let prefix = draw.prefix();
         let feed = [None, Some(1 + draw.below(5))][draw.below(2) as usize];
+        let hop = [None, Some(draw.hop())][draw.below(2) as usize];
         let only_best = draw.below(2) == 1;
         let mut listed = model.listed();
         if only_best {
             listed.dedup_by_key(|route| route.prefix);
         }
         listed.retain(|route| feed.map_or(true, |feed| route.feed == feed));
+        listed.retain(|route| hop.map_or(true, |hop| route.hop == hop));
         let parts: [(Part, &dyn Fn(Prefix) -> bool); 4] = [
             (Part::All, &|_| true),
             (Part::Within(prefix), &|one| contains(prefix, one)),
@@ -262,6 +264,7 @@ fn check_parts(
             let asked = Selection {
                 part,
                 feed,
+                hop,
                 only_best,
             };
             assert_eq!(select(asked).unwrap(), wanted, "{asked:?}");

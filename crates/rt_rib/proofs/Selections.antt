@@ -9,14 +9,17 @@ use Rattle.rt_cidr.specs.declared.prefixes.Prefix.{Prefix}
 use Rattle.rt_cidr.specs.Prefix.{same_prefix}
 use Rattle.rt_cidr.proofs.Promised.{prefix_by_parts}
 use Rattle.rt_trie.specs.Map.{before, IsBeforeAll, IsOrdered}
+use Rattle.rt_rib.specs.declared.routes.Hop.{Hop}
+use Rattle.rt_rib.specs.declared.routes.Hop.TheVariants.{Via, Discard}
 use Rattle.rt_rib.specs.declared.routes.Route.{Route}
 use Rattle.rt_rib.specs.declared.offers.Offer.{Offer}
 use Rattle.rt_rib.specs.declared.selection.Selection.{Selection}
 use Rattle.rt_rib.specs.declared.selection.PrefixFilter.TheVariants.{All}
 use Rattle.rt_rib.specs.LookUp.{best_routes}
 use Rattle.rt_rib.specs.Maps.{Map, route_by, routes_of}
-use Rattle.rt_rib.specs.Selection.{is_in, is_by, selected}
+use Rattle.rt_rib.specs.Selection.{is_in, is_by, same_hop, is_via, selected}
 use Rattle.rt_rib.specs.Table.{IsTable}
+use Rattle.rt_rib.specs.contracts.routes.HopPartialEq.TheImpl as of_hop
 use Rattle.rt_rib.specs.inside.Maps.{offers_at}
 use Rattle.rt_rib.proofs.BestRoutes.{best_passing}
 use Rattle.rt_rib.proofs.Order.{below_then-true}
@@ -40,6 +43,25 @@ by_any (r ∷ xs) = ap (λ l. r ∷ l) (by_any xs)
 pub by_none : (feed : Option ℕ) (xs : List Route) → ((n : ℕ) → feed ≡ Some n → ⊥) → xs ≡ filter (is_by feed) xs
 by_none None xs h = sym (by_any xs)
 by_none (Some n) xs h = absurd (h n refl)
+
+-- every route has any next hop
+via_any : (xs : List Route) → filter (is_via None) xs ≡ xs
+via_any [] = refl
+via_any (r ∷ xs) = ap (λ l. r ∷ l) (via_any xs)
+
+pub via_none : (hop : Option Hop) (xs : List Route) → ((h : Hop) → hop ≡ Some h → ⊥) → xs ≡ filter (is_via hop) xs
+via_none None xs h = sym (via_any xs)
+via_none (Some k) xs h = absurd (h k refl)
+
+-- `==` of two next hops is whether they are the same
+eq_is_same : (h k : Hop) → (of_hop.ghosts).eq h k ≡ same_hop h k
+eq_is_same (Via a) (Via b) = refl
+eq_is_same (Via a) Discard = refl
+eq_is_same Discard (Via b) = refl
+eq_is_same Discard Discard = refl
+
+pub via_eq : (hop : Hop) (xs : List Route) → filter (λ r. (of_hop.ghosts).eq r.hop hop) xs ≡ filter (is_via (Some hop)) xs
+via_eq hop xs i = filter (λ r. eq_is_same r.hop hop i) xs
 
 -- every route is in the whole table
 pub in_all : (xs : List Route) → filter (λ r. is_in All r.prefix) xs ≡ xs
@@ -100,11 +122,18 @@ routes_at p m order = filter_routes (λ q. same_prefix q p) m ∙ at m order whe
 
 -- selecting from the part's routes gives the same as selecting from all routes
 pub selected_of_part : (asked : Selection) (table : List Route) → IsTable table
-    → filter (is_by asked.feed) (if asked.only_best then best_routes (filter (λ r. is_in asked.part r.prefix) table)
-    else filter (λ r. is_in asked.part r.prefix) table) ≡ selected asked table
+    → filter (is_via asked.hop) (filter (is_by asked.feed) (if asked.only_best then best_routes (filter (λ r. is_in asked.part r.prefix) table)
+    else filter (λ r. is_in asked.part r.prefix) table)) ≡ selected asked table
 selected_of_part asked table h = by_best asked.only_best where
-  by_best : (only_best : Bool) → filter (is_by asked.feed) (cond only_best (best_routes (filter (λ r. is_in asked.part r.prefix) table)) (filter (λ r. is_in asked.part r.prefix) table))
-      ≡ filter (λ r. is_in asked.part r.prefix && is_by asked.feed r) (cond only_best (best_routes table) table)
-  by_best true = ap (filter (is_by asked.feed)) (best_passing (is_in asked.part) table h)
-      ∙ filter-filter (λ r. is_in asked.part r.prefix) (is_by asked.feed) (best_routes table)
-  by_best false = filter-filter (λ r. is_in asked.part r.prefix) (is_by asked.feed) table
+  kept : List Route → List Route
+  kept routes = filter (is_via asked.hop) (filter (is_by asked.feed) routes)
+
+  three : (routes : List Route) → kept (filter (λ r. is_in asked.part r.prefix) routes)
+      ≡ filter (λ r. is_in asked.part r.prefix && is_by asked.feed r && is_via asked.hop r) routes
+  three routes = ap (filter (is_via asked.hop)) (filter-filter (λ r. is_in asked.part r.prefix) (is_by asked.feed) routes)
+      ∙ filter-filter (λ r. is_in asked.part r.prefix && is_by asked.feed r) (is_via asked.hop) routes
+
+  by_best : (only_best : Bool) → kept (cond only_best (best_routes (filter (λ r. is_in asked.part r.prefix) table)) (filter (λ r. is_in asked.part r.prefix) table))
+      ≡ filter (λ r. is_in asked.part r.prefix && is_by asked.feed r && is_via asked.hop r) (cond only_best (best_routes table) table)
+  by_best true = ap kept (best_passing (is_in asked.part) table h) ∙ three (best_routes table)
+  by_best false = three table

@@ -1,7 +1,9 @@
 -- Selecting routes of a table.
-use Rattle.std.specs.Prelude.{ℕ, Bool, true, ◌==◌, ◌&&◌, if◌then◌else◌, List, Option, Some, None, filter}
+use Rattle.std.specs.Prelude.{ℕ, Bool, true, false, ◌==◌, ◌&&◌, if◌then◌else◌, List, Option, Some, None, filter}
 use Rattle.rt_cidr.specs.declared.prefixes.Prefix.{Prefix}
 use Rattle.rt_cidr.specs.Prefix.{contains, same_prefix}
+use Rattle.rt_rib.specs.declared.routes.Hop.{Hop}
+use Rattle.rt_rib.specs.declared.routes.Hop.TheVariants.{Via, Discard}
 use Rattle.rt_rib.specs.declared.routes.Route.{Route}
 use Rattle.rt_rib.specs.declared.selection.PrefixFilter.{PrefixFilter}
 use Rattle.rt_rib.specs.declared.selection.PrefixFilter.TheVariants.{All, Within, Covering, Exact}
@@ -20,7 +22,19 @@ abbrev pub is_by : Option ℕ → Route → Bool
 is_by None r = true
 is_by (Some feed) r = r.feed == feed
 
--- the selected routes, in the table's order: of all, or of the best one of each prefix, those that meet both conditions
+-- true if two next hops are the same: the same router, or both discard
+abbrev pub same_hop : Hop → Hop → Bool
+same_hop (Via a) (Via b) = a.0 == b.0
+same_hop (Via a) Discard = false
+same_hop Discard (Via b) = false
+same_hop Discard Discard = true
+
+-- true if a route's next hop is selected: any next hop; this one
+abbrev pub is_via : Option Hop → Route → Bool
+is_via None r = true
+is_via (Some hop) r = same_hop r.hop hop
+
+-- the selected routes, in the table's order: of all, or of the best one of each prefix, those that meet all conditions
 abbrev pub selected : Selection → List Route → List Route
 selected asked table =
-    filter (λ r. is_in asked.part r.prefix && is_by asked.feed r) (if asked.only_best then best_routes table else table)
+    filter (λ r. is_in asked.part r.prefix && is_by asked.feed r && is_via asked.hop r) (if asked.only_best then best_routes table else table)

@@ -2,13 +2,13 @@
 ghost use Rattle.std.specs.Prelude.{◌≡◌, filter, if◌then◌else◌, IfOk};
 ghost use Rattle.rt_rib.specs.Maps.{routes_of};
 ghost use Rattle.rt_rib.specs.LookUp.{best_routes};
-ghost use Rattle.rt_rib.specs.Selection.{is_in, is_by};
+ghost use Rattle.rt_rib.specs.Selection.{is_in, is_by, is_via};
 ghost use Rattle.rt_rib.specs.Table.{IsTable};
 ghost use Rattle.rt_cidr.specs.Prefix.{contains, same_prefix};
 
 use crate::map::{OfferMap, append, routes};
 use crate::refused::Refused;
-use crate::routes::{Route, keep_best};
+use crate::routes::{Hop, Route, keep_best};
 use rt_cidr::Prefix;
 use std::alloc::Allocator;
 
@@ -34,6 +34,8 @@ pub struct Selection {
     pub only_best: bool,
     /// Routes of this feed, or of any: with `only_best`, those best routes that are the feed's.
     pub feed: Option<u32>,
+    /// Routes with this next hop, or with any: with `only_best`, those best routes that use it.
+    pub hop: Option<Hop>,
 }
 
 /// Returns the routes to the prefixes in the part, in dump order. The whole map has `count` routes.
@@ -87,13 +89,14 @@ fn routes_to<A: Allocator + Copy>(
 /// Keeps the selected routes, out of those of a part. The order is unchanged. Doesn't allocate.
 pub(crate) fn keep_selected<A: Allocator>(routes: &mut Vec<Route, A>, asked: &Selection)
     requires { IsTable routes.old.items }
-    ensures { routes.new.items ≡ filter (is_by asked.now.feed)
-        (if asked.now.only_best then best_routes routes.old.items else routes.old.items) }
+    ensures { routes.new.items ≡ filter (is_via asked.now.hop) (filter (is_by asked.now.feed)
+        (if asked.now.only_best then best_routes routes.old.items else routes.old.items)) }
 {
     if asked.only_best {
         keep_best(routes);
     }
     keep_feed(routes, asked.feed);
+    keep_hop(routes, asked.hop);
 }
 
 /// Keeps the routes of the feed, or all of them.
@@ -102,5 +105,14 @@ fn keep_feed<A: Allocator>(routes: &mut Vec<Route, A>, feed: Option<u32>)
 {
     if let Some(feed) = feed {
         routes.retain(|route| route.feed == feed);
+    }
+}
+
+/// Keeps the routes with the next hop, or all of them.
+fn keep_hop<A: Allocator>(routes: &mut Vec<Route, A>, hop: Option<Hop>)
+    ensures { routes.new.items ≡ filter (is_via hop) routes.old.items }
+{
+    if let Some(hop) = hop {
+        routes.retain(|route| route.hop == hop);
     }
 }

@@ -201,9 +201,9 @@ impl<A: Allocator + Copy> Table<A> {
     }
 
     /// Returns the selected routes, in dump order. `only_best` first restricts the table to the best route of each
-    /// prefix; then the routes whose prefix is in the part and that are of the feed are selected. Descends once, then
-    /// visits only that part, and allocates only for its routes, with the given allocator. Error M1 (`Refused`) if
-    /// memory runs out.
+    /// prefix; then the routes are selected whose prefix is in the part, and which are of the feed and have the next
+    /// hop. Descends once, then visits only that part, and allocates only for its routes, with the given allocator.
+    /// Error M1 (`Refused`) if memory runs out.
     pub fn select(&self, alloc: A, asked: &Selection) -> Result<Vec<Route, A>, Refused>
         ensures { IfOk result (λ routes. routes.items ≡ selected asked.now self.now.routes) }
     {

@@ -1,6 +1,8 @@
 -- The routes that C selects.
 use Rattle.std.specs.Prelude.{◌≡◌, ◌≢◌, ℕ, zero, suc, ◌<◌, ◌⊎◌, Bool, true, false, List, Option, Some, None}
 use Rattle.rt_cidr.specs.declared.prefixes.Prefix.{Prefix}
+use Rattle.rt_rib.specs.declared.routes.Hop.{Hop}
+use Rattle.rt_rib.specs.declared.routes.Hop.TheVariants.{Via, Discard}
 use Rattle.rt_rib.specs.declared.routes.Route.{Route}
 use Rattle.rt_rib.specs.declared.selection.PrefixFilter.{PrefixFilter}
 use Rattle.rt_rib.specs.declared.selection.PrefixFilter.TheVariants.{All, Within, Covering, Exact}
@@ -31,19 +33,26 @@ abbrev pub feed_asked : ℕ → Option ℕ
 feed_asked zero = None
 feed_asked (suc n) = Some (suc n)
 
+-- the numbers denote the next hop whose routes are selected, or any next hop
+abbrev pub IsHopAsked : ℕ → ℕ → Option Hop → Type 0
+IsHopAsked hop via None = hop ≡ 0
+IsHopAsked hop via (Some (Via a)) = (hop ≡ 1) × (a.0 ≡ via)
+IsHopAsked hop via (Some Discard) = hop ≡ 2
+
 -- 1 for only the best routes
 abbrev pub best_number : Bool → ℕ
 best_number false = 0
 best_number true = 1
 
--- the numbers denote the selection
+-- the numbers denote the selection, apart from its next hop
 pub record IsSelection (c : YaribSelection) (asked : Selection) : Type 0 where
   pub part : IsPart c asked.part
   pub feed : asked.feed ≡ feed_asked c.feed
   pub best : best_number asked.only_best ≡ c.only_best
 
--- the selected routes from index `skip` on are shown
-pub record ShowsSelected (c : YaribSelection) (routes : List Route) (skip : ℕ) (shown : List YaribRoute) (total : ℕ) : Type 0 where
+-- the selected routes from index `skip` on are shown; `hop` and `via` denote the next hop
+pub record ShowsSelected (c : YaribSelection) (hop via : ℕ) (routes : List Route) (skip : ℕ) (shown : List YaribRoute) (total : ℕ) : Type 0 where
   pub asked : Selection
   pub is : IsSelection c asked
+  pub hop_is : IsHopAsked hop via asked.hop
   pub shows : ShowsRoutes (selected asked routes) skip shown total

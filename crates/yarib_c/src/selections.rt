@@ -1,9 +1,9 @@
 //! Parts of a table: the selected routes.
-ghost use Rattle.std.specs.Prelude.{◌≡◌, ◌≢◌, ◌<◌, ◌≤◌, ◌↔◌, IsTrue, None, [], ◌∷◌, MatchResult};
+ghost use Rattle.std.specs.Prelude.{◌≡◌, ◌≢◌, ◌<◌, ◌≤◌, ◌↔◌, ◌⊎◌, IsTrue, None, [], ◌∷◌, MatchResult};
 ghost use Rattle.rt_cidr.specs.Cidr.{IsPrefix};
 ghost use Rattle.yarib_c.specs.Kinds.{routes_in, IsForwarding};
 ghost use Rattle.yarib_c.specs.Calls.{held_in, HandleHolds};
-ghost use Rattle.yarib_c.specs.Selections.{IsOutOfRange, IsSelection, ShowsSelected};
+ghost use Rattle.yarib_c.specs.Selections.{IsOutOfRange, IsHopAsked, IsSelection, ShowsSelected};
 ghost use Rattle.yarib_c.specs.inside.Parts.{PartReading, IsRefused};
 ghost use Rattle.yarib_c.specs.Statuses.{IsOneOf};
 ghost use Rattle.yarib_c.specs.declared.status.TheConstants.{DONE, NOTHING, BAD_NUMBER, NO_MEMORY, BAD_LENGTH, BAD_BITS, WRONG_KIND};
@@ -12,8 +12,8 @@ use crate::handle::{Yarib, with_held};
 use crate::lists::put;
 use crate::routes::YaribRoute;
 use crate::status::{BAD_BITS, BAD_LENGTH, BAD_NUMBER, DONE, NO_MEMORY, WRONG_KIND};
-use rt_cidr::{Prefix, TextFault};
-use rt_rib::{PrefixFilter, Selection, feed_ok};
+use rt_cidr::{Addr, Prefix, TextFault};
+use rt_rib::{Hop, PrefixFilter, Selection, feed_ok};
 use std::alloc::Global;
 
 /// Selects routes. `part` is 0 for the routes to any prefix. The other values select by the prefix of `base` and `len`: 1 that prefix
@@ -37,9 +37,9 @@ impl YaribSelection {
         self.part > 3 || (self.feed != 0 && !feed_ok(self.feed)) || self.only_best > 1
     }
 
-    /// Returns the selection that the numbers denote, or the status of the first that is invalid.
-    fn read(&self) -> Result<Selection, u32>
-        ensures { MatchResult result (λ selection. IsSelection self.now selection) (λ status. IsRefused self.now status) }
+    /// Returns the selection that the numbers denote, with this next hop, or the status of the first that is invalid.
+    fn read(&self, hop: Option<Hop>) -> Result<Selection, u32>
+        ensures { MatchResult result (λ selection. IsSelection self.now selection × (selection.hop ≡ hop)) (λ status. IsRefused self.now status) }
     {
         if self.is_out_of_range() {
             return Err(BAD_NUMBER);
@@ -57,6 +57,7 @@ impl YaribSelection {
             } else {
                 Some(self.feed)
             },
+            hop,
         })
     }
 
@@ -77,6 +78,18 @@ impl YaribSelection {
     }
 }
 
+/// Returns the next hop that the numbers denote, or `None` if they denote any.
+fn read_hop(hop: u32, via: u32) -> Option<Hop>
+    requires { hop ≤ 2 }
+    ensures { IsHopAsked hop via result }
+{
+    match hop {
+        0 => None,
+        1 => Some(Hop::Via(Addr(via))),
+        _ => Some(Hop::Discard),
+    }
+}
+
 /// Writes the selected routes in dump order, from the index `skip` on, and their total number. It allocates only for the selected
 /// routes.
 #[unsafe(no_mangle)]
@@ -88,7 +101,7 @@ pub extern "C" fn yarib_select(
     routes: &mut [YaribRoute],
     total: &mut usize,
 ) -> u32
-    ensures done { result ≡ DONE → HandleHolds table.old (λ held. ShowsSelected asked.now (routes_in held) skip routes.new total.new) }
+    ensures done { result ≡ DONE → HandleHolds table.old (λ held. ShowsSelected asked.now 0 0 (routes_in held) skip routes.new total.new) }
     ensures same { held_in table.new ≡ held_in table.old }
     ensures absent { result ≡ NOTHING → held_in table.old ≡ None }
     ensures number { result ≡ BAD_NUMBER → IsOutOfRange asked.now }
@@ -98,7 +111,48 @@ pub extern "C" fn yarib_select(
     ensures silent { result ≢ DONE → (routes.new ≡ routes.old) × (total.new ≡ total.old) }
     ensures known { IsOneOf (DONE ∷ NOTHING ∷ BAD_NUMBER ∷ NO_MEMORY ∷ BAD_LENGTH ∷ BAD_BITS ∷ WRONG_KIND ∷ []) result }
 {
-    with_held!(table, alloc, held => match asked.read() {
+    with_held!(table, alloc, held => match asked.read(None) {
+        Err(status) => status,
+        Ok(selection) => match held.table() {
+            None => WRONG_KIND,
+            Some(table) => match table.select(alloc, &selection) {
+                Err(_) => NO_MEMORY,
+                Ok(found) => {
+                    *total = put(found.as_slice(), skip, routes);
+                    DONE
+                }
+            },
+        },
+    })
+}
+
+/// Writes those of the selected routes that have this next hop, as `yarib_select` writes them. `hop` is 0 for any next hop, 1 for the
+/// router with the address `via`, and 2 for routes that discard packets.
+#[unsafe(no_mangle)]
+pub extern "C" fn yarib_select_by_hop(
+    alloc: Global,
+    table: &mut Yarib,
+    asked: &YaribSelection,
+    hop: u32,
+    via: u32,
+    skip: usize,
+    routes: &mut [YaribRoute],
+    total: &mut usize,
+) -> u32
+    ensures done { result ≡ DONE → HandleHolds table.old (λ held. ShowsSelected asked.now hop via (routes_in held) skip routes.new total.new) }
+    ensures same { held_in table.new ≡ held_in table.old }
+    ensures absent { result ≡ NOTHING → held_in table.old ≡ None }
+    ensures number { result ≡ BAD_NUMBER → IsOutOfRange asked.now ⊎ (2 < hop) }
+    ensures length { result ≡ BAD_LENGTH → 32 < asked.now.len }
+    ensures bits { result ≡ BAD_BITS → (asked.now.len ≤ 32) × ¬ IsPrefix asked.now.base asked.now.len }
+    ensures kind { result ≡ WRONG_KIND → HandleHolds table.old IsForwarding }
+    ensures silent { result ≢ DONE → (routes.new ≡ routes.old) × (total.new ≡ total.old) }
+    ensures known { IsOneOf (DONE ∷ NOTHING ∷ BAD_NUMBER ∷ NO_MEMORY ∷ BAD_LENGTH ∷ BAD_BITS ∷ WRONG_KIND ∷ []) result }
+{
+    if hop > 2 {
+        return BAD_NUMBER;
+    }
+    with_held!(table, alloc, held => match asked.read(read_hop(hop, via)) {
         Err(status) => status,
         Ok(selection) => match held.table() {
             None => WRONG_KIND,

@@ -144,6 +144,7 @@ fn selection_of<'a>(request: &TableRequest<'a>) -> Result<Selection, ProgramErro
         part: filter_of(request.part)?,
         only_best: request.only_best,
         feed: None,
+        hop: None,
     })
 }
 
