@@ -5,6 +5,7 @@ pub mod Table
 pub mod Places
 pub mod LookUp
 pub mod Selection
+pub mod Changes
 pub mod Sequential
 pub mod Laws
 pub mod Maps
