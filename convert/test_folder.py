@@ -50,7 +50,8 @@ def check_own(made):
 def check_others(made):
     """Files of another converter, and files written by hand, are kept, even instead of a converter's file."""
     folder = made / "others"
-    folder.mkdir(mode=0o750)
+    folder.mkdir()
+    folder.chmod(0o750)
     (folder / "hand.feed").write_text("version 2\n")
     expect("by hand", converted("bgpdump-to-feeds", DUMP, folder),
            ["kept 1 feeds that bgpdump-to-feeds had not written: hand.feed"])
