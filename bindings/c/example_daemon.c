@@ -138,7 +138,7 @@ int main(int size, char **words)
     obey(words[1]);
     is_ended = true;
     for (int k = 0; k < READERS; k++) pthread_join(readers[k], NULL);
-    bool is_done = save(words[2]) && compare(&start) && answered > 0;
+    bool is_done = save(words[2]) && compare(&start) && answered > 0 && fflush(stdout) == 0;
     yarib_free(&start);
     yarib_concurrent_free(&table);
     return !is_done;

@@ -461,6 +461,22 @@ class Views(unittest.TestCase):
         table.fib_attach()
         return table
 
+    def test_memory_for_a_view_that_the_system_refuses(self):
+        """The error is the package's, and the table is as it was."""
+        code = textwrap.dedent("""
+            import resource, yarib
+            table = yarib.Table(1)
+            table.add("10.0.0.0/8", via="192.0.2.1")
+            fib, views = table.fib_new(), []
+            resource.setrlimit(resource.RLIMIT_AS, (600 << 20, 600 << 20))
+            try:
+                while len(views) < 20:
+                    views.append(fib.view_new())
+            except yarib.OutOfMemory as error:
+                print(error, table.look_up("10.1.2.3").pref, views[0].look_up("10.1.2.3"))
+            """)
+        self.assertEqual(in_process(code), (0, f"yarib: out of memory 0 {yarib.FIRST_ROUTER}\n", ""))
+
     def test_a_view_stays_as_it_was_made(self):
         """Through changes, a close of the table, its end, and a fork."""
         for kind in (yarib.Table, yarib.ConcurrentTable):

@@ -339,7 +339,10 @@ def bytes_of(handle: Any, calls: Any = held) -> int:
 
 def memory_of(size: int) -> mmap.mmap:
     """Returns memory for this many 32-bit numbers, in huge pages if the kernel has them."""
-    block = mmap.mmap(-1, size * 4, mmap.MAP_PRIVATE | mmap.MAP_ANONYMOUS)
+    try:
+        block = mmap.mmap(-1, size * 4, mmap.MAP_PRIVATE | mmap.MAP_ANONYMOUS)
+    except OSError:
+        c.fail(c.NO_MEMORY, None)
     with contextlib.suppress(OSError):
         block.madvise(mmap.MADV_HUGEPAGE)
     return block
