@@ -159,8 +159,9 @@ const char *yarib_build(void);
 /* Returns the name of a status, such as "no memory", or "unknown status". */
 const char *yarib_status_text(enum yarib_status status);
 
-/* The kind of table that yarib_new creates. Without a journal its memory is bounded by its routes. A journal keeps every answered
- * command with its reply, 56 bytes each, until the table is freed: choose it to explain each answer later. */
+/* The kind of table that yarib_new creates. A table has fewer than two nodes for each route, however long it is used; what else a
+ * table without a journal allocates is only tested (yarib_memory). A journal keeps every answered command with its reply, 56 bytes
+ * each, until the table is freed: choose it to explain each answer later. */
 enum yarib_kind { YARIB_PLAIN = 0, YARIB_JOURNALED = 1 };
 
 enum yarib_operation {

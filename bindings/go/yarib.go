@@ -406,7 +406,8 @@ func made(limit uint32, create func(held *handle, limit C.uint32_t) uint32) (com
 	return table, nil
 }
 
-// New returns an empty table for up to limit routes of each feed, 1 to 1,000,000. Its memory is bounded by its routes.
+// New returns an empty table for up to limit routes of each feed, 1 to 1,000,000. It keeps no journal,
+// and has fewer than two nodes for each route, however long it is used.
 func New(limit uint32) (*Table, error) {
 	return newTable(limit, C.YARIB_PLAIN)
 }

@@ -597,8 +597,8 @@ impl Selection {
 pub struct Table(raw::Handle);
 
 impl Table {
-    /// Returns an empty table for up to `limit` routes of each feed, 1 to 1,000,000. Its memory is bounded by its
-    /// routes.
+    /// Returns an empty table for up to `limit` routes of each feed, 1 to 1,000,000. It keeps no journal, and
+    /// has fewer than two nodes for each route, however long it is used.
     ///
     /// # Errors
     /// [`Error::Number`] if the limit is out of range, [`Error::Memory`].

@@ -1,6 +1,7 @@
 -- The routes that a map from prefixes to offers represents: its elements, and that they are a table.
 use Rattle.std.proofs.Common.{◌≡◌, ℕ, Bool, true, false, eqb, ltb, ◌⊎◌, ◌↔◌, inl, inr, List, [], ◌∷◌, ◌++◌, get_or, Option, Some, None, refl, ap, ◌∙◌, sym}
-use Rattle.std.proofs.Common.{subst, arith, map, append_assoc}
+use Rattle.std.proofs.Common.{◌≤◌, length, subst, arith, map, append_assoc, length-append}
+use Rattle.std.proofs.lemmas.List.{length-map}
 use Rattle.std.specs.Prelude.{IsTrue}
 use Rattle.std.specs.List.{All, AllPairs, Contains, list_any}
 use Rattle.std.proofs.lemmas.Bool.{cases_Bool, both_ways, false_from_ne_true, and_parts, and_from, eqb-true, eq-eqb, ltb-true}
@@ -177,7 +178,19 @@ IsTable-routes ((p, offers) ∷ rest) order each =
           (λ s c. apart-by_prefix (route_by p (get_or offers k d)) s (early s c))));
     }
 
+-- it represents at least one route for each prefix
+routes_many : (m : Map) → ((p : Prefix) (offers : List Offer) → Contains m (p, offers) → IsOffers offers) → length m ≤ length (routes_of m)
+routes_many [] each = omega arith
+routes_many ((p, offers) ∷ rest) each =
+    let more = routes_many rest (λ q os c. each q os (Contains-tail (p, offers) rest (q, os) c)) in
+    let some = (each p offers (Contains-head (p, offers) rest)).some in
+    omega (arith, more, some, length-append (map (route_by p) offers) (routes_of rest), length-map offers (route_by p))
+
 module _ (m : Map) (h : IsMap m) where
+  -- a map has at most as many prefixes as routes
+  pub pairs_few : length m ≤ length (routes_of m)
+  pairs_few = routes_many m (λ p offers c. h.each p offers ((pairs-found m p offers h.ordered).0 c))
+
   -- the routes of a map are a table
   pub IsTable-map : IsTable (routes_of m)
   IsTable-map = IsTable-routes m h.ordered (λ p offers c. h.each p offers ((pairs-found m p offers h.ordered).0 c))

@@ -77,14 +77,14 @@ pub record Applies (old new : BookContents) (feed : ℕ) (cmd : Cmd) (reply : Re
   pub journaled : new.journal ≡ old.journal ++ record { feed = feed; cmd = cmd; reply = reply } ∷ []
   pub roomy : old.room ≤ new.room + 1
 
--- memory ran out: limit, journal and trie are unchanged, no room is lost, and either there was no room or the command
--- is one that inserts a route
+-- memory ran out: limit, journal and trie are unchanged, no room is lost, and either there is still no room or the
+-- command is one that inserts a route
 pub record Refuses (old new : BookContents) (feed : ℕ) (cmd : Cmd) : Type 0 where
   pub limited : new.limit ≡ old.limit
   pub journaled : new.journal ≡ old.journal
   pub kept : new.trie ≡ old.trie
   pub roomy : old.room ≤ new.room
-  pub wanted : (old.room ≡ 0) ⊎ (reply_of old.limit (table_of old) feed cmd ≡ Added)
+  pub wanted : (new.room ≡ 0) ⊎ (reply_of old.limit (table_of old) feed cmd ≡ Added)
 
 -- the journal has room for this many entries, and at least as many as before; limit, journal and trie are unchanged
 pub record Reserves (old new : BookContents) (entries : ℕ) : Type 0 where

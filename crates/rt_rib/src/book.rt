@@ -1,5 +1,5 @@
 //! The book: a table with the journal of everything it answered, and nothing but what keeps the two consistent.
-ghost use Rattle.std.specs.Prelude.{◌≡◌, ◌<◌, [], IfOk, OnOk, OnErr};
+ghost use Rattle.std.specs.Prelude.{◌≡◌, ◌<◌, [], length, IfOk, OnOk, OnErr};
 ghost use Rattle.std.specs.List.{All};
 ghost use Rattle.rt_rib.specs.Book.{IsLimit, IsFeed};
 
@@ -126,9 +126,10 @@ impl<A: Allocator + Copy> Book<A> {
     }
 
     /// Returns the routes in dump order: by base, then length, then preference, then feed. Allocates the list with the
-    /// given allocator. Error M1 (`Refused`) if memory runs out.
+    /// given allocator, unless there is no route. Error M1 (`Refused`) if memory runs out.
     pub fn routes(&self, alloc: A) -> Result<Vec<Route, A>, Refused>
         ensures routes { IfOk result (λ routes. routes.items ≡ table_of self.now) }
+        ensures wanted { OnErr result (0 < length (table_of self.now)) }
         ensures table { IsTable (table_of self.now) }
         ensures lawful { IsLawfulJournal self.now.limit self.now.journal }
     {

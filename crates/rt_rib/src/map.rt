@@ -1,5 +1,5 @@
 //! The map from prefixes to their offers: the routes that it represents, and how they change.
-ghost use Rattle.std.specs.Prelude.{◌≡◌, ◌++◌, false, [], IsTrue, IfOk, OnOk, OnErr, length, map};
+ghost use Rattle.std.specs.Prelude.{◌≡◌, ◌-◌, ◌*◌, ◌≤◌, ◌++◌, false, [], IsTrue, IfOk, OnOk, OnErr, length, map};
 ghost use Rattle.rt_trie.specs.Lawful.{IsLawful};
 ghost use Rattle.rt_rib.specs.Table.{has, put_in, take_out};
 ghost use Rattle.rt_rib.specs.Maps.{routes_of, route_by, IsMap};
@@ -62,6 +62,7 @@ impl<A: Allocator + Copy> OfferMap<A> {
     /// Returns the number of nodes of the trie, which is lawful.
     pub(crate) fn nodes(&self) -> usize
         ensures nodes { result ≡ self.now.nodes }
+        ensures bound { result ≤ 2 * length self.now.pairs - 1 }
         ensures lawful { IsLawful self.now }
         ensures map { IsMap self.now.pairs }
     {

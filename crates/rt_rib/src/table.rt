@@ -1,5 +1,5 @@
 //! The sequential table: its routes as offers in a map, the number of each feed's routes, and the replies to commands.
-ghost use Rattle.std.specs.Prelude.{◌≡◌, ◌^◌, ◌<◌, ◌≤◌, ◌↔◌, IsTrue, [], length, map, sum, IfOk, OnErr};
+ghost use Rattle.std.specs.Prelude.{◌≡◌, ◌-◌, ◌*◌, ◌^◌, ◌<◌, ◌≤◌, ◌↔◌, IsTrue, [], length, map, sum, IfOk, OnErr};
 ghost use Rattle.rt_rib.specs.declared.commands.Cmd.TheVariants.{Withdraw, Purge};
 ghost use Rattle.rt_rib.specs.declared.commands.Reply.TheVariants.{Added};
 ghost use Rattle.rt_rib.specs.Sequential.{reply_of, add_of, replace_of};
@@ -30,8 +30,9 @@ use std::marker::Model;
 const FEW: u32 = 16;
 
 /// The sequential table: a set of routes, at most one for each pair of prefix and feed, and for each feed at most the
-/// limit. Contracts see its limit, its routes in dump order, and the trie that holds them. It keeps no journal, so its
-/// memory is bounded by its routes, however long it is used.
+/// limit. Contracts see its limit, its routes in dump order, and the trie that holds them. It keeps no journal, and its
+/// trie has fewer than two nodes for each route, however long it is used ([`nodes`](Table::nodes)). What else it allocates
+/// is only tested: [`offer_bytes`](Table::offer_bytes) and [`mark_bytes`](Table::mark_bytes).
 #[derive(Drop)]
 pub struct Table<A: Allocator + Copy> {
     limit: u32,
@@ -116,12 +117,16 @@ impl<A: Allocator + Copy> Table<A> {
     }
 
     /// Returns the routes in dump order: by base, then length, then preference, then feed. Allocates the list with the
-    /// given allocator. Error M1 (`Refused`) if memory runs out.
+    /// given allocator, unless there is no route. Error M1 (`Refused`) if memory runs out.
     pub fn routes(&self, alloc: A) -> Result<Vec<Route, A>, Refused>
         ensures routes { IfOk result (λ routes. routes.items ≡ self.now.routes) }
         ensures table { IsTable self.now.routes }
+        ensures wanted { OnErr result (0 < length self.now.routes) }
     {
         let count = self.len();
+        if count == 0 {
+            return Ok(Vec::new(alloc));
+        }
         self.map.routes(alloc, count as usize)
     }
 
@@ -160,9 +165,10 @@ impl<A: Allocator + Copy> Table<A> {
         lookups::all_of(&self.map, alloc, addr)
     }
 
-    /// Returns the number of nodes of the trie of the routes.
+    /// Returns the number of nodes of the trie of the routes: fewer than twice the number of routes, unless there is none.
     pub fn nodes(&self) -> usize
-        ensures { result ≡ self.now.trie.nodes }
+        ensures nodes { result ≡ self.now.trie.nodes }
+        ensures bound { result ≤ 2 * length self.now.routes - 1 }
     {
         self.map.nodes()
     }

@@ -1,7 +1,9 @@
 -- A shared table and a pass in the view of contracts, and the changes of the lent value.
-use Rattle.std.specs.Prelude.{◌≡◌, ℕ, ◌+◌, ◌≤◌, List, ◌++◌, slice_get, length, Some, All}
+use Rattle.std.specs.Prelude.{◌≡◌, ℕ, ◌+◌, ◌≤◌, ◌⊎◌, List, ◌++◌, slice_get, length, Some, All}
 use Rattle.rt_rib.specs.declared.commands.Entry.{Entry}
-use Rattle.rt_rib.specs.Sequential.{IsLawfulJournal}
+use Rattle.rt_rib.specs.declared.commands.Cmd.{Cmd}
+use Rattle.rt_rib.specs.declared.commands.Reply.TheVariants.{Added}
+use Rattle.rt_rib.specs.Sequential.{reply_of, table_of_journal, IsLawfulJournal}
 use Rattle.ya_lock.specs.Lock.{LockId}
 use Rattle.rt_shared.specs.declared.lent.Lent.{Lent}
 use Rattle.rt_shared.specs.JournalVisits.{AllBy, Since}
@@ -12,11 +14,18 @@ pub record SharedId : Type 0 where
   pub limit : ℕ
   pub feeds : ℕ
 
--- a pass of a feed: its table, its feed, and the journal that it has seen
+-- a pass of a feed: its table, its feed, the journal that it has seen, and the number of entries for which that journal
+-- had room
 pub record HeldPass : Type 0 where
   pub table : SharedId
   pub feed : ℕ
   pub seen : List Entry
+  pub room : ℕ
+
+-- the journal that the pass has seen had no room for the command's entry, or the command inserts a route into the table
+-- that this journal leaves
+abbrev pub NeedsMemory : ℕ → HeldPass → Cmd → Type 0
+NeedsMemory limit pass cmd = (pass.room ≡ 0) ⊎ (reply_of limit (table_of_journal limit pass.seen) pass.feed cmd ≡ Added)
 
 -- one pass for each feed of the table, in order
 pub record ArePassesOf (table : SharedId) (passes : List HeldPass) : Type 0 where

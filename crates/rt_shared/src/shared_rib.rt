@@ -5,7 +5,7 @@ ghost use Rattle.rt_rib.specs.Book.{IsLimit};
 ghost use Rattle.ya_core.specs.ArbitrationTree.{HasShape};
 ghost use Rattle.rt_rib.specs.Sequential.{table_of_journal, IsLawfulJournal};
 ghost use Rattle.rt_shared.specs.JournalVisits.{Since, CommitsBatch, MakesVisitWith};
-ghost use Rattle.rt_shared.specs.SharedTable.{ArePassesOf, Settles, feed_of};
+ghost use Rattle.rt_shared.specs.SharedTable.{ArePassesOf, NeedsMemory, Settles, feed_of};
 ghost use Rattle.rt_shared.specs.inside.PassModel.{shared_id, of_feed};
 
 use crate::lent::Lent;
@@ -20,8 +20,8 @@ use ya_lock::{Pass, TreeLock};
 /// The tree with the most levels has a place for each feed.
 const _: () = prove!(rt_rib::MAX_FEEDS == ya_core::MAX_PLACES);
 
-/// The right of one feed to change one shared table. Contracts see its table, its feed, and the journal as the pass has
-/// last seen it.
+/// The right of one feed to change one shared table. Contracts see its table, its feed, the journal as the pass has last
+/// seen it, and the number of entries for which that journal had room.
 #[derive(Drop)]
 pub struct FeedPass {
     /// `None` only during a call.
@@ -129,14 +129,15 @@ impl<const L: u32> SharedRib<L> {
     }
 
     /// Answers a command of the pass's feed as the sequential table does at the journal's end. The pass has then seen
-    /// that journal, with its own entry last. M1: `Refused` if memory runs out; the pass has then seen the journal that
-    /// it found. May wait.
+    /// that journal, with its own entry last. M1: `Refused` if memory runs out, for the entry if the journal has no room,
+    /// or for a route that is inserted; the pass has then seen the journal that it found. May wait.
     pub fn apply<R: Wait>(&self, rt: &R, pass: &mut FeedPass, cmd: Cmd) -> Result<Reply, Refused>
         requires { pass.old.table ≡ self.now }
         ensures table { pass.new.table ≡ pass.old.table }
         ensures feed { pass.new.feed ≡ pass.old.feed }
         ensures ok { IfOk result (λ reply. CommitsBatch self.now.limit pass.old.feed pass.old.seen (cmd ∷ []) (Outcome.Did reply ∷ []) pass.new.seen) }
         ensures err { OnErr result (CommitsBatch self.now.limit pass.old.feed pass.old.seen (cmd ∷ []) (Outcome.Refused ∷ []) pass.new.seen) }
+        ensures wanted { OnErr result (NeedsMemory self.now.limit pass.new cmd) }
     {
         let mut guard = self.lock.enter(rt, pass.pass.take().unwrap());
         let answer = guard.get_mut().apply(pass.feed, cmd);
@@ -175,8 +176,8 @@ impl<const L: u32> SharedRib<L> {
     }
 
     /// Returns the routes of the table in dump order: those left by the journal that the pass has then seen. They are
-    /// copied while no feed can enter. M1: `Refused` if memory runs out; the pass has seen that journal all the same.
-    /// May wait.
+    /// copied while no feed can enter. M1: `Refused` if memory runs out, for which there must be a route; the pass has seen
+    /// that journal all the same. May wait.
     pub fn routes<R: Wait>(
         &self,
         rt: &R,
@@ -189,6 +190,7 @@ impl<const L: u32> SharedRib<L> {
         ensures seen { Since pass.old.feed pass.old.seen pass.new.seen }
         ensures lawful { IsLawfulJournal self.now.limit pass.new.seen }
         ensures ok { IfOk result (λ routes. routes.items ≡ table_of_journal self.now.limit pass.new.seen) }
+        ensures wanted { OnErr result (0 < length (table_of_journal self.now.limit pass.new.seen)) }
     {
         let guard = self.lock.enter(rt, pass.pass.take().unwrap());
         let routes = guard.get().book.get().routes(alloc);

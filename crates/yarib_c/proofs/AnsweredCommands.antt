@@ -1,5 +1,5 @@
 -- What the libraries say of new tables and of answered commands, as it is said of what a handle holds.
-use Rattle.std.proofs.Common.{◌≡◌, ℕ, Bool, true, false, nat_le, if◌then◌else◌, List, [], refl, ap}
+use Rattle.std.proofs.Common.{◌≡◌, ℕ, ◌≤◌, ◌⊎◌, inl, inr, Bool, true, false, nat_le, if◌then◌else◌, List, [], refl, ap, arith}
 use Rattle.std.specs.Prelude.{Option, Some, Result, Ok, Err, IfOk, OnErr, MatchResult, option_to_list}
 use Rattle.rt_rib.specs.declared.commands.Cmd.{Cmd}
 use Rattle.rt_rib.specs.declared.commands.Reply.{Reply}
@@ -37,6 +37,11 @@ new_journaled limit b limited journal = record {
   journal = ap Some journal;
 }
 
+-- what has no room after a refusal had none before
+had_none : {A : Type 0} (before after : ℕ) → before ≤ after → (after ≡ 0) ⊎ A → (before ≡ 0) ⊎ A
+had_none before after more (inl none) = inl (omega (arith, none, more))
+had_none before after more (inr other) = inr other
+
 module _ (feed : ℕ) (cmd : Cmd) (old new : BookContents) where
   -- what a book was answered
   pub journaled : (result : Result Reply Refused) → IfOk result (λ reply. Applies old new feed cmd reply) → OnErr result (Refuses old new feed cmd)
@@ -51,7 +56,7 @@ module _ (feed : ℕ) (cmd : Cmd) (old new : BookContents) where
   }
   journaled (Err e) h refused = record {
     same = record { limited = refused.limited; routes = rw (refused.limited, refused.journaled) refl; journal = ap Some refused.journaled; room = refused.roomy; followed = λ no. no };
-    wanted = refused.wanted;
+    wanted = had_none old.room new.room refused.roomy refused.wanted;
   }
 
   -- and the change that it returned with the reply

@@ -14,8 +14,8 @@ no_table = record { lock = record { words = 0; slots = 0; views_name = 0; atom =
 
 -- the pass in the view of contracts
 abbrev pub held_pass : ℕ → Option (IdlePass Lent) → HeldPass
-held_pass feed (Some pass) = record { table = shared_id pass; feed = feed; seen = pass.seen.book.journal }
-held_pass feed None = record { table = no_table; feed = feed; seen = [] }
+held_pass feed (Some pass) = record { table = shared_id pass; feed = feed; seen = pass.seen.book.journal; room = pass.seen.book.room }
+held_pass feed None = record { table = no_table; feed = feed; seen = []; room = 0 }
 
 -- the pass of the lock is present, and its place is the feed's
 abbrev pub HoldsLockPass : ℕ → Option (IdlePass Lent) → Type 0
@@ -24,4 +24,4 @@ HoldsLockPass feed None = ⊥
 
 -- the feed's pass for this pass of the lock
 abbrev pub of_feed : IdlePass Lent → HeldPass
-of_feed pass = record { table = shared_id pass; feed = feed_of pass.place; seen = pass.seen.book.journal }
+of_feed pass = record { table = shared_id pass; feed = feed_of pass.place; seen = pass.seen.book.journal; room = pass.seen.book.room }
