@@ -69,7 +69,7 @@ pub enum Error {
     Bits,
     /// Two lists differ in length.
     Size,
-    /// The call needs a table with a journal, or one without.
+    /// The table doesn't support the call, which needs a journal, or none, or an attached forwarding table.
     Kind,
     /// Another call uses the table. This occurs only while 1,024 calls that read run in threads after the 256th.
     Busy,
