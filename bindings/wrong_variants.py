@@ -597,7 +597,7 @@ PYTHON = noticed_by({
     ),
     "test_calls.Calls.test_many_commands_in_one_call": (
         "in finds longer prefixes", "in finds shorter prefixes", "in doesn't find what a longer prefix hides",
-        "a router is another one", "feed is forgotten in exact", "feed is forgotten in within",
+        "a router is another one", "feed is forgotten in within",
         "best is forgotten in covering", "feed is forgotten in covering", "feed is forgotten in routes",
         "within and covering are exchanged", "an entry without its prefix", "an added entry without its prefix",
         "an entry's prefix without its length", "an entry without its route", "an outcome without its count",
@@ -635,7 +635,7 @@ PYTHON = noticed_by({
         "a full feed is overlooked", "a copy without the limit", "a copy without the journal",
     ),
     "test_yarib.Tables.test_routes_by_prefix": (
-        "best is forgotten in exact", "best is forgotten in routes",
+        "best is forgotten in exact", "feed is forgotten in exact", "best is forgotten in routes",
     ),
     "test_calls.Calls.test_each_call_answers_as_the_model": (
         "best is forgotten in within", "numpy's fields are exchanged", "numpy's length and hop are exchanged",

@@ -227,9 +227,9 @@ func compareReads(t *testing.T, one *common, m *model, draw *rand.Rand) {
 		Exact: func(route Route) bool { return route.Prefix == prefix },
 	} {
 		chosen := Selection{Part: part, Prefix: prefix, Feed: uint32(draw.Intn(6)), OnlyBest: draw.Intn(2) == 1}
-		if hop := drawnHop(draw); draw.Intn(2) == 1 {
-			chosen.Hop = &hop
-		}
+		// Any next hop, or one that routes of the model have.
+		hops := []*Hop{nil, {}, {addressOf(1), true}, {addressOf(2), true}}
+		chosen.Hop = hops[(prefix.Bits()+int(chosen.Feed))%len(hops)]
 		routes := m.listed(isIn)
 		if chosen.OnlyBest {
 			routes = onlyBest(routes)

@@ -113,15 +113,12 @@ func addressOf(number uint32) netip.Addr {
 	return netip.AddrFrom4([4]byte{byte(number >> 24), byte(number >> 16), byte(number >> 8), byte(number)})
 }
 
-func drawnHop(draw *rand.Rand) Hop {
-	if last := draw.Intn(3); last > 0 {
-		return Via(addressOf(uint32(last)))
-	}
-	return Discard
-}
-
 func drawnCommand(draw *rand.Rand) Command {
-	prefix, hop := drawnPrefix(draw), drawnHop(draw)
+	prefix := drawnPrefix(draw)
+	hop := Discard
+	if last := draw.Intn(3); last > 0 {
+		hop = Via(addressOf(uint32(last)))
+	}
 	kinds := []Operation{Add, Add, Add, Add, Replace, Withdraw, Lookup, Lookup, Dump}
 	operation := kinds[draw.Intn(len(kinds))]
 	if draw.Intn(50) == 0 {

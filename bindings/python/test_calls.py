@@ -153,7 +153,7 @@ class Drawn(random.Random):
 
     def selection(self):
         return {"feed": self.choice((None, None, 1, 2, 3, yarib.MAX_FEED)), "best": self.choice((False, True)),
-                "via": self.choice(("any", self.via()))}
+                "via": self.choice(("any", "any", "any", self.via()))}
 
     def given_selection(self, chosen):
         return chosen if chosen["via"] == "any" else chosen | {"via": self.given(chosen["via"])}

@@ -248,6 +248,12 @@ class Tables(unittest.TestCase):
         self.assertEqual(table.covering("10.0.0.0/24"), [two, one, three])
         self.assertEqual(table.routes(feed=3), table.within("11.0.0.0/24"))
         self.assertEqual(len(table.routes(best=True)), 103)
+        last = table.exact((0x0B000001, 32))
+        self.assertEqual(table.routes(via="0.0.0.1"), [one, *last])
+        self.assertEqual(table.routes(best=True, via="0.0.0.1"), last)
+        self.assertEqual(table.routes(via=None), [])
+        for wrong in ("0.0.0", "any other", -1):
+            self.assertRaises(yarib.Invalid, table.exact, "10.0.0.0/8", via=wrong)
         for feed in (0, yarib.MAX_FEED + 1, -1):
             self.assertRaises(ValueError, table.exact, "10.0.0.0/8", feed)
         self.assertRaises(ValueError, table.within, "10.0.0.1/8")
