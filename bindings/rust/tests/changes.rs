@@ -1,51 +1,39 @@
 //! Which best routes commands change, compared with the best routes of a plain map before and after.
+mod routes;
+
+use routes::{Draw, Model};
 use std::collections::BTreeMap;
 use std::net::Ipv4Addr;
 use yarib::{Change, Command, ConcurrentTable, Error, Hop, Prefix, Reply, Result, Route, Table};
 
-/// Each feed's routes.
-type Routes = BTreeMap<(Prefix, u32), Route>;
-
 const FEEDS: u32 = 5;
 const COMMANDS: usize = 3_000;
 
-struct Draw(u64);
+/// Few prefixes, some inside others.
+fn prefix(draw: &mut Draw) -> Prefix {
+    let len = [0, 8, 9, 31, 32][draw.below(5) as usize];
+    let base = draw.below(2) * 0x0080_0001 + 0x0a00_0000;
+    let mask = u32::MAX.checked_shl(32 - u32::from(len)).unwrap_or(0);
+    Prefix::new(Ipv4Addr::from(base & mask), len).unwrap()
+}
 
-impl Draw {
-    fn below(&mut self, most: u32) -> u32 {
-        self.0 = self
-            .0
-            .wrapping_mul(6_364_136_223_846_793_005)
-            .wrapping_add(1_442_695_040_888_963_407);
-        u32::try_from(self.0 >> 33).unwrap() % most
-    }
-
-    /// Few prefixes, some inside others.
-    fn prefix(&mut self) -> Prefix {
-        let len = [0, 8, 9, 31, 32][self.below(5) as usize];
-        let base = self.below(2) * 0x0080_0001 + 0x0a00_0000;
-        let mask = u32::MAX.checked_shl(32 - u32::from(len)).unwrap_or(0);
-        Prefix::new(Ipv4Addr::from(base & mask), len).unwrap()
-    }
-
-    fn command(&mut self) -> Command {
-        let hop = match self.below(3) {
-            0 => Hop::Discard,
-            k => Hop::Via(Ipv4Addr::from(k)),
-        };
-        let (prefix, pref) = (self.prefix(), self.below(3));
-        match self.below(20) {
-            0 => Command::Purge,
-            1..=8 => Command::Add(prefix, pref, hop),
-            9..=14 => Command::Replace(prefix, pref, hop),
-            _ => Command::Withdraw(prefix),
-        }
+fn command(draw: &mut Draw) -> Command {
+    let hop = match draw.below(3) {
+        0 => Hop::Discard,
+        k => Hop::Via(Ipv4Addr::from(k)),
+    };
+    let (prefix, pref) = (prefix(draw), draw.below(3));
+    match draw.below(20) {
+        0 => Command::Purge,
+        1..=8 => Command::Add(prefix, pref, hop),
+        9..=14 => Command::Replace(prefix, pref, hop),
+        _ => Command::Withdraw(prefix),
     }
 }
 
-fn best(routes: &Routes) -> BTreeMap<Prefix, Route> {
+fn best(model: &Model) -> BTreeMap<Prefix, Route> {
     let mut best: BTreeMap<Prefix, Route> = BTreeMap::new();
-    for ((prefix, _), route) in routes {
+    for ((prefix, _), route) in &model.routes {
         let first = best.entry(*prefix).or_insert(*route);
         if route.pref < first.pref {
             *first = *route;
@@ -67,46 +55,14 @@ fn changes(old: &BTreeMap<Prefix, Route>, new: &BTreeMap<Prefix, Route>) -> Vec<
     all.filter(|one| one.before != one.after).collect()
 }
 
-fn model(routes: &mut Routes, feed: u32, command: Command) -> Reply {
-    let put = |prefix, pref, hop| Route {
-        prefix,
-        feed,
-        pref,
-        hop,
-    };
-    match command {
-        Command::Add(prefix, ..) if routes.contains_key(&(prefix, feed)) => Reply::Exists,
-        Command::Add(prefix, pref, hop) => {
-            routes.insert((prefix, feed), put(prefix, pref, hop));
-            Reply::Added
-        }
-        Command::Replace(prefix, pref, hop) => match routes.get_mut(&(prefix, feed)) {
-            None => Reply::Missing,
-            Some(route) => {
-                *route = put(prefix, pref, hop);
-                Reply::Replaced
-            }
-        },
-        Command::Withdraw(prefix) => match routes.remove(&(prefix, feed)) {
-            None => Reply::Missing,
-            Some(_) => Reply::Withdrawn,
-        },
-        _ => {
-            let before = routes.len();
-            routes.retain(|key, _| key.1 != feed);
-            Reply::Purged(u32::try_from(before - routes.len()).unwrap())
-        }
-    }
-}
-
 /// Compares each command's changes, by a call that executes it and returns them.
 fn compare(seed: u64, mut apply: impl FnMut(u32, Command) -> Result<(Reply, Vec<Change>)>) {
-    let (mut draw, mut routes) = (Draw(seed), Routes::new());
+    let (mut draw, mut model) = (Draw(seed), Model::new(99));
     for _ in 0..COMMANDS {
-        let (feed, command) = (1 + draw.below(FEEDS), draw.command());
-        let before = best(&routes);
-        let reply = model(&mut routes, feed, command);
-        let wanted = (reply, changes(&before, &best(&routes)));
+        let (feed, command) = (1 + draw.below(FEEDS), command(&mut draw));
+        let before = best(&model);
+        let reply = model.apply(feed, command);
+        let wanted = (reply, changes(&before, &best(&model)));
         assert_eq!(apply(feed, command), Ok(wanted), "{feed} {command}");
     }
 }

@@ -3,8 +3,8 @@
 
 mod routes;
 
-use routes::{adding, line, place, rank, route, shown};
-use std::collections::{BTreeMap, BTreeSet};
+use routes::{adding, line, place, rank, route, shown, Draw, Model};
+use std::collections::BTreeSet;
 use std::net::Ipv4Addr;
 use std::sync::atomic::{AtomicBool, Ordering};
 use std::sync::RwLock;
@@ -15,121 +15,12 @@ use yarib::{
     NUMBER_NO_ROUTE,
 };
 
-/// Numbers that look drawn, the same in each run.
-struct Draw(u64);
-
-impl Draw {
-    fn below(&mut self, size: u32) -> u32 {
-        self.0 = self
-            .0
-            .wrapping_mul(6_364_136_223_846_793_005)
-            .wrapping_add(1_442_695_040_888_963_407);
-        ((self.0 >> 32) % u64::from(size)) as u32
-    }
-
-    fn prefix(&mut self) -> Prefix {
-        let len = [0, 1, 8, 23, 24, 25, 31, 32][self.below(8) as usize];
-        let base = [0, 1 << 31, 10 << 24, 0xffff_ffe0][self.below(4) as usize] + self.below(32);
-        let kept = if len == 0 {
-            0
-        } else {
-            base >> (32 - len) << (32 - len)
-        };
-        Prefix::new(Ipv4Addr::from(kept), len).expect("no bit is set past the length")
-    }
-
-    fn hop(&mut self) -> Hop {
-        match self.below(3) {
-            0 => Hop::Discard,
-            last => Hop::Via(Ipv4Addr::from(last)),
-        }
-    }
-
-    fn command(&mut self) -> Command {
-        match self.below(40) {
-            0..=19 => Command::Add(self.prefix(), self.below(3), self.hop()),
-            20..=25 => Command::Replace(self.prefix(), self.below(3), self.hop()),
-            26..=31 => Command::Withdraw(self.prefix()),
-            32..=37 => Command::Lookup(self.prefix().base()),
-            38 => Command::Dump,
-            _ => Command::Purge,
-        }
-    }
-}
-
-/// The sequential table from its definition: routes by prefix and feed.
-struct Model {
-    limit: usize,
-    routes: BTreeMap<(Prefix, u32), Route>,
-}
-
-impl Model {
-    fn best(&self, address: u32) -> Option<Route> {
-        let covers = |prefix: Prefix| {
-            let past = 32 - u32::from(prefix.len());
-            u64::from(u32::from(prefix.base())) >> past == u64::from(address) >> past
-        };
-        self.routes
-            .values()
-            .filter(|route| covers(route.prefix))
-            .min_by_key(|route| rank(route))
-            .copied()
-    }
-
-    fn apply(&mut self, feed: u32, command: Command) -> Reply {
-        let own = self.routes.keys().filter(|key| key.1 == feed).count();
-        match command {
-            Command::Add(prefix, preference, hop) => {
-                if self.routes.contains_key(&(prefix, feed)) {
-                    return Reply::Exists;
-                }
-                if own >= self.limit {
-                    return Reply::Full;
-                }
-                self.routes
-                    .insert((prefix, feed), route(prefix, feed, preference, hop));
-                Reply::Added
-            }
-            Command::Replace(prefix, preference, hop) => match self.routes.get_mut(&(prefix, feed))
-            {
-                None => Reply::Missing,
-                Some(old) => {
-                    *old = route(prefix, feed, preference, hop);
-                    Reply::Replaced
-                }
-            },
-            Command::Withdraw(prefix) => match self.routes.remove(&(prefix, feed)) {
-                None => Reply::Missing,
-                Some(_) => Reply::Withdrawn,
-            },
-            Command::Lookup(address) => self
-                .best(u32::from(address))
-                .map_or(Reply::NoRoute, Reply::Found),
-            Command::Dump => Reply::Dumped(self.routes.len() as u32),
-            Command::Purge => {
-                self.routes.retain(|key, _| key.1 != feed);
-                Reply::Purged(own as u32)
-            }
-            other => panic!("{other:?}"),
-        }
-    }
-
-    fn listed(&self) -> Vec<Route> {
-        let mut routes: Vec<Route> = self.routes.values().copied().collect();
-        routes.sort_by_key(place);
-        routes
-    }
-}
-
 #[test]
 fn replies_and_routes_are_the_models() {
     for seed in 0..20 {
         let mut draw = Draw(seed);
         let limit = [3, 1_000_000][seed as usize % 2];
-        let mut model = Model {
-            limit: limit as usize,
-            routes: BTreeMap::new(),
-        };
+        let mut model = Model::new(limit);
         let mut plain = Table::new(limit).unwrap();
         let mut journaled = Table::with_journal(limit).unwrap();
         let asked: Vec<(u32, Command)> = (0..500)
@@ -293,10 +184,7 @@ fn check_pages<'a>(
 fn a_concurrent_table_answers_as_the_model() {
     for seed in 0..12 {
         let (mut draw, limit) = (Draw(4000 + seed), [3, 1_000_000][seed as usize % 2]);
-        let mut model = Model {
-            limit: limit as usize,
-            routes: BTreeMap::new(),
-        };
+        let mut model = Model::new(limit);
         let table = ConcurrentTable::new(limit).unwrap();
         let rounds = if seed % 4 == 3 {
             table.fib_attach().unwrap();
@@ -416,13 +304,7 @@ fn pages_follow_one_another() {
 
 #[test]
 fn a_followed_table_answers_as_before() {
-    let (mut draw, mut model) = (
-        Draw(5),
-        Model {
-            limit: 50,
-            routes: BTreeMap::new(),
-        },
-    );
+    let (mut draw, mut model) = (Draw(5), Model::new(50));
     let mut table = Table::new(50).unwrap();
     assert_eq!(
         (table.memory(), table.fib_is_attached()),
@@ -700,10 +582,7 @@ fn differences(old: &Model, new: &Model, by: By) -> Vec<(u32, u32, Answer, Answe
 fn both_sides_of_each_difference() {
     for seed in 0..40 {
         let mut draw = Draw(1000 + seed);
-        let made = || Model {
-            limit: 99,
-            routes: BTreeMap::new(),
-        };
+        let made = || Model::new(99);
         let mut models = [made(), made()];
         let mut tables = [Table::new(99).unwrap(), Table::with_journal(99).unwrap()];
         for _ in 0..[1, 4, 20][seed as usize % 3] {
@@ -855,13 +734,7 @@ fn commands_are_lines_of_a_feed_file() {
 /// Returns a model and a table after the same random commands.
 fn filled(seed: u64, feeds: u32) -> (Model, Table) {
     let mut draw = Draw(seed);
-    let (mut model, mut table) = (
-        Model {
-            limit: 1_000_000,
-            routes: BTreeMap::new(),
-        },
-        Table::new(1_000_000).unwrap(),
-    );
+    let (mut model, mut table) = (Model::new(1_000_000), Table::new(1_000_000).unwrap());
     for _ in 0..200 {
         let (feed, command) = (1 + draw.below(feeds), draw.command());
         assert_eq!(table.apply(feed, command), Ok(model.apply(feed, command)));
@@ -1022,10 +895,7 @@ fn a_source_is_one_feed() {
     let mut used = BTreeSet::new();
     for seed in 0..12 {
         let (mut draw, source) = (Draw(3000 + seed), Source::new(2, 3).unwrap());
-        let mut model = Model {
-            limit: 1_000_000,
-            routes: BTreeMap::new(),
-        };
+        let mut model = Model::new(1_000_000);
         let mut table = Table::new(1_000_000).unwrap();
         for _ in 0..300 {
             let feed = [1, 2, 2, 2, 5][draw.below(5) as usize];
