@@ -784,7 +784,7 @@ class Table(Routes):
             return f"<yarib.Table: {error}>"
 
     def __reduce__(self) -> Tuple[Any, ...]:
-        """Copies and pickles a table by its routes, or by its journal if it keeps one. The copy isn't followed."""
+        """Copies and pickles a table by its routes, or by its journal if it keeps one. The copy has no attached forwarding table."""
         if self._journal:
             commands = [entry.command for entry in self.journal()]
         else:
