@@ -6,6 +6,7 @@ minute. In the repository, ./test, .ci/run, tools/verdict and what this uses are
 stub, which ends as BREAKS says, a list of `SCRIPT=END`, and notes its words and the variables of ./test.
 """
 import concurrent.futures
+import datetime
 import json
 import os
 import pathlib
@@ -48,6 +49,8 @@ case " $BREAKS " in
   *" $name=changes "*) echo "// more" >>changed.rt ;;
   *" $name=waits "*) touch "$NOTES.waits"; sleep 600 ;;
   *" $name=leaves-out "*) echo "left out: a case of $name, since it can't run here" ;;
+  *" $name=none-kept "*) echo "small: 0 of 4 mutants were as they must be in earlier runs on this machine" ;;
+  *" $name=some-kept "*) echo "small: 3 of 4 mutants were as they must be in earlier runs on this machine" ;;
   *" $name=is-kept "*) echo "$name: passed in an earlier run on this machine" ;;
   *" $name=none "*) echo "0 passed, 0 failed"; exit ;;
   *" $name=fewer "*) echo "1 passed, 0 failed"; exit ;;
@@ -263,6 +266,25 @@ def verdicts(new):
     expect("the tree isn't the commit's", (verdict["commit"], verdict["tree"] != one.git("rev-parse", "HEAD^{tree}")), (commit, True))
     expect("it prints them", [any(name in line for line in lines) for name in ("changed.rt", "docs/new.md")], [True, True])
     expect("git's own files are as they were", one.git("status", "--porcelain"), "M changed.rt\n?? docs/")
+    for end, kept in (("none-kept", []), ("some-kept", ["small: 3 of 4 mutants were as they must be in earlier runs on this machine"])):
+        some = new()
+        some.test(breaks=f"tools/mutants={end}")
+        expect(f"what was kept of mutants: {end}", some.verdict()["kept"], ["rt: rt_diff is kept: it was proved here", *kept])
+    for words, mode in (([], "full"), (["--anew"], "anew")):
+        own = new()
+        own.put("a näme, and a word.txt", "unknown\n")
+        own.git("mv", "changed.rt", "moved.rt")
+        objects = sorted(own.top.glob(".git/objects/*/*"))
+        own.test(*words)
+        verdict = own.verdict()
+        expect(f"the mode {words}", verdict["mode"], mode)
+        expect(f"a file of another name, and one that git doesn't know {words}", (verdict["differing"], verdict["unknown"]),
+               (["changed.rt", "moved.rt"], ["a näme, and a word.txt"]))
+        expect(f"git's own objects {words}", sorted(own.top.glob(".git/objects/*/*")), objects)
+    more = new()
+    more.put("docs/new.md", "# New\n")
+    more.test()
+    expect("the tree with a file that git doesn't know", more.verdict()["tree"] != more.git("rev-parse", "HEAD^{tree}"), True)
     for words in ([], ["--quick"]):
         other = new()
         status, lines, _ = other.test(*words, breaks="tests/rows.py=changes")
@@ -271,6 +293,9 @@ def verdicts(new):
     bare = new()
     shutil.rmtree(bare.top / ".git")
     expect("the verdict without git", (bare.test()[0], bare.verdict()["commit"], bare.verdict()["tree"]), (0, None, None))
+    subprocess.run(["git", "init", "--quiet", bare.folder], check=True)
+    expect("the verdict in a directory of another repository",
+           (bare.test()[0], bare.verdict()["commit"], bare.verdict()["tree"]), (0, None, None))
 
 
 # Catches a gate that is ended and leaves an older verdict, or its files: `.. of a run that was ended`.
@@ -280,11 +305,16 @@ def ended(new):
     (one.top / "out/gate.json").write_text("an older one\n")
     (one.folder / "notes").write_text("")
     with subprocess.Popen([one.top / "test", "--quick"], cwd=one.top, stdout=subprocess.DEVNULL, stderr=subprocess.DEVNULL,
-                          env=one.environment("tests/rows.py=waits"), start_new_session=True) as call:
+                          env=one.environment("tests/rows.py=waits", TZ="Asia/Tokyo"), start_new_session=True) as call:
         while not (one.folder / "notes.waits").exists() and call.poll() is None:
             time.sleep(0.02)
+        expect("an older verdict during a run", (one.top / "out/gate.json").exists(), False)
+        time.sleep(1)
+        now = datetime.datetime.now(datetime.timezone.utc).replace(microsecond=0)
         os.killpg(call.pid, signal.SIGTERM)
     verdict = one.verdict()
+    began, at_end = (datetime.datetime.strptime(verdict[name], "%Y-%m-%dT%H:%M:%S%z") for name in ("began", "ended"))
+    expect("the times of a run that was ended", began < now <= at_end < now + datetime.timedelta(hours=1), True)
     expect("the verdict of a run that was ended", (verdict["verdict"], verdict["status"] != 0), ("stopped", True))
     expect("the files of a run that was ended", sorted(path.name for path in one.made.iterdir()), [])
 

@@ -2,7 +2,7 @@
 """Calls what keeps verdicts for later runs of ./test in a small repository, with a stub of the toolchain: tools/once, tools/archive,
 tools/definitions, tools/mutants and tests/libraries.py keep a verdict for the files that were judged, and for nothing else.
 
-tests/kept.py [CASE..], or --list for the names of the cases. Needs python3, proves nothing, and takes seconds. A stub can
+tests/kept.py [CASE..], or --list for the names of the cases. Needs python3, proves nothing, and takes a minute. A stub can
 change a file of the repository while it works: its command is $MEANWHILE. tests/mutants.py calls tools/mutants with the
 real prover.
 """
@@ -69,8 +69,10 @@ top=$(dirname "$0")/..
 if ! command -v other >/dev/null; then echo "left out: what needs other"; fi
 grep -q right "$top/read.txt" && { [ -z "$MORE" ] || cat "$top/$MORE"; } || exit ${STATUS-1}
 """
+# The functions of the crate deep.
+OF_DEEP = ("any", "down", "far", "given", "other", "plain")
 FILES = {
-    "crates.txt": "one:\nabove staticlib: one\none_examples: one\nlow:\nsmall: low\ndeep:\n",
+    "crates.txt": "one:\nabove staticlib: one\none_examples: one\nbase:\nlow: base\nsmall: low\ndeep:\n",
     "HANDLES": "",
     "crates/one/src/lib.rt": "//! One.\n#![tactic(auto)]\n",
     "crates/one/specs/One.antt": "-- One.\npub one : Nat\none = 1\n",
@@ -84,7 +86,10 @@ FILES = {
     "bench/benches/crates.txt.in": "benches: one\n",
     "bench/benches/src/main.rt.in": "fn main() {}\n",
     "crates/low/src/lib.rt": "//! Low.\n\npub fn low() -> u64\n    ensures { result ≡ 1 }\n{\n    1\n}\n\n"
-                             "pub const fn seen() -> u64 {\n    1\n}\n",
+                             "pub const fn seen() -> u64 {\n    1\n}\n\npub fn made() -> impl Copy {\n    1\n}\n",
+    "crates/low/src/deep/nested.rt": "//! Nested.\n",
+    "crates/low/specs/inside/Nested.antt": "-- Nested.\n",
+    "crates/base/src/lib.rt": "//! Base.\n",
     "crates/low/specs/Low.antt": "-- Low.\npub low : Nat\nlow = 1\n",
     "crates/low/proofs/Lemma.antt": "-- A lemma of low.\n",
     "crates/low/proofs/low/Answers.antt": "-- An answer of low.\n",
@@ -104,14 +109,20 @@ FILES = {
     "crates/small/must-fail/controls.md": "# Controls\n\n## the-same\n\n```\nfile: src/lib.rt\nold:     n⏎\nnew:     n + 0⏎\n"
                                           "taken in: same\n```\n",
     "crates/deep/src/lib.rt": "//! Deep.\n\n" + "\n".join(
-        f"pub fn {name}(n: u64) -> u64\n    ensures {{ result ≡ n }}\n{{\n    n\n}}\n" for name in ("any", "down", "other", "plain")),
+        f"pub fn {name}(n: u64) -> u64\n    ensures {{ result ≡ n }}\n{{\n    n\n}}\n" for name in OF_DEEP),
+    "crates/deep/src/more.rt": "//! More.\n\npub fn more() -> u64\n    ensures { result ≡ 2 }\n{\n    2\n}\n",
     "crates/deep/proofs/fn/any/all/Answers.antt": "-- An answer of a closure in any.\n",
     "crates/deep/proofs/+down/Answers.antt": "-- An answer of down, which calls itself.\n",
     "crates/deep/proofs/other/Answers.antt": "-- An answer of other.\n",
     "crates/deep/proofs/plain/Answers.antt": "use Rattle.deep.proofs.other.Goals as goal\n-- An answer of plain.\n",
+    "crates/deep/proofs/given/Answers.antt": "use Rattle.deep.proofs.other.Given as goal\n-- An answer of given.\n",
+    "crates/deep/proofs/far/Answers.antt": "use Rattle.deep.proofs.helper.First.{first}\n-- An answer of far.\n",
+    "crates/deep/proofs/helper/First.antt": "use Rattle.deep.proofs.helper.Second'.{second}\n-- What the answer of far cites.\n",
+    "crates/deep/proofs/helper/Second'.antt": "use Rattle.deep.proofs.+down.Third.{third}\n-- What that cites.\n",
+    "crates/deep/proofs/+down/Third.antt": "-- What that cites.\n",
     "crates/deep/must-fail/mutants.md": "# Mutants\n\n" + "\n".join(
         f"## {name}-wrong\n\n```\nfile: src/lib.rt\nold:     n⏎\nnew:     wrong⏎\nrefused in: {name}: returns\n```\n"
-        for name in ("any", "down", "other", "plain")),
+        for name in OF_DEEP),
     "read.txt": "right\n",
     "other.txt": "other\n",
 }
@@ -200,6 +211,47 @@ def once(new):
         expect("other is there", (status, "left out" in said, called), (0, False, calls))
     one.put(one.room / "more/other", "#!/bin/sh\n# another\n")
     expect("another other is there", ran(needing(path=[one.room / "more"])), (0, 1))
+    one = new()
+    expect("at first, --anew", ran(one.call("tools/once", "--anew", "tests/one.sh", "word", ":", "read.txt")), (0, 1))
+    expect("after --anew", ran(own()), (0, 0))
+    for python in ("", "# another\n"):
+        one.put(one.room / "more/python3", f'#!/bin/sh\nexec {sys.executable} "$@"\n{python}')
+        expect(f"another python3: {python!r}", ran(own(path=[one.room / "more"])), (0, 1))
+    one.put(one.room / "gcc/gcc", '#!/bin/sh\ncat "${0%/*}/said"\n')
+    for said in ("libasan.so\n", "/lib/libasan.so\n"):
+        one.put(one.room / "gcc/said", said)
+        expect(f"a gcc that says {said!r}", ran(own(path=[one.room / "gcc"])), (0, 1))
+    expect("what it prints on standard error", "wrong\n" in one.call(
+        "tools/once", "--anew", "tests/one.sh", ":", "read.txt", meanwhile="echo wrong >&2")[1], True)
+    is_top = 'test "$PWD" = "$(cd "$(dirname "$0")/.." && pwd -P)" || exit 9'
+    expect("where it runs", own("read.txt", "other.txt", meanwhile=is_top)[0], 0)
+    for _ in range(2):
+        expect("a script that is killed", ran(own("read.txt", "tests", meanwhile="kill -9 $$")), (137, 1))
+
+
+# Catches a kept verdict on a directory of which something counts that doesn't belong to it, or doesn't count that does: `..
+# in a directory`.
+def directories(new):
+    one = new()
+    own = lambda: one.call("tools/once", "tests/one.sh", ":", "read.txt", "read")[::2]
+    one.put(one.top / "read/more/a.txt", "a\n")
+    one.put(one.top / "read/b.txt", "a\n")
+    (one.top / "read/link").symlink_to("b.txt")
+    expect("at first", own(), (0, 1))
+    (one.top / "read/more/a.txt").write_text("b\n")
+    expect("a file is changed in a directory", own(), (0, 1))
+    (one.top / "read/more/a.txt").rename(one.top / "read/more/c.txt")
+    expect("a file has another name in a directory", own(), (0, 1))
+    (one.top / "read/b.txt").unlink()
+    expect("a link leads to no file in a directory", own(), (0, 1))
+    one.put(one.top / "read/b.txt", "b\n")
+    expect("a link leads to a file in a directory", own(), (0, 1))
+    (one.top / "read/link").unlink()
+    (one.top / "read/link").symlink_to("more/c.txt")
+    expect("a link leads to an equal file in a directory", own(), (0, 1))
+    for name in ("out/one", "more/target/two", "__pycache__/three.pyc"):
+        one.put(one.top / "read" / name, "built\n")
+        expect(f"what is built in a directory: {name}", own(), (0, 0))
 
 
 # Catches an archive of other text than the sources', or one that is kept under the sum of other sources: `.. meanwhile`,
@@ -268,13 +320,36 @@ def definitions(new):
         more = f"""printf '\\n# more\\n' >>'{one.top / name}'""" if name.endswith(".py") else one.change(name, "1$", "1 ")
         expect(f"{name} is saved meanwhile", tried(meanwhile=more)[::2], (0, 1))
         expect(f"{name} as it was saved", tried()[2], 1)
+    one = new()
+    tried()
+    for name in ("tools/definitions", *(f"common/{module}.py" for module in (
+            "definition_copies", "definition_reader", "mutant_lists", "prover", "rust_sources", "workspaces")),
+                 "crates/one/must-fail/definitions.md", "crates/low/specs/Low.antt", "crates/one_examples/proofs/Examples.antt"):
+        before = (one.top / name).read_text()
+        one.put(one.top / name, before.replace("# Changes", "# All changes") if name.endswith(".md") else
+                before + ("-- more\n" if name.endswith(".antt") else "# more\n"))
+        expect(f"{name} is changed", tried()[::2], (0, 1))
+        one.put(one.top / name, before)
+        expect(f"{name} is as it was", tried()[2], 0)
+    one = new()
+    # Without the copied example the stub refuses nothing.
+    for _ in range(2):
+        status, said, calls = tried(meanwhile="rm -f proofs/H0_*Examples.antt")
+        expect("a change that isn't refused", (status, "\ndefinition one/two: NOT REFUSED" in f"\n{said}", calls), (1, True, 1))
+    expect("a change that is refused now", tried()[::2], (0, 1))
+    # Without --gate the changes are tried by `rt check`, of which the stub of rt knows nothing.
+    expect("without --gate nothing is taken from an earlier run", one.call("tools/definitions")[0], 1)
 
 
 # Files on which what is kept of mutants of `twice` and `same` in `small` depends, and others; each with a text to change.
 DECIDING = (
     ("crates/low/src/lib.rt", "result ≡ 1", "result ≡ 1 + 0"), ("crates/low/src/lib.rt", "u64 {\n    1", "u64 {\n    2"),
     ("crates/low/specs/Low.antt", "low = 1", "low = 2"), ("crates/low/proofs/Lemma.antt", "lemma", "theorem"),
-    ("crates.txt", "low:", "low: std"), ("crates.txt", "small: low", "small: low std"), ("crates/small/src/lib.rt", "//! Small", "//! Tiny"),
+    ("crates/low/src/lib.rt", "Copy {\n    1", "Copy {\n    2"), ("crates/low/src/deep/nested.rt", "Nested", "Below"),
+    ("crates/low/specs/inside/Nested.antt", "Nested", "Below"), ("crates/base/src/lib.rt", "Base", "Lowest"),
+    ("crates/small/src/lib.rt", "    n + n\n}", "    n + n\n    // more\n}"),
+    ("crates.txt", "low:", "low: std"), ("crates.txt", "small: low", "small: low std"),
+    ("crates.txt", "base:", "base: std"), ("crates/small/src/lib.rt", "//! Small", "//! Tiny"),
     ("crates/small/src/other.rt", "result ≡ 2", "result ≡ 2 + 0"), ("crates/small/specs/Small.antt", "small = 1", "small = 2"),
     ("crates/small/proofs/Lemma.antt", "lemma", "theorem"), ("tools/mutants", "not proved|no proof", "no proof|not proved"),
     ("common/mutant_copy.py", "= 200_000,", "= 200_001,"), ("common/mutant_lists.py", "it isn't written", "it is not written"),
@@ -284,6 +359,8 @@ DECIDING = (
 WITHOUT_WEIGHT = (
     ("crates/low/src/lib.rt", "{\n    1\n}\n\npub", "{\n    1 + 0\n}\n\npub"), ("crates/low/proofs/low/Answers.antt", "answer", "reply"),
     ("crates/small/src/other.rt", "    2\n", "    1 + 1\n"), ("tools/mutants", "import argparse", "# more\nimport argparse"),
+    ("common/prover.py", '"""Runs the prover', '"""Calls the prover'),
+    ("common/prover.py", '"""Returns the directory', '"""Finds the directory'),
     ("crates/one/src/lib.rt", "One", "Eins"), ("read.txt", "right", "left"),
 )
 
@@ -324,6 +401,16 @@ def mutants(new):
     for name, old, text in WITHOUT_WEIGHT:
         is_changed(one.top / name, old, text, kept)
     is_changed(one.kit / "WHAT", "", "another toolchain", whole[2])
+    is_changed(one.kit / "KIT-ID", "1", "2", whole[2])
+    is_changed(one.kit / "bin/rattle", "import os,", "import  os,", whole[2])
+    one.put(one.kit / "bin/rattle", CHECK)
+    expect("the prover was written again", gate(), whole)
+    one.top = one.top.rename(one.room / "elsewhere")
+    expect("the repository is in another directory", gate(), (*whole[:2], kept, whole[3]))
+    one.top = one.top.rename(one.room / "top")
+    for meanwhile in ("kill -9 $PPID", "echo src/lib.rt:1:1: error: it is no text",
+                      "echo 'module `Rattle-low-low` is older. Run the lower steps again'"):
+        expect(f"no verdict, since {meanwhile}", gate("--anew", meanwhile=meanwhile)[1], "0 passed, 4 failed")
     is_changed(one.top / "crates/small/proofs/same/Answers.antt", "answer", "reply", whole[2])
     expect("all is as it was", gate(), (*whole[:2], kept, whole[3]))
     for name in ("helper/Cited", "twice/Answers"):
@@ -336,6 +423,10 @@ def mutants(new):
     # Verdicts report the goal, so that they hold for a mutant that names it, and only then.
     for goal, tried in (("returns", kept), ("returns-in-Ok", whole[2])):
         is_changed(one.top / "crates/small/must-fail/mutants.md", "in: same\n", f"in: same: {goal}\n", tried)
+    list_of = one.top / "crates/small/must-fail/mutants.md"
+    list_of.write_text(list_of.read_text().replace("in: same\n", "in: same: returns-in-Ok\n"))
+    expect("a mutant that leaves another goal open", gate(), (1, "2 passed, 2 failed", whole[2], ["one-wrong", "the-same"]))
+    list_of.write_text(list_of.read_text().replace("in: same: returns-in-Ok\n", "in: same\n"))
     one.call("tools/mutants", "--crate", "small", "--goals")
     expect("the goal of each kept verdict is named", re.findall(r"in: same(.*)", (
         one.top / "crates/small/must-fail/mutants.md").read_text()), [": returns"])
@@ -345,8 +436,18 @@ def mutants(new):
     for _ in range(2):
         expect("a control that isn't taken", gate(), (1, "2 passed, 2 failed", whole[2], whole[3][:2]))
     one.put(one.top / "crates/small/must-fail/controls.md", FILES["crates/small/must-fail/controls.md"])
-    gate("--anew", meanwhile=one.change("crates/small/specs/Small.antt", "small = 1", "small = 3"))
-    expect("a definition is saved meanwhile", gate()[2], whole[2])
+    for name, old, text in (
+            ("crates/small/specs/Small.antt", "small = 1", "small = 3"), ("crates.txt", "low: base", "low: base std"),
+            ("crates/small/src/lib.rt", "Small", "Tiny"), ("tools/mutants", "not proved|no proof", "no proof|not proved")):
+        before = (one.top / name).read_text()
+        shutil.rmtree(one.room / "cache")
+        gate(meanwhile=one.change(name, old, text))
+        expect(f"{name} is saved meanwhile", gate()[2], whole[2])
+        shutil.rmtree(one.room / "cache")
+        one.put(one.top / name, before)
+        gate(meanwhile=one.change(name, old, text))
+        one.put(one.top / name, before)
+        expect(f"{name} was saved meanwhile, and is as it was", gate()[2], whole[2])
 
 
 # Catches a verdict on a mutant that is kept though a proof changed on which it depends: that of a closure, of its function
@@ -359,14 +460,19 @@ def proofs(new):
         status, said, _ = one.call("tools/mutants", "--gate", "--crate", "deep")
         return status, said.splitlines()[-1], {line.split()[1] for line in one.notes.read_text().splitlines()}
 
-    every = {"any", "down", "other", "plain"}
-    expect("the first run", tried(), (0, "4 passed, 0 failed", every))
-    expect("the run again", tried(), (0, "4 passed, 0 failed", set()))
-    for name, functions in (("fn/any/all", every), ("+down", {"down", "plain"}), ("other", {"down", "other", "plain"}),
-                            ("plain", {"down", "plain"})):
-        path = one.top / f"crates/deep/proofs/{name}/Answers.antt"
+    every, of_all = set(OF_DEEP), {"down", "given", "plain"}
+    expect("the first run", tried(), (0, f"{len(every)} passed, 0 failed", every))
+    expect("the run again", tried(), (0, f"{len(every)} passed, 0 failed", set()))
+    for name, functions in (("fn/any/all/Answers", every), ("+down/Answers", of_all), ("other/Answers", of_all | {"other"}),
+                            ("plain/Answers", of_all), ("given/Answers", of_all), ("far/Answers", of_all | {"far"}),
+                            ("helper/First", of_all | {"far"}), ("helper/Second'", of_all | {"far"}),
+                            ("+down/Third", of_all | {"far"})):
+        path = one.top / f"crates/deep/proofs/{name}.antt"
         path.write_text(path.read_text() + "-- more\n")
         expect(f"what is tried if the proof {name} of deep is changed", tried()[2], functions)
+    more = one.top / "crates/deep/src/more.rt"
+    more.write_text(more.read_text().replace("    2\n", "    1 + 1\n"))
+    expect("what is tried if the body of more of deep is changed", tried()[2], of_all)
     expect("the run after all changes", tried()[2], set())
 
 
@@ -381,7 +487,7 @@ def variants(new):
         expect(f"a mutant {name}", watched(words, seconds=8), wanted)
 
 
-CASES = (once, archive, libraries, definitions, mutants, proofs, variants)
+CASES = (once, directories, archive, libraries, definitions, mutants, proofs, variants)
 
 
 def main():
