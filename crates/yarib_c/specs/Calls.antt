@@ -1,5 +1,5 @@
 -- The effect of a call on what a handle holds, and the reasons why a call did nothing.
-use Rattle.std.specs.Prelude.{◌≡◌, ℕ, ◌≤◌, ◌⊎◌, List, Option, Some, None, [], ◌∷◌, length, map, take}
+use Rattle.std.specs.Prelude.{◌≡◌, ℕ, ◌≤◌, ◌⊎◌, List, Option, Some, None, [], ◌∷◌, length, map, take, MatchOption}
 use Rattle.rt_cidr.specs.declared.address.Addr.{Addr}
 use Rattle.rt_rib.specs.declared.routes.Route.{Route}
 use Rattle.rt_rib.specs.declared.commands.Cmd.{Cmd}
@@ -11,7 +11,8 @@ use Rattle.yarib_c.specs.declared.handle.Yarib.{Yarib}
 use Rattle.yarib_c.specs.declared.routes.YaribRoute.{YaribRoute}
 use Rattle.yarib_c.specs.declared.commands.YaribCommand.{YaribCommand}
 use Rattle.yarib_c.specs.declared.commands.YaribReply.{YaribReply}
-use Rattle.yarib_c.specs.declared.status.TheConstants.{BAD_NUMBER, BAD_COMMAND, NO_MEMORY, WRONG_KIND}
+use Rattle.yarib_c.specs.declared.status.TheConstants.{DONE, NOTHING, BAD_NUMBER, BAD_COMMAND, NO_MEMORY, WRONG_KIND}
+use Rattle.yarib_c.specs.Statuses.{IsOneOf, Check}
 use Rattle.yarib_c.specs.Handle.{held_at}
 use Rattle.yarib_c.specs.Kinds.{routes_in, IsForwarding, IsSame, Applied, NotApplied}
 use Rattle.yarib_c.specs.Forms.{IsCommand, reply_as, answer_as, router_as, unanswered}
@@ -28,6 +29,15 @@ SomeHeld (Some held) Is = Is held
 -- the handle holds something, which has this property
 abbrev pub HandleHolds : Yarib → (Held → Type 0) → Type 0
 HandleHolds y Is = SomeHeld (held_in y) Is
+
+-- if the handle holds nothing, the status is `NOTHING`; else it is as the rest says of what it holds
+abbrev pub WithHeld : Yarib → (Held → ℕ → Type 0) → ℕ → Type 0
+WithHeld y Rest status = MatchOption (held_in y) (status ≡ NOTHING) (λ held. Rest held status)
+
+-- the status of a command, by the first reason that applies
+abbrev pub CommandStatus : YaribCommand → Held → ℕ → Type 0
+CommandStatus c held = Check (¬ IsFeed c.feed) BAD_NUMBER (Check ((cmd : Cmd) → ¬ IsCommand c cmd) BAD_COMMAND
+    (Check (IsForwarding held) WRONG_KIND (IsOneOf (DONE ∷ NO_MEMORY ∷ []))))
 
 -- a transition from held contents to held contents, which are in this relation
 pub record HeldTransition (old new : Option Held) (Is : Held → Held → Type 0) : Type 0 where
@@ -78,10 +88,11 @@ IsReason status old new c =
     ((status ≡ BAD_NUMBER) × ¬ IsFeed c.feed) ⊎ (((status ≡ BAD_COMMAND) × ((cmd : Cmd) → ¬ IsCommand c cmd))
     ⊎ (((status ≡ NO_MEMORY) × CommandRefused old new c) ⊎ ((status ≡ WRONG_KIND) × IsForwarding old)))
 
--- a command has no answer, for the reason that the status gives, and nothing has changed
+-- a command has no answer, for the reason that the status gives, the first that applies, and nothing has changed
 pub record IsUnanswered (old new : Held) (c : YaribCommand) (r : YaribReply) : Type 0 where
   pub status : ℕ
   pub reason : IsReason status old new c
+  pub first : CommandStatus c old status
   pub same : IsSame old new
   pub told : r ≡ unanswered status
 

@@ -1,5 +1,8 @@
 -- The prefixes whose best routes a call changes, as C sees them.
-use Rattle.std.specs.Prelude.{◌≡◌, ℕ, List, Option, Some, None, option_to_list}
+use Rattle.std.specs.Prelude.{◌≡◌, ℕ, List, Option, Some, None, [], ◌∷◌, IsSome, option_to_list}
+use Rattle.rt_rib.specs.declared.commands.Cmd.{Cmd}
+use Rattle.rt_rib.specs.Book.{IsFeed}
+use Rattle.rt_rib.specs.Sequential.{changed_prefix}
 use Rattle.rt_rib.specs.declared.routes.Route.{Route}
 use Rattle.rt_rib.specs.declared.changes.BestChange.{BestChange}
 use Rattle.rt_rib.specs.Table.{purge}
@@ -9,8 +12,10 @@ use Rattle.yarib_c.specs.declared.commands.YaribCommand.{YaribCommand}
 use Rattle.yarib_c.specs.declared.commands.YaribReply.{YaribReply}
 use Rattle.yarib_c.specs.declared.changed.YaribChange.{YaribChange}
 use Rattle.yarib_c.specs.Calls.{CommandAnswered}
-use Rattle.yarib_c.specs.Forms.{no_route, answer_as}
-use Rattle.yarib_c.specs.Kinds.{routes_in}
+use Rattle.yarib_c.specs.Forms.{no_route, answer_as, IsCommand}
+use Rattle.yarib_c.specs.Kinds.{routes_in, IsForwarding}
+use Rattle.yarib_c.specs.Statuses.{IsOneOf, Check}
+use Rattle.yarib_c.specs.declared.status.TheConstants.{DONE, BAD_NUMBER, BAD_COMMAND, NO_MEMORY, WRONG_KIND}
 use Rattle.yarib_c.specs.Lists.{ShowsPart}
 
 -- the prefix and its best routes before and after
@@ -32,6 +37,11 @@ pub record ShowsChange (old new : List Route) (told : YaribChange) : Type 0 wher
 pub record CommandChanged (old new : Held) (c : YaribCommand) (r : YaribReply) (told : YaribChange) : Type 0 where
   pub answered : CommandAnswered old new c r
   pub shows : ShowsChange (routes_in old) (routes_in new) told
+
+-- the status of a command whose change is asked for, by the first reason that applies
+abbrev pub ChangeStatus : YaribCommand → Held → ℕ → Type 0
+ChangeStatus c held = Check (¬ IsFeed c.feed) BAD_NUMBER (Check ((cmd : Cmd) → IsCommand c cmd → ¬ IsSome (changed_prefix cmd)) BAD_COMMAND
+    (Check (IsForwarding held) WRONG_KIND (IsOneOf (DONE ∷ NO_MEMORY ∷ []))))
 
 -- of the changes that a purge of the feed would make, those from index `skip` on are shown, and `total` is their number
 pub record ShowsPurge (feed : ℕ) (routes : List Route) (skip : ℕ) (shown : List YaribChange) (total : ℕ) : Type 0 where

@@ -5,10 +5,10 @@ ghost use Rattle.rt_rib.specs.declared.commands.Cmd.{Cmd as Command};
 ghost use Rattle.rt_rib.specs.Sequential.{changed_prefix};
 ghost use Rattle.yarib_c.specs.Kinds.{routes_in, IsForwarding, IsSame};
 ghost use Rattle.yarib_c.specs.Forms.{IsCommand};
-ghost use Rattle.yarib_c.specs.Calls.{held_in, HandleHolds, Transition, IsKept, CommandRefused};
-ghost use Rattle.yarib_c.specs.Changes.{change_as, CommandChanged, ShowsPurge};
+ghost use Rattle.yarib_c.specs.Calls.{held_in, HandleHolds, Transition, IsKept, CommandRefused, WithHeld};
+ghost use Rattle.yarib_c.specs.Changes.{change_as, CommandChanged, ShowsPurge, ChangeStatus};
 ghost use Rattle.yarib_c.specs.Lists.{ShowsPart};
-ghost use Rattle.yarib_c.specs.Statuses.{IsOneOf};
+ghost use Rattle.yarib_c.specs.Statuses.{IsOneOf, Check};
 ghost use Rattle.yarib_c.specs.declared.status.TheConstants.{DONE, NOTHING, BAD_NUMBER, BAD_COMMAND, NO_MEMORY, WRONG_KIND};
 
 use crate::commands::{YaribCommand, YaribReply};
@@ -83,6 +83,7 @@ pub extern "C" fn yarib_apply_changed(
     ensures number { result ≡ BAD_NUMBER → ¬ IsFeed command.now.feed }
     ensures command { result ≡ BAD_COMMAND → (cmd : Command) → IsCommand command.now cmd → ¬ IsSome (changed_prefix cmd) }
     ensures kind { result ≡ WRONG_KIND → HandleHolds table.old IsForwarding }
+    ensures order { WithHeld table.old (ChangeStatus command.now) result }
     ensures known { IsOneOf (DONE ∷ NOTHING ∷ BAD_NUMBER ∷ BAD_COMMAND ∷ NO_MEMORY ∷ WRONG_KIND ∷ []) result }
 {
     with_held!(table, alloc, held => apply_changed(&mut held, command, reply, change))
@@ -101,6 +102,7 @@ fn apply_changed(
     ensures number { result ≡ BAD_NUMBER → ¬ IsFeed command.now.feed }
     ensures command { result ≡ BAD_COMMAND → (cmd : Command) → IsCommand command.now cmd → ¬ IsSome (changed_prefix cmd) }
     ensures kind { result ≡ WRONG_KIND → IsForwarding held.old }
+    ensures order { ChangeStatus command.now held.old result }
     ensures known { IsOneOf (DONE ∷ BAD_NUMBER ∷ BAD_COMMAND ∷ NO_MEMORY ∷ WRONG_KIND ∷ []) result }
 {
     if !feed_ok(command.feed) {
@@ -136,6 +138,7 @@ pub extern "C" fn yarib_purge_changes(
     ensures number { result ≡ BAD_NUMBER → ¬ IsFeed feed }
     ensures kind { result ≡ WRONG_KIND → HandleHolds table.old IsForwarding }
     ensures silent { result ≢ DONE → (changes.new ≡ changes.old) × (total.new ≡ total.old) }
+    ensures order { WithHeld table.old (λ held. Check (¬ IsFeed feed) BAD_NUMBER (Check (IsForwarding held) WRONG_KIND (IsOneOf (DONE ∷ [])))) result }
     ensures known { IsOneOf (DONE ∷ NOTHING ∷ BAD_NUMBER ∷ WRONG_KIND ∷ []) result }
 {
     with_held!(table, alloc, held => {

@@ -4,8 +4,8 @@ ghost use Rattle.rt_rib.specs.Book.{IsLimit, IsFeed};
 ghost use Rattle.rt_rib.specs.declared.commands.Cmd.{Cmd as Command};
 ghost use Rattle.yarib_c.specs.Kinds.{IsForwarding, IsNew, IsSame, HasRoom};
 ghost use Rattle.yarib_c.specs.Forms.{IsCommand};
-ghost use Rattle.yarib_c.specs.Calls.{held_in, HandleHolds, Transition, IsKept, CommandAnswered, CommandRefused, HasOutcome, HaveOutcomes};
-ghost use Rattle.yarib_c.specs.Statuses.{IsOneOf};
+ghost use Rattle.yarib_c.specs.Calls.{held_in, HandleHolds, Transition, IsKept, CommandAnswered, CommandRefused, HasOutcome, HaveOutcomes, WithHeld, CommandStatus};
+ghost use Rattle.yarib_c.specs.Statuses.{IsOneOf, Check};
 ghost use Rattle.yarib_c.specs.declared.status.TheConstants.{DONE, NOTHING, BAD_NUMBER, BAD_COMMAND, NO_MEMORY, BAD_SIZE, WRONG_KIND};
 
 use crate::commands::{YaribCommand, YaribReply};
@@ -22,6 +22,7 @@ pub extern "C" fn yarib_new(alloc: Global, table: &mut Yarib, limit: u32, journa
     ensures done { result ≡ DONE → IsLimit limit × (journal ≤ 1) × HandleHolds table.new (IsNew limit journal) }
     ensures number { result ≡ BAD_NUMBER → (¬ IsLimit limit) ⊎ (1 < journal) }
     ensures kept { result ≢ DONE → held_in table.new ≡ held_in table.old }
+    ensures order { Check ((¬ IsLimit limit) ⊎ (1 < journal)) BAD_NUMBER (IsOneOf (DONE ∷ NO_MEMORY ∷ [])) result }
     ensures known { IsOneOf (DONE ∷ BAD_NUMBER ∷ NO_MEMORY ∷ []) result }
 {
     if !limit_ok(limit) {
@@ -51,6 +52,7 @@ pub extern "C" fn yarib_reserve(alloc: Global, table: &mut Yarib, entries: usize
     ensures done { result ≡ DONE → Transition table.old table.new (HasRoom entries) }
     ensures absent { result ≡ NOTHING → held_in table.old ≡ None }
     ensures kept { IsKept table.old table.new }
+    ensures order { WithHeld table.old (λ _. IsOneOf (DONE ∷ NO_MEMORY ∷ [])) result }
     ensures known { IsOneOf (DONE ∷ NOTHING ∷ NO_MEMORY ∷ []) result }
 {
     with_held!(table, alloc, held => match held.reserve(entries) {
@@ -75,6 +77,7 @@ pub extern "C" fn yarib_apply(
     ensures number { result ≡ BAD_NUMBER → ¬ IsFeed command.now.feed }
     ensures command { result ≡ BAD_COMMAND → (cmd : Command) → ¬ IsCommand command.now cmd }
     ensures kind { result ≡ WRONG_KIND → HandleHolds table.old IsForwarding }
+    ensures order { WithHeld table.old (CommandStatus command.now) result }
     ensures known { IsOneOf (DONE ∷ NOTHING ∷ BAD_NUMBER ∷ BAD_COMMAND ∷ NO_MEMORY ∷ WRONG_KIND ∷ []) result }
 {
     with_held!(table, alloc, held => apply(&mut held, command, reply))
@@ -88,6 +91,7 @@ fn apply(held: &mut Held, command: &YaribCommand, reply: &mut YaribReply) -> u32
     ensures number { result ≡ BAD_NUMBER → ¬ IsFeed command.now.feed }
     ensures command { result ≡ BAD_COMMAND → (cmd : Command) → ¬ IsCommand command.now cmd }
     ensures kind { result ≡ WRONG_KIND → IsForwarding held.old }
+    ensures order { CommandStatus command.now held.old result }
     ensures known { IsOneOf (DONE ∷ BAD_NUMBER ∷ BAD_COMMAND ∷ NO_MEMORY ∷ WRONG_KIND ∷ []) result }
 {
     if !feed_ok(command.feed) {
@@ -120,6 +124,7 @@ pub extern "C" fn yarib_apply_each(
     ensures silent { result ≢ DONE → replies.new ≡ replies.old }
     ensures absent { result ≡ NOTHING → held_in table.old ≡ None }
     ensures size { result ≡ BAD_SIZE → length replies.old ≢ length commands.now }
+    ensures order { Check (length replies.old ≢ length commands.now) BAD_SIZE (WithHeld table.old (λ _. IsOneOf (DONE ∷ []))) result }
     ensures known { IsOneOf (DONE ∷ NOTHING ∷ BAD_SIZE ∷ []) result }
 {
     if replies.len() != commands.len() {

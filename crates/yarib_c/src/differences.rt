@@ -3,9 +3,9 @@ ghost use Rattle.std.specs.Prelude.{◌≡◌, ◌≢◌, ◌≤◌, ◌⊎◌, 
 ghost use Rattle.rt_diff.specs.Answers.{own_numbers};
 ghost use Rattle.rt_diff.specs.Differences.{IsFirstDifference};
 ghost use Rattle.yarib_c.specs.Kinds.{routes_in, IsForwarding};
-ghost use Rattle.yarib_c.specs.Calls.{held_in, HandleHolds, addr};
+ghost use Rattle.yarib_c.specs.Calls.{held_in, HandleHolds, addr, WithHeld};
 ghost use Rattle.yarib_c.specs.Differences.{by_number, TellsDifference, IsAlikeFrom};
-ghost use Rattle.yarib_c.specs.Statuses.{IsOneOf};
+ghost use Rattle.yarib_c.specs.Statuses.{IsOneOf, Check};
 ghost use Rattle.yarib_c.specs.declared.status.TheConstants.{DONE, NOTHING, BAD_NUMBER, NONE_LEFT, WRONG_KIND};
 
 use crate::handle::{Yarib, with_held};
@@ -76,6 +76,8 @@ pub extern "C" fn yarib_first_difference(
     ensures silent { result ≢ DONE → difference.new ≡ difference.old }
     ensures old { held_in old.new ≡ held_in old.old }
     ensures new { held_in new.new ≡ held_in new.old }
+    ensures order { WithHeld old.old (λ b. WithHeld new.old (λ c. Check (2 ≤ by) BAD_NUMBER
+        (Check (IsForwarding b ⊎ IsForwarding c) WRONG_KIND (IsOneOf (DONE ∷ NONE_LEFT ∷ []))))) result }
     ensures known { IsOneOf (DONE ∷ NOTHING ∷ BAD_NUMBER ∷ NONE_LEFT ∷ WRONG_KIND ∷ []) result }
 {
     with_held!(old, alloc, old_held => with_held!(new, alloc, new_held => match compared_by(by) {

@@ -3,8 +3,8 @@
 ghost use Rattle.std.specs.Prelude.{◌≡◌, ◌≢◌, None, [], ◌∷◌, IfSome};
 ghost use Rattle.yarib_c.specs.Kinds.{routes_in, IsForwarding, IsFollowed, SaysFollowed, IsPlain, IsSame};
 ghost use Rattle.yarib_c.specs.Sizes.{TakesBytes};
-ghost use Rattle.yarib_c.specs.Calls.{held_in, HandleHolds, IsFibWithRoutes, IsKept};
-ghost use Rattle.yarib_c.specs.Statuses.{IsOneOf};
+ghost use Rattle.yarib_c.specs.Calls.{held_in, HandleHolds, IsFibWithRoutes, IsKept, WithHeld};
+ghost use Rattle.yarib_c.specs.Statuses.{IsOneOf, Check};
 ghost use Rattle.yarib_c.specs.declared.status.TheConstants.{DONE, NOTHING, NO_MEMORY, WRONG_KIND};
 
 use crate::handle::{Yarib, with_held};
@@ -24,6 +24,7 @@ pub extern "C" fn yarib_forward(alloc: Global, table: &mut Yarib, forwarding: &m
     ensures same { held_in table.new ≡ held_in table.old }
     ensures absent { result ≡ NOTHING → held_in table.old ≡ None }
     ensures kind { result ≡ WRONG_KIND → HandleHolds table.old IsForwarding }
+    ensures order { WithHeld table.old (λ held. Check (IsForwarding held) WRONG_KIND (IsOneOf (DONE ∷ NO_MEMORY ∷ []))) result }
     ensures known { IsOneOf (DONE ∷ NOTHING ∷ NO_MEMORY ∷ WRONG_KIND ∷ []) result }
 {
     with_held!(table, alloc, held => match held.table() {
@@ -56,6 +57,7 @@ pub extern "C" fn yarib_share(alloc: Global, forwarding: &mut Yarib, other: &mut
     ensures same { held_in forwarding.new ≡ held_in forwarding.old }
     ensures absent { result ≡ NOTHING → held_in forwarding.old ≡ None }
     ensures kind { result ≡ WRONG_KIND → HandleHolds forwarding.old (λ held. ¬ IsForwarding held) }
+    ensures order { WithHeld forwarding.old (λ held. Check (¬ IsForwarding held) WRONG_KIND (IsOneOf (DONE ∷ NO_MEMORY ∷ []))) result }
     ensures known { IsOneOf (DONE ∷ NOTHING ∷ NO_MEMORY ∷ WRONG_KIND ∷ []) result }
 {
     with_held!(forwarding, alloc, held => match &*held {
@@ -86,6 +88,7 @@ pub extern "C" fn yarib_follow(alloc: Global, table: &mut Yarib) -> u32
     ensures kept { IsKept table.old table.new }
     ensures absent { result ≡ NOTHING → held_in table.old ≡ None }
     ensures kind { result ≡ WRONG_KIND → HandleHolds table.old (λ held. ¬ IsPlain held) }
+    ensures order { WithHeld table.old (λ held. Check (¬ IsPlain held) WRONG_KIND (IsOneOf (DONE ∷ NO_MEMORY ∷ []))) result }
     ensures known { IsOneOf (DONE ∷ NOTHING ∷ NO_MEMORY ∷ WRONG_KIND ∷ []) result }
 {
     with_held!(table, alloc, held => match &mut *held {
@@ -104,6 +107,7 @@ pub extern "C" fn yarib_fib_is_attached(alloc: Global, table: &mut Yarib, attach
     ensures same { held_in table.new ≡ held_in table.old }
     ensures absent { result ≡ NOTHING → held_in table.old ≡ None }
     ensures silent { result ≢ DONE → attached.new ≡ attached.old }
+    ensures order { WithHeld table.old (λ _. IsOneOf (DONE ∷ [])) result }
     ensures known { IsOneOf (DONE ∷ NOTHING ∷ []) result }
 {
     with_held!(table, alloc, held => {
@@ -121,6 +125,7 @@ pub extern "C" fn yarib_memory(alloc: Global, table: &mut Yarib, bytes: &mut usi
     ensures same { held_in table.new ≡ held_in table.old }
     ensures absent { result ≡ NOTHING → held_in table.old ≡ None }
     ensures silent { result ≢ DONE → bytes.new ≡ bytes.old }
+    ensures order { WithHeld table.old (λ _. IsOneOf (DONE ∷ [])) result }
     ensures known { IsOneOf (DONE ∷ NOTHING ∷ []) result }
 {
     with_held!(table, alloc, held => {

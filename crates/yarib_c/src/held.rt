@@ -87,7 +87,8 @@ impl Held {
     /// Answers a command of the feed, if it holds a table that changes.
     pub(crate) fn answer(&mut self, feed: u32, cmd: Cmd) -> Option<Result<Reply, Refused>>
         requires { IsFeed feed }
-        ensures { MatchOption result (IsForwarding self.old × (self.new ≡ self.old)) (λ answered. MatchResult answered
+        ensures changes { IsSome result → ¬ IsForwarding self.old }
+        ensures answered { MatchOption result (IsForwarding self.old × (self.new ≡ self.old)) (λ answered. MatchResult answered
             (λ reply. Applied self.old self.new feed cmd reply) (λ _. NotApplied self.old self.new feed cmd)) }
     {
         match self {
@@ -106,7 +107,8 @@ impl Held {
     ) -> Option<Result<(Reply, Option<BestChange>), Refused>>
         requires feed { IsFeed feed }
         requires prefix { IsSome (changed_prefix cmd) }
-        ensures { MatchOption result (IsForwarding self.old × (self.new ≡ self.old)) (λ answered. MatchResult answered
+        ensures changes { IsSome result → ¬ IsForwarding self.old }
+        ensures answered { MatchOption result (IsForwarding self.old × (self.new ≡ self.old)) (λ answered. MatchResult answered
             (λ done. Applied self.old self.new feed cmd done.0
             × AreBestChanges (routes_in self.old) (routes_in self.new) (option_to_list done.1))
             (λ _. NotApplied self.old self.new feed cmd)) }

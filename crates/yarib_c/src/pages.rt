@@ -2,9 +2,9 @@
 ghost use Rattle.std.specs.Prelude.{◌≡◌, ◌≢◌, ◌<◌, ◌≤◌, None, [], ◌∷◌};
 ghost use Rattle.rt_cidr.specs.Cidr.{IsPrefix};
 ghost use Rattle.yarib_c.specs.Kinds.{routes_in, IsForwarding};
-ghost use Rattle.yarib_c.specs.Calls.{held_in, HandleHolds};
+ghost use Rattle.yarib_c.specs.Calls.{held_in, HandleHolds, WithHeld};
 ghost use Rattle.yarib_c.specs.Lists.{PutsRoutes, ShowsFrom};
-ghost use Rattle.yarib_c.specs.Statuses.{IsOneOf};
+ghost use Rattle.yarib_c.specs.Statuses.{IsOneOf, Check};
 ghost use Rattle.yarib_c.specs.declared.status.TheConstants.{DONE, NOTHING, BAD_LENGTH, BAD_BITS, WRONG_KIND};
 
 use crate::handle::{Yarib, with_held};
@@ -32,6 +32,8 @@ pub extern "C" fn yarib_routes_from(
     ensures bits { result ≡ BAD_BITS → (from.now.len ≤ 32) × ¬ IsPrefix from.now.base from.now.len }
     ensures kind { result ≡ WRONG_KIND → HandleHolds table.old IsForwarding }
     ensures silent { result ≢ DONE → (routes.new ≡ routes.old) × (used.new ≡ used.old) }
+    ensures order { WithHeld table.old (λ held. Check (32 < from.now.len) BAD_LENGTH
+        (Check (¬ IsPrefix from.now.base from.now.len) BAD_BITS (Check (IsForwarding held) WRONG_KIND (IsOneOf (DONE ∷ []))))) result }
     ensures known { IsOneOf (DONE ∷ NOTHING ∷ BAD_LENGTH ∷ BAD_BITS ∷ WRONG_KIND ∷ []) result }
 {
     with_held!(table, alloc, held => match Prefix::new(from.base, from.len) {

@@ -3,9 +3,9 @@ ghost use Rattle.std.specs.Prelude.{◌≡◌, ◌≢◌, None, Some, length, []
 ghost use Rattle.rt_rib.specs.LookUp.{look_up, look_up_all};
 ghost use Rattle.yarib_c.specs.Kinds.{routes_in, journal_in, IsForwarding};
 ghost use Rattle.yarib_c.specs.Forms.{answer_as};
-ghost use Rattle.yarib_c.specs.Calls.{held_in, HandleHolds, addr, answers_in, routers_in};
+ghost use Rattle.yarib_c.specs.Calls.{held_in, HandleHolds, addr, answers_in, routers_in, WithHeld};
 ghost use Rattle.yarib_c.specs.Lists.{ShowsRoutes, ShowsJournal};
-ghost use Rattle.yarib_c.specs.Statuses.{IsOneOf};
+ghost use Rattle.yarib_c.specs.Statuses.{IsOneOf, Check};
 ghost use Rattle.yarib_c.specs.declared.status.TheConstants.{DONE, NOTHING, NO_MEMORY, BAD_SIZE, WRONG_KIND};
 
 use crate::commands::YaribEntry;
@@ -31,6 +31,7 @@ pub extern "C" fn yarib_look_up(
     ensures same { held_in table.new ≡ held_in table.old }
     ensures absent { result ≡ NOTHING → held_in table.old ≡ None }
     ensures size { result ≡ BAD_SIZE → length answers.old ≢ length addresses.now }
+    ensures order { Check (length answers.old ≢ length addresses.now) BAD_SIZE (WithHeld table.old (λ _. IsOneOf (DONE ∷ []))) result }
     ensures known { IsOneOf (DONE ∷ NOTHING ∷ BAD_SIZE ∷ []) result }
 {
     if answers.len() != addresses.len() {
@@ -54,6 +55,7 @@ pub extern "C" fn yarib_look_up_one(
     ensures silent { result ≢ DONE → answer.new ≡ answer.old }
     ensures same { held_in table.new ≡ held_in table.old }
     ensures absent { result ≡ NOTHING → held_in table.old ≡ None }
+    ensures order { WithHeld table.old (λ _. IsOneOf (DONE ∷ [])) result }
     ensures known { IsOneOf (DONE ∷ NOTHING ∷ []) result }
 {
     with_held!(table, alloc, held => {
@@ -78,6 +80,7 @@ pub extern "C" fn yarib_hops(
     ensures same { held_in table.new ≡ held_in table.old }
     ensures absent { result ≡ NOTHING → held_in table.old ≡ None }
     ensures size { result ≡ BAD_SIZE → length hops.old ≢ length addresses.now }
+    ensures order { Check (length hops.old ≢ length addresses.now) BAD_SIZE (WithHeld table.old (λ _. IsOneOf (DONE ∷ []))) result }
     ensures known { IsOneOf (DONE ∷ NOTHING ∷ BAD_SIZE ∷ []) result }
 {
     if hops.len() != addresses.len() {
@@ -105,6 +108,7 @@ pub extern "C" fn yarib_look_up_all(
     ensures absent { result ≡ NOTHING → held_in table.old ≡ None }
     ensures kind { result ≡ WRONG_KIND → HandleHolds table.old IsForwarding }
     ensures silent { result ≢ DONE → (routes.new ≡ routes.old) × (total.new ≡ total.old) }
+    ensures order { WithHeld table.old (λ held. Check (IsForwarding held) WRONG_KIND (IsOneOf (DONE ∷ NO_MEMORY ∷ []))) result }
     ensures known { IsOneOf (DONE ∷ NOTHING ∷ NO_MEMORY ∷ WRONG_KIND ∷ []) result }
 {
     with_held!(table, alloc, held => match held.table() {
@@ -133,6 +137,7 @@ pub extern "C" fn yarib_routes(
     ensures absent { result ≡ NOTHING → held_in table.old ≡ None }
     ensures kind { result ≡ WRONG_KIND → HandleHolds table.old IsForwarding }
     ensures silent { result ≢ DONE → (routes.new ≡ routes.old) × (total.new ≡ total.old) }
+    ensures order { WithHeld table.old (λ held. Check (IsForwarding held) WRONG_KIND (IsOneOf (DONE ∷ NO_MEMORY ∷ []))) result }
     ensures known { IsOneOf (DONE ∷ NOTHING ∷ NO_MEMORY ∷ WRONG_KIND ∷ []) result }
 {
     with_held!(table, alloc, held => match held.table() {
@@ -155,6 +160,7 @@ pub extern "C" fn yarib_count(alloc: Global, table: &mut Yarib, total: &mut usiz
     ensures absent { result ≡ NOTHING → held_in table.old ≡ None }
     ensures kind { result ≡ WRONG_KIND → HandleHolds table.old IsForwarding }
     ensures silent { result ≢ DONE → total.new ≡ total.old }
+    ensures order { WithHeld table.old (λ held. Check (IsForwarding held) WRONG_KIND (IsOneOf (DONE ∷ []))) result }
     ensures known { IsOneOf (DONE ∷ NOTHING ∷ WRONG_KIND ∷ []) result }
 {
     with_held!(table, alloc, held => match held.table() {
@@ -180,6 +186,7 @@ pub extern "C" fn yarib_journal(
     ensures absent { result ≡ NOTHING → held_in table.old ≡ None }
     ensures kind { result ≡ WRONG_KIND → HandleHolds table.old (λ held. journal_in held ≡ None) }
     ensures silent { result ≢ DONE → (entries.new ≡ entries.old) × (total.new ≡ total.old) }
+    ensures order { WithHeld table.old (λ held. Check (journal_in held ≡ None) WRONG_KIND (IsOneOf (DONE ∷ []))) result }
     ensures known { IsOneOf (DONE ∷ NOTHING ∷ WRONG_KIND ∷ []) result }
 {
     with_held!(table, alloc, held => match &*held {

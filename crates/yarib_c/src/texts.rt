@@ -3,7 +3,7 @@ ghost use Rattle.std.specs.Prelude.{◌≡◌, ◌≢◌, ℕ, ◌<◌, ◌≤�
 ghost use Rattle.rt_cidr.specs.Cidr.{IsPrefix};
 ghost use Rattle.rt_cidr.specs.Text.{IsPrefixText, IsAddressText, prefix_text, address_text};
 ghost use Rattle.yarib_c.specs.Calls.{PutsText};
-ghost use Rattle.yarib_c.specs.Statuses.{IsOneOf};
+ghost use Rattle.yarib_c.specs.Statuses.{IsOneOf, Check};
 ghost use Rattle.yarib_c.specs.declared.status.TheConstants.{DONE, BAD_SIZE, BAD_TEXT, BAD_LENGTH, BAD_BITS};
 
 use crate::status::{BAD_BITS, BAD_LENGTH, BAD_SIZE, BAD_TEXT, DONE};
@@ -50,6 +50,8 @@ pub extern "C" fn yarib_prefix_print(prefix: &YaribPrefix, text: &mut [u8], used
     ensures length { result ≡ BAD_LENGTH → 32 < prefix.now.len }
     ensures bits { result ≡ BAD_BITS → (prefix.now.len ≤ 32) × ¬ IsPrefix prefix.now.base prefix.now.len }
     ensures silent { result ≢ DONE → (text.new ≡ text.old) × (used.new ≡ used.old) }
+    ensures order { Check (32 < prefix.now.len) BAD_LENGTH (Check (¬ IsPrefix prefix.now.base prefix.now.len) BAD_BITS
+        (Check (length text.old < length (prefix_text prefix.now.base prefix.now.len)) BAD_SIZE (IsOneOf (DONE ∷ [])))) result }
     ensures known { IsOneOf (DONE ∷ BAD_SIZE ∷ BAD_LENGTH ∷ BAD_BITS ∷ []) result }
 {
     let printed = match Prefix::new(prefix.base, prefix.len) {

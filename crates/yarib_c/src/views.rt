@@ -4,9 +4,9 @@ ghost use Rattle.rt_rib.specs.declared.routes.Route.{Route};
 ghost use Rattle.rt_rib.specs.LookUp.{look_up};
 ghost use Rattle.rt_fib.specs.Views.{IsAnswerNumber, ViewShows};
 ghost use Rattle.yarib_c.specs.Kinds.{routes_in, HasFib};
-ghost use Rattle.yarib_c.specs.Calls.{held_in, HandleHolds, addr};
+ghost use Rattle.yarib_c.specs.Calls.{held_in, HandleHolds, addr, WithHeld};
 ghost use Rattle.yarib_c.specs.ShownViews.{AnswersByNumber, AnswersEachByNumber};
-ghost use Rattle.yarib_c.specs.Statuses.{IsOneOf};
+ghost use Rattle.yarib_c.specs.Statuses.{IsOneOf, Check};
 ghost use Rattle.yarib_c.specs.declared.status.TheConstants.{DONE, NOTHING, NO_MEMORY, BAD_SIZE, WRONG_KIND};
 
 use crate::handle::{Yarib, with_held};
@@ -38,6 +38,7 @@ pub extern "C" fn yarib_view_sizes(
     ensures absent { result ≡ NOTHING → held_in table.old ≡ None }
     ensures kind { result ≡ WRONG_KIND → HandleHolds table.old (λ held. ¬ HasFib held) }
     ensures silent { result ≢ DONE → (blocks.new ≡ blocks.old) × (routers.new ≡ routers.old) }
+    ensures order { WithHeld table.old (λ held. Check (¬ HasFib held) WRONG_KIND (IsOneOf (DONE ∷ []))) result }
     ensures known { IsOneOf (DONE ∷ NOTHING ∷ WRONG_KIND ∷ []) result }
 {
     with_held!(table, alloc, held => match held.forwarding() {
@@ -69,6 +70,7 @@ pub extern "C" fn yarib_view_write(
     ensures kind { result ≡ WRONG_KIND → HandleHolds table.old (λ held. ¬ HasFib held) }
     ensures silent { result ≢ DONE → (entries.new ≡ entries.old) × (blocks.new ≡ blocks.old) }
     ensures silent_routers { result ≢ DONE → (routers.new ≡ routers.old) × (used.new ≡ used.old) }
+    ensures order { WithHeld table.old (λ held. Check (¬ HasFib held) WRONG_KIND (IsOneOf (DONE ∷ NO_MEMORY ∷ BAD_SIZE ∷ []))) result }
     ensures known { IsOneOf (DONE ∷ NOTHING ∷ NO_MEMORY ∷ BAD_SIZE ∷ WRONG_KIND ∷ []) result }
 {
     with_held!(table, alloc, held => match held.forwarding() {
@@ -119,6 +121,7 @@ pub extern "C" fn yarib_view_look_up_each(
         → AnswersEachByNumber view.now.entries.now view.now.blocks.now view.now.routers.now addresses.now numbers.new }
     ensures silent { result ≢ DONE → numbers.new ≡ numbers.old }
     ensures size { result ≡ BAD_SIZE → length numbers.old ≢ length addresses.now }
+    ensures order { Check (length numbers.old ≢ length addresses.now) BAD_SIZE (IsOneOf (DONE ∷ [])) result }
     ensures known { IsOneOf (DONE ∷ BAD_SIZE ∷ []) result }
 {
     if numbers.len() != addresses.len() {
