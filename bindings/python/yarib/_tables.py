@@ -24,7 +24,8 @@ PAGE, ENTRIES = 256, 4096
 # A call without conversions accepts only sizes below it.
 MANY = 1 << 31
 # Of the library, which a short call reads often.
-VIA = c.VIA
+VIA, LISTED, ROUTE_SIZE = c.VIA, c.LISTED, ROUTE.size
+SELECTION_OF, SMALL_PARTS = c.SELECTION.pack, (c.EXACT, c.COVERING)
 LAST = (1 << 32) - 1
 ADDRESS_FROM, PREFIX_FROM, ROUTE_FROM, REPLY_FROM, COUNT_FROM = (
     one.unpack_from for one in (c.ADDRESS, c.PREFIX, ROUTE, REPLY, c.COUNT))
@@ -584,11 +585,14 @@ class Routes(Handle):
 
     def _listed(self, room: Room, call: Callable[..., int], *asked: Union[int, bytes]) -> List[Route]:
         """Returns a list of routes, which is in the room if it is short enough."""
-        if call(self._at, *asked, 0, room.list_at, c.LISTED, room.size_at):
-            done(call, self._at, *asked, 0, room.list_at, c.LISTED, room.size_at)
+        if call(self._at, *asked, 0, room.list_at, LISTED, room.size_at):
+            done(call, self._at, *asked, 0, room.list_at, LISTED, room.size_at)
         total: int = COUNT_FROM(room.bytes, 32)[0]
-        if total <= c.LISTED:
-            found = routes_of(room.list[:total * ROUTE.size])
+        if total == 1:
+            base, pref, via, feed, length, hop = ROUTE_FROM(room.list)
+            found = [new(Route, (base, length, feed, pref, via if hop == VIA else None))]
+        elif total <= LISTED:
+            found = routes_of(room.list[:total * ROUTE_SIZE])
         else:
             found = routes_of(self._pages(ROUTE.size, total, lambda *place: call(self._at, *asked, *place)))
         rooms.append(room)
@@ -623,9 +627,9 @@ class Routes(Handle):
     def _select(self, part: int, prefix: Prefix, feed: Optional[int], best: bool, via: Optional[Address]) -> List[Route]:
         room = room_of_call()
         base, length = prefix_in(room, prefix)
-        asked = c.SELECTION.pack(part, 0 if feed is None else feed_of(feed), base, length, 1 if best else 0)
+        asked = SELECTION_OF(part, 0 if feed is None else feed_of(feed), base, length, 1 if best else 0)
         # At most the routes to 511 prefixes, or else any number.
-        calls = self._held if part in (c.EXACT, c.COVERING) or part == c.WITHIN and length >= 24 else self._freed
+        calls = self._held if part in SMALL_PARTS or part == c.WITHIN and length >= 24 else self._freed
         if via == "any":
             return self._listed(room, calls.yarib_select, asked)
         hop, router = (c.DISCARD, 0) if via is None else (VIA, address_of(via))
