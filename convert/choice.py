@@ -43,8 +43,8 @@ CONFEDERATION = re.compile(r"\([^)]*\)|\[[^]]*\]")
 # how the path begins that came from a peer of the same confederation
 INSIDE = ("(", "[")
 SET = re.compile(r"\{[^}]*\}")
-# how a path begins with a segment that isn't a sequence, or is empty
-OPENING = ("", "(", "[", "{")
+# how a path begins with a segment that isn't a sequence
+OPENING = ("(", "[", "{")
 # the neighbouring AS of a path that names none
 OWN = ""
 # the bits at which the steps before MED begin in their number
@@ -90,10 +90,11 @@ def length_of(path):
 def neighbour_of(path):
     """The neighbouring AS: the first of the path after a confederation's segments, or the own AS if that isn't in a
     sequence (RFC 4271, section 9.1.2.2 c; RFC 5065, section 5.3)."""
-    if path[:1] in OPENING:
-        outside = CONFEDERATION.sub(" ", path).split()
-        return outside[0] if outside and not outside[0].startswith("{") else OWN
-    return path.partition(" ")[0]
+    first = path.partition(" ")[0]
+    if first.isdecimal() or path and not path.startswith(OPENING):
+        return first
+    outside = CONFEDERATION.sub(" ", path).split()
+    return outside[0] if outside and not outside[0].startswith("{") else OWN
 
 
 def before_med(local_pref, length, origin, ahead=0, aigp=NO_AIGP):
@@ -142,14 +143,19 @@ def best_of_each(candidates, in_turn=False):
     return list(best.values())
 
 
-def med_decides(candidates):
-    """Returns True if two candidates of the same neighbouring AS are equal before MED and have different MEDs."""
-    if len({candidate[MED] for candidate in candidates}) < 2:
-        return False
-    meds = {}
-    for before, _, _, med, path, *_ in candidates:
-        if meds.setdefault((before, neighbour_of(path)), med) != med:
-            return True
+def med_decides(ordered):
+    """Returns True if two candidates of the same neighbouring AS are equal before MED and have different MEDs. Candidates
+    that are equal before MED follow one another, since the candidates are in order."""
+    begin, before, med, meds = 0, None, None, None
+    for place, candidate in enumerate(ordered):
+        if candidate[BEFORE] != before:
+            begin, before, med, meds = place, candidate[BEFORE], candidate[MED], None
+        elif meds is not None or candidate[MED] != med:
+            if meds is None:
+                # those before have the same MED
+                meds = dict.fromkeys([neighbour_of(other[PATH]) for other in ordered[begin:place]], med)
+            if meds.setdefault(neighbour_of(candidate[PATH]), candidate[MED]) != candidate[MED]:
+                return True
     return False
 
 

@@ -37,6 +37,7 @@ class Peer:
         self.internal, self.identifier = internal, identifier
         self.order = self.order_of(identifier, 0)
         self.lines = lines
+        # the numbers of merits, by `merit_key`
         self.numbers = {}
         self.merits = array.array("I")
         self.routes = {}
@@ -45,6 +46,10 @@ class Peer:
         # of updates, how many routes it has had at a time
         self.most_routes = 0
         self.stamp, self.time = "", 0
+
+    def merit_key(self, merit, order):
+        """The key of a merit's number; nearly all routes of a peer have its order."""
+        return merit if order is self.order else (merit, order)
 
     def order_of(self, identifier, clusters):
         """What is compared after MED, as one number: kind of session, identifier, CLUSTER_LIST, address and AS."""
@@ -116,7 +121,7 @@ class Converter:
     def merit_number(self, merit, order, peer):
         """Numbers the merits that preferences are made from, in the order of their first occurrence."""
         key = (merit, order) if self.by_rank else merit >> self.preference_at
-        number = peer.numbers[merit, order] = self.merits.setdefault(key, len(self.merits) + 1)
+        number = peer.numbers[peer.merit_key(merit, order)] = self.merits.setdefault(key, len(self.merits) + 1)
         return number
 
     def take_dumped(self, route, peer):
@@ -149,7 +154,9 @@ class Converter:
         prefix, by_rank = self.prefix, self.by_rank
         for rank, (merit, order, _, _, _, peer, hop) in enumerate(routes, 1):
             peer.lines.append(f"add {prefix} {rank if by_rank else merit >> self.preference_at} {hop}\n")
-            peer.merits.append(peer.numbers.get((merit, order)) or self.merit_number(merit, order, peer))
+            # as `merit_key` does, which would take as long as all of this
+            key = merit if order is peer.order else (merit, order)
+            peer.merits.append(peer.numbers.get(key) or self.merit_number(merit, order, peer))
 
     def end_piece(self):
         """Ends a part of the dump, after which another prefix comes."""
@@ -164,7 +171,8 @@ class Converter:
         """What was read, for `join`."""
         if self.updates:
             raise feeds.Refused("there are updates")
-        peers = [(key, peer.announced, [(number, merit) for (merit, _), number in peer.numbers.items()], peer.merits.tobytes())
+        # all routes of a peer have its order
+        peers = [(key, peer.announced, [(number, merit) for merit, number in peer.numbers.items()], peer.merits.tobytes())
                  for key, peer in self.peers.items()]
         return self.met.kept(), peers, self.files.gathered(), self.notes.counted()
 
@@ -176,7 +184,7 @@ class Converter:
         for key, announced, numbers, merits in peers:
             peer = self.peers.get(key) or self.peer(key)
             peer.announced = peer.announced or announced
-            own = {number: peer.numbers.get((merit, peer.order)) or self.merit_number(merit, peer.order, peer) for number, merit in numbers}
+            own = {number: peer.numbers.get(merit) or self.merit_number(merit, peer.order, peer) for number, merit in numbers}
             peer.merits.extend(map(own.__getitem__, array.array("I", merits)))
         self.files.join(texts)
         self.notes.join(counted)
@@ -250,7 +258,7 @@ class Converter:
     def change(self, peer, prefix, route, unchanged):
         """Updates the peer's route. If nothing changes, `unchanged` is counted, unless it is None."""
         before = peer.routes.get(prefix)
-        now = route and (peer.numbers.get(route[:2]) or self.merit_number(*route[:2], peer), route[choice.WHAT])
+        now = route and (peer.numbers.get(peer.merit_key(*route[:2])) or self.merit_number(*route[:2], peer), route[choice.WHAT])
         if now == before:
             if unchanged:
                 self.notes.leave_out(unchanged)
