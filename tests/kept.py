@@ -223,6 +223,10 @@ def once(new):
         expect(f"a gcc that says {said!r}", ran(own(path=[one.room / "gcc"])), (0, 1))
     expect("what it prints on standard error", "wrong\n" in one.call(
         "tools/once", "--anew", "tests/one.sh", ":", "read.txt", meanwhile="echo wrong >&2")[1], True)
+    expect("before the toolchain is changed", ran(own()), (0, 0))
+    for name, text in (("KIT-ID", "2"), ("WHAT", "more"), ("bin/rattle", PROVER + "# more\n")):
+        one.put(one.kit / name, text)
+        expect(f"{name} of the toolchain is changed", ran(own()), (0, 1))
     is_top = 'test "$PWD" = "$(cd "$(dirname "$0")/.." && pwd -P)" || exit 9'
     expect("where it runs", own("read.txt", "other.txt", meanwhile=is_top)[0], 0)
     for _ in range(2):
@@ -401,10 +405,6 @@ def mutants(new):
     for name, old, text in WITHOUT_WEIGHT:
         is_changed(one.top / name, old, text, kept)
     is_changed(one.kit / "WHAT", "", "another toolchain", whole[2])
-    is_changed(one.kit / "KIT-ID", "1", "2", whole[2])
-    is_changed(one.kit / "bin/rattle", "import os,", "import  os,", whole[2])
-    one.put(one.kit / "bin/rattle", CHECK)
-    expect("the prover was written again", gate(), whole)
     one.top = one.top.rename(one.room / "elsewhere")
     expect("the repository is in another directory", gate(), (*whole[:2], kept, whole[3]))
     one.top = one.top.rename(one.room / "top")
