@@ -8,3 +8,4 @@ pub mod Outcomes
 pub mod ParsedAddresses
 pub mod ShownParts
 pub mod TextLengths
+pub mod SelectionOrder

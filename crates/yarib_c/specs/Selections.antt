@@ -1,5 +1,6 @@
 -- The routes that C selects.
-use Rattle.std.specs.Prelude.{◌≡◌, ◌≢◌, ℕ, zero, suc, ◌<◌, ◌⊎◌, Bool, true, false, List, Option, Some, None}
+use Rattle.std.specs.Prelude.{◌≡◌, ◌≢◌, ℕ, zero, suc, ◌<◌, ◌⊎◌, Bool, true, false, List, [], ◌∷◌, Option, Some, None}
+use Rattle.rt_cidr.specs.Cidr.{IsPrefix}
 use Rattle.rt_cidr.specs.declared.prefixes.Prefix.{Prefix}
 use Rattle.rt_rib.specs.declared.routes.Hop.{Hop}
 use Rattle.rt_rib.specs.declared.routes.Hop.TheVariants.{Via, Discard}
@@ -12,10 +13,27 @@ use Rattle.rt_rib.specs.Selection.{selected}
 use Rattle.yarib_c.specs.declared.routes.YaribRoute.{YaribRoute}
 use Rattle.yarib_c.specs.declared.selections.YaribSelection.{YaribSelection}
 use Rattle.yarib_c.specs.Lists.{ShowsRoutes}
+use Rattle.yarib_c.specs.declared.held.Held.{Held}
+use Rattle.yarib_c.specs.Kinds.{IsForwarding}
+use Rattle.yarib_c.specs.Statuses.{IsOneOf, Check}
+use Rattle.yarib_c.specs.declared.status.TheConstants.{DONE, BAD_NUMBER, NO_MEMORY, BAD_LENGTH, BAD_BITS, WRONG_KIND}
 
 -- the number of a part, a feed or a choice is invalid
 abbrev pub IsOutOfRange : YaribSelection → Type 0
 IsOutOfRange c = (3 < c.part) ⊎ (((c.feed ≢ 0) × ¬ IsFeed c.feed) ⊎ (1 < c.only_best))
+
+-- the part needs a prefix, and its length is over 32
+abbrev pub IsTooLong : YaribSelection → Type 0
+IsTooLong c = (c.part ≢ 0) × (32 < c.len)
+
+-- the part needs a prefix, and the numbers aren't one
+abbrev pub HasNoPrefix : YaribSelection → Type 0
+HasNoPrefix c = (c.part ≢ 0) × ¬ IsPrefix c.base c.len
+
+-- the status of a selection by a next hop, by the first reason that applies
+abbrev pub SelectionStatus : YaribSelection → ℕ → Held → ℕ → Type 0
+SelectionStatus c hop held = Check (IsOutOfRange c ⊎ (2 < hop)) BAD_NUMBER (Check (IsTooLong c) BAD_LENGTH (Check (HasNoPrefix c) BAD_BITS
+    (Check (IsForwarding held) WRONG_KIND (IsOneOf (DONE ∷ NO_MEMORY ∷ [])))))
 
 -- the selection is by this prefix: its numbers denote it
 abbrev pub SelectsPrefix : YaribSelection → Prefix → Type 0

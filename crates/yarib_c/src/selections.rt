@@ -2,9 +2,9 @@
 ghost use Rattle.std.specs.Prelude.{◌≡◌, ◌≢◌, ◌<◌, ◌≤◌, ◌↔◌, ◌⊎◌, IsTrue, None, [], ◌∷◌, MatchResult};
 ghost use Rattle.rt_cidr.specs.Cidr.{IsPrefix};
 ghost use Rattle.yarib_c.specs.Kinds.{routes_in, IsForwarding};
-ghost use Rattle.yarib_c.specs.Calls.{held_in, HandleHolds};
-ghost use Rattle.yarib_c.specs.Selections.{IsOutOfRange, IsHopAsked, IsSelection, ShowsSelected};
-ghost use Rattle.yarib_c.specs.inside.Parts.{PartReading, IsRefused};
+ghost use Rattle.yarib_c.specs.Calls.{held_in, HandleHolds, WithHeld};
+ghost use Rattle.yarib_c.specs.Selections.{IsOutOfRange, IsHopAsked, IsSelection, SelectionStatus, ShowsSelected};
+ghost use Rattle.yarib_c.specs.inside.Parts.{PartReading, HasPart, IsRefused};
 ghost use Rattle.yarib_c.specs.Statuses.{IsOneOf};
 ghost use Rattle.yarib_c.specs.declared.status.TheConstants.{DONE, NOTHING, BAD_NUMBER, NO_MEMORY, BAD_LENGTH, BAD_BITS, WRONG_KIND};
 
@@ -39,7 +39,7 @@ impl YaribSelection {
 
     /// Returns the selection that the numbers denote, with this next hop, or the status of the first that is invalid.
     fn read(&self, hop: Option<Hop>) -> Result<Selection, u32>
-        ensures { MatchResult result (λ selection. IsSelection self.now selection × (selection.hop ≡ hop)) (λ status. IsRefused self.now status) }
+        ensures { MatchResult result (λ selection. IsSelection self.now selection × (selection.hop ≡ hop) × (¬ IsOutOfRange self.now) × HasPart self.now) (λ status. IsRefused self.now status) }
     {
         if self.is_out_of_range() {
             return Err(BAD_NUMBER);
@@ -62,6 +62,7 @@ impl YaribSelection {
     }
 
     /// Returns the filter of prefixes that the numbers denote.
+    #[tactic(auto, using(crate::proofs::SelectionOrder::all_parts, crate::proofs::SelectionOrder::prefix_part))]
     fn read_part(&self) -> Result<PrefixFilter, TextFault>
         requires { self.now.part ≤ 3 }
         ensures { PartReading self.now result }
@@ -109,6 +110,7 @@ pub extern "C" fn yarib_select(
     ensures bits { result ≡ BAD_BITS → (asked.now.len ≤ 32) × ¬ IsPrefix asked.now.base asked.now.len }
     ensures kind { result ≡ WRONG_KIND → HandleHolds table.old IsForwarding }
     ensures silent { result ≢ DONE → (routes.new ≡ routes.old) × (total.new ≡ total.old) }
+    ensures order { WithHeld table.old (SelectionStatus asked.now 0) result }
     ensures known { IsOneOf (DONE ∷ NOTHING ∷ BAD_NUMBER ∷ NO_MEMORY ∷ BAD_LENGTH ∷ BAD_BITS ∷ WRONG_KIND ∷ []) result }
 {
     with_held!(table, alloc, held => match asked.read(None) {
