@@ -211,6 +211,8 @@ def once(new):
         expect("other is there", (status, "left out" in said, called), (0, False, calls))
     one.put(one.room / "more/other", "#!/bin/sh\n# another\n")
     expect("another other is there", ran(needing(path=[one.room / "more"])), (0, 1))
+    one.put(one.room / "more/other", "#!/bin/sh\n# anOther\n")
+    expect("another other of the same length is there", ran(needing(path=[one.room / "more"])), (0, 1))
     one = new()
     expect("at first, --anew", ran(one.call("tools/once", "--anew", "tests/one.sh", "word", ":", "read.txt")), (0, 1))
     expect("after --anew", ran(own()), (0, 0))
@@ -282,6 +284,8 @@ def archive(new):
         expect(f"the changed source: {name}", build(), (0, 1))
     one.put(one.top / "crates/above/src/lib.rt", "wrong\n")
     expect("a wrong source", (build(), build()), ((1, 1), (1, 1)))
+    one = new()
+    expect("an archive at first, --anew", (build("--anew"), build()), ((0, 1), (0, 0)))
 
 
 # Catches tests of libraries that count as passed for sources which were saved meanwhile, or which changed: `.. meanwhile`.
