@@ -22,6 +22,13 @@ BGP = r"(?:BGP\.|bgp_)"
 OF_BGP = re.compile(r"\) \[(?:AS\d+)?[ie?]\]$")
 # attributes that aren't used, and further lines of long ones: many routes share what remains
 UNUSED = re.compile(rf"\n\t(?:{BGP}(?!next_hop: |origin: |local_pref: |originator_id: |cluster_list: |aigp: ).*|Internal .*|\t.+)")
+# A route of BGP as most are, with all attributes of BIRD 2: the prefix, kind and source, what follows the time, the lines that are
+# used, and between these AS path and MED. After the local preference nothing is used.
+USUAL = re.compile(
+    r"(\S*) +(\w+ \[\S+) [^]\n]*(\][^][\n]*)(?: \[[^][\n]*\])?(\n\tvia [^\n]*\n\tType: BGP [^\n]*\n\tBGP\.origin: [^\n]*)"
+    r"\n\tBGP\.as_path: ([^\n]*)(\n\tBGP\.next_hop: [^\n]*)(?:\n\tBGP\.med: (\d+))?(\n\tBGP\.local_pref: \d+)"
+    r"(?:\n\tBGP\.(?!origin|as_path|next_hop|med|local_pref|cluster_list|aigp)[^\n]*)*"
+)
 VIA = re.compile(r"\tvia (\S+) on (\S+).*")
 # the weight of one of several next hops
 WEIGHT = re.compile(r" weight (\d+)(?: |$)")
@@ -78,7 +85,8 @@ def value_of(entry, name):
     return entry[begin:end] if end >= 0 else entry[begin:]
 
 
-BIRD_2, BIRD_3 = Names("\tBGP.as_path: ", "\tBGP.med: "), Names("\tbgp_path: ", "\tbgp_med: ")
+PATH_OF_BIRD_2 = "\tBGP.as_path: "
+BIRD_2, BIRD_3 = Names(PATH_OF_BIRD_2, "\tBGP.med: "), Names("\tbgp_path: ", "\tbgp_med: ")
 
 
 class Attributes:
@@ -163,10 +171,8 @@ class Route:
         # the offers, once they are known, and for BGP the values it is compared by: those before MED, without the path's length,
         # and all by its peer's address
         self.offers, self.merit, self.standings = None, None, {}
-
-    def hop_of_peer(self):
-        """The next hop that is its peer's address."""
-        return next(filter(None, self.attributes.hops), self.attributes.peer_hop or "")
+        # the next hop that is its peer's address
+        self.hop_of_peer = next(filter(None, attributes.hops), attributes.peer_hop or "") if attributes else ""
 
 
 OF_OTHER_KIND = Route("", "", None, 0, "", None, None)
@@ -201,8 +207,24 @@ def parts_of(entry):
     return (*match.groups(), entry[end:]) if match else None
 
 
+def listed_of(entry):
+    """The prefix of an entry, and its route with the entry itself, the AS path, and the text of MED; the last two are None if
+    they are still to be read. None for both if it isn't a route to a prefix."""
+    match = USUAL.fullmatch(entry) if PATH_OF_BIRD_2 in entry else None
+    if match:
+        prefix, head, first, lines, path, hop, med, local_pref = match.groups()
+        try:
+            if route := known_route(head, f"{first}{lines}{hop}{local_pref}"):
+                return prefix, (route, entry, path, med or "0")
+        except ValueError:
+            # found again below, with its line
+            pass
+    prefix, route = route_of(entry)
+    return prefix, route and (route, entry, None, None)
+
+
 def route_of(entry):
-    """The prefix and the route of an entry; None for both if it isn't a route to a prefix."""
+    """The prefix and the route of any entry; None for both if it isn't a route to a prefix."""
     parts = parts_of(entry)
     if parts is None:
         return None, None
@@ -233,8 +255,8 @@ class Place:
 
 
 def groups(entries, place):
-    """For each prefix of each table: the table, the prefix, whether it is IPv4, and its routes with their entries in
-    BIRD's order. Prefix and `of_ipv4` are None for routes of another kind. A further route to a prefix has blanks
+    """For each prefix of each table: the table, the prefix, whether it is IPv4, and its routes as `listed_of` returns them,
+    in BIRD's order. Prefix and `of_ipv4` are None for routes of another kind. A further route to a prefix has blanks
     instead of it."""
     prefix = of_ipv4 = None
     routes = []
@@ -244,21 +266,21 @@ def groups(entries, place):
                 yield place.table, prefix, of_ipv4, routes
             prefix, routes = None, []
             continue
-        text, route = route_of(entry) if place.table is not None else (None, None)
-        if place.in_full is None and route:
+        text, listed = listed_of(entry) if place.table is not None else (None, None)
+        if place.in_full is None and listed:
             place.in_full = IN_FULL.search(entry) is not None
         if text == "" and routes:
-            routes.append((route, entry))
+            routes.append(listed)
             continue
         if routes:
             yield place.table, prefix, of_ipv4, routes
         if text and "/" in text:
-            prefix, of_ipv4, routes = text, feeds.prefix_of(text) is not None, [(route, entry)]
+            prefix, of_ipv4, routes = text, feeds.prefix_of(text) is not None, [listed]
             continue
         first, behind, more = entry.partition("\n")
         if place.table is not None and OTHER.fullmatch(first) and (first[0] != " " or prefix is None and routes):
             attributes_of(behind + more)
-            prefix, of_ipv4, routes = None, None, [(OF_OTHER_KIND, entry)]
+            prefix, of_ipv4, routes = None, None, [(OF_OTHER_KIND, entry, None, None)]
         else:
             prefix, routes = None, []
             place.table = around(first, more, place.table, place.tables)
