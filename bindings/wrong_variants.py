@@ -169,8 +169,8 @@ GO = {name: ("yarib.go", *texts) for name, texts in {
     "a selection's router of IPv6 is accepted": ("hop, via, isRight = asked.Hop.numbers()\n", "hop, via, _ = asked.Hop.numbers()\n"),
     "by route as by hop": ("C.uint32_t(by), C.uint32_t(from)", "C.uint32_t(ByHop), C.uint32_t(from)"),
     "by hop as by route": ("C.uint32_t(by), C.uint32_t(from)", "C.uint32_t(ByRoute), C.uint32_t(from)"),
-    "the sides are exchanged": ("one.Old, one.HasOld = routeOf(&raw.before)\n\t\tone.New, one.HasNew = routeOf(&raw.after)",
-                                "one.New, one.HasNew = routeOf(&raw.before)\n\t\tone.Old, one.HasOld = routeOf(&raw.after)"),
+    "the sides are exchanged": ("one.Before, one.HasBefore = routeOf(&raw.before)\n\t\tone.After, one.HasAfter = routeOf(&raw.after)",
+                                "one.After, one.HasAfter = routeOf(&raw.before)\n\t\tone.Before, one.HasBefore = routeOf(&raw.after)"),
     "differences end at the first": ("from < 1<<32; from = ", "from < 1; from = 1 + "),
     "a faulty command without an error": ("outcomes[k].Err = commands[k].failed(failed(uint32(replies[k].count)))", "outcomes[k].Err = nil"),
     "mapped prefixes are accepted": ("!prefix.Addr().Is4()", "!prefix.Addr().Unmap().Is4()"),
@@ -221,9 +221,9 @@ GO = {name: ("yarib.go", *texts) for name, texts in {
                                      "uint32(C.yarib_concurrent_memory(one.concurrent(), bytes)) + uint32(C.size_t(0)*(*bytes)) + "
                                      "func() uint32 { *bytes /= 2; return 0 }()"),
 }.items()} | {name: ("changes.go", *texts) for name, texts in {
-    "the routes of a change are exchanged": ("change.Old, change.HasOld = routeOf(&raw.before)\n\tchange.New, change.HasNew = routeOf(&raw.after)",
-                                             "change.New, change.HasNew = routeOf(&raw.before)\n\tchange.Old, change.HasOld = routeOf(&raw.after)"),
-    "no change is a change": ("if !found.HasOld && !found.HasNew {", "if !found.HasOld && found.HasNew {"),
+    "the routes of a change are exchanged": ("change.Before, change.HasBefore = routeOf(&raw.before)\n\tchange.After, change.HasAfter = routeOf(&raw.after)",
+                                             "change.After, change.HasAfter = routeOf(&raw.before)\n\tchange.Before, change.HasBefore = routeOf(&raw.after)"),
+    "no change is a change": ("if !found.HasBefore && !found.HasAfter {", "if !found.HasBefore && found.HasAfter {"),
     "a purge's changes are cut at 64": ("for int(total) > len(room) {", "for int(total) > len(room) && len(room) == 0 {"),
 }.items()} | {name: ("files.go", *texts) for name, texts in {
     "save writes another feed": ("C.save(unsafe.Pointer(&one.inside), one.kind(), feed,", "C.save(unsafe.Pointer(&one.inside), one.kind(), 1,"),
@@ -259,8 +259,8 @@ GO = {name: ("yarib.go", *texts) for name, texts in {
 }.items()}
 
 RUST = {name: ("src/lib.rs", *texts) for name, texts in {
-    "old and new answers are exchanged": ("old: Answer::of(self.by, &found.before),\n            new: Answer::of(self.by, &found.after),",
-                                          "old: Answer::of(self.by, &found.after),\n            new: Answer::of(self.by, &found.before),"),
+    "old and new answers are exchanged": ("before: Answer::of(self.by, &found.before),\n            after: Answer::of(self.by, &found.after),",
+                                          "before: Answer::of(self.by, &found.after),\n            after: Answer::of(self.by, &found.before),"),
     "by hop and by route are exchanged": ("u32::from(self.by == By::Route)", "u32::from(self.by == By::Hop)"),
     "an answer by hop is a route": ("By::Hop => Hop::of(raw).map_or(Answer::NoRoute, Answer::Hop)",
                                     "By::Hop => Route::of(raw).map_or(Answer::NoRoute, Answer::Route)"),

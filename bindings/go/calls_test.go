@@ -60,7 +60,7 @@ func table(t *testing.T, limit uint32, isJournaled bool) *Table {
 	}
 	made, err := create(limit)
 	must(t, err)
-	t.Cleanup(made.Close)
+	t.Cleanup(func() { must(t, made.Close()) })
 	return made
 }
 
@@ -121,10 +121,10 @@ func (m *model) differences(newer *model, by By) []Difference {
 	ends, ranges := sortedNumbers(isEnd), []Difference{}
 	for k, first := range ends[:len(ends)-1] {
 		one := Difference{First: addressOf(uint32(first)), Last: addressOf(uint32(ends[k+1] - 1))}
-		one.Old, one.HasOld = answer(m, first)
-		one.New, one.HasNew = answer(newer, first)
-		if last := len(ranges) - 1; last >= 0 && ranges[last].Old == one.Old && ranges[last].New == one.New &&
-			ranges[last].HasOld == one.HasOld && ranges[last].HasNew == one.HasNew {
+		one.Before, one.HasBefore = answer(m, first)
+		one.After, one.HasAfter = answer(newer, first)
+		if last := len(ranges) - 1; last >= 0 && ranges[last].Before == one.Before && ranges[last].After == one.After &&
+			ranges[last].HasBefore == one.HasBefore && ranges[last].HasAfter == one.HasAfter {
 			ranges[last].Last = one.Last
 		} else {
 			ranges = append(ranges, one)
@@ -132,7 +132,7 @@ func (m *model) differences(newer *model, by By) []Difference {
 	}
 	found := []Difference{}
 	for _, one := range ranges {
-		if one.Old != one.New || one.HasOld != one.HasNew {
+		if one.Before != one.After || one.HasBefore != one.HasAfter {
 			found = append(found, one)
 		}
 	}

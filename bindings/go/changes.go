@@ -5,17 +5,17 @@ import "C"
 
 import "net/netip"
 
-// Change is a prefix whose best route has changed: its best route before and after. HasOld and HasNew say whether there is one.
+// Change is a prefix whose best route has changed: its best route before and after. HasBefore and HasAfter say whether there is one.
 type Change struct {
-	Prefix         netip.Prefix
-	Old, New       Route
-	HasOld, HasNew bool
+	Prefix              netip.Prefix
+	Before, After       Route
+	HasBefore, HasAfter bool
 }
 
 func changeOf(raw *C.yarib_change) Change {
 	change := Change{Prefix: netip.PrefixFrom(address(raw.base), int(raw.len))}
-	change.Old, change.HasOld = routeOf(&raw.before)
-	change.New, change.HasNew = routeOf(&raw.after)
+	change.Before, change.HasBefore = routeOf(&raw.before)
+	change.After, change.HasAfter = routeOf(&raw.after)
 	return change
 }
 
@@ -27,7 +27,7 @@ func (table *common) ApplyChanged(command Command) (Reply, Change, bool, error) 
 		return Reply{}, Change{}, false, command.failed(err)
 	}
 	found := changeOf(&change)
-	if !found.HasOld && !found.HasNew {
+	if !found.HasBefore && !found.HasAfter {
 		return replyOf(&raw), Change{}, false, nil
 	}
 	return replyOf(&raw), found, true, nil

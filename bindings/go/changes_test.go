@@ -59,7 +59,7 @@ func changedBy(t *testing.T, one *common, command Command) (Reply, []Change) {
 func TestChangesAreThoseOfTheBestRoutes(t *testing.T) {
 	concurrent, err := NewConcurrent(6)
 	must(t, err)
-	t.Cleanup(concurrent.Close)
+	t.Cleanup(func() { must(t, concurrent.Close()) })
 	for kind, one := range []*common{&table(t, 6, false).common, &table(t, 6, true).common, &concurrent.common} {
 		m, draw := model{6, map[place]Route{}}, rand.New(rand.NewSource(int64(kind)))
 		for k := 0; k < 1500; k++ {

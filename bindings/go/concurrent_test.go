@@ -16,7 +16,7 @@ func concurrentTable(t *testing.T, limit uint32) *ConcurrentTable {
 	t.Helper()
 	made, err := NewConcurrent(limit)
 	must(t, err)
-	t.Cleanup(made.Close)
+	t.Cleanup(func() { must(t, made.Close()) })
 	return made
 }
 
@@ -450,7 +450,7 @@ func TestEveryCopyOfAConcurrentTable(t *testing.T) {
 	found, err := table.Differences(other, ByHop)
 	must(t, err)
 	same(t, "how many differences", len(found), 1)
-	same(t, "a difference", []any{found[0].First, found[0].HasOld, found[0].New.Hop}, []any{addressOf(11 << 24), false, Via(addressOf(11))})
+	same(t, "a difference", []any{found[0].First, found[0].HasBefore, found[0].After.Hop}, []any{addressOf(11 << 24), false, Via(addressOf(11))})
 	found, err = table.Differences(table, ByRoute)
 	must(t, err)
 	same(t, "differences of one table", found, []Difference{})

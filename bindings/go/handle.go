@@ -33,17 +33,16 @@ func (one *handle) concurrent() *C.yarib_concurrent {
 	return (*C.yarib_concurrent)(unsafe.Pointer(&one.inside))
 }
 
-func (one *handle) free() {
+func (one *handle) free() error {
 	if one == nil {
-		return
+		return nil
 	}
 	one.lock.Lock()
 	defer one.lock.Unlock()
 	if one.isConcurrent {
-		C.yarib_concurrent_free(one.concurrent())
-		return
+		return failed(uint32(C.yarib_concurrent_free(one.concurrent())))
 	}
-	C.yarib_free(&one.inside)
+	return failed(uint32(C.yarib_free(&one.inside)))
 }
 
 // change makes a call that changes the handle, once no other is under way.

@@ -439,9 +439,9 @@ func NewConcurrent(limit uint32) (*ConcurrentTable, error) {
 	return &ConcurrentTable{table}, nil
 }
 
-// Close frees the table's memory. Closing twice is harmless.
-func (table *common) Close() {
-	table.held.free()
+// Close frees the table's memory. Closing twice is harmless. If it can't be freed (ErrBusy, ErrBarrier, ErrForked) it stays as it was.
+func (table *common) Close() error {
+	return table.held.free()
 }
 
 // Apply executes a command and returns its reply. A command that is refused is a CommandError.
@@ -757,9 +757,9 @@ func (by By) String() string {
 
 // Difference is a range of addresses that two tables answer differently. Each answer says whether there is a route.
 type Difference struct {
-	First, Last    netip.Addr
-	Old, New       Route
-	HasOld, HasNew bool
+	First, Last         netip.Addr
+	Before, After       Route
+	HasBefore, HasAfter bool
 }
 
 // firstDifference locks the handle that was made first before the other, so that no two calls wait for each other.
@@ -832,8 +832,8 @@ func walkDifferences(older, newer *handle, by By, visit func(Difference) bool) e
 			return about(err, "%v", by)
 		}
 		one := Difference{First: address(raw.first), Last: address(raw.last)}
-		one.Old, one.HasOld = routeOf(&raw.before)
-		one.New, one.HasNew = routeOf(&raw.after)
+		one.Before, one.HasBefore = routeOf(&raw.before)
+		one.After, one.HasAfter = routeOf(&raw.after)
 		if !visit(one) {
 			return nil
 		}
@@ -926,9 +926,9 @@ func (fib *Fib) Clone() (*Fib, error) {
 	return other, nil
 }
 
-// Close releases the handle. Closing twice is harmless.
-func (fib *Fib) Close() {
-	fib.held.free()
+// Close frees the handle's memory. Closing twice is harmless. If it can't be freed (ErrBusy, ErrBarrier, ErrForked) it stays as it was.
+func (fib *Fib) Close() error {
+	return fib.held.free()
 }
 
 // LookUp returns the best route of the longest prefix that covers the address, if there is one.

@@ -427,7 +427,7 @@ func readOneTable(t *testing.T, table, other *Table, address netip.Addr, ended c
 			return
 		}
 		each, _ := answers.At(0)
-		for _, one := range []Route{route, each, all[0], listed[0], page[0], found[0].New} {
+		for _, one := range []Route{route, each, all[0], listed[0], page[0], found[0].After} {
 			router, isThere := one.Hop.Router()
 			if !isThere || router.Less(last) {
 				t.Error(one, last)

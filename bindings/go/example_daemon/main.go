@@ -127,7 +127,7 @@ func run() error {
 	}
 	fmt.Printf("restored %d routes\n", count)
 	return before.WalkDifferences(after, yarib.ByHop, func(one yarib.Difference) bool {
-		fmt.Printf("%v to %v: from %v to %v\n", one.First, one.Last, one.Old.Hop, one.New.Hop)
+		fmt.Printf("%v to %v: from %v to %v\n", one.First, one.Last, one.Before.Hop, one.After.Hop)
 		return true
 	})
 }

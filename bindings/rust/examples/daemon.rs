@@ -83,7 +83,7 @@ fn main() -> Result<(), FileError> {
     println!("restored {} routes", after.count()?);
     for range in before.differences(&after, By::Hop) {
         let range = range?;
-        let (old, new) = (shown(range.old), shown(range.new));
+        let (old, new) = (shown(range.before), shown(range.after));
         println!("{} to {}: from {old} to {new}", range.first, range.last);
     }
     Ok(())

@@ -527,9 +527,9 @@ pub struct Difference {
     /// Its last address.
     pub last: Ipv4Addr,
     /// The old table's answer for each of them.
-    pub old: Answer,
+    pub before: Answer,
     /// The new table's answer for each of them.
-    pub new: Answer,
+    pub after: Answer,
 }
 
 /// The prefixes of a selection.
@@ -1145,8 +1145,8 @@ impl Iterator for Differences<'_> {
         Some(Ok(Difference {
             first: Ipv4Addr::from(found.first),
             last: Ipv4Addr::from(found.last),
-            old: Answer::of(self.by, &found.before),
-            new: Answer::of(self.by, &found.after),
+            before: Answer::of(self.by, &found.before),
+            after: Answer::of(self.by, &found.after),
         }))
     }
 }

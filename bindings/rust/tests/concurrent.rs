@@ -461,7 +461,7 @@ fn copies_of_a_concurrent_table() {
     assert_eq!(found.len(), 1);
     assert_eq!(u32::from(found[0].first), 11 << 24);
     assert_eq!(
-        (found[0].old, found[0].new),
+        (found[0].before, found[0].after),
         (Answer::NoRoute, Answer::Route(both[1]))
     );
     assert_eq!(table.differences(&table, By::Route).count(), 0);

@@ -430,7 +430,7 @@ fn differences_reach_the_last_address() {
     let found: Vec<_> = old
         .differences(&new, By::Hop)
         .map(Result::unwrap)
-        .map(|range| (u32::from(range.first), range.new))
+        .map(|range| (u32::from(range.first), range.after))
         .collect();
     assert_eq!(
         found,
@@ -599,7 +599,14 @@ fn both_sides_of_each_difference() {
                 let found: Vec<_> = tables[old]
                     .differences(&tables[new], by)
                     .map(Result::unwrap)
-                    .map(|one| (u32::from(one.first), u32::from(one.last), one.old, one.new))
+                    .map(|one| {
+                        (
+                            u32::from(one.first),
+                            u32::from(one.last),
+                            one.before,
+                            one.after,
+                        )
+                    })
                     .collect();
                 assert_eq!(found, differences(&models[old], &models[new], by));
             }
