@@ -53,6 +53,7 @@ static void nothing(yarib *empty)
     CHECK(yarib_routes_from(empty, &start, &route, 1, &total) == YARIB_NOTHING && is_marked(&route, sizeof route));
     CHECK(yarib_select(empty, &all, 0, &route, 1, &total) == YARIB_NOTHING && is_marked(&route, sizeof route));
     CHECK(yarib_select_by_hop(empty, &all, YARIB_VIA, 1, 0, &route, 1, &total) == YARIB_NOTHING && is_marked(&route, sizeof route));
+    CHECK(yarib_select_by_hop(empty, &all, YARIB_DISCARD + 1, 1, 0, &route, 1, &total) == YARIB_NOTHING);
     CHECK(yarib_count(empty, &total) == YARIB_NOTHING && yarib_follow(empty) == YARIB_NOTHING);
     CHECK(yarib_journal(empty, 0, &entry, 1, &total) == YARIB_NOTHING);
     CHECK(yarib_first_difference(empty, &other, 0, 0, &range) == YARIB_NOTHING);
@@ -201,6 +202,8 @@ static void parts(void)
     CHECK(yarib_select(&table, &faulty, 0, rest, 6, &total) == YARIB_BAD_NUMBER);
     faulty = (yarib_selection){.part = YARIB_EXACT, .len = 33};
     CHECK(yarib_select(&table, &faulty, 0, rest, 6, &total) == YARIB_BAD_LENGTH);
+    CHECK(yarib_select_by_hop(&table, &faulty, YARIB_DISCARD + 1, 1, 0, rest, 6, &total) == YARIB_BAD_NUMBER);
+    CHECK(yarib_select_by_hop(&table, &faulty, YARIB_VIA, 1, 0, rest, 6, &total) == YARIB_BAD_LENGTH);
     faulty = (yarib_selection){.part = YARIB_WITHIN, .base = 1, .len = 31};
     CHECK(yarib_select(&table, &faulty, 0, rest, 6, &total) == YARIB_BAD_BITS);
     CHECK(total == 99 && is_marked(rest, sizeof rest));

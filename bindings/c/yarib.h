@@ -347,7 +347,7 @@ YARIB_STATUS yarib_select(const yarib *table, const yarib_selection *asked, size
  * with the address `via`, YARIB_DISCARD for those that discard packets, or 0 for all next hops; `via` is only read with YARIB_VIA. With
  * `only_best` these are the best routes that use the next hop: before a router goes down, the prefixes that will need another one. `total`
  * is their number, also if `room` is 0.
- * Errors: those of yarib_select; also YARIB_BAD_NUMBER (hop). */
+ * Errors: those of yarib_select, with YARIB_BAD_NUMBER for the hop too. */
 YARIB_STATUS yarib_select_by_hop(const yarib *table, const yarib_selection *asked, uint32_t hop, uint32_t via, size_t skip,
     yarib_route *routes, size_t room, size_t *total);
 

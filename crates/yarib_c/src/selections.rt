@@ -151,20 +151,21 @@ pub extern "C" fn yarib_select_by_hop(
     ensures silent { result ≢ DONE → (routes.new ≡ routes.old) × (total.new ≡ total.old) }
     ensures known { IsOneOf (DONE ∷ NOTHING ∷ BAD_NUMBER ∷ NO_MEMORY ∷ BAD_LENGTH ∷ BAD_BITS ∷ WRONG_KIND ∷ []) result }
 {
-    if hop > 2 {
-        return BAD_NUMBER;
-    }
-    with_held!(table, alloc, held => match asked.read(read_hop(hop, via)) {
-        Err(status) => status,
-        Ok(selection) => match held.table() {
-            None => WRONG_KIND,
-            Some(table) => match table.select(alloc, &selection) {
-                Err(_) => NO_MEMORY,
-                Ok(found) => {
-                    *total = put(found.as_slice(), skip, routes);
-                    DONE
-                }
+    with_held!(table, alloc, held => if hop > 2 {
+        BAD_NUMBER
+    } else {
+        match asked.read(read_hop(hop, via)) {
+            Err(status) => status,
+            Ok(selection) => match held.table() {
+                None => WRONG_KIND,
+                Some(table) => match table.select(alloc, &selection) {
+                    Err(_) => NO_MEMORY,
+                    Ok(found) => {
+                        *total = put(found.as_slice(), skip, routes);
+                        DONE
+                    }
+                },
             },
-        },
+        }
     })
 }
