@@ -149,6 +149,7 @@ pub extern "C" fn yarib_select_by_hop(
     ensures bits { result ≡ BAD_BITS → (asked.now.len ≤ 32) × ¬ IsPrefix asked.now.base asked.now.len }
     ensures kind { result ≡ WRONG_KIND → HandleHolds table.old IsForwarding }
     ensures silent { result ≢ DONE → (routes.new ≡ routes.old) × (total.new ≡ total.old) }
+    ensures order { WithHeld table.old (SelectionStatus asked.now hop) result }
     ensures known { IsOneOf (DONE ∷ NOTHING ∷ BAD_NUMBER ∷ NO_MEMORY ∷ BAD_LENGTH ∷ BAD_BITS ∷ WRONG_KIND ∷ []) result }
 {
     with_held!(table, alloc, held => if hop > 2 {
