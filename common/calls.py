@@ -314,6 +314,11 @@ COMPARED = [
 10.64.0.0/10 via 192.0.2.1 -> via 192.0.2.2
 10.128.0.0/9 via 192.0.2.1 -> via 192.0.2.2
 """, 1),
+    call("diff --count north.feed east.feed -- north.feed south.feed east.feed", """\
+ranges 3 addresses 16646144
+change another next hop ranges 3 addresses 16646144
+hops via 192.0.2.1 -> via 192.0.2.2 ranges 3 addresses 16646144
+""", 1),
     call("diff --by route --names north.feed east.feed -- south.feed north.feed east.feed", """\
 10.0.0.0-10.0.255.255 10.0.0.0/8 feed north pref 50 via 192.0.2.1 -> 10.0.0.0/8 feed south pref 30 via 192.0.2.2
 10.2.0.0-10.8.255.255 10.0.0.0/8 feed north pref 50 via 192.0.2.1 -> 10.0.0.0/8 feed south pref 30 via 192.0.2.2

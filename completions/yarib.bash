@@ -17,7 +17,7 @@ _yarib() {
     run) options="--limit --batch --help" ;;
     lookup) options="--all --feed --without --names --json --address --addresses --keep-invalid --limit --batch --help" ;;
     table) options="--within --covering --exact --feed --without --best --count --total --names --json --limit --batch --help" ;;
-    diff) options="--by --prefixes --old-feed --old-without --new-feed --new-without --names --json --limit --batch --help" ;;
+    diff) options="--by --prefixes --count --old-feed --old-without --new-feed --new-without --names --json --limit --batch --help" ;;
     replay) options="--levels --help" ;;
     help) options="run lookup table diff replay" ;;
     *) return ;;

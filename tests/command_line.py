@@ -439,7 +439,7 @@ def examples_of_the_help(yarib):
         help_text = yarib(name, "--help")[1]
         for words, shown in re.findall(r"^  \$ yarib (.*)\n((?:  [^$].*\n)*)", help_text, re.M):
             listed.append(calls.call(words, textwrap.dedent(shown), 1 if name == "diff" else 0))
-    expect("how many examples the help has", len(listed), 12)
+    expect("how many examples the help has", len(listed), 13)
     make(yarib, texts, listed)
 
 
@@ -916,6 +916,90 @@ def as_prefixes(line):
     return "".join(line.replace(head, form.format(prefix), 1) for prefix in made)
 
 
+# Catches a range that is counted twice or not at all, the number of ranges in the place of that of addresses, a pair of next
+# hops with two lines, another order of these, and another kind of change: `counts of`.
+# Catches a number of addresses that is cut to 32 bits: `every address`.
+def counted_differences(yarib):
+    """What Python counts in the lines of the same command without --count: all ranges, each kind of change and each pair of
+    next hops."""
+    choice = random.Random(89)
+    options = [], ["--by", "route"], ["--by", "route", "--names"]
+    for number in range(12):
+        (_, old), (_, new) = (random_table(choice, side, number) for side in ("old", "new"))
+        for feeds in (old, new):
+            text = pathlib.Path(feeds[0]).read_text()
+            pathlib.Path(feeds[0]).write_text("version 2\n" + text.replace("192.0.2.1", "discard"))
+        for more in options:
+            status, lines, _ = yarib("diff", *more, *old, "--", *new)
+            for json_too in (False, True):
+                words = [*more, *["--json"] * json_too, *old, "--", *new]
+                compare(f"counts of {more} {number}", yarib("diff", "--count", *words), status, counted(lines, json_too))
+    pathlib.Path("halves.feed").write_text("add 0.0.0.0/1 1 192.0.2.1\nadd 128.0.0.0/1 1 192.0.2.2\n")
+    pathlib.Path("discards.feed").write_text("version 2\nadd 0.0.0.0/0 1 discard\n")
+    compare("every address", yarib("diff", "--count", "halves.feed", "--", "discards.feed"), 1, """\
+ranges 2 addresses 4294967296
+change is discarded ranges 2 addresses 4294967296
+hops via 192.0.2.1 -> discard ranges 1 addresses 2147483648
+hops via 192.0.2.2 -> discard ranges 1 addresses 2147483648
+""")
+    compare("every address as JSON", yarib("diff", "--json", "--count", "discards.feed", "--", "empty.feed"), 1, (
+        '{"ranges":1,"addresses":4294967296}\n{"change":"loses its route","ranges":1,"addresses":4294967296}\n'
+        '{"old":{"via":null,"discard":true},"new":null,"ranges":1,"addresses":4294967296}\n'))
+    compare("no range", yarib("diff", "--count", "row.feed", "--", "row.feed"), 0, "ranges 0 addresses 0\n")
+    ended = yarib("diff", "--count", "--json", "row.feed", "--", "row.feed")
+    compare("no range as JSON", ended, 0, '{"ranges":0,"addresses":0}\n')
+    for both in (["--count", "--prefixes"], ["--prefixes", "--json", "--count"]):
+        expect(f"{both}", yarib("diff", *both, "missing.feed", "--", "missing.feed"),
+               (3, "", "yarib: only one of --prefixes and --count may be given\n"))
+    misused("--count twice", yarib("diff", "--count", "--count", "row.feed", "--", "row.feed"), "--count")
+
+
+KINDS = ("another next hop", "gets a route", "loses its route", "is discarded", "isn't discarded any more",
+         "the same next hop by another route")
+
+
+def counted(lines, as_json):
+    """The counts of the ranges in the lines of a comparison, as lines or as JSON objects."""
+    kinds, pairs = {}, {}
+    for line in lines.splitlines():
+        addresses, answers = line.split(" ", 1)
+        first, last = (int(ipaddress.ip_address(word)) for word in addresses.split("-"))
+        pair = tuple(map(hop_in, answers.split(" -> ")))
+        for counts, key in ((kinds, change_of(*pair)), (pairs, pair)):
+            number, size = counts.get(key, (0, 0))
+            counts[key] = number + 1, size + last + 1 - first
+    rows = [("", {}, tuple(map(sum, zip(*pairs.values()))) or (0, 0))]
+    rows += [(f"change {kind} ", {"change": kind}, kinds[kind]) for kind in KINDS if kind in kinds]
+    rows += [(f"hops {' -> '.join(pair)} ", dict(zip(("old", "new"), (answer_object(hop, None) for hop in pair))), pairs[pair])
+             for pair in sorted(pairs, key=lambda pair: tuple(map(place_of, pair)))]
+    if as_json:
+        return "".join(json_text(start | {"ranges": number, "addresses": size}) + "\n" for _, start, (number, size) in rows)
+    return "".join(f"{start}ranges {number} addresses {size}\n" for start, _, (number, size) in rows)
+
+
+def hop_in(answer):
+    """The next hop of an answer, as `diff` prints it without `--by route`."""
+    if answer.endswith("discard"):
+        return "discard"
+    return " ".join(answer.split()[-2:])
+
+
+def place_of(hop):
+    """The place of a next hop in the order of the counts."""
+    return -2 if hop == "no route" else -1 if hop == "discard" else int(ipaddress.ip_address(hop.split()[1]))
+
+
+def change_of(old, new):
+    """The kind of change from one next hop to another one."""
+    if old == new:
+        return KINDS[5]
+    if new == "discard":
+        return KINDS[3]
+    if "no route" in (old, new):
+        return KINDS[1 if old == "no route" else 2]
+    return KINDS[4 if old == "discard" else 0]
+
+
 # Catches a comparison that pairs feeds by number instead of name: `a file that one side lacks`.
 def compared_by_name(yarib):
     """Ranges of random feeds whose files have another order on the other side, or are missing there: feeds with the
@@ -1346,7 +1430,7 @@ CASES = (
     runs, any_name, what_the_table_says, what_two_tables_answer_otherwise, file_order, many_files, unreadable, names,
     texts, limits, batches, twice, replays, finished_tables, parts_of_tables, left_out, routes_of_feeds,
     unknown_feeds, counted_tables, totalled_tables, compared_tables, compared_as_json, compared_as_prefixes,
-    compared_by_name, old_first, not_taken, not_asked, files_told, cut_off, addresses_told, invalid_lines, pages, advice,
+    counted_differences, compared_by_name, old_first, not_taken, not_asked, files_told, cut_off, addresses_told, invalid_lines, pages, advice,
     examples_of_the_help, help_is_true, closed_outputs, progress, line_each_second, progress_of_long_runs,
 )
 

@@ -202,6 +202,17 @@ With --prefixes each of the fewest prefixes that make up the range has a line
 instead, in ascending order:
   PREFIX OLDANSWER -> NEWANSWER
 
+With --count the number of these ranges and of their addresses is printed
+instead: of all, of each kind of change that occurs, and of each pair of next
+hops. Pairs are sorted by the old and then by the new next hop: no route,
+discard, then by address. Only one of --prefixes and --count may be given.
+  ranges N addresses N
+  change KIND ranges N addresses N
+  hops OLDHOP -> NEWHOP ranges N addresses N
+KIND is `another next hop`, `gets a route`, `loses its route`, `is discarded`,
+`isn't discarded any more` or, only with --by route, `the same next hop by
+another route`. OLDHOP and NEWHOP are `via HOP`, `discard` or `no route`.
+
 F is the position of the feed's file on its side, from 1. With --names the
 feed's name is printed instead: FILE without its directory and .feed. Feeds with
 the same name on both sides are then the same feed. Two feeds with the same name
@@ -210,6 +221,8 @@ control character.
 With --json each line is one object; --names adds \"name\" before \"file\":
   {\"first\":ADDR,\"last\":ADDR,\"old\":ANSWER,\"new\":ANSWER}
   {\"prefix\":PREFIX,\"old\":ANSWER,\"new\":ANSWER}
+  {\"ranges\":N,\"addresses\":N}   {\"change\":\"KIND\",\"ranges\":N,\"addresses\":N}
+  {\"old\":ANSWER,\"new\":ANSWER,\"ranges\":N,\"addresses\":N}
 ANSWER is {\"via\":HOP}, {\"via\":null,\"discard\":true}, or null if there is no
 route; with --by route it is null or
   {\"prefix\":PREFIX,\"feed\":F,\"file\":FILE,\"pref\":P,\"via\":HOP}
@@ -228,6 +241,10 @@ has this line and `add 10.1.0.0/16 100 192.0.2.2`:
   10.1.0.0-10.1.255.255 via 192.0.2.1 -> via 192.0.2.2
   $ yarib diff --prefixes one.feed -- new.feed
   10.1.0.0/16 via 192.0.2.1 -> via 192.0.2.2
+  $ yarib diff --count one.feed -- new.feed
+  ranges 1 addresses 65536
+  change another next hop ranges 1 addresses 65536
+  hops via 192.0.2.1 -> via 192.0.2.2 ranges 1 addresses 65536
 "
 );
 

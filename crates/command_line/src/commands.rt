@@ -267,6 +267,11 @@ const DIFF: &[Parameter] = &[
         ..FLAG
     },
     Parameter {
+        name: "count",
+        help: "Print the number of ranges and addresses instead: in all, per change and per hops",
+        ..FLAG
+    },
+    Parameter {
         name: "old-feed",
         help: "Execute only old feed F; may be given more than once",
         ..FEED

@@ -157,12 +157,23 @@ pub struct DiffRequest<'a> {
     pub new_feeds: NamedFeeds<'a>,
     /// The part of an answer that is compared.
     pub by: ComparedBy,
-    /// Print the prefixes of each range instead of the range.
-    pub prefixes: bool,
+    /// What is printed of the differences.
+    pub output: DifferenceOutput,
     /// Print a feed's name instead of its number. Feeds with the same name on both sides then count as the same feed.
     pub names: bool,
     /// Print JSON objects instead of plain lines.
     pub json: bool,
+}
+
+/// What `diff` prints of the differences.
+#[derive(Clone, Copy)]
+pub enum DifferenceOutput {
+    /// Each range.
+    Ranges,
+    /// The prefixes of each range.
+    Prefixes,
+    /// The number of ranges and addresses: in all, of each kind of change and of each pair of next hops.
+    Counts,
 }
 
 /// The part of an answer that `diff` compares.
@@ -203,6 +214,9 @@ pub enum RequestFault {
     /// Both `--count` and `--total` were given.
     #[error("only one of --count and --total may be given")]
     CountAndTotal,
+    /// Both `--prefixes` and `--count` were given.
+    #[error("only one of --prefixes and --count may be given")]
+    PrefixesAndCount,
     /// `clap` accepted arguments that this crate doesn't expect. This would be a bug of this crate; no such arguments are
     /// known.
     #[error("cannot parse the command line: see yarib --help")]
@@ -318,16 +332,27 @@ fn output_of(matches: &ArgMatches<'_>) -> Result<TableOutput, RequestFault> {
 
 fn diff_request<'a>(matches: &'a ArgMatches<'_>) -> Result<Request<'a>, RequestFault> {
     let by = compared_by(matches)?;
+    let output = difference_output(matches)?;
     Ok(Request::Diff(DiffRequest {
         run: run_request(matches)?,
         old_feeds: feeds_of(matches, "old-feed", "old-without"),
         new_files: texts_of(matches, "new"),
         new_feeds: feeds_of(matches, "new-feed", "new-without"),
         by,
-        prefixes: matches.get_flag("prefixes"),
+        output,
         names: matches.get_flag("names"),
         json: matches.get_flag("json"),
     }))
+}
+
+/// Returns what is printed of the differences.
+fn difference_output(matches: &ArgMatches<'_>) -> Result<DifferenceOutput, RequestFault> {
+    match (matches.get_flag("prefixes"), matches.get_flag("count")) {
+        (false, false) => Ok(DifferenceOutput::Ranges),
+        (true, false) => Ok(DifferenceOutput::Prefixes),
+        (false, true) => Ok(DifferenceOutput::Counts),
+        (true, true) => Err(RequestFault::PrefixesAndCount),
+    }
 }
 
 fn compared_by(matches: &ArgMatches<'_>) -> Result<ComparedBy, RequestFault> {

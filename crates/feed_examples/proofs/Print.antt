@@ -27,6 +27,8 @@ use Rattle.rt_print.specs.declared.diff_options.DiffOutput.{DiffOutput}
 use Rattle.rt_print.specs.declared.diff_options.DiffOutput.TheVariants.{Ranges, Prefixes}
 use Rattle.rt_print.specs.RangePrefixes.{prefixes_in, prefixes_of}
 use Rattle.rt_print.specs.DifferenceText.{way_text, DiffContents, diff_of, answered_as, range_as, prefix_as, difference_as, differences_as}
+use Rattle.rt_print.specs.declared.change_counts.ChangeCount.{ChangeCount}
+use Rattle.rt_print.specs.ChangeCounts.{range_size, hop_position, kind_of, number_as, kind_front, kind_as, hops_front, count_line, change_counts_as}
 use Rattle.rt_print.specs.Counts.{prefix_count, length_count, totals_as, count_as, counts_as, total_as, rows_and_total_as}
 use Rattle.feed_examples.proofs.Feed.{at_192_0_2_1}
 
@@ -160,6 +162,40 @@ a_prefix_as_an_object :
     ≡ codes "{\"prefix\":\"0.0.0.8/29\",\"old\":{\"via\":\"192.0.2.1\"},\"new\":null}\n"
 unfolding digits address_text prefix_text prefixes_in prefix_as answered_as
 a_prefix_as_an_object = refl
+
+-- range_size
+a_range_of_eight_addresses : range_size (record { first = record { 0 = 8 }; last = record { 0 = 15 }; old = answered.NoRoute; new = answered.Hop Discard }) ≡ 8
+a_range_of_eight_addresses = refl
+
+-- hop_position
+no_route_and_discard_first : (hop_position None ≡ 0) × (hop_position (Some Discard) ≡ 1) × (hop_position (Some (Via (record { 0 = 0 }))) ≡ 2)
+no_route_and_discard_first = (refl, refl, refl)
+
+-- kind_of
+each_kind_of_change : (kind_of (Some (via_192_0_2 1)) (Some (via_192_0_2 2)) ≡ 0) × (kind_of None (Some (via_192_0_2 1)) ≡ 1)
+    × (kind_of (Some Discard) None ≡ 2) × (kind_of None (Some Discard) ≡ 3) × (kind_of (Some Discard) (Some (via_192_0_2 1)) ≡ 4)
+    × (kind_of (Some (via_192_0_2 1)) (Some (via_192_0_2 1)) ≡ 5)
+each_kind_of_change = (refl, refl, refl, refl, refl, refl)
+
+-- change_counts_as
+abbrev two_counts : List ChangeCount
+two_counts =
+    record { old = None; new = Some Discard; ranges = 1; addresses = 4 }
+    ∷ record { old = Some (Via at_192_0_2_1); new = None; ranges = 2; addresses = 300 } ∷ []
+
+all_ranges_and_kinds_and_pairs : change_counts_as (compared_files Numbers) two_counts
+    ≡ codes "ranges 3 addresses 304\nchange loses its route ranges 2 addresses 300\nchange is discarded ranges 1 addresses 4\nhops no route -> discard ranges 1 addresses 4\nhops via 192.0.2.1 -> no route ranges 2 addresses 300\n"
+unfolding digits address_text change_counts_as kind_as kind_front number_as hops_front answered_as
+all_ranges_and_kinds_and_pairs = refl
+
+no_range_at_all : change_counts_as (compared_files Json) [] ≡ codes "{\"ranges\":0,\"addresses\":0}\n"
+unfolding digits change_counts_as kind_as number_as
+no_range_at_all = refl
+
+a_pair_as_an_object : count_line (compared_files Json) (record { old = None; new = Some Discard; ranges = 1; addresses = 4 })
+    ≡ codes "{\"old\":null,\"new\":{\"via\":null,\"discard\":true},\"ranges\":1,\"addresses\":4}\n"
+unfolding digits number_as hops_front answered_as
+a_pair_as_an_object = refl
 
 -- differences_as
 one_line_for_each_range :

@@ -2,6 +2,8 @@ pub mod Promised
 pub mod Writing
 pub mod Replaying
 pub mod LineParts
+pub mod ChangeMaps
+pub mod CountLists
 pub mod Counting
 pub mod FeedLabels
 pub mod RangePrefixes

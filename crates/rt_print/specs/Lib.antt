@@ -1,4 +1,5 @@
 pub mod Buffer
+pub mod ChangeCounts
 pub mod Counts
 pub mod DifferenceText
 pub mod FeedNames

@@ -67,6 +67,13 @@ impl DiffOptions {
         })
     }
 
+    /// Returns true if differences are printed as JSON objects.
+    pub(crate) fn is_json(&self) -> bool
+        ensures { result ≡ self.now.old.json }
+    {
+        self.old.is_json()
+    }
+
     /// Returns the comparison of these two tables.
     pub fn comparison<'a>(
         &'a self,

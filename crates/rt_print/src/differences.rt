@@ -140,9 +140,9 @@ impl Text for Change<'_> {
 
 /// An answer for an address, in the style of its table.
 #[derive(Clone, Copy)]
-struct StyledAnswer<'a> {
-    style: &'a Style,
-    answer: &'a TableAnswer,
+pub(crate) struct StyledAnswer<'a> {
+    pub(crate) style: &'a Style,
+    pub(crate) answer: &'a TableAnswer,
 }
 
 impl Text for StyledAnswer<'_> {

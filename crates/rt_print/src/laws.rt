@@ -1,4 +1,5 @@
 //! Theorems about what is printed. Each function does nothing: its contract is the theorem, for all values.
+ghost use Rattle.rt_print.specs.ChangeCounts.{HaveOneCountList};
 ghost use Rattle.rt_print.specs.RangePrefixes.{PrefixesMakeUp, PrefixesRise, AreFewest};
 
 use rt_cidr::laws::{nested, ranges};
@@ -16,3 +17,8 @@ pub fn range_prefixes()
     ranges();
     nested();
 }
+
+/// The counts of ranges by pair of next hops (`count_changes`): the same ranges have only one list of counts.
+pub fn one_count_list()
+    ensures { HaveOneCountList }
+{}

@@ -4,6 +4,8 @@ use Rattle.rt_rib.specs.declared.routes.Route.{Route}
 use Rattle.rt_diff.specs.declared.comparison.Difference.{Difference}
 use Rattle.rt_diff.specs.Answers.{RenumberedTable, own_numbers}
 use Rattle.rt_diff.specs.Differences.{AreDifferences}
+use Rattle.rt_print.specs.declared.change_counts.ChangeCount.{ChangeCount}
+use Rattle.rt_print.specs.ChangeCounts.{AreChangeCounts, change_counts_as}
 use Rattle.rt_print.specs.DifferenceText.{DiffContents, differences_as}
 use Rattle.rt_run.specs.declared.tallies.RejectedInput.{RejectedInput}
 use Rattle.rt_run.specs.declared.tallies.RunSummary.{RunSummary}
@@ -19,9 +21,9 @@ abbrev pub differ_status : List Difference → ℕ
 differ_status [] = 0
 differ_status (d ∷ list) = 1
 
--- the bytes are the lines of all ranges for which the tables of two runs give different answers. The tallies are those of the
--- old run and then of the new one; the status is theirs, but at least 1 if there is a line
-pub record IsDiffText (asked : DiffContents) (old new : RunContents) (bytes : List ℕ) (given : RunSummary) : Type 0 where
+-- the ranges for which the tables of two runs give different answers are printed in this way. The tallies are those of the old
+-- run and then of the new one; the status is theirs, but at least 1 if there is a range
+pub record IsComparison (asked : DiffContents) (old new : RunContents) (ArePrinted : List Difference → Type 0) (given : RunSummary) : Type 0 where
   pub old_table : List Route
   pub new_table : List Route
   pub old_tallies : List RejectedInput
@@ -31,5 +33,19 @@ pub record IsDiffText (asked : DiffContents) (old new : RunContents) (bytes : Li
   pub tallied : given.tallies.items ≡ old_tallies ++ new_tallies
   pub list : List Difference
   pub differences : AreDifferences asked.by (own_numbers old_table) (renumbered_new asked new_table) list
-  pub printed : bytes ≡ differences_as asked list
+  pub printed : ArePrinted list
   pub is_status : given.status ≡ max (differ_status list) (tallies_status given.tallies.items)
+
+-- the bytes are the lines of these ranges
+abbrev pub IsDiffText : DiffContents → RunContents → RunContents → List ℕ → RunSummary → Type 0
+IsDiffText asked old new bytes given = IsComparison asked old new (λ list. bytes ≡ differences_as asked list) given
+
+-- the bytes are the lines of the counts of these ranges
+pub record TellsCounts (asked : DiffContents) (list : List Difference) (bytes : List ℕ) : Type 0 where
+  pub counts : List ChangeCount
+  pub counted : AreChangeCounts list counts
+  pub printed : bytes ≡ change_counts_as asked counts
+
+-- the bytes are the numbers of these ranges
+abbrev pub IsCountText : DiffContents → RunContents → RunContents → List ℕ → RunSummary → Type 0
+IsCountText asked old new bytes given = IsComparison asked old new (λ list. TellsCounts asked list bytes) given

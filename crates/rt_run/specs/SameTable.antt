@@ -27,7 +27,7 @@ use Rattle.rt_diff.specs.declared.comparison.Difference.{Difference}
 use Rattle.rt_diff.specs.Answers.{own_numbers}
 use Rattle.rt_diff.specs.Differences.{AreDifferences}
 use Rattle.rt_print.specs.DifferenceText.{DiffContents, differences_as}
-use Rattle.rt_run.specs.DiffText.{renumbered_new, IsDiffText}
+use Rattle.rt_run.specs.DiffText.{renumbered_new, TellsCounts, IsDiffText, IsCountText}
 
 -- the set that the feed's commands leave by themselves, whatever their outcomes, with at most `limit` routes
 unfoldable pub table_alone : ℕ → ℕ → List (Cmd × Outcome) → List Route
@@ -152,21 +152,27 @@ ShowsRest =
     → AreWithout is_left_out all asked.texts → IsUnion all asked.limit union → IsQueryOutput asked text_of bytes tallies → NoneRefused tallies
     → bytes ≡ text_of (filter (λ r. not (is_left_out r.feed)) union)
 
--- the bytes are the lines of all ranges for which the unions of the old and of the new texts give different answers
-pub record TellsUnions (asked : DiffContents) (old new : RunContents) (bytes : List ℕ) : Type 0 where
+-- the ranges for which the unions of the old and of the new texts give different answers are printed in this way
+pub record TellsUnions (asked : DiffContents) (old new : RunContents) (ArePrinted : List Difference → Type 0) : Type 0 where
   pub old_union : List Route
   pub new_union : List Route
   pub of_old : IsUnion old.texts old.limit old_union
   pub of_new : IsUnion new.texts new.limit new_union
   pub list : List Difference
   pub differences : AreDifferences asked.by (own_numbers old_union) (renumbered_new asked new_union) list
-  pub printed : bytes ≡ differences_as asked list
+  pub printed : ArePrinted list
 
--- this holds if no command ran out of memory
+-- this holds of a comparison if no command ran out of memory
 abbrev pub DiffsUnions : Type 0
 DiffsUnions =
     (asked : DiffContents) (old new : RunContents) (bytes : List ℕ) (given : RunSummary)
-    → IsDiffText asked old new bytes given → NoneRefused given.tallies.items → TellsUnions asked old new bytes
+    → IsDiffText asked old new bytes given → NoneRefused given.tallies.items → TellsUnions asked old new (λ list. bytes ≡ differences_as asked list)
+
+-- and of a comparison that writes the counts
+abbrev pub CountsUnions : Type 0
+CountsUnions =
+    (asked : DiffContents) (old new : RunContents) (bytes : List ℕ) (given : RunSummary)
+    → IsCountText asked old new bytes given → NoneRefused given.tallies.items → TellsUnions asked old new (λ list. TellsCounts asked list bytes)
 
 -- if no command ran out of memory, two comparisons of the same texts and limits, on the same terms, write the same bytes,
 -- with the same statuses and tallies, for any batches and any interleaving of the threads
@@ -174,5 +180,13 @@ abbrev pub DiffOnce : Type 0
 DiffOnce =
     (asked : DiffContents) (old old' new new' : RunContents) (bytes bytes' : List ℕ) (given given' : RunSummary)
     → HaveSameInput old old' → HaveSameInput new new' → IsDiffText asked old new bytes given → IsDiffText asked old' new' bytes' given'
+    → NoneRefused given.tallies.items → NoneRefused given'.tallies.items
+    → (bytes ≡ bytes') × (given.status ≡ given'.status) × (given.tallies.items ≡ given'.tallies.items)
+
+-- and so do two comparisons that write the counts
+abbrev pub CountOnce : Type 0
+CountOnce =
+    (asked : DiffContents) (old old' new new' : RunContents) (bytes bytes' : List ℕ) (given given' : RunSummary)
+    → HaveSameInput old old' → HaveSameInput new new' → IsCountText asked old new bytes given → IsCountText asked old' new' bytes' given'
     → NoneRefused given.tallies.items → NoneRefused given'.tallies.items
     → (bytes ≡ bytes') × (given.status ≡ given'.status) × (given.tallies.items ≡ given'.tallies.items)

@@ -2,10 +2,11 @@
 //! its clauses known and does nothing. Each law but `one` of [`union`] and `loses` of [`left_out`] holds if no command was
 //! refused, that is, if memory ran out for none. Two runs may have different batches.
 ghost use Rattle.rt_run.specs.SameTable.{LeavesUnion, AnswersAlone, HaveSameTallies, HaveOneUnion, EndsInUnion, EndInOneTable, HaveSameLines};
-ghost use Rattle.rt_run.specs.SameTable.{ShowsUnion, ShowOneTable, AnswerOnce, LosesLeftOut, ShowsRest, DiffsUnions, DiffOnce};
+ghost use Rattle.rt_run.specs.SameTable.{ShowsUnion, ShowOneTable, AnswerOnce, LosesLeftOut, ShowsRest, DiffsUnions, CountsUnions, DiffOnce, CountOnce};
 
 use rt_diff::laws::one_list;
 use rt_feed::laws::{one_address_text, one_reading};
+use rt_print::laws::one_count_list;
 use rt_rib::laws::{feeds_are_independent, one_table_of_set, table_by_entry};
 use rt_shared::laws::visits;
 
@@ -73,12 +74,17 @@ pub fn left_out()
 }
 
 /// - `differs`: `diff_texts` writes the differences between the union of the old texts and the union of the new texts;
-/// - `same`: two comparisons of the same texts and limits, with the same options, write the same bytes and return the same
-///   statuses and tallies.
+/// - `counts`: `count_diff_texts` writes the numbers of these differences;
+/// - `same`: two comparisons by `diff_texts` of the same texts and limits, with the same options, write the same bytes and
+///   return the same statuses and tallies;
+/// - `same_counts`: and so do two by `count_diff_texts`.
 pub fn comparison_output()
     ensures differs { DiffsUnions }
+    ensures counts { CountsUnions }
     ensures same { DiffOnce }
+    ensures same_counts { CountOnce }
 {
     union();
     one_list();
+    one_count_list();
 }

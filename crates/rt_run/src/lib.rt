@@ -8,6 +8,7 @@
 //!   [`Question`] about the final table: the best route of each address, all routes that cover it, the selected routes, or
 //!   their number. It returns a tally of the rejected input of each text.
 //! - [`diff_texts`] executes two sets of texts this way. It writes the addresses for which their final tables differ.
+//! - [`count_diff_texts`] writes the number of these ranges and of their addresses instead.
 //! - A [`ChosenTexts`] leaves some feeds out of a query or of a side of a comparison.
 //! - [`replay_text`] writes the atomic steps of a schedule of the lock. Each step has one line.
 //! - `laws` says what holds for every run and every interleaving of its threads.
@@ -37,7 +38,7 @@ mod tallies;
 mod turns;
 
 pub use chosen::{ChosenTexts, FeedChoice};
-pub use comparisons::diff_texts;
+pub use comparisons::{count_diff_texts, diff_texts};
 pub use faults::AppFault;
 pub use queries::show;
 pub use question::Question;

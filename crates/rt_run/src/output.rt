@@ -1,13 +1,14 @@
 //! Output: the parts of a run's text, the answers to questions, and the differences between two tables. Each part goes to
 //! any writer; `write_through` writes an output through one buffer.
-ghost use Rattle.std.specs.Prelude.{◌≡◌, ◌==◌, ◌++◌, [], ◌≤◌, ℕ, List, Option, length, IfSome, IfErr};
+ghost use Rattle.std.specs.Prelude.{◌≡◌, ◌==◌, ◌++◌, [], ◌≤◌, ℕ, List, Option, length, IfSome, IfOk, IfErr};
 ghost use Rattle.std.specs.Fn.{FnOnceReturnsAtMut};
 ghost use Rattle.rt_cidr.specs.Output.{WritesText};
 ghost use Rattle.rt_print.specs.Buffer.{buffered};
 ghost use Rattle.rt_rib.specs.declared.limits.TheConstants.{MAX_FEEDS};
+ghost use Rattle.rt_print.specs.ChangeCounts.{change_counts_as};
 ghost use Rattle.rt_print.specs.Routes.{table_text};
 ghost use Rattle.rt_run.specs.RunText.{reports_text};
-ghost use Rattle.rt_run.specs.inside.Outputs.{found_text, matches_text, with_invalid, Writes, IsFirstFrom, lines_of};
+ghost use Rattle.rt_run.specs.inside.Outputs.{found_text, matches_text, with_invalid, Writes, IsFirstFrom, list_of, lines_of, AreSomeCounts};
 
 use crate::faults::AppFault;
 use crate::forwarding::look_up_by;
@@ -16,11 +17,11 @@ use rt_diff::Difference;
 use rt_feed::{InvalidLine, Report, write_report};
 use rt_fib::Fib;
 use rt_print::{
-    DiffOptions, OutputBuffer, OutputRoom, Style, write_all_matches, write_difference,
-    write_invalid_line, write_lookup, write_table,
+    ChangeCount, DiffOptions, OutputBuffer, OutputRoom, Style, write_all_matches,
+    write_change_counts, write_difference, write_invalid_line, write_lookup, write_table,
 };
 use rt_rib::{Route, Table};
-use std::alloc::Global;
+use std::alloc::{AllocError, Global};
 use std::io::{self, Write};
 
 /// The number of addresses that are looked up together.
@@ -209,4 +210,35 @@ pub(crate) fn write_differences<'a, W: Write>(
         next = tables.difference_after(difference.last);
     }
     Ok(())
+}
+
+/// Returns the differences between two tables, in ascending order.
+pub(crate) fn differences_of<'a>(
+    alloc: Global,
+    options: &'a DiffOptions,
+    old: &'a Table<Global>,
+    new: &'a Table<Global>,
+) -> Result<Vec<Difference>, AllocError>
+    ensures { IfOk result (λ list. list.items ≡ list_of options.now old.now.routes new.now.routes) }
+{
+    let mut tables = options.comparison(old, new);
+    let mut next = tables.first_difference(Addr(0));
+    let mut list = Vec::new(alloc);
+    while let Some(difference) = next {
+        list.push(difference)?;
+        next = tables.difference_after(difference.last);
+    }
+    Ok(list)
+}
+
+/// Writes the numbers of differences, by these counts.
+pub(crate) fn write_numbers<W: Write>(
+    w: &mut W,
+    options: &DiffOptions,
+    counts: &[ChangeCount],
+) -> Result<(), io::Error>
+    requires { AreSomeCounts counts.now }
+    ensures { WritesText (W.contents w.old) (W.contents w.new) (change_counts_as options.now counts.now) result }
+{
+    write_change_counts(w, options, counts)
 }

@@ -5,14 +5,14 @@ use super::queries::asked_of;
 use super::styles::{check_sides, diff_options};
 use super::warnings::report_each;
 use super::{Program, ProgramError};
-use command_line::DiffRequest;
-use rt_run::diff_texts;
+use command_line::{DiffRequest, DifferenceOutput};
+use rt_run::{count_diff_texts, diff_texts};
 use std::io::Write;
 use std::rt::Files;
 use std::sync::Wait;
 
 impl<R: Files + Wait + AllocGlobal, O: Write, E: Write> Program<'_, R, O, E> {
-    /// Writes the ranges of addresses for which the tables of the old and the new files differ. Reports rejected input, and
+    /// Writes the ranges of addresses for which the tables of the old and the new files differ, or their numbers. Reports rejected input, and
     /// returns the exit status.
     pub(super) fn compare<'w>(
         &mut self,
@@ -29,7 +29,14 @@ impl<R: Files + Wait + AllocGlobal, O: Write, E: Write> Program<'_, R, O, E> {
         let mut out = self
             .screen
             .beside(old_asked.count() + new_asked.count(), self.out);
-        let summary = diff_texts(self.alloc, &old_asked, &new_asked, &options, &mut out)?;
+        let summary = match request.output {
+            DifferenceOutput::Counts => {
+                count_diff_texts(self.alloc, &old_asked, &new_asked, &options, &mut out)?
+            }
+            DifferenceOutput::Ranges | DifferenceOutput::Prefixes => {
+                diff_texts(self.alloc, &old_asked, &new_asked, &options, &mut out)?
+            }
+        };
         let (old_files, tallies) = (request.run.files, summary.tallies.as_slice());
         let (old_tallies, new_tallies) = tallies.split_at(old_files.len().min(tallies.len()));
         let (old_texts, new_texts) = (old_texts.as_slice(), new_texts.as_slice());

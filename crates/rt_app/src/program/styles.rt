@@ -2,7 +2,7 @@
 
 use super::ProgramError;
 use super::feed_choice::FeedFiles;
-use command_line::{ComparedBy, DiffRequest};
+use command_line::{ComparedBy, DiffRequest, DifferenceOutput};
 use rt_diff::CompareBy;
 use rt_print::{DiffOptions, DiffOutput, Format, Style};
 use std::alloc::Global;
@@ -43,10 +43,9 @@ pub(super) fn diff_options<'w>(
         ComparedBy::Hop => CompareBy::Hop,
         ComparedBy::Route => CompareBy::Route,
     };
-    let output = if request.prefixes {
-        DiffOutput::Prefixes
-    } else {
-        DiffOutput::Ranges
+    let output = match request.output {
+        DifferenceOutput::Prefixes => DiffOutput::Prefixes,
+        DifferenceOutput::Ranges | DifferenceOutput::Counts => DiffOutput::Ranges,
     };
     let format = format_of(request.names, request.json);
     Ok(DiffOptions::new(alloc, by, output, format, old.names, new.names)?)

@@ -1,7 +1,7 @@
 -- The effect of an output on its writer, the answers for addresses with invalid lines between them, and the output of a
 -- comparison of two tables.
-use Rattle.std.specs.Prelude.{◌≡◌, ℕ, Bool, true, false, List, [], ◌∷◌, Option, Result, Ok, Err, ◌++◌, ◌-◌, ◌^◌, Some, None, map, take, drop}
-use Rattle.std.specs.List.{flat_map}
+use Rattle.std.specs.Prelude.{◌≡◌, ℕ, Bool, List, [], ◌∷◌, Option, Result, Ok, Err, ◌++◌, ◌-◌, ◌^◌, ◌≤◌, Some, None, map, take, drop}
+use Rattle.std.specs.List.{flat_map, All, sum_by}
 use Rattle.std.specs.Io.KnownBytes.{Appends}
 use Rattle.rt_cidr.specs.Output.{AppendsBeginning}
 use Rattle.rt_feed.specs.declared.addresses.InvalidLine.{InvalidLine}
@@ -19,6 +19,8 @@ use Rattle.rt_diff.specs.Answers.{own_numbers}
 use Rattle.rt_diff.specs.Differences.{IsFirstDifference}
 use Rattle.rt_diff.specs.inside.Rest.{AreRest}
 use Rattle.rt_diff.proofs.Promised.{differences_of}
+use Rattle.rt_print.specs.declared.change_counts.ChangeCount.{ChangeCount}
+use Rattle.rt_print.specs.ChangeCounts.{range_size, AreChangeCounts}
 use Rattle.rt_print.specs.DifferenceText.{DiffContents, differences_as}
 use Rattle.rt_run.specs.DiffText.{renumbered_new}
 
@@ -56,14 +58,24 @@ Writes text given old new (Err Write) = AppendsBeginning old new text
 abbrev pub IsFirstFrom : DiffContents → List Route → List Route → Addr → Option Difference → Type 0
 IsFirstFrom asked old new from first = IsFirstDifference asked.by (own_numbers old) (renumbered_new asked new) from first
 
--- the lines of all differences of the two tables
+-- all differences of the two tables, and their lines
+abbrev pub list_of : DiffContents → List Route → List Route → List Difference
+list_of asked old new = differences_of asked.by (own_numbers old) (renumbered_new asked new)
+
 abbrev pub lines_of : DiffContents → List Route → List Route → List ℕ
-lines_of asked old new = differences_as asked (differences_of asked.by (own_numbers old) (renumbered_new asked new))
+lines_of asked old new = differences_as asked (list_of asked old new)
 
 -- the number of addresses from the range on
 abbrev pub addresses_from : Option Difference → ℕ
 addresses_from None = 0
 addresses_from (Some d) = 2 ^ 32 - d.first.0
+
+-- this is the next difference, and the differences from it on follow this list
+pub record IsListedSoFar (asked : DiffContents) (old new : List Route) (next : Option Difference) (list : List Difference) : Type 0 where
+  pub from : Addr
+  pub first : IsFirstFrom asked old new from next
+  pub whole : (rest : List Difference) → AreRest asked.by (own_numbers old) (renumbered_new asked new) from.0 rest
+      → list_of asked old new ≡ list ++ rest
 
 -- this is the next difference, and the lines of the differences from it on follow this text
 pub record IsSoFar (asked : DiffContents) (old new : List Route) (next : Option Difference) (text : List ℕ) : Type 0 where
@@ -71,3 +83,10 @@ pub record IsSoFar (asked : DiffContents) (old new : List Route) (next : Option 
   pub first : IsFirstFrom asked old new from next
   pub whole : (rest : List Difference) → AreRest asked.by (own_numbers old) (renumbered_new asked new) from.0 rest
       → lines_of asked old new ≡ text ++ differences_as asked rest
+
+-- the counts of some ranges, which have at most all addresses
+pub record AreSomeCounts (counts : List ChangeCount) : Type 0 where
+  pub list : List Difference
+  pub counted : AreChangeCounts list counts
+  pub some : All (λ (d : Difference). d.first.0 ≤ d.last.0) list
+  pub fits : sum_by range_size list ≤ 2 ^ 32

@@ -1,16 +1,14 @@
-use Rattle.std.proofs.Common.{[], ◌++◌, ◌+◌, ◌^◌, ◌<◌, ◌≤◌, ◌∙◌, List, Option, None, Some, subst, arith}
+use Rattle.std.proofs.Common.{[], ◌++◌, ◌+◌, ◌∙◌, subst}
 use Rattle.std.specs.Io.KnownBytes.{Appends}
 use Rattle.std.proofs.KnownBytes.{Appends-nil}
 use Rattle.rt_cidr.proofs.Promised.{appends_after}
 use Rattle.rt_print.proofs.Promised.{breaks_off}
-use Rattle.rt_print.specs.DifferenceText.{DiffContents, difference_as}
-use Rattle.rt_rib.specs.declared.routes.Route.{Route}
-use Rattle.rt_diff.specs.declared.comparison.Difference.{Difference}
+use Rattle.rt_print.specs.DifferenceText.{difference_as}
 use Rattle.rt_diff.specs.Differences.{IsFirstDifference}
-use Rattle.rt_run.specs.inside.Outputs.{IsFirstFrom, addresses_from}
+use Rattle.rt_run.specs.inside.Outputs.{IsFirstFrom}
 use Rattle.rt_run.proofs.output.write_differences.Given.{Over}
 use Rattle.rt_run.proofs.output.write_differences.Goals.{After-difference_after-next}
-use Rattle.rt_run.proofs.Comparing.{none_so_far, none_left, one_more, all_so_far, stops_there}
+use Rattle.rt_run.proofs.Comparing.{none_so_far, none_left, one_more, all_so_far, stops_there, fewer}
 use Rattle.rt_run.proofs.output.write_differences.Goals as goal
 
 pub loop-next-init : goal.loop-next-init
@@ -49,12 +47,6 @@ loop-next-preserved g c =
       far = one_more c.args.options.now c.args.old.now.routes c.args.new.now.routes c.loop-next.invariant.text c.in-Some.difference
           c.difference_after-next.result (rw c.in-Some.is at far) behind;
     }
-
--- fewer addresses are left after a range
-fewer : (asked : DiffContents) (old new : List Route) (d : Difference) (next : Option Difference) → d.first.0 ≤ d.last.0 → d.last.0 < 2 ^ 32
-    → IsFirstFrom asked old new (record { 0 = d.last.0 + 1 }) next → addresses_from next < addresses_from (Some d)
-fewer asked old new d None some fits first = omega arith
-fewer asked old new d (Some e) some fits first = omega (arith, first.onward)
 
 pub loop-next-smaller : goal.loop-next-smaller
 loop-next-smaller g c =
