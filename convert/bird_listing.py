@@ -29,6 +29,8 @@ USUAL = re.compile(
     r"\n\tBGP\.as_path: ([^\n]*)(\n\tBGP\.next_hop: [^\n]*)(?:\n\tBGP\.med: (\d+))?(\n\tBGP\.local_pref: \d+)"
     r"(?:\n\tBGP\.(?!origin|as_path|next_hop|med|local_pref|cluster_list|aigp)[^\n]*)*"
 )
+# A route as most are in a listing without attributes: the same parts, and its next hop.
+PLAIN = re.compile(r"(\S*) +(\w+ \[\S+) [^]\n]*(\][^][\n]*)(?: \[[^][\n]*\])?(\n\tvia [^\n]*)")
 VIA = re.compile(r"\tvia (\S+) on (\S+).*")
 # the weight of one of several next hops
 WEIGHT = re.compile(r" weight (\d+)(?: |$)")
@@ -210,15 +212,19 @@ def parts_of(entry):
 def listed_of(entry):
     """The prefix of an entry, and its route with the entry itself, the AS path, and the text of MED; the last two are None if
     they are still to be read. None for both if it isn't a route to a prefix."""
-    match = USUAL.fullmatch(entry) if PATH_OF_BIRD_2 in entry else None
-    if match:
-        prefix, head, first, lines, path, hop, med, local_pref = match.groups()
-        try:
+    try:
+        if PATH_OF_BIRD_2 not in entry:
+            if match := PLAIN.fullmatch(entry):
+                prefix, head, first, hop = match.groups()
+                if route := known_route(head, first + hop):
+                    return prefix, (route, entry, None, None)
+        elif match := USUAL.fullmatch(entry):
+            prefix, head, first, lines, path, hop, med, local_pref = match.groups()
             if route := known_route(head, f"{first}{lines}{hop}{local_pref}"):
                 return prefix, (route, entry, path, med or "0")
-        except ValueError:
-            # found again below, with its line
-            pass
+    except ValueError:
+        # found again below, with its line
+        pass
     prefix, route = route_of(entry)
     return prefix, route and (route, entry, None, None)
 
