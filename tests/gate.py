@@ -68,7 +68,11 @@ esac
 """
 RT = """#!/usr/bin/env bash
 echo "rt $*" >>"$NOTES"
-case $1 in version) echo "stand-in-1 logic 0123456789abcdef"; exit ;; esac
+case $1 in
+  version) echo "stand-in-1 logic 0123456789abcdef"; exit ;;
+  --help) case " $BREAKS " in *" rt=plain "*) echo "  rt ci    proves all" ;; *) echo "  rt ci [--anew]    proves all" ;; esac; exit 2 ;;
+esac
+case " $BREAKS $*" in *" rt=plain ci "?*) echo "usage: rt ci"; exit 2 ;; esac
 echo "rt: rt_diff is kept: it was proved here"
 echo "rt: rt_fib proved"
 mkdir -p crates/rt_app/out && echo >crates/rt_app/out/rt_app
@@ -238,6 +242,9 @@ def continuous_integration(new):
         expect(f".ci/run {words}", (status, lines[-1].endswith(", 0 failed")), (0, True))
         called = [line for line in noted.splitlines() if line.startswith("rt ci")]
         expect(f".ci/run {words} has proofs made so", called, [" ".join(["rt ci", *words])])
+    # A toolchain that keeps nothing.
+    status, lines, noted = new().test("--anew", breaks="rt=plain")
+    expect("a toolchain whose `rt ci` takes no option", (status, "rt ci\n" in noted), (0, True))
     expect(".ci/run names its option", "--anew" in (TOP / ".ci/run").read_text(), True)
 
 
