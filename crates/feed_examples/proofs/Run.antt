@@ -973,7 +973,7 @@ abbrev the_tutorials_table : LockId → SharedId
 the_tutorials_table lock = record { lock = lock; limit = 65536; feeds = 4 }
 
 abbrev pass_after : LockId → ℕ → ℕ → HeldPass
-pass_after lock feed count = record { table = the_tutorials_table lock; feed = feed; seen = take count tutorial }
+pass_after lock feed count = record { table = the_tutorials_table lock; feed = feed; seen = take count tutorial; room = 0 }
 
 seen_by : (lock : LockId) (feed count : ℕ) → tutorial ≡ take count tutorial ++ drop count tutorial
     → list_all (λ e. if e.feed == feed then false else true) (drop count tutorial) ≡ true → Since feed (pass_after lock feed count).seen tutorial
@@ -997,8 +997,8 @@ the_passes_of_the_tutorial_settle lock = record {
 
 not_if_a_pass_has_missed_an_entry_of_its_feed :
     (lock : LockId) (journal : List Entry) (e : Entry) → e.feed ≡ 1
-    → ¬ Settles (the_tutorials_table lock) (record { table = the_tutorials_table lock; feed = 1; seen = [] } ∷ []) (e ∷ journal)
+    → ¬ Settles (the_tutorials_table lock) (record { table = the_tutorials_table lock; feed = 1; seen = []; room = 0 } ∷ []) (e ∷ journal)
 not_if_a_pass_has_missed_an_entry_of_its_feed lock journal e own h =
-    let since = h.since 0 (record { table = the_tutorials_table lock; feed = 1; seen = [] }) (omega arith) in
+    let since = h.since 0 (record { table = the_tutorials_table lock; feed = 1; seen = []; room = 0 }) (omega arith) in
     let same : since.others ≡ e ∷ journal = sym since.grown in
     since.by_others 0 e (rw same (omega arith)) (rw same refl ∙ own)

@@ -109,7 +109,7 @@ one_between h = no_piece h.0 h.1 h.2 h.3
 
 -- HeldPass
 its_table_its_feed_and_what_it_saw : (table : SharedId) → (p : HeldPass) × (p.table ≡ table) × (p.feed ≡ 2) × (p.seen ≡ dump 1 ∷ [])
-its_table_its_feed_and_what_it_saw table = (record { table = table; feed = 2; seen = dump 1 ∷ [] }, refl, refl, refl)
+its_table_its_feed_and_what_it_saw table = (record { table = table; feed = 2; seen = dump 1 ∷ []; room = 0 }, refl, refl, refl)
 
 -- feed_of
 the_first_place_is_feed_1s : feed_of 0 ≡ 1

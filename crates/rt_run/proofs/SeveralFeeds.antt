@@ -90,7 +90,7 @@ module _ {V : Type 0} (items : V → List ℕ) (texts : List V) (table : SharedI
     (fresh : All (λ (p : HeldPass). p.seen ≡ []) passes) (feeds feeds' : List (Feed HeldPass)) (were : WereRun items texts batch passes feeds feeds') where
   -- a pass and a feed for positions outside of the lists
   abbrev no_pass : HeldPass
-  no_pass = record { table = table; feed = 0; seen = [] }
+  no_pass = record { table = table; feed = 0; seen = []; room = 0 }
 
   abbrev open_feed : HeldPass → Feed HeldPass
   open_feed p = record { gate = p; report = None }
