@@ -248,24 +248,24 @@ abbrev counts_text : StyleContents → Selection → List ℕ → List Route →
 counts_text style selection feeds table = question_text style (ask.Counts selection (record { ref_ptr = (0, 0); now = feeds })) [] table
 
 -- question_text
-all_of_them : routes_text plain (record { part = part.All; only_best = false; feed = None }) [] two_to_ten_8 ≡ codes "10.0.0.0/8 feed 2 pref 30 via discard\n10.0.0.0/8 feed 1 pref 50 via discard\n"
+all_of_them : routes_text plain (record { part = part.All; only_best = false; feed = None; hop = None }) [] two_to_ten_8 ≡ codes "10.0.0.0/8 feed 2 pref 30 via discard\n10.0.0.0/8 feed 1 pref 50 via discard\n"
 unfolding digits address_text prefix_text row_as
 all_of_them = refl
 
-only_the_best : routes_text plain (record { part = part.All; only_best = true; feed = None }) [] two_to_ten_8 ≡ codes "10.0.0.0/8 feed 2 pref 30 via discard\n"
+only_the_best : routes_text plain (record { part = part.All; only_best = true; feed = None; hop = None }) [] two_to_ten_8 ≡ codes "10.0.0.0/8 feed 2 pref 30 via discard\n"
 unfolding digits address_text prefix_text row_as
 only_the_best = refl
 
-only_a_feeds : routes_text plain (record { part = part.Exact ten_8; only_best = false; feed = Some 1 }) [] two_to_ten_8 ≡ codes "10.0.0.0/8 feed 1 pref 50 via discard\n"
+only_a_feeds : routes_text plain (record { part = part.Exact ten_8; only_best = false; feed = Some 1; hop = None }) [] two_to_ten_8 ≡ codes "10.0.0.0/8 feed 1 pref 50 via discard\n"
 unfolding digits address_text prefix_text row_as
 only_a_feeds = refl
 
 only_those_of_the_feeds_that_are_best :
-    routes_text plain (record { part = part.All; only_best = true; feed = None }) (1 ∷ 2 ∷ []) two_to_ten_8 ≡ codes "10.0.0.0/8 feed 2 pref 30 via discard\n"
+    routes_text plain (record { part = part.All; only_best = true; feed = None; hop = None }) (1 ∷ 2 ∷ []) two_to_ten_8 ≡ codes "10.0.0.0/8 feed 2 pref 30 via discard\n"
 unfolding digits address_text prefix_text row_as
 only_those_of_the_feeds_that_are_best = refl
 
-none_if_the_best_is_anothers : routes_text plain (record { part = part.All; only_best = true; feed = None }) (1 ∷ []) two_to_ten_8 ≡ []
+none_if_the_best_is_anothers : routes_text plain (record { part = part.All; only_best = true; feed = None; hop = None }) (1 ∷ []) two_to_ten_8 ≡ []
 none_if_the_best_is_anothers = refl
 
 -- routes_of_selected
@@ -275,12 +275,12 @@ of_two_of_three_feeds :
 of_two_of_three_feeds = refl
 
 -- question_text
-all_in_numbers : counts_text plain (record { part = part.All; only_best = false; feed = None }) [] two_to_ten_8
+all_in_numbers : counts_text plain (record { part = part.All; only_best = false; feed = None; hop = None }) [] two_to_ten_8
     ≡ codes "routes 2 prefixes 1\nfeed 1 routes 1\nfeed 2 routes 1\nlength 8 routes 2\n"
 unfolding counts_as totals_as count_as digits
 all_in_numbers = refl
 
-only_the_best_in_numbers : counts_text plain (record { part = part.All; only_best = true; feed = None }) [] two_to_ten_8
+only_the_best_in_numbers : counts_text plain (record { part = part.All; only_best = true; feed = None; hop = None }) [] two_to_ten_8
     ≡ codes "routes 1 prefixes 1\nfeed 2 routes 1\nlength 8 routes 1\n"
 unfolding counts_as totals_as count_as digits
 only_the_best_in_numbers = refl
@@ -781,13 +781,13 @@ all_of_one_and_a_text = ask.All (record { ref_ptr = (0, 0); now = at_10_9_0_1 �
 
 -- every route of the table, and their number
 abbrev every_route : Question
-every_route = ask.Routes (record { part = part.All; only_best = false; feed = None }) (record { ref_ptr = (0, 0); now = [] })
+every_route = ask.Routes (record { part = part.All; only_best = false; feed = None; hop = None }) (record { ref_ptr = (0, 0); now = [] })
 
 abbrev every_route_and_the_number : Question
-every_route_and_the_number = ask.RoutesAndTotal (record { part = part.All; only_best = false; feed = None }) (record { ref_ptr = (0, 0); now = [] })
+every_route_and_the_number = ask.RoutesAndTotal (record { part = part.All; only_best = false; feed = None; hop = None }) (record { ref_ptr = (0, 0); now = [] })
 
 abbrev the_number_of_all : Question
-the_number_of_all = ask.Counts (record { part = part.All; only_best = false; feed = None }) (record { ref_ptr = (0, 0); now = [] })
+the_number_of_all = ask.Counts (record { part = part.All; only_best = false; feed = None; hop = None }) (record { ref_ptr = (0, 0); now = [] })
 
 -- named_in
 only_look_ups_have_addresses :
