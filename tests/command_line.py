@@ -933,7 +933,7 @@ def counted_differences(yarib):
             status, lines, _ = yarib("diff", *more, *old, "--", *new)
             for json_too in (False, True):
                 words = [*more, *["--json"] * json_too, *old, "--", *new]
-                compare(f"counts of {more} {number}", yarib("diff", "--count", *words), status, counted(lines, json_too))
+                compare(f"counts of {more} {number}", yarib("diff", "--count", *words), status, counts_of_changes(lines, json_too))
     pathlib.Path("halves.feed").write_text("add 0.0.0.0/1 1 192.0.2.1\nadd 128.0.0.0/1 1 192.0.2.2\n")
     pathlib.Path("discards.feed").write_text("version 2\nadd 0.0.0.0/0 1 discard\n")
     compare("every address", yarib("diff", "--count", "halves.feed", "--", "discards.feed"), 1, """\
@@ -958,7 +958,7 @@ KINDS = ("another next hop", "gets a route", "loses its route", "is discarded", 
          "the same next hop by another route")
 
 
-def counted(lines, as_json):
+def counts_of_changes(lines, as_json):
     """The counts of the ranges in the lines of a comparison, as lines or as JSON objects."""
     kinds, pairs = {}, {}
     for line in lines.splitlines():
