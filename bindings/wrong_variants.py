@@ -194,8 +194,8 @@ GO = {name: ("yarib.go", *texts) for name, texts in {
         "C.yarib_concurrent_look_up_all(one.concurrent(), address, 0, &room[0], C.size_t(len(room)), total))",
         "C.yarib_concurrent_look_up_all(one.concurrent(), address, 0, &room[0], C.size_t(len(room)), total)) + "
         "uint32(copy(room[1:], make([]C.yarib_route, len(room)-1))*0)"),
-    "nothing is freed by Close": ("\tC.yarib_free(&one.inside)\n", "\tone.inside.inside = nil\n"),
-    "a concurrent table isn't freed": ("\t\tC.yarib_concurrent_free(one.concurrent())\n", "\t\tone.inside.inside = nil\n"),
+    "nothing is freed by Close": ("\treturn failed(uint32(C.yarib_free(&one.inside)))\n", "\tone.inside.inside = nil\n\treturn nil\n"),
+    "a concurrent table isn't freed": ("\t\treturn failed(uint32(C.yarib_concurrent_free(one.concurrent())))\n", "\t\tone.inside.inside = nil\n\t\treturn nil\n"),
     "nothing is freed by the collector": ("runtime.SetFinalizer(one, (*handle).free)", "runtime.KeepAlive(one)"),
     "a zero table panics": ("\tif one == nil {\n\t\treturn ErrClosed\n\t}\n\tif one.isConcurrent {", "\tif one.isConcurrent {"),
     "lists are cut at 64": ("\treturn routesOf(room[:total]), nil\n",
