@@ -286,11 +286,24 @@ def chapter(one, written):
     return out + definitions_of(speakers, written, BRIEF)
 
 
+def lines_in_all(one):
+    """How many lines a chapter's clauses and ties rest on, wherever they are printed, and those of the toolchain."""
+    speakers = [*map(Clause, one.clauses), *(Tie(**tie) for tie in one.ties)]
+    rest, _, _ = in_order(speakers, (), BRIEF)
+    of_toolchain = [part for said in one.kit for parts in kit_parts(**said) for part in parts]
+    return sum(1 if part.key in BRIEF else part.count() for part in rest) + sum(part.count() for part in of_toolchain)
+
+
+def kit_parts(types, definitions, **_):
+    """The types and the definitions that a chapter takes from the toolchain: tables of files with names of each."""
+    return ([one for file, names in types.items() for one in kit_types(file, names)],
+            [one for file, names in definitions.items() for one in kit_definitions(file, names)])
+
+
 def of_kit(said, types, functions, definitions, written):
     """What the toolchain says of a chapter: its types and the contracts of its functions, and the definitions in these.
     Each table is of files, with the names that are taken of each."""
-    kinds = [one for file, names in types.items() for one in kit_types(file, names)]
-    terms = [one for file, names in definitions.items() for one in kit_definitions(file, names)]
+    kinds, terms = kit_parts(types, definitions)
     written.counts(len(kinds + terms), sum(one.count() for one in kinds + terms))
     calls = [call for file, names in functions.items() for call in kit_functions(file, names)]
     code = [*headings("//", kinds, shown_of_kit), "", *headings("//", calls, shown_function)]
@@ -350,7 +363,8 @@ def head_of(page, table, written):
         f"[{SIGNS['title']}]({SIGNS['file']}) explains the signs and the words of the kit. A definition is printed once, below "
         "all that use it; a line with its file's name is above it, or above others of that file. Proofs and the bodies of "
         "functions need not be read. `tools/statement --write` generates this page from the sources."), "",
-        "| Chapter | New definitions | Their lines |", "|---|---|---|", *table, ""]
+        "*Lines in all* counts what the chapter's clauses rest on, wherever it is printed.", "",
+        "| Chapter | New definitions | Their lines | Lines in all |", "|---|---|---|---|", *table, ""]
 
 
 def anchor(title):
@@ -364,7 +378,7 @@ def statement_page(page, written):
     for one in page.chapters:
         definitions, lines = written.definitions, written.lines
         body += chapter(one, written)
-        counts = f"{written.definitions - definitions} | {written.lines - lines}"
+        counts = f"{written.definitions - definitions} | {written.lines - lines} | {lines_in_all(one)}"
         table.append(f"| [{one.title}](#{anchor(one.title)}) | {counts} |")
     check_words(written)
     return page_text(head_of(page, table, written) + body)
@@ -380,21 +394,28 @@ def pages(written):
         yield page, statement_page(page, written), written.lines
 
 
-def figure(page):
-    """Matches the number of lines of a page in README.md."""
-    return re.compile(rf"\[(\d+)\slines\]\(docs/{re.escape(page.name)}\)")
+def figures(page, lines):
+    """The numbers of lines that README.md says of a page, each with the pattern of its link: the page's, and those of its
+    chapters in all, of which README.md names only some."""
+    link = r"\[(\d+){}\]\(docs/" + re.escape(page.name) + r"{}\)"
+    yield re.compile(link.format(r"\slines", "")), lines
+    for one in page.chapters:
+        yield re.compile(link.format("", "#" + anchor(one.title))), lines_in_all(one)
 
 
 def check():
-    """Ends with a fault if a page that is kept or its number of lines on the front page differs. Returns what the pages
-    have."""
+    """Ends with a fault if a page that is kept or a number of lines on the front page differs. Returns what the pages have."""
     readme, written = (TOP / "README.md").read_text(), Written()
     check_page(SIGNS["file"], signs_page())
     for page, text, lines in pages(written):
         check_page(page.name, text)
-        said = figure(page).search(readme)
-        if not said or int(said[1]) != lines:
+        (whole, lines), *chapters = figures(page, lines)
+        if not whole.search(readme):
             sys.exit(f"README.md: docs/{page.name} has {lines} lines of definitions")
+        for pattern, wanted in [(whole, lines), *chapters]:
+            for said in pattern.finditer(readme):
+                if int(said[1]) != wanted:
+                    sys.exit(f"README.md: {said[0]} has {wanted} lines of definitions")
     return written
 
 
@@ -409,7 +430,8 @@ def write():
     (TOP / "docs" / SIGNS["file"]).write_text(signs_page())
     for page, text, lines in pages(Written()):
         (TOP / "docs" / page.name).write_text(text)
-        readme.write_text(figure(page).sub(lambda old: old[0].replace(old[1], str(lines), 1), readme.read_text()))
+        for pattern, number in figures(page, lines):
+            readme.write_text(pattern.sub(lambda old: old[0].replace(old[1], str(number), 1), readme.read_text()))
         print(f"docs/{page.name}: {lines} lines")
 
 

@@ -83,6 +83,15 @@ def a_tie_that_is_gone(copy):
     copy.expect_check("a tie that is gone", 1, "for LockRule: no first")
 
 
+# Catches a front page that says another number of lines than a page or a chapter has.
+def another_number_of_lines(copy):
+    for link in ("lines](docs/STATEMENT-RUN.md)", "](docs/STATEMENT-LOCK.md#the-running-lock)"):
+        lines = re.search(r"(\d+)\s?" + re.escape(link), (copy.top / "README.md").read_text())[1]
+        copy.change("README.md", f"[{lines}", f"[9{lines}")
+        copy.expect_check(f"another number at {link}", 1, f"has {lines} lines of definitions")
+        copy.change("README.md", f"[9{lines}", f"[{lines}")
+
+
 # Catches a page that is refused because of where a definition is, not of what it says.
 def a_definition_that_moved(copy):
     text = (copy.top / LAWS).read_text()
@@ -92,7 +101,7 @@ def a_definition_that_moved(copy):
 
 CASES = (
     the_pages_as_they_are, a_weaker_law, a_law_on_no_page, a_definition_on_no_page, a_table_of_another_type,
-    a_tie_that_is_gone, a_definition_that_moved)
+    a_tie_that_is_gone, another_number_of_lines, a_definition_that_moved)
 
 
 def main():
