@@ -21,14 +21,18 @@ from common.checks import chosen, compiled, end, expect, run, run_each
 from common.table_model import dotted
 
 WORDS = 1000
+# A word's counts in tests/waits.c: its address, the counts of Waits, and its thread.
+COUNTS = struct.Struct("q4Qq")
 
 
 class Waits(NamedTuple):
-    """The waits of a word, a place's bell: short ones at the door, longer ones in the lock, and how often it rang."""
+    """The waits of a word, a place's bell: short ones at the door, longer ones in the lock, and how often it rang; and the
+    waits and wakes that are none of a place's at its own bell and of others."""
 
     naps: int
     sleeps: int
     wakes: int
+    strange: int
 
 
 class Ended(NamedTuple):
@@ -49,15 +53,18 @@ class Called:
 
     def call(self, *words, status=0, **more):
         with tempfile.TemporaryFile() as kept:
-            kept.truncate(16 + 32 * WORDS)
+            kept.truncate(16 + COUNTS.size * WORDS)
             names = {"LD_PRELOAD": str(self.counter), "COUNT_IN": str(kept.fileno())} | more
             ended = run([self.yarib, *words], stdout=subprocess.DEVNULL, env=names, pass_fds=[kept.fileno()])
             kept.seek(0)
             data = kept.read()
         expect(f"{words[:4]}: it ends", ended, (status, "", ""))
         first, last = struct.unpack_from("2Q", data)
-        rows = sorted(row for row in struct.iter_unpack("q3Q", data[16:]) if row[0])
-        return Ended([Waits(*row[1:]) for row in rows], first, last - first)
+        rows = sorted(row for row in COUNTS.iter_unpack(data[16:]) if row[0])
+        waits = [Waits(*row[1:-1]) for row in rows]
+        expect(f"{words[:4]}: waits at another bell, for another number, or wakes at the own bell",
+               sum(place.strange for place in waits), 0)
+        return Ended(waits, first, last - first)
 
     def dumps(self, files, lines):
         """A run of `files` files with `lines` `dump`s each, one command at a time."""
@@ -79,6 +86,19 @@ class Called:
 # Catches a place that naps although nobody else is there: `one file waits for nobody`.
 def one_file(called):
     expect("one file waits for nobody", called.dumps(1, 100_000).waits, [])
+
+
+# Catches a place that sleeps or naps at another's bell, or while its bell has another number than 1 or 0: `waits at another
+# bell, for another number, or wakes at the own bell`.
+def own_bell(called):
+    """Files that meet one another at each entry, and a crowd: each thread waits at a single word, which is no other's."""
+    write_meeting(dumps=100_000, seldom=0)
+    kinds, rounds = [0, 0, 0], 0
+    while min(kinds) == 0 and rounds < 30:
+        waits = called.call("run", "--batch", "1", "dumps.feed", "adds.feed", HOLD_UP="1").waits + called.dumps(8, 4_000).waits
+        kinds, rounds = [sum(place[kind] for place in waits) for kind in range(3)], rounds + 1
+    called.tell("naps, sleeps and wakes of two files that meet, and of 8", f"{kinds}, in round {rounds}")
+    expect("some nap, some sleep, and some are woken", [count > 0 for count in kinds], [True] * 3)
 
 
 # Catches a place that naps inside, or at each entry: `at most one of 20 entries of 8 files naps`.
@@ -126,7 +146,7 @@ def write_meeting(dumps, seldom):
 def met(called, file, *names, **more):
     """The waits of one of two files, with each `add` held up inside until the other file waits."""
     waits = called.call("run", "--batch", "1", *names, HOLD_UP="1", **more).waits
-    return waits[file - 1] if len(waits) == 2 else Waits(0, 0, 0)
+    return waits[file - 1] if len(waits) == 2 else Waits(0, 0, 0, 0)
 
 
 # Processor time
@@ -183,7 +203,7 @@ def few_addresses(called):
         called.at_most(f"{count} addresses, to a list of one prefix", found, bound)
 
 
-CASES = (one_file, crowd, door, forgotten, passage_alone, outputs, few_addresses)
+CASES = (one_file, own_bell, crowd, door, forgotten, passage_alone, outputs, few_addresses)
 
 
 def main():

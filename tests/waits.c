@@ -1,7 +1,8 @@
-/* Counts waits. Loaded before a program by LD_PRELOAD, it keeps three counts in the file of descriptor COUNT_IN for
+/* Counts waits. Loaded before a program by LD_PRELOAD, it keeps four counts in the file of descriptor COUNT_IN for
    each word on which the program's threads wait: how often they waited there for less than a second, how often without
-   a limit, and how often one was woken. These are naps at the lock's door, sleep at a bell, and its ringing. Before
-   these it keeps the nanoseconds that the program's threads had worked at the first write to standard output, and at
+   a limit, and how often one was woken. These are naps at the lock's door, sleep at a bell, and its ringing. The fourth
+   counts what a place of the lock never does: a wait at another word than its first, at the word of another thread, or
+   for another number than 0 (a nap) or 1 (sleep), and a wake at its own word. Before these it keeps the nanoseconds that the program's threads had worked at the first write to standard output, and at
    the end of the last. With HOLD_UP=1 a memory request waits, once there are threads, until another thread sleeps, or
    20 ms: adding a route allocates inside the lock, so all others who come then meet it there. With HOLD_WAKES=1 a
    thread wakes nobody before its own next wait, memory request or end. So two threads that wait for each other meet at
@@ -24,7 +25,8 @@ enum { WORDS = 1000, COMMANDS = 127, MOST_LOOKS = 200 };
 
 struct word {
   atomic_long place;
-  atomic_ulong naps, sleeps, wakes;
+  atomic_ulong naps, sleeps, wakes, strange;
+  atomic_long owner; /* the thread that waited there first */
 };
 
 struct counts {
@@ -71,14 +73,34 @@ static struct word *word_at(long place) {
   abort();
 }
 
-/* Counts the call. Returns true if its thread will sleep. */
-static int count(long place, int command, const struct timespec *limit) {
-  if (command == FUTEX_WAKE) word_at(place)->wakes++;
-  if (command != FUTEX_WAIT && command != FUTEX_WAIT_BITSET) return 0;
+/* The word at which this thread waited first. */
+static _Thread_local struct word *own;
+
+/* Returns true if the word is this thread's own, and no other's. */
+static int is_own(struct word *word) {
+  long found = 0, thread = (long)&own;
+  if (own == NULL) own = word;
+  return own == word && (atomic_compare_exchange_strong(&word->owner, &found, thread) || found == thread);
+}
+
+/* Counts a wait. Returns true if its thread will sleep. */
+static int count_wait(struct word *word, unsigned expected, const struct timespec *limit) {
   int naps = limit != NULL && limit->tv_sec < 1;
-  if (naps) word_at(place)->naps++;
-  else word_at(place)->sleeps++;
+  if (naps) word->naps++;
+  else word->sleeps++;
+  if (!is_own(word) || expected != !naps) word->strange++;
   return !naps;
+}
+
+/* Counts the call. Returns true if its thread will sleep. */
+static int count(long place, int command, unsigned expected, const struct timespec *limit) {
+  if (command == FUTEX_WAKE) {
+    struct word *word = word_at(place);
+    word->wakes++;
+    if (word == own) word->strange++;
+  }
+  if (command != FUTEX_WAIT && command != FUTEX_WAIT_BITSET) return 0;
+  return count_wait(word_at(place), expected, limit);
 }
 
 static void let_go(void) {
@@ -94,7 +116,7 @@ long syscall(long number, ...) {
   for (int at = 0; at < 6; at++) given[at] = va_arg(rest, long);
   va_end(rest);
   let_go();
-  int sleeps = number == SYS_futex && count(given[0], given[1] & COMMANDS, (const struct timespec *)given[3]);
+  int sleeps = number == SYS_futex && count(given[0], given[1] & COMMANDS, (unsigned)given[2], (const struct timespec *)given[3]);
   if (holds_wakes && number == SYS_futex && (given[1] & COMMANDS) == FUTEX_WAKE) {
     held[0] = number;
     for (int at = 0; at < 6; at++) held[at + 1] = given[at];
