@@ -37,7 +37,7 @@ enum yarib_status list_routes(const yarib *table, const yarib_concurrent *concur
     }
 }
 
-enum yarib_status make_table(uint32_t limit, const struct list *list, yarib *made)
+enum yarib_status make_table(uint32_t limit, const struct list *list, bool is_followed, yarib *made)
 {
     enum yarib_status status = proved_yarib_new(made, limit, YARIB_PLAIN);
     for (size_t k = 0; k < list->size && status == YARIB_DONE; k++) {
@@ -48,6 +48,7 @@ enum yarib_status make_table(uint32_t limit, const struct list *list, yarib *mad
         status = proved_yarib_apply(made, &add, &reply);
         if (status == YARIB_DONE && reply.code != YARIB_ADDED) status = YARIB_NOT_ADDED;
     }
+    if (status == YARIB_DONE && is_followed) status = attach(made);
     if (status != YARIB_DONE) free_contents(made);
     return status;
 }
@@ -58,7 +59,7 @@ enum yarib_status copy_published(const yarib_concurrent *table, uint32_t limit, 
     yarib made = YARIB_INIT;
     enum yarib_status status = list_routes(NULL, table, 0, &list);
     if (status != YARIB_DONE) return status;
-    status = make_table(limit, &list, &made);
+    status = make_table(limit, &list, false, &made);
     free_list(&list);
     if (status != YARIB_DONE) return status;
     free_contents(copy);

@@ -11,21 +11,15 @@
  * bindings/build renames the proved calls to proved_yarib_.., and hides them. */
 #include "layer.h"
 
-/* A reading call: its copy of the handle, and its place. */
-struct reading {
-    yarib handle;
-    struct place *place;
-};
-
 /* Enters a reading call and makes its copy of the handle, or returns why not. */
 SHORT enum yarib_status enter_reading(const yarib *handle, struct reading *own)
 {
     own->place = enter_place(handle, 0);
     if (!own->place) return YARIB_BUSY;
-    own->handle.inside = __atomic_load_n(&handle->inside, __ATOMIC_ACQUIRE);
-    if (!is_marked(own->handle.inside)) return YARIB_DONE;
-    leave_place(own->place);
-    return status_of_mark(own->handle.inside);
+    own->table.inside = __atomic_load_n(&handle->inside, __ATOMIC_ACQUIRE);
+    enum yarib_status status = status_of(own->table.inside);
+    if (status != YARIB_DONE) leave_place(own->place);
+    return status;
 }
 
 /* Enters a change and makes its copy of the handle, or returns why not. */
@@ -34,28 +28,10 @@ static enum yarib_status enter_change(yarib *handle, yarib *own)
     enum yarib_status status = mark(&handle->inside, &own->inside);
     if (status != YARIB_DONE) return status;
     status = see_readers();
-    if (status == YARIB_DONE && is_read(handle, NEVER, false)) status = YARIB_BUSY;
+    if (status == YARIB_DONE && find_readers(handle, NEVER) != NOBODY) status = YARIB_BUSY;
     if (status != YARIB_DONE) unmark(&handle->inside, own->inside);
     return status;
 }
-
-/* The body of a reading call of a handle: a call with `own.handle`. */
-#define READ(table, call) \
-    struct reading own; \
-    enum yarib_status status = enter_reading(table, &own); \
-    if (status != YARIB_DONE) return status; \
-    status = call; \
-    leave_place(own.place); \
-    return status
-
-/* The body of a change of a handle: a call with `own`. */
-#define CHANGE(table, call) \
-    yarib own; \
-    enum yarib_status status = enter_change(table, &own); \
-    if (status != YARIB_DONE) return status; \
-    status = call; \
-    unmark(&(table)->inside, own.inside); \
-    return status
 
 enum yarib_status free_contents(yarib *table)
 {
@@ -75,34 +51,9 @@ enum yarib_status attach(yarib *table)
     return status;
 }
 
-enum yarib_status yarib_new(yarib *table, uint32_t limit, uint32_t kind)
-{
-    CHANGE(table, proved_yarib_new(&own, limit, kind));
-}
-
 enum yarib_status yarib_free(yarib *table)
 {
     CHANGE(table, free_contents(&own));
-}
-
-enum yarib_status yarib_apply(yarib *table, const yarib_command *command, yarib_reply *reply)
-{
-    CHANGE(table, proved_yarib_apply(&own, command, reply));
-}
-
-enum yarib_status yarib_apply_changed(yarib *table, const yarib_command *command, yarib_reply *reply, yarib_change *change)
-{
-    CHANGE(table, proved_yarib_apply_changed(&own, command, reply, change));
-}
-
-enum yarib_status yarib_apply_each(yarib *table, const yarib_command *commands, size_t size, yarib_reply *replies, size_t room)
-{
-    CHANGE(table, proved_yarib_apply_each(&own, commands, size, replies, room));
-}
-
-enum yarib_status yarib_reserve(yarib *table, size_t entries)
-{
-    CHANGE(table, proved_yarib_reserve(&own, entries));
 }
 
 enum yarib_status yarib_fib_attach(yarib *table)
@@ -135,37 +86,30 @@ enum yarib_status yarib_concurrent_copy(const yarib_concurrent *table, uint32_t 
     CHANGE(copy, copy_published(table, limit, &own));
 }
 
+#define DEFINE_CHANGE(name, parameters, arguments) \
+    enum yarib_status yarib_##name(yarib *table, LIST parameters) { CHANGE(table, proved_yarib_##name(&own, LIST arguments)); }
+CHANGES(DEFINE_CHANGE)
+
 #define DEFINE(name, parameters, arguments) \
-    enum yarib_status yarib_##name(const yarib *table, LIST parameters) { READ(table, proved_yarib_##name(&own.handle, LIST arguments)); }
+    enum yarib_status yarib_##name(const yarib *table, LIST parameters) \
+    { \
+        READ(enter_reading, table, proved_yarib_##name(&own.table, LIST arguments)); \
+    }
 READING_CALLS(DEFINE)
+PLAIN_READING_CALLS(DEFINE)
+VIEW_CALLS(DEFINE)
 
 enum yarib_status yarib_look_up_text(const yarib *table, const char *text, size_t size, yarib_route *answer)
 {
     uint32_t address;
-    READ(table, (status = yarib_address_parse(text, size, &address)) == YARIB_DONE
-        ? (enum yarib_status)proved_yarib_look_up_one(&own.handle, address, answer) : status);
-}
-
-enum yarib_status yarib_journal(const yarib *table, size_t skip, yarib_entry *entries, size_t room, size_t *total)
-{
-    READ(table, proved_yarib_journal(&own.handle, skip, entries, room, total));
-}
-
-enum yarib_status yarib_memory(const yarib *table, size_t *bytes)
-{
-    READ(table, proved_yarib_memory(&own.handle, bytes));
-}
-
-enum yarib_status yarib_view_write(const yarib *table, yarib_view *view)
-{
-    READ(table, proved_yarib_view_write(&own.handle, view->entries, view->entry_count, view->blocks, view->block_count, view->routers,
-        view->router_count, &view->router_count));
+    READ(enter_reading, table, (status = yarib_address_parse(text, size, &address)) == YARIB_DONE
+        ? (enum yarib_status)proved_yarib_look_up_one(&own.table, address, answer) : status);
 }
 
 /* Compares the contents of an old handle with a table. */
 static enum yarib_status compare(yarib *old, const yarib *table, uint32_t by, uint32_t from, yarib_difference *difference)
 {
-    READ(table, proved_yarib_first_difference(old, &own.handle, by, from, difference));
+    READ(enter_reading, table, proved_yarib_first_difference(old, &own.table, by, from, difference));
 }
 
 /* One handle twice is busy with itself: the proved call needs two. */
@@ -173,7 +117,7 @@ enum yarib_status yarib_first_difference(const yarib *old_table, const yarib *ne
     yarib_difference *difference)
 {
     if (old_table == new_table) return YARIB_BUSY;
-    READ(old_table, compare(&own.handle, new_table, by, from, difference));
+    READ(enter_reading, old_table, compare(&own.table, new_table, by, from, difference));
 }
 
 /* Fills a handle from the contents of another one by a proved call. */
@@ -184,12 +128,12 @@ static enum yarib_status fill(yarib *contents, yarib *table, uint32_t (*call)(ya
 
 enum yarib_status yarib_fib_new(const yarib *table, yarib *forwarding)
 {
-    READ(table, fill(&own.handle, forwarding, proved_yarib_forward));
+    READ(enter_reading, table, fill(&own.table, forwarding, proved_yarib_forward));
 }
 
 enum yarib_status yarib_fib_clone(const yarib *forwarding, yarib *other)
 {
-    READ(forwarding, fill(&own.handle, other, proved_yarib_share));
+    READ(enter_reading, forwarding, fill(&own.table, other, proved_yarib_share));
 }
 
 enum yarib_status yarib_forward(const yarib *table, yarib *forwarding) __attribute__((alias("yarib_fib_new")));

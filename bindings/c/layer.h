@@ -43,8 +43,8 @@ enum yarib_status attach(yarib *table);
 /* Frees what a handle holds, as proved_yarib_free does. */
 enum yarib_status free_contents(yarib *table);
 
-/* The reading calls that plain and concurrent tables have: the name, the parameters after the handle, and the arguments for them. The
- * proved call of the name takes the handle first. */
+/* The calls that only pass their arguments on: the name, the parameters after the handle, and the arguments for them. The proved call of
+ * the name takes the handle first. These are the reading calls that plain and concurrent tables have. */
 #define READING_CALLS(CALL) \
     CALL(look_up, (const uint32_t *addresses, size_t size, yarib_route *answers, size_t room), (addresses, size, answers, room)) \
     CALL(look_up_one, (uint32_t address, yarib_route *answer), (address, answer)) \
@@ -64,20 +64,31 @@ enum yarib_status free_contents(yarib *table);
     CALL(fib_is_attached, (uint32_t *attached), (attached)) \
     CALL(view_sizes, (size_t *blocks, size_t *routers), (blocks, routers))
 
+/* One more of these, whose proved call has the parts of the view as its parameters. */
+#define VIEW_CALLS(CALL) \
+    CALL(view_write, (yarib_view *view), (view->entries, view->entry_count, view->blocks, view->block_count, view->routers, \
+        view->router_count, &view->router_count))
+
+/* The reading calls that only plain tables have, and the changes of them. */
+#define PLAIN_READING_CALLS(CALL) \
+    CALL(journal, (size_t skip, yarib_entry *entries, size_t room, size_t *total), (skip, entries, room, total)) \
+    CALL(memory, (size_t *bytes), (bytes))
+#define CHANGES(CALL) \
+    CALL(new, (uint32_t limit, uint32_t kind), (limit, kind)) \
+    CALL(apply, (const yarib_command *command, yarib_reply *reply), (command, reply)) \
+    CALL(apply_changed, (const yarib_command *command, yarib_reply *reply, yarib_change *change), (command, reply, change)) \
+    CALL(apply_each, (const yarib_command *commands, size_t size, yarib_reply *replies, size_t room), (commands, size, replies, room)) \
+    CALL(reserve, (size_t entries), (entries))
+
 /* What is in the brackets. */
 #define LIST(...) __VA_ARGS__
 
 /* bindings/build renames the proved calls of these names, and hides them. A proved call must be the only one that uses its handle. */
 #define DECLARE_PROVED(name, parameters, arguments) uint32_t proved_yarib_##name(yarib *table, LIST parameters);
 READING_CALLS(DECLARE_PROVED)
-uint32_t proved_yarib_new(yarib *table, uint32_t limit, uint32_t kind);
+PLAIN_READING_CALLS(DECLARE_PROVED)
+CHANGES(DECLARE_PROVED)
 void proved_yarib_free(yarib *table);
-uint32_t proved_yarib_apply(yarib *table, const yarib_command *command, yarib_reply *reply);
-uint32_t proved_yarib_apply_changed(yarib *table, const yarib_command *command, yarib_reply *reply, yarib_change *change);
-uint32_t proved_yarib_apply_each(yarib *table, const yarib_command *commands, size_t size, yarib_reply *replies, size_t room);
-uint32_t proved_yarib_reserve(yarib *table, size_t entries);
-uint32_t proved_yarib_journal(yarib *table, size_t skip, yarib_entry *entries, size_t room, size_t *total);
-uint32_t proved_yarib_memory(yarib *table, size_t *bytes);
 uint32_t proved_yarib_first_difference(yarib *old_table, yarib *new_table, uint32_t by, uint32_t from, yarib_difference *difference);
 uint32_t proved_yarib_forward(yarib *table, yarib *forwarding);
 uint32_t proved_yarib_share(yarib *forwarding, yarib *other);
@@ -95,8 +106,9 @@ struct list {
 enum yarib_status list_routes(const yarib *table, const yarib_concurrent *concurrent, uint32_t feed, struct list *list);
 void free_list(struct list *list);
 
-/* Makes a table of these routes in an empty handle. Returns YARIB_NOT_ADDED if a feed has more of them than the limit. */
-enum yarib_status make_table(uint32_t limit, const struct list *list, yarib *made);
+/* Makes a table of these routes in an empty handle, with a forwarding table if that is to be. Returns YARIB_NOT_ADDED if a feed has more of
+ * them than the limit. */
+enum yarib_status make_table(uint32_t limit, const struct list *list, bool is_followed, yarib *made);
 
 /* Replaces what a handle holds by a copy of the published table. */
 enum yarib_status copy_published(const yarib_concurrent *table, uint32_t limit, yarib *copy);
@@ -119,11 +131,9 @@ struct place {
     char apart[64 - 2 * sizeof(void *) - sizeof(uint64_t)];
 };
 
-/* What is a thread's own: its place, if it has one; the place that was last lent to it, and how many are; whether it has requested a
- * place of its own. */
+/* What is a thread's own: its place, if it has one; the place that was last lent to it; whether it has requested a place of its own. */
 struct thread {
     struct place *place, *lent;
-    unsigned lent_places;
     bool is_known;
 };
 
@@ -156,25 +166,51 @@ SHORT struct place *enter_place(const void *handle, uint64_t since)
 SHORT void leave_place(struct place *place)
 {
     __atomic_store_n(&place->reading, NULL, __ATOMIC_RELEASE);
-    if (place == this_thread.place) return;
-    this_thread.lent_places--;
-    __atomic_store_n(&place->owner, NULL, __ATOMIC_RELEASE);
+    if (place != this_thread.place) __atomic_store_n(&place->owner, NULL, __ATOMIC_RELEASE);
 }
+
+/* A reading call: its copy of a table's handle, and its place. */
+struct reading {
+    yarib table;
+    struct place *place;
+};
+
+/* The body of a reading call of `handle`, which `enter` enters: a call with `own.table`. */
+#define READ(enter, handle, call) \
+    struct reading own; \
+    enum yarib_status status = enter(handle, &own); \
+    if (status != YARIB_DONE) return status; \
+    status = call; \
+    leave_place(own.place); \
+    return status
 
 /* Marks a handle's word for a change and writes what it was to `found`, or returns why not. The change ends with what it is then. */
 enum yarib_status mark(void **word, void **found);
 void unmark(void **word, void *contents);
 
-SHORT bool is_marked(const void *word)
+/* How often this process and those before it were forked since the library was loaded: at most 16 bits. */
+extern uintptr_t forks;
+
+/* Says why a call can't use what it finds in a handle's word, or YARIB_DONE: YARIB_BUSY if a change has marked the word, or YARIB_FORKED if
+ * the thread that did so isn't in this process. */
+SHORT enum yarib_status status_of(const void *word)
 {
-    return ((uintptr_t)word & CHANGING) != 0;
+    if (((uintptr_t)word & CHANGING) == 0) return YARIB_DONE;
+    return (uintptr_t)word >> 48 == forks ? YARIB_BUSY : YARIB_FORKED;
 }
 
 /* Returns a word with these contents and the mark of a change. */
 void *marked(const void *contents);
 
-/* Says why a call finds a word marked: YARIB_BUSY, or YARIB_FORKED if the thread that marked it isn't in this process. */
-enum yarib_status status_of_mark(const void *word);
+/* The body of a change of `handle`: a call with `own`, which enter_change has made a copy of the handle. The handle gets what is there
+ * then. */
+#define CHANGE(handle, call) \
+    __typeof__(*(handle)) own; \
+    enum yarib_status status = enter_change(handle, &own); \
+    if (status != YARIB_DONE) return status; \
+    status = call; \
+    unmark(&(handle)->inside, own.inside); \
+    return status
 
 /* Has every reader that entered before seen in its place. Returns YARIB_NO_BARRIER if the kernel refuses it. */
 enum yarib_status see_readers(void);
@@ -182,9 +218,10 @@ enum yarib_status see_readers(void);
 /* The publication that all calls under way came before. */
 #define NEVER UINT64_MAX
 
-/* Returns true if a call is under way that reads the handle and may have read its word before this publication: one of this thread, or
- * any, of which it knows only after see_readers. */
-bool is_read(const void *handle, uint64_t published, bool is_here);
+/* Says whose calls are under way that read the handle and may have read its word before this publication: this thread's, or else those of
+ * others, of which it knows only after see_readers. */
+enum readers { NOBODY, OTHER_THREADS, THIS_THREAD };
+enum readers find_readers(const void *handle, uint64_t published);
 
 /* Waits until no such call is left. Returns YARIB_BUSY if one is this thread's, and YARIB_NO_BARRIER if it can't know of all. */
 enum yarib_status wait_for_readers(const void *handle, uint64_t published);

@@ -40,8 +40,7 @@ static struct place places[PLACES] __attribute__((aligned(64)));
 /* The number of the first places that were ever in use, and of those that are a thread's own. */
 static int used __attribute__((aligned(64))), owned;
 
-/* How often this process and those before it were forked since the library was loaded. */
-static uintptr_t forks;
+uintptr_t forks;
 
 /* Has leave_own_place called when a thread ends. */
 static pthread_key_t key;
@@ -120,7 +119,6 @@ struct place *enter_lent_place(const void *handle, uint64_t since)
         if (++place == places + PLACES) place = places;
     }
     this_thread.lent = place;
-    this_thread.lent_places++;
     __atomic_store_n(&place->since, since, __ATOMIC_RELAXED);
     __atomic_store_n(&place->reading, handle, __ATOMIC_SEQ_CST);
     return place;
@@ -134,7 +132,8 @@ void *marked(const void *contents)
 enum yarib_status mark(void **word, void **found)
 {
     *found = __atomic_load_n(word, __ATOMIC_RELAXED);
-    if (is_marked(*found)) return status_of_mark(*found);
+    enum yarib_status status = status_of(*found);
+    if (status != YARIB_DONE) return status;
     bool is_done = __atomic_compare_exchange_n(word, found, marked(*found), 0, __ATOMIC_SEQ_CST, __ATOMIC_RELAXED);
     return is_done ? YARIB_DONE : YARIB_BUSY;
 }
@@ -143,11 +142,6 @@ void unmark(void **word, void *contents)
 {
     if (((uintptr_t)contents & ~CONTENTS) != 0) abort();
     __atomic_store_n(word, contents, __ATOMIC_RELEASE);
-}
-
-enum yarib_status status_of_mark(const void *word)
-{
-    return (uintptr_t)word >> 48 == forks ? YARIB_BUSY : YARIB_FORKED;
 }
 
 enum yarib_status see_readers(void)
@@ -159,17 +153,17 @@ enum yarib_status see_readers(void)
     return is_done ? YARIB_DONE : YARIB_NO_BARRIER;
 }
 
-bool is_read(const void *handle, uint64_t published, bool is_here)
+enum readers find_readers(const void *handle, uint64_t published)
 {
-    /* Mostly this thread is in no call: so the lines that other threads write stay theirs. */
-    if (is_here && this_thread.lent_places == 0 && !(this_thread.place && this_thread.place->reading)) return false;
+    enum readers found = NOBODY;
     for (int k = 0; k < __atomic_load_n(&used, __ATOMIC_SEQ_CST); k++) {
         const struct place *place = &places[k];
-        if (is_here && __atomic_load_n(&place->owner, __ATOMIC_RELAXED) != &this_thread) continue;
         if (__atomic_load_n(&place->reading, __ATOMIC_ACQUIRE) != handle) continue;
-        if (__atomic_load_n(&place->since, __ATOMIC_ACQUIRE) < published) return true;
+        if (__atomic_load_n(&place->since, __ATOMIC_ACQUIRE) >= published) continue;
+        if (__atomic_load_n(&place->owner, __ATOMIC_RELAXED) == &this_thread) return THIS_THREAD;
+        found = OTHER_THREADS;
     }
-    return false;
+    return found;
 }
 
 /* Rests longer each time, and naps after some times. A yield would give away a whole time slice on a busy machine, and a nap by the
@@ -187,9 +181,9 @@ void rest(unsigned *times)
 
 enum yarib_status wait_for_readers(const void *handle, uint64_t published)
 {
+    enum readers readers;
     unsigned times = 0;
-    if (is_read(handle, published, true)) return YARIB_BUSY;
     if (see_readers() != YARIB_DONE) return YARIB_NO_BARRIER;
-    while (is_read(handle, published, false)) rest(&times);
-    return YARIB_DONE;
+    while ((readers = find_readers(handle, published)) == OTHER_THREADS) rest(&times);
+    return readers == NOBODY ? YARIB_DONE : YARIB_BUSY;
 }

@@ -4,12 +4,13 @@
  * A concurrent table is two tables of the proved library, the sides. Readers use the front. A change is made in the back, which then
  * becomes the front. The other side, now the back, lacks this change: its commands are kept, and the next change first executes them
  * there. So both sides execute the same commands, and each call of a reader gets one published table. If memory runs out for a
- * kept command, it stays kept, the new change isn't begun, and readers have the front.
+ * kept command, it stays kept, the new change isn't begun, and readers have the front. A table that replaces the whole one has new
+ * sides, to which the handle's word then leads.
  *
- * The next change must not begin while a reader is still in the back. A reading call writes into its place (places.c) the number of
- * publications that it saw, then the handle, and then reads which side is the front. A change waits for each place with this handle
- * and a number that is older than the publication. A reader that it doesn't see reads the front later, and so the new one. A reading
- * call never waits or repeats anything. It writes no memory that another reader reads. */
+ * The next change must not begin while a reader is still in the back, or in sides that were replaced. A reading call writes into its
+ * place (places.c) the number of publications that it saw, then the handle, and then reads the handle's word and the front. A change
+ * waits for each place with this handle and a number that is older than the publication. A reader that it doesn't see reads the front
+ * later, and so the new one. A reading call never waits or repeats anything. It writes no memory that another reader reads. */
 #include "layer.h"
 
 #include <stdlib.h>
@@ -21,13 +22,13 @@
 #define LINE ((size_t)64)
 
 struct sides {
-    /* The front's handle, for readers. Only a publication writes it. */
-    void *table;
-    char apart[LINE - sizeof(void *)];
-    /* Only changes use the rest. `published` is the number of the publication after which readers may still be in the back; 0 if none
-     * are. The back lacks first a new table, unless `renewed` is empty, and then the commands from `start` to `end`. */
-    yarib tables[2], renewed;
-    int front;
+    /* The front's handle, of which readers make copies. Only a publication writes it. */
+    yarib front;
+    char apart[LINE - sizeof(yarib)];
+    /* Only changes use the rest. `published` is the number of the publication after which readers may still be in the back or in the
+     * sides before, which are null if there are none; 0 if none are. The back lacks the commands from `start` to `end`. */
+    yarib back;
+    struct sides *before;
     uint64_t published;
     yarib_command *lacking;
     size_t start, end, room;
@@ -40,44 +41,56 @@ static struct {
     char apart[LINE - sizeof(uint64_t)];
 } publications __attribute__((aligned(64))) = {.number = 1};
 
-static yarib *back(struct sides *sides)
-{
-    return &sides->tables[1 - sides->front];
-}
-
 /* Makes readers that come from now on use the other side. */
 static void publish(struct sides *sides)
 {
-    __atomic_store_n(&sides->table, back(sides)->inside, __ATOMIC_SEQ_CST);
-    sides->front = 1 - sides->front;
+    void *front = sides->front.inside;
+    __atomic_store_n(&sides->front.inside, sides->back.inside, __ATOMIC_SEQ_CST);
+    sides->back.inside = front;
     sides->published = __atomic_add_fetch(&publications.number, 1, __ATOMIC_SEQ_CST);
 }
 
-/* Waits until no reader is in the back, or returns why it can't. */
+/* Makes readers that come from now on use these sides, or none. Returns the number of the publication. */
+static uint64_t publish_sides(yarib_concurrent *table, const struct sides *sides)
+{
+    __atomic_store_n(&table->inside, marked(sides), __ATOMIC_SEQ_CST);
+    return __atomic_add_fetch(&publications.number, 1, __ATOMIC_SEQ_CST);
+}
+
+static void destroy(struct sides *sides)
+{
+    free_contents(&sides->front);
+    free_contents(&sides->back);
+    if (sides->room > 0) rattle_dealloc(sides->lacking);
+    rattle_dealloc(sides->block);
+}
+
+/* Waits until no reader is in the back or in the sides before, and frees these. Or returns why it can't. */
 static enum yarib_status settle(const yarib_concurrent *table, struct sides *sides)
 {
     enum yarib_status status = sides->published == 0 ? YARIB_DONE : wait_for_readers(table, sides->published);
-    if (status == YARIB_DONE) sides->published = 0;
-    return status;
+    if (status != YARIB_DONE) return status;
+    if (sides->before) destroy(sides->before);
+    sides->before = NULL;
+    sides->published = 0;
+    return YARIB_DONE;
+}
+
+static bool is_change(const yarib_reply *reply)
+{
+    return reply->code == YARIB_ADDED || reply->code == YARIB_REPLACED || reply->code == YARIB_WITHDRAWN
+        || (reply->code == YARIB_PURGED && reply->count > 0);
 }
 
 /* Makes in the back the changes that it lacks. Returns false if memory runs out: then it lacks the rest. */
 static bool catch_up(struct sides *sides)
 {
-    static const uint32_t codes[] = {[YARIB_ADD] = YARIB_ADDED, [YARIB_REPLACE] = YARIB_REPLACED,
-        [YARIB_WITHDRAW] = YARIB_WITHDRAWN, [YARIB_PURGE] = YARIB_PURGED};
-    if (sides->renewed.inside) {
-        free_contents(back(sides));
-        *back(sides) = sides->renewed;
-        sides->renewed.inside = NULL;
-    }
     for (; sides->start < sides->end; sides->start++) {
-        const yarib_command *command = &sides->lacking[sides->start];
         yarib_reply reply;
-        enum yarib_status status = proved_yarib_apply(back(sides), command, &reply);
+        enum yarib_status status = proved_yarib_apply(&sides->back, &sides->lacking[sides->start], &reply);
         if (status == YARIB_NO_MEMORY) return false;
-        /* The front answered so. */
-        if (status != YARIB_DONE || reply.code != codes[command->operation]) abort();
+        /* It was a change in the front. */
+        if (status != YARIB_DONE || !is_change(&reply)) abort();
     }
     sides->start = sides->end = 0;
     return true;
@@ -106,138 +119,101 @@ static enum yarib_status prepare(struct sides *sides, size_t size)
 /* Keeps a command for the other side, if it has changed the table. */
 static void keep(struct sides *sides, const yarib_command *command, const yarib_reply *reply)
 {
-    bool is_change = reply->code == YARIB_ADDED || reply->code == YARIB_REPLACED || reply->code == YARIB_WITHDRAWN
-        || (reply->code == YARIB_PURGED && reply->count > 0);
-    if (is_change) sides->lacking[sides->end++] = *command;
+    if (is_change(reply)) sides->lacking[sides->end++] = *command;
 }
 
-/* Begins a change: marks the handle and waits until no reader is in the back. Or returns why it can't. */
-static enum yarib_status begin(yarib_concurrent *table, struct sides **sides)
+/* Enters a change: marks the handle and waits until no reader is in the back. Or returns why it can't. */
+static enum yarib_status enter_change(yarib_concurrent *table, yarib_concurrent *own)
 {
-    void *found;
-    enum yarib_status status = mark(&table->inside, &found);
-    if (status != YARIB_DONE) return status;
-    *sides = found;
-    if (found) status = settle(table, *sides);
-    if (status != YARIB_DONE) unmark(&table->inside, *sides);
+    enum yarib_status status = mark(&table->inside, &own->inside);
+    if (status != YARIB_DONE || !own->inside) return status;
+    status = settle(table, own->inside);
+    if (status != YARIB_DONE) unmark(&table->inside, own->inside);
     return status;
 }
 
-/* The body of a change of `table`: a call with `sides`. */
-#define CHANGE(call) \
-    struct sides *sides; \
-    enum yarib_status status = begin(table, &sides); \
-    if (status != YARIB_DONE) return status; \
-    status = call; \
-    unmark(&table->inside, sides); \
-    return status
-
-/* What both sides of a new table begin with. */
-struct beginning {
-    uint32_t limit;
-    struct list list;
-    bool is_followed;
-};
-
-/* Makes two such tables in empty handles. */
-static enum yarib_status make_tables(const struct beginning *beginning, yarib tables[2])
+/* Makes sides that both have these routes. */
+static enum yarib_status make_sides(uint32_t limit, const struct list *list, bool is_followed, struct sides **made)
 {
-    enum yarib_status status = YARIB_DONE;
-    for (int k = 0; k < 2 && status == YARIB_DONE; k++) {
-        status = make_table(beginning->limit, &beginning->list, &tables[k]);
-        if (status == YARIB_DONE && beginning->is_followed) status = attach(&tables[k]);
+    struct sides sides = {.room = 0};
+    struct tried tried = {false, NULL};
+    enum yarib_status status = make_table(limit, list, is_followed, &sides.front);
+    if (status == YARIB_DONE) status = make_table(limit, list, is_followed, &sides.back);
+    if (status == YARIB_DONE) tried = rattle_alloc(sizeof sides + LINE, LINE);
+    if (tried.ok) {
+        sides.block = tried.block;
+        *made = (struct sides *)(((uintptr_t)tried.block + LINE - 1) & ~(LINE - 1));
+        **made = sides;
+        return YARIB_DONE;
     }
-    for (int k = 0; k < 2 && status != YARIB_DONE; k++) free_contents(&tables[k]);
-    return status;
+    free_contents(&sides.front);
+    free_contents(&sides.back);
+    return status == YARIB_DONE ? YARIB_NO_MEMORY : status;
 }
 
-/* Makes sides of two tables. */
-static enum yarib_status make_sides(yarib tables[2], struct sides **made)
+/* Publishes a new table, and frees the one before. As long as a reading call hinders that, the next change does it. */
+static enum yarib_status renew(yarib_concurrent *table, yarib_concurrent *own, uint32_t limit, const struct list *list, bool is_followed)
 {
-    struct tried tried = rattle_alloc(sizeof(struct sides) + LINE, LINE);
-    if (!tried.ok) {
-        for (int k = 0; k < 2; k++) free_contents(&tables[k]);
-        return YARIB_NO_MEMORY;
-    }
-    *made = (struct sides *)(((uintptr_t)tried.block + LINE - 1) & ~(LINE - 1));
-    **made = (struct sides){.table = tables[0].inside, .tables = {tables[0], tables[1]}, .block = tried.block};
-    return YARIB_DONE;
-}
-
-/* Publishes the back, and makes the other side the same at once. As long as a reading call hinders that, the next change does it. */
-static void publish_both(const yarib_concurrent *table, struct sides *sides)
-{
-    publish(sides);
-    if (settle(table, sides) == YARIB_DONE) prepare(sides, 1);
-}
-
-/* Publishes a new table, and frees what both sides had. */
-static enum yarib_status renew(const yarib_concurrent *table, struct sides **sides, const struct beginning *beginning)
-{
-    yarib tables[2] = {{NULL}, {NULL}};
-    enum yarib_status status = make_tables(beginning, tables);
+    struct sides *made;
+    enum yarib_status status = make_sides(limit, list, is_followed, &made);
     if (status != YARIB_DONE) return status;
-    if (!*sides) return make_sides(tables, sides);
-    (*sides)->start = (*sides)->end = 0;
-    for (int k = 0; k < 2; k++) {
-        free_contents(&(*sides)->renewed);
-        (*sides)->renewed = tables[k];
-        if (k == 0) catch_up(*sides);
-    }
-    publish_both(table, *sides);
+    made->before = own->inside;
+    made->published = publish_sides(table, made);
+    own->inside = made;
+    settle(table, made);
     return YARIB_DONE;
 }
 
 enum yarib_status yarib_concurrent_new(yarib_concurrent *table, uint32_t limit)
 {
-    const struct beginning beginning = {.limit = limit};
-    CHANGE(renew(table, &sides, &beginning));
+    const struct list none = {NULL, 0};
+    CHANGE(table, renew(table, &own, limit, &none, false));
 }
 
 /* The new table has a forwarding table if readers had one. */
-static enum yarib_status replace(const yarib_concurrent *table, struct sides **sides, uint32_t limit, const yarib *other)
+static enum yarib_status replace(yarib_concurrent *table, yarib_concurrent *own, uint32_t limit, const yarib *other)
 {
-    struct beginning beginning = {.limit = limit};
-    uint32_t is_attached = 0;
-    enum yarib_status status = list_routes(other, NULL, 0, &beginning.list);
+    struct list list;
+    uint32_t is_attached;
+    enum yarib_status status = list_routes(other, NULL, 0, &list);
     if (status != YARIB_DONE) return status;
-    if (*sides) status = proved_yarib_fib_is_attached(&(*sides)->tables[(*sides)->front], &is_attached);
-    beginning.is_followed = is_attached;
-    if (status == YARIB_DONE) status = renew(table, sides, &beginning);
-    free_list(&beginning.list);
+    if (yarib_concurrent_fib_is_attached(table, &is_attached) != YARIB_DONE) is_attached = 0;
+    status = renew(table, own, limit, &list, is_attached);
+    free_list(&list);
     return status;
 }
 
 enum yarib_status yarib_concurrent_replace(yarib_concurrent *table, uint32_t limit, const yarib *other)
 {
-    CHANGE(replace(table, &sides, limit, other));
-}
-
-static void destroy(struct sides *sides)
-{
-    for (int k = 0; k < 2; k++) free_contents(&sides->tables[k]);
-    free_contents(&sides->renewed);
-    if (sides->room > 0) rattle_dealloc(sides->lacking);
-    rattle_dealloc(sides->block);
+    CHANGE(table, replace(table, &own, limit, other));
 }
 
 /* Empties the handle, and frees the sides after their last reader. */
-static enum yarib_status empty(yarib_concurrent *table, struct sides **sides)
+static enum yarib_status empty(yarib_concurrent *table, yarib_concurrent *own)
 {
-    if (!*sides) return YARIB_DONE;
-    if (is_read(table, NEVER, true)) return YARIB_BUSY;
+    if (!own->inside) return YARIB_DONE;
     if (see_readers() != YARIB_DONE) return YARIB_NO_BARRIER;
-    __atomic_store_n(&table->inside, marked(NULL), __ATOMIC_SEQ_CST);
-    enum yarib_status status = wait_for_readers(table, __atomic_add_fetch(&publications.number, 1, __ATOMIC_SEQ_CST));
+    if (find_readers(table, NEVER) == THIS_THREAD) return YARIB_BUSY;
+    enum yarib_status status = wait_for_readers(table, publish_sides(table, NULL));
     if (status != YARIB_DONE) return status;
-    destroy(*sides);
-    *sides = NULL;
+    destroy(own->inside);
+    own->inside = NULL;
     return YARIB_DONE;
 }
 
 enum yarib_status yarib_concurrent_free(yarib_concurrent *table)
 {
-    CHANGE(empty(table, &sides));
+    CHANGE(table, empty(table, &own));
+}
+
+/* Keeps the commands that were executed in the back, and publishes it if they changed it. */
+static enum yarib_status finish(struct sides *sides, enum yarib_status status, const yarib_command *commands, const yarib_reply *replies,
+    size_t size)
+{
+    if (status != YARIB_DONE) return status;
+    for (size_t k = 0; k < size; k++) keep(sides, &commands[k], &replies[k]);
+    if (sides->end > 0) publish(sides);
+    return YARIB_DONE;
 }
 
 /* With a change, it is written. */
@@ -245,39 +221,33 @@ static enum yarib_status apply(struct sides *sides, const yarib_command *command
 {
     enum yarib_status status = prepare(sides, 1);
     if (status != YARIB_DONE) return status;
-    status = change ? proved_yarib_apply_changed(back(sides), command, reply, change) : proved_yarib_apply(back(sides), command, reply);
-    if (status != YARIB_DONE) return status;
-    keep(sides, command, reply);
-    if (sides->end > 0) publish(sides);
-    return YARIB_DONE;
+    status = change ? proved_yarib_apply_changed(&sides->back, command, reply, change) : proved_yarib_apply(&sides->back, command, reply);
+    return finish(sides, status, command, reply, 1);
 }
 
 enum yarib_status yarib_concurrent_apply(yarib_concurrent *table, const yarib_command *command, yarib_reply *reply)
 {
-    CHANGE(apply(sides, command, reply, NULL));
+    CHANGE(table, apply(own.inside, command, reply, NULL));
 }
 
 enum yarib_status yarib_concurrent_apply_changed(yarib_concurrent *table, const yarib_command *command, yarib_reply *reply,
     yarib_change *change)
 {
-    CHANGE(apply(sides, command, reply, change));
+    CHANGE(table, apply(own.inside, command, reply, change));
 }
 
 static enum yarib_status apply_each(struct sides *sides, const yarib_command *commands, size_t size, yarib_reply *replies, size_t room)
 {
     if (size != room) return YARIB_BAD_SIZE;
     enum yarib_status status = prepare(sides, size);
-    if (status == YARIB_DONE) status = proved_yarib_apply_each(back(sides), commands, size, replies, room);
-    if (status != YARIB_DONE) return status;
-    for (size_t k = 0; k < size; k++) keep(sides, &commands[k], &replies[k]);
-    if (sides->end > 0) publish(sides);
-    return YARIB_DONE;
+    if (status == YARIB_DONE) status = proved_yarib_apply_each(&sides->back, commands, size, replies, room);
+    return finish(sides, status, commands, replies, size);
 }
 
 enum yarib_status yarib_concurrent_apply_each(yarib_concurrent *table, const yarib_command *commands, size_t size,
     yarib_reply *replies, size_t room)
 {
-    CHANGE(apply_each(sides, commands, size, replies, room));
+    CHANGE(table, apply_each(own.inside, commands, size, replies, room));
 }
 
 /* Adds a route to the back, which isn't published meanwhile. */
@@ -285,11 +255,12 @@ static enum yarib_status add_to_back(void *argument, const yarib_command *comman
 {
     struct sides *sides = argument;
     if (sides->end == sides->room && !reserve(sides, 2 * sides->room)) return YARIB_NO_MEMORY;
-    enum yarib_status status = proved_yarib_apply(back(sides), command, reply);
+    enum yarib_status status = proved_yarib_apply(&sides->back, command, reply);
     if (status == YARIB_DONE) keep(sides, command, reply);
     return status;
 }
 
+/* After a load the other side becomes the same at once. As long as a reading call hinders that, the next change does it. */
 static enum yarib_status load(const yarib_concurrent *table, struct sides *sides, uint32_t feed, FILE *file, yarib_loaded *loaded)
 {
     const struct adder adder = {add_to_back, sides};
@@ -297,70 +268,60 @@ static enum yarib_status load(const yarib_concurrent *table, struct sides *sides
     enum yarib_status status = prepare(sides, KEPT);
     if (status != YARIB_DONE) return status;
     status = add_lines(file, feed, &adder, loaded);
-    if (sides->end > 0) publish_both(table, sides);
+    if (sides->end == 0) return status;
+    publish(sides);
+    if (settle(table, sides) == YARIB_DONE) prepare(sides, 1);
     return status;
 }
 
 enum yarib_status yarib_concurrent_load(yarib_concurrent *table, uint32_t feed, FILE *file, yarib_loaded *loaded)
 {
     *loaded = (yarib_loaded){0};
-    CHANGE(load(table, sides, feed, file, loaded));
+    CHANGE(table, load(table, own.inside, feed, file, loaded));
 }
 
 /* Each side gets its forwarding table while it is the back. */
 static enum yarib_status attach_both(const yarib_concurrent *table, struct sides *sides)
 {
+    if (find_readers(table, NEVER) == THIS_THREAD) return YARIB_BUSY;
     enum yarib_status status = prepare(sides, 0);
-    if (status == YARIB_DONE) status = attach(back(sides));
+    if (status == YARIB_DONE) status = attach(&sides->back);
     if (status != YARIB_DONE) return status;
     publish(sides);
     status = settle(table, sides);
-    return status == YARIB_DONE ? attach(back(sides)) : status;
+    return status == YARIB_DONE ? attach(&sides->back) : status;
 }
 
 enum yarib_status yarib_concurrent_fib_attach(yarib_concurrent *table)
 {
-    if (is_read(table, NEVER, true)) return YARIB_BUSY;
-    CHANGE(attach_both(table, sides));
+    CHANGE(table, attach_both(table, own.inside));
 }
 
-/* A reading call: a copy of the front's handle, which is empty if the concurrent table is, and the call's place. */
-struct visit {
-    yarib table;
-    struct place *place;
-};
-
-/* Enters a reading call. Returns false if all places are taken. */
-SHORT bool try_to_enter(const yarib_concurrent *table, struct visit *visit)
+/* Enters a reading call, whose copy of the front's handle is empty if the concurrent table is. Returns YARIB_BUSY if all places are taken. */
+SHORT enum yarib_status try_to_enter(const yarib_concurrent *table, struct reading *own)
 {
-    visit->place = enter_place(table, __atomic_load_n(&publications.number, __ATOMIC_SEQ_CST));
-    if (!visit->place) return false;
+    own->place = enter_place(table, __atomic_load_n(&publications.number, __ATOMIC_SEQ_CST));
+    if (!own->place) return YARIB_BUSY;
     const struct sides *sides = (struct sides *)((uintptr_t)__atomic_load_n(&table->inside, __ATOMIC_SEQ_CST) & CONTENTS);
-    visit->table.inside = sides ? __atomic_load_n(&sides->table, __ATOMIC_SEQ_CST) : NULL;
-    return true;
+    own->table.inside = sides ? __atomic_load_n(&sides->front.inside, __ATOMIC_SEQ_CST) : NULL;
+    return YARIB_DONE;
 }
 
 /* Enters a reading call. It waits only while all places are taken. */
-SHORT void enter(const yarib_concurrent *table, struct visit *visit)
+SHORT enum yarib_status enter(const yarib_concurrent *table, struct reading *own)
 {
     unsigned times = 0;
-    while (!try_to_enter(table, visit)) rest(&times);
+    while (try_to_enter(table, own) != YARIB_DONE) rest(&times);
+    return YARIB_DONE;
 }
-
-/* The body of a reading call of `table`: a proved call with `visit.table`. */
-#define READ(call) \
-    struct visit visit; \
-    enter(table, &visit); \
-    enum yarib_status status = call; \
-    leave_place(visit.place); \
-    return status
 
 #define DEFINE(name, parameters, arguments) \
     enum yarib_status yarib_concurrent_##name(const yarib_concurrent *table, LIST parameters) \
     { \
-        READ(proved_yarib_##name(&visit.table, LIST arguments)); \
+        READ(enter, table, proved_yarib_##name(&own.table, LIST arguments)); \
     }
 READING_CALLS(DEFINE)
+VIEW_CALLS(DEFINE)
 
 enum yarib_status yarib_concurrent_look_up_text(const yarib_concurrent *table, const char *text, size_t size, yarib_route *answer)
 {
@@ -373,18 +334,14 @@ enum yarib_status yarib_concurrent_look_up_text(const yarib_concurrent *table, c
  * that do could wait for one another. */
 static enum yarib_status compare(yarib *old, const yarib_concurrent *table, uint32_t by, uint32_t from, yarib_difference *difference)
 {
-    struct visit visit;
-    if (!try_to_enter(table, &visit)) return YARIB_BUSY;
-    enum yarib_status status = proved_yarib_first_difference(old, &visit.table, by, from, difference);
-    leave_place(visit.place);
-    return status;
+    READ(try_to_enter, table, proved_yarib_first_difference(old, &own.table, by, from, difference));
 }
 
 enum yarib_status yarib_concurrent_first_difference(const yarib_concurrent *table, const yarib_concurrent *new_table, uint32_t by,
     uint32_t from, yarib_difference *difference)
 {
     if (table == new_table) return YARIB_BUSY;
-    READ(compare(&visit.table, new_table, by, from, difference));
+    READ(enter, table, compare(&own.table, new_table, by, from, difference));
 }
 
 static enum yarib_status memory_of_both(yarib *front, size_t *bytes)
@@ -396,11 +353,5 @@ static enum yarib_status memory_of_both(yarib *front, size_t *bytes)
 
 enum yarib_status yarib_concurrent_memory(const yarib_concurrent *table, size_t *bytes)
 {
-    READ(memory_of_both(&visit.table, bytes));
-}
-
-enum yarib_status yarib_concurrent_view_write(const yarib_concurrent *table, yarib_view *view)
-{
-    READ(proved_yarib_view_write(&visit.table, view->entries, view->entry_count, view->blocks, view->block_count, view->routers,
-        view->router_count, &view->router_count));
+    READ(enter, table, memory_of_both(&own.table, bytes));
 }

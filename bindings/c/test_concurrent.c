@@ -573,7 +573,7 @@ static void *reader(void *unused)
 }
 
 /* The ways to end a table or to change it that wait for the reader. */
-static enum { CHANGE, BATCH, FREE, NEW, REPLACE, ATTACH, WAYS } way;
+static enum { CHANGE, BATCH, FREE, NEW, REPLACE, ATTACH, LOAD, WAYS } way;
 
 /* While the reader is held, nothing may be allocated for its side, the second one that gets a forwarding table. */
 static void check_side(void)
@@ -581,6 +581,15 @@ static void check_side(void)
     size_t bytes;
     CHECK(yarib_concurrent_memory(&table, &bytes) != YARIB_DONE || bytes < (size_t)2 << 26 || !atomic_load(&is_held));
     inside = check_side;
+}
+
+static void load_one(void)
+{
+    yarib_loaded loaded;
+    FILE *file = tmpfile();
+    CHECK(file && fputs("add 71.0.0.0/8 1 192.0.2.1\n", file) >= 0);
+    rewind(file);
+    CHECK(yarib_concurrent_load(&table, 1, file, &loaded) == YARIB_DONE && loaded.routes == 1 && fclose(file) == 0);
 }
 
 static void *writer(void *unused)
@@ -594,6 +603,7 @@ static void *writer(void *unused)
     if (way == NEW) CHECK(yarib_concurrent_new(&table, LIMIT) == YARIB_DONE);
     if (way == REPLACE) CHECK(yarib_concurrent_replace(&table, LIMIT, &other) == YARIB_DONE);
     if (way == ATTACH) CHECK(yarib_concurrent_fib_attach(&table) == YARIB_DONE);
+    if (way == LOAD) load_one();
     atomic_store(&is_over, 1);
     return unused;
 }
@@ -622,11 +632,12 @@ static void reader_is_held(void)
     /* The lowest bit of the handle says that the change is under way. */
     while (((uintptr_t)__atomic_load_n(&table.inside, __ATOMIC_SEQ_CST) & 1) == 0) CHECK(!atomic_load(&is_over));
     while (way == ATTACH && (yarib_concurrent_memory(&table, &total) != YARIB_DONE || total < (size_t)2 << 26)) nanosleep(&moment, NULL);
+    while (way == LOAD && (yarib_concurrent_count(&table, &total) != YARIB_DONE || total != right + 1)) nanosleep(&moment, NULL);
     nanosleep(&moment, NULL);
     CHECK(!atomic_load(&is_over));
     if (way == FREE) CHECK(yarib_concurrent_count(&table, &total) == YARIB_NOTHING);
     else if (way == NEW || way == REPLACE) CHECK(yarib_concurrent_count(&table, &total) == YARIB_DONE && total == (way == REPLACE));
-    else if (way == ATTACH) CHECK(yarib_concurrent_count(&table, &total) == YARIB_DONE && total == right);
+    else if (way == ATTACH || way == LOAD) CHECK(yarib_concurrent_count(&table, &total) == YARIB_DONE && total == right + (way == LOAD));
     else compare();
     CHECK(yarib_concurrent_apply(&table, &one, &reply) == YARIB_BUSY && yarib_concurrent_free(&table) == YARIB_BUSY);
     atomic_store(&is_held, 0);

@@ -14,11 +14,11 @@
  *     mark: load word RELAXED, compare_exchange word SEQ_CST
  *     unmark: store word RELEASE
  *     see_readers: load owned SEQ_CST, barrier, barrier
- *     is_read: load used SEQ_CST, load place->owner RELAXED, load place->reading ACQUIRE, load place->since ACQUIRE
+ *     find_readers: load used SEQ_CST, load place->reading ACQUIRE, load place->since ACQUIRE, load place->owner RELAXED
  *     enter_reading: load handle->inside ACQUIRE
- *     publish: store sides->table SEQ_CST, add_fetch publications.number SEQ_CST
- *     empty: store table->inside SEQ_CST, add_fetch publications.number SEQ_CST
- *     try_to_enter: load publications.number SEQ_CST, load table->inside SEQ_CST, load sides->table SEQ_CST
+ *     publish: store sides->front.inside SEQ_CST, add_fetch publications.number SEQ_CST
+ *     publish_sides: store table->inside SEQ_CST, add_fetch publications.number SEQ_CST
+ *     try_to_enter: load publications.number SEQ_CST, load table->inside SEQ_CST, load sides->front.inside SEQ_CST
  *
  *     test_model         # all of it
  *     test_model NAME    # the wrong protocol of this name; the status is 1 if a wrong state is found */
@@ -30,7 +30,7 @@
 typedef unsigned char u8;
 
 /* The threads; sides and tables that a writer makes; the number of values in memory. A thread's place is the one of its number. */
-enum { THREADS = 3, SIDES = 2, TABLES = 7, STORES = 5 };
+enum { THREADS = 3, SIDES = 3, TABLES = 7, STORES = 5 };
 enum { INSIDE, PUBLICATIONS, OWNED, USED, FRONT, READING = FRONT + SIDES, SINCE = READING + THREADS, VALUES = SINCE + THREADS };
 
 /* What a handle's word holds: a mark, and the number of its sides from 1 on. A plain handle has no sides. */
@@ -39,7 +39,8 @@ enum { MARK = 128 };
 /* A thread: its next step; calls that are over; values that it has read; and its stores that the memory doesn't have yet. */
 struct thread {
     u8 step, calls, since, word, table, version, seen, place;
-    u8 published, sides, made, flushed, back, tables[2];
+    u8 published, sides, after_wait, flushed, back, tables[2];
+    u8 made, before, old[2];
     u8 size, stores[STORES][2];
 };
 
@@ -59,7 +60,8 @@ static bool is_wrong(const char *name)
 }
 
 /* What is tried: the kind of each thread, a reader with a place of its own or a lent one, or a writer; the number of a reader's calls; and
- * a writer's changes, which are those of a concurrent table, or `c` for one of a plain table. */
+ * a writer's changes, which are `c` for one of a plain table, or those of a concurrent table: `A` for one in the back, `N` for new sides, `H`
+ * for new sides whose wait is hindered, so that the next change waits, and `F` for none, the table's end. */
 static const char *kinds, *script;
 static u8 calls;
 static const char *fault;
@@ -101,8 +103,8 @@ static u8 *lock(struct state *state, int thread, int value)
 
 /* The steps of readers and writers. */
 enum { BEGIN, ENTER, SET_SINCE, SET_READING, READ_WORD, READ_FRONT, READ, READ_ON, LEAVE, END, OVER };
-enum { W_MARK = 20, W_OWNED, W_BARRIER, W_PLACE, W_SINCE, W_READY, W_CHANGE, W_CHANGED, W_FRONT, W_NUMBER, W_EMPTY, W_EMPTIED, W_FREE,
-    W_RENEW, W_UNMARK };
+enum { W_MARK = 20, W_OWNED, W_BARRIER, W_PLACE, W_SINCE, W_READY, W_CHANGE, W_CHANGED, W_FRONT, W_NUMBER, W_SIDES, W_SIDES_NUMBER,
+    W_SETTLED, W_UNMARK };
 
 static bool is_reader(int thread)
 {
@@ -202,7 +204,7 @@ static bool step_reader(struct state *state, int thread)
 /* Begins to wait for readers of what was published: `on` is the step after the wait. */
 static void wait_for(struct thread *own, u8 on)
 {
-    own->made = on;
+    own->after_wait = on;
     own->step = is_wrong("no wait") ? on : W_OWNED;
     own->place = own->flushed = 0;
 }
@@ -211,7 +213,7 @@ static void wait_for(struct thread *own, u8 on)
 static void step_place(struct state *state, int thread)
 {
     struct thread *own = &state->threads[thread];
-    if (own->place == load(state, thread, USED) || (is_wrong("only the first place is read") && own->place == 1)) own->step = own->made;
+    if (own->place == load(state, thread, USED) || (is_wrong("only the first place is read") && own->place == 1)) own->step = own->after_wait;
     else if (load(state, thread, READING + own->place) == 0) own->place++;
     else own->step = W_SINCE;
 }
@@ -230,6 +232,40 @@ static void step_since(struct state *state, int thread)
     } else {
         own->place = 0;
     }
+}
+
+/* Makes the new sides of a change, or none for `F`. */
+static void make_sides(struct state *state, int thread, char change)
+{
+    struct thread *own = &state->threads[thread];
+    own->before = own->sides;
+    for (int k = 0; k < 2; k++) own->old[k] = own->tables[k];
+    own->sides = change == 'F' ? 0 : (u8)(own->made + 2);
+    own->step = is_wrong("the number is published before the sides") ? W_SIDES_NUMBER : W_SIDES;
+    if (change == 'F') return;
+    own->made++;
+    own->version++;
+    own->back = 1;
+    for (int k = 0; k < 2; k++) {
+        own->tables[k] = state->tables++;
+        state->version[own->tables[k]] = own->version;
+    }
+    store(state, thread, FRONT + own->sides - 1, own->tables[0]);
+}
+
+/* Frees the sides before, if there are any, after the wait. */
+static void free_sides(struct state *state, int thread)
+{
+    struct thread *own = &state->threads[thread];
+    own->published = 0;
+    if (!own->before) return;
+    for (int k = 0; k < 2; k++) free_table(state, own->old[k]);
+    state->are_freed[own->before] = 1;
+    for (int k = 0; kinds[k]; k++) {
+        if (is_reader(k) && state->threads[k].step == READ_FRONT && (state->threads[k].word & (MARK - 1)) == own->before
+            && !is_wrong("the word is read before the place is written")) fault = "sides are freed under a reader";
+    }
+    own->before = own->old[0] = own->old[1] = 0;
 }
 
 /* The next step of a writer. */
@@ -262,14 +298,11 @@ static bool step_writer(struct state *state, int thread)
         step_since(state, thread);
         return true;
     case W_READY:
-        if (!is_plain()) own->published = 0;
-        own->step = change == 'F' ? W_EMPTY : change == 'M' ? W_RENEW : W_CHANGE;
+        own->step = W_CHANGE;
+        if (!is_plain()) free_sides(state, thread);
+        if (strchr("NHF", change)) make_sides(state, thread, change);
         return true;
     case W_CHANGE:
-        if (change == 'N') {
-            free_table(state, own->tables[own->back]);
-            own->tables[own->back] = state->tables++;
-        }
         change_table(state, own->tables[own->back]);
         own->step = W_CHANGED;
         return true;
@@ -287,45 +320,26 @@ static bool step_writer(struct state *state, int thread)
     case W_NUMBER:
         own->published = ++*lock(state, thread, PUBLICATIONS);
         own->step = is_wrong("the number is published first") ? W_FRONT : W_UNMARK;
-        if (change == 'N') wait_for(own, is_wrong("new doesn't wait") ? W_UNMARK : W_RENEW);
-        if (change == 'N' && is_wrong("new doesn't wait")) own->step = W_RENEW;
         return true;
-    case W_EMPTY:
-        *lock(state, thread, INSIDE) = MARK;
-        own->step = W_EMPTIED;
+    case W_SIDES:
+        *lock(state, thread, INSIDE) = MARK | own->sides;
+        own->step = W_SIDES_NUMBER;
+        if (is_wrong("the number is published before the sides")) wait_for(own, W_SETTLED);
         return true;
-    case W_EMPTIED:
+    case W_SIDES_NUMBER:
         own->published = ++*lock(state, thread, PUBLICATIONS);
-        wait_for(own, W_FREE);
-        if (is_wrong("free doesn't wait")) own->step = W_FREE;
+        if (is_wrong("the number is published before the sides")) own->step = W_SIDES;
+        else if (change == 'H') own->step = W_UNMARK;
+        else if (is_wrong(change == 'F' ? "free doesn't wait" : "new doesn't wait")) own->step = W_SETTLED;
+        else wait_for(own, W_SETTLED);
         return true;
-    case W_FREE:
-        for (int k = 0; k < 2; k++) free_table(state, own->tables[k]);
-        state->are_freed[own->sides] = 1;
-        for (int k = 0; kinds[k]; k++) {
-            if (is_reader(k) && state->threads[k].step == READ_FRONT && (state->threads[k].word & (MARK - 1)) == own->sides
-                && !is_wrong("the word is read before the place is written")) fault = "sides are freed under a reader";
-        }
-        own->sides = own->published = 0;
-        own->step = W_UNMARK;
-        return true;
-    case W_RENEW:
-        /* The second table of a new one, or both tables of new sides. */
-        if (change == 'N') {
-            free_table(state, own->tables[own->back]);
-        } else {
-            own->sides = 2;
-            own->tables[1 - own->back] = state->tables++;
-        }
-        own->tables[own->back] = state->tables++;
-        for (int k = 0; k < 2; k++) state->version[own->tables[k]] = own->version;
-        if (change == 'M') state->memory[FRONT + 1] = own->tables[1 - own->back];
-        own->published = 0;
+    case W_SETTLED:
+        free_sides(state, thread);
         own->step = W_UNMARK;
         return true;
     case W_UNMARK:
         store(state, thread, INSIDE, own->sides);
-        own->place = own->flushed = own->made = 0;
+        own->place = own->flushed = own->after_wait = 0;
         own->calls++;
         if (!is_plain() && own->sides) state->returned = own->version;
         own->step = W_MARK;
@@ -431,14 +445,14 @@ static const struct {
     const char *kinds;
     u8 calls;
     const char *script;
-} searches[] = {{"LW", 2, "AFMA"}, {"OW", 2, "AFMA"}, {"LW", 3, "AAAA"}, {"LWW", 2, "cc"}, {"OW", 3, "AAAA"}, {"OW", 3, "ANAN"},
-    {"OWW", 2, "cc"}, {"OOW", 1, "ccc"}, {"LLW", 2, "ccc"}, {"OOW", 1, "FMA"}, {"LLW", 2, "AA"}, {"OLW", 1, "AFM"}, {"OLW", 2, "ccc"},
-    {"OOW", 1, "AA"}, {"OOW", 1, "NA"}, {"OLW", 1, "ANA"}, {"OLW", 1, "AAA"}};
+} searches[] = {{"LW", 2, "AFNA"}, {"OW", 2, "AFNA"}, {"LW", 3, "AAAA"}, {"LWW", 2, "cc"}, {"OW", 3, "AAAA"}, {"OW", 3, "ANAN"},
+    {"OWW", 2, "cc"}, {"OOW", 1, "ccc"}, {"LLW", 2, "ccc"}, {"OOW", 1, "FNA"}, {"LLW", 2, "AA"}, {"OLW", 1, "AFN"}, {"OLW", 2, "ccc"},
+    {"OOW", 1, "AA"}, {"OOW", 1, "NA"}, {"OOW", 1, "HA"}, {"OW", 2, "HFNA"}, {"OLW", 1, "ANA"}, {"OLW", 1, "AAA"}};
 
 static const char *const wrong_protocols[] = {"no barrier", "a place is counted late", "a reader claims the next publication",
     "the word is read before the place is written", "a lent place is written without a fence",
     "a reader ignores the mark", "no wait", "only the first place is read", "the last reader isn't waited for",
-    "the number is published first", "new doesn't wait", "free doesn't wait"};
+    "the number is published first", "the number is published before the sides", "new doesn't wait", "free doesn't wait"};
 
 static const char *search_all(bool is_told)
 {
