@@ -28,6 +28,7 @@ choice when their sessions end. When the session of a later source ends, the cho
 order of the sources can express that."""
 import functools
 import ipaddress
+import operator
 import re
 import typing
 
@@ -52,6 +53,7 @@ LENGTH_AT, AIGP_AT, PREFERENCE_AT, AHEAD_AT, MED_BITS = 2, 32, 96, 128, 32
 # A candidate is a tuple of these: the values compared before MED and those compared after it, the number of a peer's
 # path, MED, the AS path, the source, and the route that it represents. The lowest of the first three is the best.
 BEFORE, BEHIND, NUMBER, MED, PATH, SOURCE, WHAT = range(7)
+MED_OF, SOURCE_OF = operator.itemgetter(MED), operator.itemgetter(SOURCE)
 # the places of two of the values that are compared after MED
 INTERNAL, IDENTIFIER = 0, 2
 
@@ -133,9 +135,10 @@ def candidate(standing, path, med, number, source, what, always_compare_med=Fals
 def best_of_each(candidates, in_turn=False):
     """The best candidate of each source, in the order of choice."""
     ordered = sorted(candidates)
-    if med_decides(ordered):
+    # the routes to most prefixes have the same MED, and nothing has to be compared
+    if len(set(map(MED_OF, ordered))) > 1 and med_decides(ordered):
         return list(one_by_one(candidates, first_in_turn if in_turn else first_of_neighbours))
-    if len({candidate[SOURCE] for candidate in ordered}) == len(ordered):
+    if len(set(map(SOURCE_OF, ordered))) == len(ordered):
         return ordered
     best = {}
     for candidate in ordered:
@@ -147,14 +150,14 @@ def med_decides(ordered):
     """Returns True if two candidates of the same neighbouring AS are equal before MED and have different MEDs. Candidates
     that are equal before MED follow one another, since the candidates are in order."""
     begin, before, med, meds = 0, None, None, None
-    for place, candidate in enumerate(ordered):
-        if candidate[BEFORE] != before:
-            begin, before, med, meds = place, candidate[BEFORE], candidate[MED], None
-        elif meds is not None or candidate[MED] != med:
+    for place, (own_before, _, _, own_med, path, _, _) in enumerate(ordered):
+        if own_before != before:
+            begin, before, med, meds = place, own_before, own_med, None
+        elif meds is not None or own_med != med:
             if meds is None:
                 # those before have the same MED
                 meds = dict.fromkeys([neighbour_of(other[PATH]) for other in ordered[begin:place]], med)
-            if meds.setdefault(neighbour_of(candidate[PATH]), candidate[MED]) != candidate[MED]:
+            if meds.setdefault(neighbour_of(path), own_med) != own_med:
                 return True
     return False
 

@@ -25,9 +25,29 @@ PLACE_BITS = 136 + 64 + 32
 NO_HOP = "255.255.255.255"
 
 
+class Merits:
+    """The number of its route's merit, or 0, for each line of a peer's feed. Numbers that another process gave stay as they are:
+    only if updates follow the dump, it has to be known what they stand for."""
+
+    def __init__(self):
+        # the last ones, and before these parts of other processes, each with the numbers that theirs stand for
+        self.last, self.parts = array.array("I"), []
+
+    def join(self, numbers, own):
+        """Adds numbers of another process; `own` has this process's number for each of them."""
+        self.parts += [(self.last, None), (array.array("I", numbers), own)]
+        self.last = array.array("I")
+
+    def __bool__(self):
+        return bool(self.last or self.parts)
+
+    def __iter__(self):
+        for numbers, own in (*self.parts, (self.last, None)):
+            yield from numbers if own is None else map(own.__getitem__, numbers)
+
+
 class Peer:
-    """A peer, the lines of its feed, and of each line the number of its route's merit, or 0. Its BGP identifier is 0 if the
-    input doesn't show it."""
+    """A peer, and the lines of its feed. Its BGP identifier is 0 if the input doesn't show it."""
 
     def __init__(self, address, system, number, lines, internal, identifier=0):
         feeds.is_address(address)
@@ -39,7 +59,7 @@ class Peer:
         self.lines = lines
         # the numbers of merits, by `merit_key`
         self.numbers = {}
-        self.merits = array.array("I")
+        self.merits = Merits()
         self.routes = {}
         self.paths = {}
         self.announced = False
@@ -77,7 +97,7 @@ class Converter:
     """Takes dumped routes and updates. A route is a candidate of `choice`: its merit (what is compared before MED), its order
     (what is compared after MED), the path's number, MED, the AS path, the peer, and the next hop."""
 
-    def __init__(self, arguments, notes, files):
+    def __init__(self, arguments, notes, files, met):
         self.arguments, self.notes, self.files = arguments, notes, files
         self.by_rank = arguments.by == "rank"
         self.always_compare_med = arguments.always_compare_med
@@ -88,7 +108,7 @@ class Converter:
         # values that many routes share are kept once
         self.same = {}
         # of the dump: the prefixes so far, the text and the prefix of the last one, and its routes
-        self.met, self.text, self.prefix, self.group = feeds.prefix_set(), None, None, []
+        self.met, self.text, self.prefix, self.group = met, None, None, []
         self.updates = self.states = False
 
     def peer(self, key, identifier=0):
@@ -151,12 +171,12 @@ class Converter:
             if len(best) < len(routes):
                 self.notes.leave_out("further paths of a peer to the same prefix", len(routes) - len(best))
             routes = best
-        prefix, by_rank = self.prefix, self.by_rank
+        begin, by_rank = f"add {self.prefix} ", self.by_rank
         for rank, (merit, order, _, _, _, peer, hop) in enumerate(routes, 1):
-            peer.lines.append(f"add {prefix} {rank if by_rank else merit >> self.preference_at} {hop}\n")
+            peer.lines.append(f"{begin}{rank if by_rank else merit >> self.preference_at} {hop}\n")
             # as `merit_key` does, which would take as long as all of this
             key = merit if order is peer.order else (merit, order)
-            peer.merits.append(peer.numbers.get(key) or self.merit_number(merit, order, peer))
+            peer.merits.last.append(peer.numbers.get(key) or self.merit_number(merit, order, peer))
 
     def end_piece(self):
         """Ends a part of the dump, after which another prefix comes."""
@@ -172,9 +192,9 @@ class Converter:
         if self.updates:
             raise feeds.Refused("there are updates")
         # all routes of a peer have its order
-        peers = [(key, peer.announced, [(number, merit) for merit, number in peer.numbers.items()], peer.merits.tobytes())
+        peers = [(key, peer.announced, [(number, merit) for merit, number in peer.numbers.items()], peer.merits.last.tobytes())
                  for key, peer in self.peers.items()]
-        return self.met.kept(), peers, self.files.gathered(), self.notes.counted()
+        return feeds.prefixes_of(self.met).kept(), peers, self.files.gathered(), self.notes.counted()
 
     def join(self, gathered):
         """Adds what was read of a later part of the dump; returns False if a prefix occurs twice."""
@@ -185,7 +205,7 @@ class Converter:
             peer = self.peers.get(key) or self.peer(key)
             peer.announced = peer.announced or announced
             own = {number: peer.numbers.get(merit) or self.merit_number(merit, peer.order, peer) for number, merit in numbers}
-            peer.merits.extend(map(own.__getitem__, array.array("I", merits)))
+            peer.merits.join(merits, own)
         self.files.join(texts)
         self.notes.join(counted)
         return True
@@ -280,7 +300,7 @@ class Converter:
 
     def write(self, peer, line, merit):
         peer.lines.append(line)
-        peer.merits.append(merit)
+        peer.merits.last.append(merit)
 
     def finish(self):
         self.end_group()
@@ -324,19 +344,20 @@ def convert(arguments, given, take, is_in_pieces=False):
     """Converts what `take(given, converter)` reads. If it can be read in pieces, other processes convert some of these."""
     notes = feeds.Notes()
     with feeds.FeedFiles(arguments) as files:
-        converter = Converter(arguments, notes, files)
+        converter = Converter(arguments, notes, files, feeds.prefix_set())
         given.after_block = files.flush_many
         if is_in_pieces:
-            feeds.read_ahead(given, converter.state, functools.partial(of_piece, arguments, take), converter.join, files)
+            work = functools.partial(of_piece, arguments, given.read, take)
+            feeds.read_ahead(given, converter.state, work, converter.join, files)
         with given.named():
             take(given, converter)
         return converter.finish()
 
 
-def of_piece(arguments, take, data, _state):
+def of_piece(arguments, read, take, data, _state):
     """What is in a piece of a dump."""
-    converter = Converter(arguments, feeds.Notes(), feeds.Gathered(arguments))
-    take([*feeds.text_of(data).split("\n"), feeds.BOUNDARY], converter)
+    converter = Converter(arguments, feeds.Notes(), feeds.Gathered(arguments), set())
+    take([*read(feeds.text_of(data)), feeds.BOUNDARY], converter)
     return converter.gathered()
 
 

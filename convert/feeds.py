@@ -108,6 +108,9 @@ class Offer(typing.NamedTuple):
     found: str | None = None
 
 
+SOURCE_OF = operator.attrgetter("source")
+
+
 class Notes:
     """Counts what is left out, by its name, in the order of the names' first occurrence. `differs` is set if some
     addresses get another answer than from the daemon because of it."""
@@ -276,15 +279,20 @@ class Lines(Input):
 
     def __init__(self, most):
         super().__init__(most)
-        # of the last block: the entries, and an iterator over those that are not in use yet
-        self.entries, self.rest = [], iter(())
+        # of the last block: its text, the entries, and an iterator over those that are not in use yet
+        self.text, self.entries, self.rest = "", [], iter(())
 
     def last_end(self, data, begin):
         """The end of the last whole entry, which is not before `begin`; -1 if there is none."""
         return data.rfind(b"\n", begin)
 
     def split(self, text):
+        """The texts of the entries."""
         return text.split("\n")
+
+    def read(self, text):
+        """The entries as the converter takes them, as many as there are texts."""
+        return self.split(text)
 
     def last_cut(self, data, size):
         """Where a piece can end, which has about that size; 0 if that isn't known of this kind of input."""
@@ -332,7 +340,7 @@ class Lines(Input):
         for text, ends in self.texts():
             self.before = self.lines
             self.lines += text.count("\n") + 1
-            self.entries = self.split(text)
+            self.text, self.entries = text, self.read(text)
             self.rest = iter(self.entries)
             yield from self.rest
             if ends:
@@ -347,7 +355,7 @@ class Lines(Input):
             yield
         except (ValueError, LookupError) as error:
             behind = getattr(error, "behind", 0)
-            *earlier, entry = self.entries[: len(self.entries) - operator.length_hint(self.rest)]
+            *earlier, entry = self.split(self.text)[: len(self.entries) - operator.length_hint(self.rest)]
             number = self.before + 1 + behind + sum(entry.count("\n") + 1 for entry in earlier)
             line = entry.split("\n")[behind]
             what = f": {error}" if isinstance(error, Wrong) else f" is not understood: {line[:100]!r}"
@@ -734,7 +742,10 @@ def add_lines(files, prefix, offers, by_rank, notes):
     """Adds the offers of a prefix, best first, to the feeds of their sources."""
     if files.has_all_hops:
         offers = list(of_used_routes(offers))
-    for rank, offer in enumerate(one_each(offers, notes) if len(offers) > 1 else offers, 1):
+    if len(set(map(SOURCE_OF, offers))) < len(offers):
+        offers = one_each(offers, notes)
+    begin = f"add {prefix} "
+    for rank, offer in enumerate(offers, 1):
         source, hop, _, sought, over_interface, found = offer
         if sought:
             files.sought.add((source, sought))
@@ -746,7 +757,7 @@ def add_lines(files, prefix, offers, by_rank, notes):
         lines = files.waiting.get(source) or files.lines(source)
         if sought or source in files.looked_up:
             files.mark(source, sought is not None)
-        lines.append(f"add {prefix} {preference} {hop}\n")
+        lines.append(f"{begin}{preference} {hop}\n")
 
 
 def file_names(sources):
