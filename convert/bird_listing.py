@@ -22,15 +22,24 @@ BGP = r"(?:BGP\.|bgp_)"
 OF_BGP = re.compile(r"\) \[(?:AS\d+)?[ie?]\]$")
 # attributes that aren't used, and further lines of long ones: many routes share what remains
 UNUSED = re.compile(rf"\n\t(?:{BGP}(?!next_hop: |origin: |local_pref: |originator_id: |cluster_list: |aigp: ).*|Internal .*|\t.+)")
-# A route of BGP as most are, with all attributes of BIRD 2: the prefix, kind and source, what follows the time, the lines that are
-# used, and between these AS path and MED. After the local preference nothing is used.
+# The first line of a route as most are: the prefix, kind and source, the peer if it isn't the next hop, and what follows the time,
+# which has 12 or 10 characters. The AS of a path's origin isn't used, and may be the only difference between two routes.
+USUAL_FIRST = r"(\S*+) ++(unicast \[\S++) (?:.{12}|.{10})( from [^]\n]++)?+(\][^)\n]*+\))(?: \[[^]\n]*+\])?+"
+# its next hop
+USUAL_HOP = r"\n\tvia .*+"
+# any other entry
+ANY_OTHER = r"\n(?!\t)|(.*+(?:\n\t.*+)*+)\n"
+# A route of BGP as most are, with all attributes of BIRD 2: the same parts, the lines that are used, and between these the AS path,
+# which is only a sequence. After the local preference nothing is used.
 USUAL = re.compile(
-    r"(\S*) +(\w+ \[\S+) [^]\n]*(\][^][\n]*)(?: \[[^][\n]*\])?(\n\tvia [^\n]*\n\tType: BGP [^\n]*\n\tBGP\.origin: [^\n]*)"
-    r"\n\tBGP\.as_path: ([^\n]*)(\n\tBGP\.next_hop: [^\n]*)(?:\n\tBGP\.med: (\d+))?(\n\tBGP\.local_pref: \d+)"
-    r"(?:\n\tBGP\.(?!origin|as_path|next_hop|med|local_pref|cluster_list|aigp)[^\n]*)*"
+    rf"{USUAL_FIRST}({USUAL_HOP}\n\tType: BGP .*+\n\tBGP\.origin: .*+)\n\tBGP\.as_path: ([^[({{\n]*+)"
+    r"(\n\tBGP\.next_hop: .*+(?:\n\tBGP\.med: \d++)?+\n\tBGP\.local_pref: \d++)"
+    rf"(?:\n\tBGP\.(?!origin|as_path|next_hop|med|local_pref|cluster_list|aigp).*+)*+{ANY_OTHER}"
 )
-# A route as most are in a listing without attributes: the same parts, and its next hop.
-PLAIN = re.compile(r"(\S*) +(\w+ \[\S+) [^]\n]*(\][^][\n]*)(?: \[[^][\n]*\])?(\n\tvia [^\n]*)")
+# A route as most are in a listing without attributes: the same parts, of which two are empty.
+PLAIN = re.compile(rf"{USUAL_FIRST}({USUAL_HOP})()(){ANY_OTHER}")
+# what such routes are compared by
+HIDDEN = "hidden"
 VIA = re.compile(r"\tvia (\S+) on (\S+).*")
 # the weight of one of several next hops
 WEIGHT = re.compile(r" weight (\d+)(?: |$)")
@@ -39,6 +48,7 @@ LABELS = re.compile(r"\tvia \S+ on \S+ mpls .+")
 DEVICE = re.compile(r"\tdev (\S+).*")
 NEXT_HOP = re.compile(rf"\t{BGP}next_hop: (\S+).*")
 LOCAL_PREF = re.compile(rf"\t{BGP}local_pref: (\d+)")
+MED = re.compile(r"\tBGP\.med: (\d+)")
 ORIGIN = re.compile(rf"\t{BGP}origin: (IGP|EGP|Incomplete)")
 ORIGINATOR = re.compile(rf"\t{BGP}originator_id: (\S+)")
 CLUSTERS = re.compile(rf"\t{BGP}cluster_list: (.*)")
@@ -159,7 +169,7 @@ def attributes_of(more):
 
 
 class Route:
-    """A route as BIRD lists it, without its prefix and its time. Many prefixes have the same."""
+    """A route as BIRD lists it, without its prefix, its time and its AS path. Many prefixes have the same."""
 
     def __init__(self, kind, source, chosen, preference, stale, cost, attributes):
         self.kind, self.source, self.chosen, self.attributes = kind, source, chosen, attributes
@@ -175,6 +185,9 @@ class Route:
         self.offers, self.merit, self.standings = None, None, {}
         # the next hop that is its peer's address
         self.hop_of_peer = next(filter(None, attributes.hops), attributes.peer_hop or "") if attributes else ""
+        # of one as most are: its peer's address and MED, its preference if it shows BGP's criteria and else HIDDEN, and once they are
+        # known the values before and after MED, for a path that isn't empty
+        self.peer, self.med, self.compared_as, self.standing = None, 0, None, None
 
 
 OF_OTHER_KIND = Route("", "", None, 0, "", None, None)
@@ -187,8 +200,7 @@ def new_table(tables, name):
     return name
 
 
-@functools.lru_cache(feeds.MOST_KNOWN)
-def known_route(head, used):
+def new_route(head, used):
     """The route of an entry's parts, or None if they aren't a route."""
     kind, chosen = KIND.fullmatch(head), CHOICE.fullmatch(used.partition("\n")[0])
     if not kind or not chosen:
@@ -197,6 +209,9 @@ def known_route(head, used):
     if kind[1] == "unicast" and not attributes.hops:
         raise feeds.Wrong(f"the route has neither `via` nor `dev`{CUT}")
     return Route(*kind.groups(), *chosen.groups(), attributes)
+
+
+known_route = functools.lru_cache(feeds.MOST_KNOWN)(new_route)
 
 
 def parts_of(entry):
@@ -209,24 +224,45 @@ def parts_of(entry):
     return (*match.groups(), entry[end:]) if match else None
 
 
+class Known(dict):
+    """The routes of parts of usual entries."""
+
+    def __missing__(self, parts):
+        head, sender, first, lines, values = parts
+        made = new_route(head, f"{first}{lines}{values}")
+        if made:
+            med = MED.search(values)
+            made.peer = sender.removeprefix(" from ") or made.hop_of_peer
+            made.med, made.compared_as = int(med[1]) if med else 0, made.preference if values else HIDDEN
+            if len(self) >= feeds.MOST_KNOWN:
+                self.clear()
+            self[parts] = made
+        return made
+
+
+KNOWN = Known()
+
+
 def listed_of(entry):
-    """The prefix of an entry, and its route with the entry itself, the AS path, and the text of MED; the last two are None if
-    they are still to be read. None for both if it isn't a route to a prefix."""
+    """The prefix of an entry, and its route with the AS path and the text of the entry, of which one is None: the text of usual
+    ones, or a path that is still to be read. None for both if it isn't a route to a prefix."""
+    prefix, head, sender, first, lines, path, values, other = entry
+    if not head:
+        prefix, route = route_of(other)
+        return prefix, route and (route, None, other)
     try:
-        if PATH_OF_BIRD_2 not in entry:
-            if match := PLAIN.fullmatch(entry):
-                prefix, head, first, hop = match.groups()
-                if route := known_route(head, first + hop):
-                    return prefix, (route, entry, None, None)
-        elif match := USUAL.fullmatch(entry):
-            prefix, head, first, lines, path, hop, med, local_pref = match.groups()
-            if route := known_route(head, f"{first}{lines}{hop}{local_pref}"):
-                return prefix, (route, entry, path, med or "0")
+        route = KNOWN[head, sender, first, lines, values]
     except ValueError:
-        # found again below, with its line
-        pass
-    prefix, route = route_of(entry)
-    return prefix, route and (route, entry, None, None)
+        # the same, and which line it is
+        attributes_of(text_of(entry).partition("]")[2])
+        raise
+    return (prefix, (route, path, None)) if route else (None, None)
+
+
+def text_of(entry):
+    """The text of an entry, without what isn't used after the local preference."""
+    prefix, head, sender, first, lines, path, values, other = entry
+    return f"{prefix} {head} -{sender}{first}{lines}\n{PATH_OF_BIRD_2}{path}{values}" if head else other
 
 
 def route_of(entry):
@@ -260,21 +296,33 @@ class Place:
         return (self.table, self.in_full) if is_known else None
 
 
+class Listing(feeds.Entries):
+    """A listing. An entry is read as the parts of `USUAL` or `PLAIN`."""
+
+    def read(self, text):
+        return (USUAL if PATH_OF_BIRD_2 in text else PLAIN).findall(f"{text}\n")
+
+
 def groups(entries, place):
     """For each prefix of each table: the table, the prefix, whether it is IPv4, and its routes as `listed_of` returns them,
     in BIRD's order. Prefix and `of_ipv4` are None for routes of another kind. A further route to a prefix has blanks
     instead of it."""
     prefix = of_ipv4 = None
-    routes = []
+    routes, known = [], KNOWN.get
     for entry in entries:
         if entry is feeds.BOUNDARY:
             if routes:
                 yield place.table, prefix, of_ipv4, routes
             prefix, routes = None, []
             continue
+        text, head, sender, first, lines, path, values, _ = entry
+        if text == "" and prefix is not None and (route := known((head, sender, first, lines, values))):
+            # as most are
+            routes.append((route, path, None))
+            continue
         text, listed = listed_of(entry) if place.table is not None else (None, None)
         if place.in_full is None and listed:
-            place.in_full = IN_FULL.search(entry) is not None
+            place.in_full = shows_attributes(*listed)
         if text == "" and routes:
             routes.append(listed)
             continue
@@ -283,23 +331,31 @@ def groups(entries, place):
         if text and "/" in text:
             prefix, of_ipv4, routes = text, feeds.prefix_of(text) is not None, [listed]
             continue
-        first, behind, more = entry.partition("\n")
+        first, behind, more = text_of(entry).partition("\n")
         if place.table is not None and OTHER.fullmatch(first) and (first[0] != " " or prefix is None and routes):
             attributes_of(behind + more)
-            prefix, of_ipv4, routes = None, None, [(OF_OTHER_KIND, entry, None, None)]
+            prefix, of_ipv4, routes = None, None, [(OF_OTHER_KIND, None, text_of(entry))]
         else:
             prefix, routes = None, []
             place.table = around(first, more, place.table, place.tables)
     if routes:
         if place.in_full:
-            refuse_cut(routes[-1][1])
+            refuse_cut(*routes[-1])
         yield place.table, prefix, of_ipv4, routes
 
 
-def refuse_cut(entry):
+def shows_attributes(route, _, entry):
+    """Returns True for a route of a listing with all attributes."""
+    return route.attributes.is_of_bgp if entry is None else IN_FULL.search(entry) is not None
+
+
+def refuse_cut(route, _, entry):
     """The last of the routes with all their attributes has all of them as well."""
-    is_of_bird_2 = TYPE in entry and (f"{TYPE}BGP" not in entry or "\n\tBGP.local_pref: " in entry)
-    if not is_of_bird_2 and INTERNAL not in entry:
+    if entry is None:
+        is_whole = route.attributes.is_of_bgp
+    else:
+        is_whole = TYPE in entry and (f"{TYPE}BGP" not in entry or "\n\tBGP.local_pref: " in entry) or INTERNAL in entry
+    if not is_whole:
         raise feeds.Wrong(f"attributes are missing{CUT}")
 
 
