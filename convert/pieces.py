@@ -6,8 +6,11 @@ or if its process couldn't convert it, it is converted in this process, as all a
 found so as well, and the messages don't depend on the number of processes."""
 import collections
 import contextlib
+import fcntl
 import marshal
+import math
 import os
+import pathlib
 import select
 import signal
 import struct
@@ -16,6 +19,12 @@ import typing
 # the sizes of what follows it
 HEADER = struct.Struct("QQ")
 STANDARD_ERROR = 2
+# how much is written or read at once, which is also what a pipe holds, where the system can be asked for it
+BLOCK = 1 << 20
+# how long this process waits for one that neither takes nor gives anything: so many times this many milliseconds
+TIMES, WAIT = 10, 1000
+# the control group of this process, and where control groups are
+OWN_GROUP, GROUPS = "/proc/self/cgroup", "/sys/fs/cgroup"
 
 
 class Piece(typing.NamedTuple):
@@ -38,16 +47,30 @@ class Task:
 
 
 def processors():
+    """The number of processors whose time this process may use."""
     # neither BSD nor macOS has it
-    if hasattr(os, "sched_getaffinity"):
-        return len(os.sched_getaffinity(0))
-    return os.cpu_count() or 1
+    number = len(os.sched_getaffinity(0)) if hasattr(os, "sched_getaffinity") else os.cpu_count() or 1
+    return min([number, *map(math.ceil, quotas())])
+
+
+def quotas():
+    """How many processors' time the control group of this process and those above it may use, as of a container."""
+    with contextlib.suppress(OSError):
+        for line in pathlib.Path(OWN_GROUP).read_text().splitlines():
+            number, _, name = line.split(":", 2)
+            group = pathlib.PurePosixPath(name)
+            # the other numbers are of an older form
+            for one in (group, *group.parents) if number == "0" else ():
+                with contextlib.suppress(OSError, ValueError):
+                    time, period = pathlib.Path(f"{GROUPS}{one}/cpu.max").read_text().split()
+                    if time != "max":
+                        yield int(time) / int(period)
 
 
 def read(descriptor, size):
     """That many bytes; fewer if the other end was closed."""
     parts = []
-    while size and (part := os.read(descriptor, min(size, 1 << 20))):
+    while size and (part := os.read(descriptor, min(size, BLOCK))):
         parts.append(part)
         size -= len(part)
     return b"".join(parts)
@@ -59,18 +82,31 @@ def write(descriptor, data):
         view = view[os.write(descriptor, view) :]
 
 
+def pipe():
+    """A pipe that holds a piece, so that neither end waits for the other again and again."""
+    ends = os.pipe()
+    # only Linux can be asked for it, and it may refuse
+    with contextlib.suppress(AttributeError, OSError):
+        fcntl.fcntl(ends[1], fcntl.F_SETPIPE_SZ, BLOCK)
+    return ends
+
+
 class Worker:
     """A process that converts one piece after the other. `work(data, state)` makes the result of a piece, which `marshal`
-    writes; `closed` are descriptors that only this process may have."""
+    writes; `closed` are descriptors that only this process may have. Neither writing to it nor reading from it waits, since it may
+    have been stopped."""
 
     def __init__(self, work, closed):
         self.task = None
-        requests, self.requests = ends = os.pipe()
+        # what is still to be written of its task, and what was read of its answer
+        self.unsent, self.taken = b"", bytearray()
+        requests, self.requests = ends = pipe()
         try:
-            self.results, results = os.pipe()
+            self.results, results = pipe()
             ends += self.results, results
             if min(ends) <= STANDARD_ERROR:
                 raise OSError("standard descriptors are closed")
+            os.set_blocking(self.requests, False)
             self.process = os.fork()
         except OSError:
             self.close(*ends)
@@ -89,36 +125,49 @@ class Worker:
             with contextlib.suppress(OSError):
                 os.close(descriptor)
 
-    def send(self, task, state):
-        """Gives it a task; it isn't converted if the process has ended."""
+    def give(self, task, state):
+        """Gives it a task; returns False if the process has ended."""
         self.task, task.worker, task.state = task, self, state
         with_state = marshal.dumps(state)
+        self.unsent = memoryview(HEADER.pack(len(with_state), len(task.piece.data)) + with_state + task.piece.data)
+        return self.goes_on((self.requests,))
+
+    def goes_on(self, ready):
+        """Writes and reads what these descriptors are ready for; returns False if the process has ended."""
         try:
-            write(self.requests, HEADER.pack(len(with_state), len(task.piece.data)) + with_state)
-            write(self.requests, task.piece.data)
+            if self.requests in ready:
+                self.send()
+            return self.results not in ready or self.take()
         except OSError:
-            self.answer(b"")
             return False
-        return True
+
+    def send(self):
+        with contextlib.suppress(BlockingIOError):
+            while self.unsent:
+                self.unsent = self.unsent[os.write(self.requests, self.unsent) :]
 
     def take(self):
-        """Takes its answer; returns False if it has ended."""
-        head = read(self.results, HEADER.size)
-        size = HEADER.unpack(head)[0] if len(head) == HEADER.size else 0
-        data = read(self.results, size)
-        self.answer(data if len(data) == size else b"")
-        return len(head) == HEADER.size and len(data) == size
+        """Takes what there is of its answer; returns False if it has ended."""
+        data = os.read(self.results, BLOCK)
+        self.taken += data
+        if len(self.taken) >= HEADER.size:
+            size = HEADER.size + HEADER.unpack_from(self.taken)[0]
+            if len(self.taken) == size:
+                self.answer(bytes(self.taken[HEADER.size :]))
+                self.taken.clear()
+        return bool(data)
 
     def answer(self, result):
         self.task.result, self.task = result, None
 
     def end(self):
-        """Ends it: it reads the end of its requests. One that still works is killed."""
+        """Ends it, even if it was stopped. A piece that it still has is converted by this process."""
         self.close(self.requests, self.results)
         with contextlib.suppress(OSError):
-            if self.task:
-                os.kill(self.process, signal.SIGKILL)
+            os.kill(self.process, signal.SIGKILL)
             os.waitpid(self.process, 0)
+        if self.task:
+            self.answer(b"")
 
 
 def serve(requests, results, work):
@@ -179,7 +228,7 @@ class Ahead:
                 self.waiting.append(Task(next(self.pieces)))
             except Exception as end:
                 self.end = end
-            self.collect(0)
+            self.exchange(0)
             self.hand_out(self.state())
 
     def next(self):
@@ -188,12 +237,20 @@ class Ahead:
         self.hand_out(state)
         task = self.waiting[0]
         if task.worker and task.state == state:
-            while task.result is None:
-                self.collect(None)
-                self.hand_out(state)
+            self.wait_for(task, state)
         is_joined = task.result and task.state == state and self.join(marshal.loads(task.result), task.piece)
         self.waiting.popleft()
         return None if is_joined else task.piece
+
+    def wait_for(self, task, state):
+        """Waits for an answer, but not for a process that was stopped: if none takes or gives anything for a long time, the piece is
+        converted here. Short waits are counted, since this process may have been stopped as well."""
+        silent = 0
+        while task.result is None:
+            silent = 0 if self.exchange(WAIT) else silent + 1
+            if silent == TIMES:
+                self.drop(task.worker)
+            self.hand_out(state)
 
     def hand_out(self, state):
         """Gives waiting pieces to processes without one."""
@@ -204,7 +261,7 @@ class Ahead:
                 worker = next((worker for worker in self.workers if worker.task is None), None) or self.new_worker()
                 if worker is None:
                     return
-                if not worker.send(task, state):
+                if not worker.give(task, state):
                     self.drop(worker)
 
     def new_worker(self):
@@ -219,17 +276,19 @@ class Ahead:
             return None
         return self.workers[-1]
 
-    def collect(self, seconds):
-        """Takes the answers that are there, or waits for one if no time is given."""
-        busy = {worker.results: worker for worker in self.workers if worker.task}
-        if not busy:
-            return
+    def exchange(self, milliseconds):
+        """Gives and takes what processes are ready for, and waits for that at most so long. Returns False if none was ready."""
         poll = select.poll()
-        for descriptor in busy:
-            poll.register(descriptor, select.POLLIN)
-        for descriptor, _ in poll.poll(seconds):
-            if not busy[descriptor].take():
-                self.drop(busy[descriptor])
+        for worker in self.workers:
+            if worker.task:
+                poll.register(worker.results, select.POLLIN)
+            if worker.unsent:
+                poll.register(worker.requests, select.POLLOUT)
+        ready = {descriptor for descriptor, _ in poll.poll(milliseconds)}
+        for worker in list(self.workers):
+            if not worker.goes_on(ready):
+                self.drop(worker)
+        return bool(ready)
 
     def drop(self, worker):
         """Does without a process that has ended."""

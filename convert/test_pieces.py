@@ -9,7 +9,9 @@ import re
 import signal
 import subprocess
 import time
+import unittest.mock
 
+import pieces
 from trial import SAMPLES, Failed, expect, files_of, run, run_here, text_of, words
 
 CONVERTERS = ("bird-to-feeds", "frr-to-feeds", "bgpdump-to-feeds")
@@ -39,6 +41,29 @@ def serve_one(requests, results, work):
         return work(data, state)
     serve_all(requests, results, work_once)
 pieces.serve = serve_one
+"""
+# The first process that is made stops itself: before it reads, or when it has written a part of an answer.
+STOPPED = """
+serve_all, made = pieces.serve, []
+fork_here = pieces.os.fork
+def fork_counted():
+    made.append(None)
+    return fork_here()
+pieces.os.fork = fork_counted
+def stop_first(*given):
+    if len(made) == 1:
+        pieces.os.kill(pieces.os.getpid(), pieces.signal.SIGSTOP)
+    serve_all(*given)
+def stop_within(requests, results, work):
+    write = pieces.write
+    def write_half(descriptor, data):
+        if len(made) == 1 and len(data) > 100:
+            write(descriptor, data[:50])
+            pieces.os.kill(pieces.os.getpid(), pieces.signal.SIGSTOP)
+        write(descriptor, data)
+    pieces.write = write_half
+    serve_all(requests, results, work)
+pieces.serve, pieces.BLOCK, pieces.TIMES, pieces.WAIT = {}, 4096, 3, 20
 """
 # as on BSD and on macOS
 WITHOUT_AFFINITY = """
@@ -199,6 +224,40 @@ def check_processes(made):
                    result(made, f"processes{number}{name}", command, data, constants(2000) + changed), one)
 
 
+def check_stopped(made):
+    """A process that was stopped doesn't hold up the others, and is ended; the pieces don't fit into a pipe."""
+    data = b"".join((SAMPLES / "ranks/frr-dump.txt").read_bytes().replace(b"|10.", b"|%d." % number) for number in range(11, 41))
+    one = result(made, "stopped", "bgpdump-to-feeds", data, constants(1 << 20, 1))
+    for stop in ("stop_first", "stop_within"):
+        expect(f"bgpdump-to-feeds with a process that was stopped ({stop})",
+               result(made, stop, "bgpdump-to-feeds", data, constants(20000) + STOPPED.format(stop)), one)
+        process = subprocess.Popen([*words("bgpdump-to-feeds", constants(20000) + STOPPED.format(stop)), made / f"{stop}-left"],
+                                   stdin=subprocess.PIPE, stderr=subprocess.DEVNULL, start_new_session=True)
+        process.communicate(data, timeout=60)
+        left = [name for name in os.listdir("/proc") if name.isdecimal() and is_of_session(name, process.pid)]
+        if left:
+            raise Failed(f"a process that was stopped ({stop}) is left: {left}")
+
+
+def is_of_session(process, session):
+    with contextlib.suppress(OSError):
+        return pathlib.Path(f"/proc/{process}/stat").read_text().rpartition(")")[2].split()[3] == str(session)
+    return False
+
+
+def check_quota(made):
+    """No more processes are made than the control group, or one above it, has the processors' time for."""
+    (made / "groups/above/own").mkdir(parents=True)
+    (made / "own").write_text("1:cpu:/other\n0::/above/own\n")
+    processors = len(os.sched_getaffinity(0))
+    for own, above, number in (("max 100000", "max 100000", processors), ("150000 100000", "max 100000", 2), ("max 100000", "50000 100000", 1),
+                               ("", "700000 100000", 7), ("none", "", processors)):
+        (made / "groups/above/own/cpu.max").write_text(own)
+        (made / "groups/above/cpu.max").write_text(above)
+        with unittest.mock.patch.multiple(pieces, OWN_GROUP=made / "own", GROUPS=made / "groups"):
+            expect(f"processors with the quotas {own!r} and {above!r}", pieces.processors(), min(number, processors))
+
+
 def check_one_processor(made):
     """On one processor no other process is made."""
     data = (SAMPLES / "debian-13/ranks/bird.txt").read_bytes()
@@ -276,6 +335,8 @@ def check(made, conversions):
     check_marks(folder)
     check_order_of_frr(folder)
     check_processes(folder)
+    check_stopped(folder)
+    check_quota(folder)
     check_one_processor(folder)
     check_system(folder)
     check_closed(folder)
