@@ -1,7 +1,7 @@
 """The feed files of the sources' commands: one for each source, several for a source with more routes than a feed may
 have and, with --merge, one for many sources together."""
 import contextlib
-import itertools
+import os
 import shutil
 import typing
 
@@ -95,22 +95,37 @@ def copy(file, directory, feed):
 
 
 def deal(source, directory, names):
+    # the lines of routes are copied as they are
+    binary = "b" if source.commands == source.routes else ""
     with contextlib.ExitStack() as stack:
-        lines = stack.enter_context(directory.open(source.file))
-        feeds = [stack.enter_context(directory.open(name, "w")) for name in names]
+        lines = stack.enter_context(directory.open(source.file, f"r{binary}"))
+        feeds = [stack.enter_context(directory.open(name, f"w{binary}")) for name in names]
         for feed in feeds:
-            feed.write(FIRST_LINE)
-        if source.commands == source.routes:
+            feed.write(FIRST_LINE.encode() if binary else FIRST_LINE)
+        if binary:
             deal_routes(lines, source.routes, feeds)
         else:
             deal_commands(lines, places_of(source.file, directory), feeds)
 
 
-def deal_routes(lines, number, feeds):
+def deal_routes(file, number, feeds):
     """Divides `number` lines among feeds; each line adds a route to another prefix."""
     for part, feed in enumerate(feeds):
-        size = number * (part + 1) // len(feeds) - number * part // len(feeds)
-        feed.writelines(itertools.islice(lines, size))
+        copy_lines(file, number * (part + 1) // len(feeds) - number * part // len(feeds), feed)
+
+
+def copy_lines(file, number, feed):
+    """Copies the next `number` lines."""
+    while number and (block := file.read(BLOCK)):
+        found, end = block.count(b"\n"), len(block)
+        if found >= number:
+            end = 0
+            for _ in range(number):
+                end = block.index(b"\n", end) + 1
+        feed.write(block[:end])
+        # what is left belongs to the next feed
+        file.seek(end - len(block), os.SEEK_CUR)
+        number -= min(found, number)
 
 
 def prefix_of(line):
