@@ -56,7 +56,7 @@ class Peer:
         self.place = ((parsed.version << 128 | int(parsed)) << 64 | int(system)) << 32 | number
         self.internal, self.identifier = internal, identifier
         self.order = self.order_of(identifier, 0)
-        self.lines = lines
+        self.lines, self.add_line = lines, lines.append
         # the numbers of merits, by `merit_key`
         self.numbers = {}
         self.merits = Merits()
@@ -163,6 +163,12 @@ class Converter:
             self.met.add(prefix)
         self.prefix = prefix
 
+    def begins(self, text):
+        """Begins the routes to a prefix, if they weren't begun; returns False if it isn't one of IPv4."""
+        if text != self.text:
+            self.begin_group(text)
+        return self.prefix is not None
+
     def end_group(self):
         """Writes the routes to one prefix."""
         routes, self.group = self.group, []
@@ -172,8 +178,8 @@ class Converter:
                 self.notes.leave_out("further paths of a peer to the same prefix", len(routes) - len(best))
             routes = best
         begin, by_rank = f"add {self.prefix} ", self.by_rank
-        for rank, (merit, order, _, _, _, peer, hop) in enumerate(routes, 1):
-            peer.lines.append(f"{begin}{rank if by_rank else merit >> self.preference_at} {hop}\n")
+        for end_of, (merit, order, _, _, _, peer, hop) in zip(feeds.ends(len(routes)), routes):
+            peer.add_line(begin + end_of[hop] if by_rank else f"{begin}{merit >> self.preference_at} {hop}\n")
             # as `merit_key` does, which would take as long as all of this
             key = merit if order is peer.order else (merit, order)
             peer.merits.last.append(peer.numbers.get(key) or self.merit_number(merit, order, peer))

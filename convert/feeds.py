@@ -111,6 +111,30 @@ class Offer(typing.NamedTuple):
 SOURCE_OF = operator.attrgetter("source")
 
 
+class Ends(dict):
+    """How lines of feeds end, by next hop, after the prefix of a route of that rank. Many lines end in the same way."""
+
+    def __init__(self, rank):
+        super().__init__()
+        self.rank = rank
+
+    def __missing__(self, hop):
+        if len(self) >= MOST_KNOWN:
+            self.clear()
+        end = self[hop] = f"{self.rank} {hop}\n"
+        return end
+
+
+KNOWN_ENDS = []
+
+
+def ends(number):
+    """The ends of lines of ranks from 1 to at least this number."""
+    while len(KNOWN_ENDS) < number:
+        KNOWN_ENDS.append(Ends(len(KNOWN_ENDS) + 1))
+    return KNOWN_ENDS
+
+
 class Notes:
     """Counts what is left out, by its name, in the order of the names' first occurrence. `differs` is set if some
     addresses get another answer than from the daemon because of it."""
@@ -745,7 +769,7 @@ def add_lines(files, prefix, offers, by_rank, notes):
     if len(set(map(SOURCE_OF, offers))) < len(offers):
         offers = one_each(offers, notes)
     begin = f"add {prefix} "
-    for rank, offer in enumerate(offers, 1):
+    for end_of, offer in zip(ends(len(offers)), offers):
         source, hop, _, sought, over_interface, found = offer
         if sought:
             files.sought.add((source, sought))
@@ -753,11 +777,10 @@ def add_lines(files, prefix, offers, by_rank, notes):
                 files.found[source, sought] = found
         if over_interface:
             files.over[over_interface] = files.over.get(over_interface, 0) + 1
-        preference = rank if by_rank else preference_of(prefix, offer)
         lines = files.waiting.get(source) or files.lines(source)
         if sought or source in files.looked_up:
             files.mark(source, sought is not None)
-        lines.append(f"{begin}{preference} {hop}\n")
+        lines.append(begin + end_of[hop] if by_rank else f"{begin}{preference_of(prefix, offer)} {hop}\n")
 
 
 def file_names(sources):
