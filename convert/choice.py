@@ -53,6 +53,8 @@ LENGTH_AT, AIGP_AT, PREFERENCE_AT, AHEAD_AT, MED_BITS = 2, 32, 96, 128, 32
 # A candidate is a tuple of these: the values compared before MED and those compared after it, the number of a peer's
 # path, MED, the AS path, the source, and the route that it represents. The lowest of the first three is the best.
 BEFORE, BEHIND, NUMBER, MED, PATH, SOURCE, WHAT = range(7)
+# the values before MED of a route with the usual local preference, without AIGP, from which those of others are counted
+USUAL = GREATEST - LOCAL_PREF << PREFERENCE_AT | NO_AIGP << AIGP_AT
 MED_OF, SOURCE_OF = operator.itemgetter(MED), operator.itemgetter(SOURCE)
 # the places of two of the values that are compared after MED
 INTERNAL, IDENTIFIER = 0, 2
@@ -100,8 +102,13 @@ def neighbour_of(path):
 
 
 def before_med(local_pref, length, origin, ahead=0, aigp=NO_AIGP):
-    """The steps before MED as one number: numbers are compared faster than tuples."""
-    return ahead << AHEAD_AT | (GREATEST - local_pref) << PREFERENCE_AT | aigp << AIGP_AT | length << LENGTH_AT | origin
+    """The steps before MED as one number, since numbers are compared faster than tuples: those of most routes are small."""
+    return (ahead << AHEAD_AT | (GREATEST - local_pref) << PREFERENCE_AT | aigp << AIGP_AT | length << LENGTH_AT | origin) - USUAL
+
+
+def preference_of(before):
+    """The local preference p in that number, as 4294967295 - p; nothing is compared ahead of it."""
+    return before + USUAL >> PREFERENCE_AT
 
 
 def with_med(before, med):

@@ -101,8 +101,8 @@ class Converter:
         self.arguments, self.notes, self.files = arguments, notes, files
         self.by_rank = arguments.by == "rank"
         self.always_compare_med = arguments.always_compare_med
-        # the bit of a merit at which the local preference begins
-        self.preference_at = choice.PREFERENCE_AT + (choice.MED_BITS if self.always_compare_med else 0)
+        # the bits of a merit after those that are compared before MED
+        self.med_bits = choice.MED_BITS if self.always_compare_med else 0
         self.own_system = arguments.local_as and re.compile(rf"\b{arguments.local_as}\b")
         self.peers, self.merits, self.hops = {}, {}, {}
         # values that many routes share are kept once
@@ -138,9 +138,13 @@ class Converter:
             merit, med = choice.with_med(merit, med), 0
         return merit, order or peer.order, number, med, path, peer, hop
 
+    def preference_of(self, merit):
+        """The preference of a route by its local preference."""
+        return choice.preference_of(merit >> self.med_bits)
+
     def merit_number(self, merit, order, peer):
         """Numbers the merits that preferences are made from, in the order of their first occurrence."""
-        key = (merit, order) if self.by_rank else merit >> self.preference_at
+        key = (merit, order) if self.by_rank else self.preference_of(merit)
         number = peer.numbers[peer.merit_key(merit, order)] = self.merits.setdefault(key, len(self.merits) + 1)
         return number
 
@@ -179,7 +183,7 @@ class Converter:
             routes = best
         begin, by_rank = f"add {self.prefix} ", self.by_rank
         for end_of, (merit, order, _, _, _, peer, hop) in zip(feeds.ends(len(routes)), routes):
-            peer.add_line(begin + end_of[hop] if by_rank else f"{begin}{merit >> self.preference_at} {hop}\n")
+            peer.add_line(begin + end_of[hop] if by_rank else f"{begin}{self.preference_of(merit)} {hop}\n")
             # as `merit_key` does, which would take as long as all of this
             key = merit if order is peer.order else (merit, order)
             peer.merits.last.append(peer.numbers.get(key) or self.merit_number(merit, order, peer))
