@@ -33,9 +33,14 @@ class Merits:
         # the last ones, and before these parts of other processes, each with the numbers that theirs stand for
         self.last, self.parts = array.array("I"), []
 
-    def join(self, numbers, own):
+    def kept(self, greatest):
+        """The numbers for `join`, none of which is greater than that, in little memory: most pieces have few different ones."""
+        size = next(size for size in "BHI" if greatest < 256 ** array.array(size).itemsize)
+        return size, array.array(size, self.last).tobytes()
+
+    def join(self, kept, own):
         """Adds numbers of another process; `own` has this process's number for each of them."""
-        self.parts += [(self.last, None), (array.array("I", numbers), own)]
+        self.parts += [(self.last, None), (array.array(*kept), own)]
         self.last = array.array("I")
 
     def __bool__(self):
@@ -202,7 +207,7 @@ class Converter:
         if self.updates:
             raise feeds.Refused("there are updates")
         # all routes of a peer have its order
-        peers = [(key, peer.announced, [(number, merit) for merit, number in peer.numbers.items()], peer.merits.last.tobytes())
+        peers = [(key, peer.announced, [(number, merit) for merit, number in peer.numbers.items()], peer.merits.kept(len(self.merits)))
                  for key, peer in self.peers.items()]
         return feeds.prefixes_of(self.met).kept(), peers, self.files.gathered(), self.notes.counted()
 
