@@ -11,7 +11,7 @@ import subprocess
 import tempfile
 import time
 
-from trial import MAX_FEED_FILES, Failed, expect, files_of, run, words
+from trial import MAX_FEED_FILES, Failed, expect, files_of, heed_signals, run, words
 
 LINE = "TABLE_DUMP2|1|B|127.0.{}.{}|1|10.0.0.0/8|1|IGP|192.0.2.1|0|0||NAG||\n"
 DUMP = LINE.format(0, 1).encode()
@@ -114,7 +114,7 @@ def check_root(made):
 def started(folder):
     """A converter that has written some lines and waits for more."""
     command = [*words("bgpdump-to-feeds", "BLOCK, MOST_WAITING = 64, 0"), folder]
-    process = subprocess.Popen(command, stdin=subprocess.PIPE, stderr=subprocess.PIPE)
+    process = subprocess.Popen(command, stdin=subprocess.PIPE, stderr=subprocess.PIPE, preexec_fn=heed_signals)
     process.stdin.write(DUMP + DUMP.replace(b"10.0.0.0/8", b"10.1.0.0/16"))
     process.stdin.flush()
     begun = folder.parent / f".{folder.name}.new" / "0"
@@ -152,10 +152,7 @@ def check_ended(made):
     for ending in (signal.SIGTERM, signal.SIGHUP, signal.SIGINT):
         for delay, second in seconds:
             folder = made / ending.name / "feeds"
-            # what nohup or a shell's `&` has ignored would be so in the converter too
-            before = signal.signal(ending, signal.SIG_DFL)
             process = started(folder)
-            signal.signal(ending, before)
             process.send_signal(ending)
             time.sleep(delay)
             process.send_signal(second or ending)

@@ -12,7 +12,7 @@ import time
 import unittest.mock
 
 import pieces
-from trial import SAMPLES, Failed, expect, files_of, run, run_here, text_of, words
+from trial import SAMPLES, Failed, expect, files_of, heed_signals, run, run_here, text_of, words
 
 CONVERTERS = ("bird-to-feeds", "frr-to-feeds", "bgpdump-to-feeds")
 # samples of which pieces have to be joined, with how many such pieces there are at least
@@ -311,7 +311,7 @@ def check_signal(made):
     data = (SAMPLES / "debian-13/ranks/bird.txt").read_bytes()
     for number in (signal.SIGTERM, signal.SIGINT):
         process = subprocess.Popen([*words("bird-to-feeds", constants(2000)), made / "ended"], stdin=subprocess.PIPE,
-                                   stderr=subprocess.PIPE, start_new_session=True)
+                                   stderr=subprocess.PIPE, start_new_session=True, preexec_fn=heed_signals)
         process.stdin.write(data)
         process.stdin.flush()
         others = wait_until(lambda: children(process.pid), "other processes")

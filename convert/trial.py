@@ -43,6 +43,12 @@ def words(command, constants=""):
     return [sys.executable, "-S", *([HERE / "with_constants.py", constants] if constants else []), HERE / name, *options]
 
 
+def heed_signals():
+    """Undoes that whoever started the tests by `&` or nohup had them ignore signals, which a converter heeds then."""
+    for number in (signal.SIGTERM, signal.SIGHUP, signal.SIGINT):
+        signal.signal(number, signal.SIG_DFL)
+
+
 def run(command, data, *more, constants="", **settings):
     """Runs a converter: its status, its output, which is "" if it goes elsewhere, and its messages."""
     settings = {"stdout": subprocess.PIPE, "stderr": subprocess.PIPE} | settings
