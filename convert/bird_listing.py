@@ -308,9 +308,9 @@ def groups(entries, place):
     in BIRD's order. Prefix and `of_ipv4` are None for routes of another kind. A further route to a prefix has blanks
     instead of it."""
     prefix = of_ipv4 = None
-    routes, known = [], KNOWN.get
+    routes, known, boundary = [], KNOWN.get, feeds.BOUNDARY
     for entry in entries:
-        if entry is feeds.BOUNDARY:
+        if entry is boundary:
             if routes:
                 yield place.table, prefix, of_ipv4, routes
             prefix, routes = None, []

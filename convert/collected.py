@@ -40,8 +40,11 @@ class Merits:
 
     def join(self, kept, own):
         """Adds numbers of another process; `own` has this process's number for each of them."""
-        self.parts += [(self.last, None), (array.array(*kept), own)]
-        self.last = array.array("I")
+        if self.last:
+            self.parts.append((self.last[:], None))
+            # it stays the same object
+            del self.last[:]
+        self.parts.append((array.array(*kept), own))
 
     def __bool__(self):
         return bool(self.last or self.parts)
@@ -61,10 +64,11 @@ class Peer:
         self.place = ((parsed.version << 128 | int(parsed)) << 64 | int(system)) << 32 | number
         self.internal, self.identifier = internal, identifier
         self.order = self.order_of(identifier, 0)
-        self.lines, self.add_line = lines, lines.append
+        self.add_line = lines.append
         # the numbers of merits, by `merit_key`
         self.numbers = {}
         self.merits = Merits()
+        self.add_merit = self.merits.last.append
         self.routes = {}
         self.paths = {}
         self.announced = False
@@ -191,7 +195,7 @@ class Converter:
             peer.add_line(begin + end_of[hop] if by_rank else f"{begin}{self.preference_of(merit)} {hop}\n")
             # as `merit_key` does, which would take as long as all of this
             key = merit if order is peer.order else (merit, order)
-            peer.merits.last.append(peer.numbers.get(key) or self.merit_number(merit, order, peer))
+            peer.add_merit(peer.numbers.get(key) or self.merit_number(merit, order, peer))
 
     def end_piece(self):
         """Ends a part of the dump, after which another prefix comes."""
@@ -314,8 +318,8 @@ class Converter:
         peer.routes[self.same.setdefault(prefix, prefix)] = self.same.setdefault(now, now)
 
     def write(self, peer, line, merit):
-        peer.lines.append(line)
-        peer.merits.last.append(merit)
+        peer.add_line(line)
+        peer.add_merit(merit)
 
     def finish(self):
         self.end_group()

@@ -762,8 +762,23 @@ def preference_of(prefix, offer):
     return GREATEST - offer.wish
 
 
+class SameOffers(list):
+    """The offers of several prefixes, best first. `ends` has for each its source and the end of its line, if there is nothing
+    else to keep or to count of them."""
+
+    def __init__(self, offers):
+        super().__init__(offers)
+        has_more = any(offer.sought or offer.over for offer in offers) or len({offer.source for offer in offers}) < len(offers)
+        self.ends = None if has_more else [(offer.source, end_of[offer.hop]) for end_of, offer in zip(ends(len(offers)), offers)]
+
+
 def add_lines(files, prefix, offers, by_rank, notes):
     """Adds the offers of a prefix, best first, to the feeds of their sources."""
+    if by_rank and type(offers) is SameOffers and offers.ends and not files.looked_up:
+        begin, waiting = f"add {prefix} ", files.waiting
+        for source, end in offers.ends:
+            (waiting.get(source) or files.lines(source)).append(begin + end)
+        return
     if files.has_all_hops:
         offers = list(of_used_routes(offers))
     if len(set(map(SOURCE_OF, offers))) < len(offers):
