@@ -48,7 +48,7 @@ LABELS = re.compile(r"\tvia \S+ on \S+ mpls .+")
 DEVICE = re.compile(r"\tdev (\S+).*")
 NEXT_HOP = re.compile(rf"\t{BGP}next_hop: (\S+).*")
 LOCAL_PREF = re.compile(rf"\t{BGP}local_pref: (\d+)")
-MED = re.compile(r"\tBGP\.med: (\d+)")
+MED = re.compile(r"\n\tBGP\.med: (\d+)")
 ORIGIN = re.compile(rf"\t{BGP}origin: (IGP|EGP|Incomplete)")
 ORIGINATOR = re.compile(rf"\t{BGP}originator_id: (\S+)")
 CLUSTERS = re.compile(rf"\t{BGP}cluster_list: (.*)")
@@ -189,6 +189,12 @@ class Route:
         # known the values before and after MED, for a path that isn't empty
         self.peer, self.med, self.compared_as, self.standing = None, 0, None, None
 
+    def with_med(self, med):
+        """The same route with another MED."""
+        made = Route.__new__(Route)
+        made.__dict__.update(self.__dict__, med=med)
+        return made
+
 
 OF_OTHER_KIND = Route("", "", None, 0, "", None, None)
 
@@ -225,15 +231,17 @@ def parts_of(entry):
 
 
 class Known(dict):
-    """The routes of parts of usual entries."""
+    """The routes of parts of usual entries. Those that differ only in MED, of which there may be many, share all else."""
 
     def __missing__(self, parts):
         head, sender, first, lines, values = parts
-        made = new_route(head, f"{first}{lines}{values}")
+        med = MED.search(values)
+        if med:
+            like = self[head, sender, first, lines, values.replace(med[0], "", 1)]
+            made = like and like.with_med(int(med[1]))
+        elif made := new_route(head, f"{first}{lines}{values}"):
+            made.peer, made.compared_as = sender.removeprefix(" from ") or made.hop_of_peer, made.preference if values else HIDDEN
         if made:
-            med = MED.search(values)
-            made.peer = sender.removeprefix(" from ") or made.hop_of_peer
-            made.med, made.compared_as = int(med[1]) if med else 0, made.preference if values else HIDDEN
             if len(self) >= feeds.MOST_KNOWN:
                 self.clear()
             self[parts] = made
