@@ -62,8 +62,8 @@ MOST_KNOWN = 16384
 SET_ASIDE = frozenset(("damped", "history", "removed"))
 # the number of lines that are kept before they are written
 MOST_WAITING = 200000
-# the number of texts that other processes made and that are kept before they are written
-MOST_TEXTS = 1000
+# the number of texts that other processes made and that are kept before they are written, each of some 40,000 bytes
+MOST_TEXTS = 300
 # how a text begins whose encoding is marked
 MARKED = {b"\xef\xbb\xbf": "UTF-8", b"\xff\xfe": "UTF-16", b"\xfe\xff": "UTF-16"}
 # how a compressed file begins, and what reads it
