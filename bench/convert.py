@@ -3,8 +3,9 @@
 
 Needs only python3. The inputs have the given number of prefixes with the lengths of a real table, and 100,000 different
 paths; each is read from a file in each round. With --peers there is a single input, a dump of 20 peers with the given
-number of routes each; for 1,000,000 it is a file of 2 GB. Prints for each script the minimum wall-clock time and
-processor time (user and system), and the peak memory.
+number of routes each; for 1,000,000 it is a file of 2 GB. With --tables there are three inputs of eight peers with that
+number of routes each: for 1,000,000 files of up to 2 GB. Prints for each script the minimum wall-clock time and
+processor time (user and system), and the peak memory of its largest process; `taskset -c 0` measures one process.
 """
 import argparse
 import json
@@ -18,7 +19,7 @@ from common.inputs import real_prefixes, write_apart
 from common.table_model import dotted, row
 from common.timed import passed
 
-PEERS = 20
+PEERS, OF_TABLES = 20, 8
 PATHS = 100_000
 
 
@@ -71,6 +72,22 @@ def of_bird_all(count):
         yield (f"{prefix:20} unicast [peer1 09:20:39.677] * (100) [AS{path.split()[-1]}i]\n\tvia 192.0.2.1 on eth0\n"
                f"\tType: BGP univ\n\tBGP.origin: IGP\n\tBGP.as_path: 65001 {path}\n"
                "\tBGP.next_hop: 192.0.2.1\n\tBGP.local_pref: 100\n")
+
+
+def of_bird_peers(count, in_full):
+    """The output of `birdc show route` or `birdc show route all` for eight BGP peers: BIRD's choice, and then the others."""
+    draw, some = random.Random(3), paths()
+    yield "BIRD 2.0.12 ready.\nTable master4:\n"
+    for prefix in prefixes(count):
+        routes = [(f"6500{peer} {draw.choice(some)}", peer) for peer in range(1, OF_TABLES + 1)]
+        chosen = min(routes, key=lambda route: (route[0].count(" "), route[1]))
+        for path, peer in [chosen, *(route for route in routes if route is not chosen)]:
+            is_chosen = peer == chosen[1]
+            yield (f"{prefix if is_chosen else '':20} unicast [peer{peer} 09:{draw.randrange(10, 60)}:39.677] {'* ' if is_chosen else ''}(100) "
+                   f"[AS{path.split()[-1]}i]\n\tvia 192.0.2.{peer} on eth0\n")
+            if in_full:
+                yield (f"\tType: BGP univ\n\tBGP.origin: IGP\n\tBGP.as_path: {path}\n\tBGP.next_hop: 192.0.2.{peer}\n"
+                       f"\tBGP.med: {draw.randrange(100)}\n\tBGP.local_pref: 100\n")
 
 
 def of_frr(count):
@@ -126,6 +143,11 @@ INPUTS = (
     ("diff-to-map", "a comparison", of_comparison),
 )
 OF_PEERS = (("bgpdump-to-feeds", f"{PEERS} peers", lambda count: dumped(count, PEERS)),)
+EIGHT_PEERS = (
+    ("bird-to-feeds", "show route all", lambda count: of_bird_peers(count, True)),
+    ("bird-to-feeds", "show route", lambda count: of_bird_peers(count, False)),
+    ("bgpdump-to-feeds", "a dump", lambda count: dumped(count, OF_TABLES)),
+)
 
 
 def measure(words, path):
@@ -136,11 +158,13 @@ def measure(words, path):
 
 def main():
     reader = argparse.ArgumentParser(description=__doc__, formatter_class=argparse.RawDescriptionHelpFormatter)
-    reader.add_argument("--peers", action="store_true")
+    either = reader.add_mutually_exclusive_group()
+    either.add_argument("--peers", action="store_true")
+    either.add_argument("--tables", action="store_true")
     reader.add_argument("routes", nargs="?", type=int, default=1_000_000, help="1,000,000 if left out")
     reader.add_argument("rounds", nargs="?", type=int, default=1, help="1 if left out")
     words = reader.parse_args()
-    for name, about, lines in OF_PEERS if words.peers else INPUTS:
+    for name, about, lines in OF_PEERS if words.peers else EIGHT_PEERS if words.tables else INPUTS:
         with tempfile.TemporaryDirectory() as made:
             path, folder = pathlib.Path(made) / "input", pathlib.Path(made) / "feeds"
             write_apart(path, lines(words.routes))
