@@ -1059,10 +1059,11 @@ class Prefixes:
     def join(self, kept):
         """Adds these prefixes; returns False if one of them is there already, and then adds none."""
         bits, others, number = kept
-        if not self.others.isdisjoint(others) or any(self.bits.get(key, 0) & more for key, more in bits.items()):
+        # hardly any, since tables are in order
+        common = self.bits.keys() & bits.keys()
+        if not self.others.isdisjoint(others) or any(self.bits[key] & bits[key] for key in common):
             return False
-        for key, more in bits.items():
-            self.bits[key] = self.bits.get(key, 0) | more
+        self.bits |= bits | {key: self.bits[key] | bits[key] for key in common}
         self.others |= others
         self.number += number
         return True

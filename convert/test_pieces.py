@@ -1,6 +1,7 @@
 """Tests of inputs that several processes convert: feeds, messages and status are those of one process, wherever the input is
 cut and whatever happens to the processes."""
 import contextlib
+import ipaddress
 import json
 import os
 import pathlib
@@ -11,6 +12,7 @@ import subprocess
 import time
 import unittest.mock
 
+import feeds
 import pieces
 from trial import SAMPLES, Failed, expect, files_of, heed_signals, run, run_here, text_of, words
 
@@ -224,6 +226,21 @@ def check_processes(made):
                    result(made, f"processes{number}{name}", command, data, constants(2000) + changed), one)
 
 
+def check_prefixes(_):
+    """The prefixes of pieces that are joined are those of all; none is added if one of them is there already."""
+    draw = random.Random(942)
+    every = [f"{ipaddress.ip_network((0x0A000000 | draw.getrandbits(10), length), strict=False)}" for length in range(22, 33) for _ in range(40)]
+    every = list(dict.fromkeys([*every, "0.0.0.0/0", "2001:db8::/32", "::/0"]))
+    for _ in range(100):
+        joined, expected = feeds.Prefixes(), set()
+        for _ in range(8):
+            part = set(draw.sample(every, draw.randrange(1, 12)))
+            expect("prefixes are joined", joined.join(feeds.prefixes_of(part).kept()), expected.isdisjoint(part))
+            expected |= part if expected.isdisjoint(part) else set()
+        expect("the joined prefixes", {prefix for prefix in every if prefix in joined}, expected)
+        expect("the number of joined prefixes", len(joined), len(expected))
+
+
 def check_stopped(made):
     """A process that was stopped doesn't hold up the others, and is ended; the pieces don't fit into a pipe."""
     data = b"".join((SAMPLES / "ranks/frr-dump.txt").read_bytes().replace(b"|10.", b"|%d." % number) for number in range(11, 41))
@@ -335,6 +352,7 @@ def check(made, conversions):
     check_marks(folder)
     check_order_of_frr(folder)
     check_processes(folder)
+    check_prefixes(folder)
     check_stopped(folder)
     check_quota(folder)
     check_one_processor(folder)
