@@ -27,25 +27,25 @@ case $1 in
     echo "run=ended status=0"; echo "test result: ok. 1 passed; 0 failed;" ;;
 esac
 """
-# The stub of the prover makes of a crate's source its archive. Of copies of definitions it says that the examples of the
-# changed one, which are in the first, are refused.
-PROVER = """#!/bin/sh
+# What the stub of the prover does: it makes of a crate's source its archive, and of copies of definitions it says that the
+# examples of the changed one, which are in the first, are refused.
+WRITES = 'while [ $# -gt 0 ]; do case $1 in -o) cp src/lib.rt "$2" ;; esac; shift; done'
+REFUSES = """for file in proofs/H0_*Examples.antt; do
+  if [ -e "$file" ]; then echo "$file:$(wc -l <"$file"):1: error: it isn't so"; fi
+done"""
+PROVER = f"""#!/bin/sh
 if [ "$1" = fmt ]; then exit; fi
 echo "$*" >>"$NOTES"
 eval "$MEANWHILE"
 if grep -qs wrong src/lib.rt; then exit 1; fi
-while [ $# -gt 0 ]; do
-  case $1 in -o) cp src/lib.rt "$2" ;; esac
-  shift
-done
-for file in proofs/H0_*Examples.antt; do
-  if [ -e "$file" ]; then echo "$file:$(wc -l <"$file"):1: error: it isn't so"; fi
-done
+{WRITES}
+{REFUSES}
 echo "logic=proved holes=1"
 """
-# The stub of the prover refuses each function whose text has `wrong` in it, and notes the functions that it looked at.
+# The stub of the prover refuses each function whose text has `wrong` in it, and notes the functions that it looked at. If
+# there is a file `killed`, it is killed in the midst of its report.
 CHECK = """#!/usr/bin/env python3
-import os, pathlib, re, subprocess, sys
+import os, pathlib, re, signal, subprocess, sys
 words = sys.argv[1:]
 crate = words[words.index("--crate-name") + 1]
 only = [words[at + 1] for at, word in enumerate(words) if word == "--only"]
@@ -60,6 +60,9 @@ for name in only:
         print(f"fn {crate}::{name}: not proved")
     else:
         print(f"fn {crate}::{name}: depends on a hole")
+    if pathlib.Path("killed").exists():
+        sys.stdout.flush()
+        os.kill(os.getpid(), signal.SIGKILL)
 print("holes=1")
 """
 SCRIPT = """#!/bin/sh
@@ -285,6 +288,11 @@ def archive(new):
     one.put(one.top / "crates/above/src/lib.rt", "wrong\n")
     expect("a wrong source", (build(), build()), ((1, 1), (1, 1)))
     one = new()
+    for _ in range(2):
+        status, calls = build(meanwhile=f"{WRITES}; kill -9 $$")
+        expect("a prover that is killed after it wrote an archive", (status != 0, calls, (
+            one.top / "crates/above/out/libabove.a").exists()), (True, 1, False))
+    one = new()
     expect("an archive at first, --anew", (build("--anew"), build()), ((0, 1), (0, 0)))
 
 
@@ -344,6 +352,10 @@ def definitions(new):
     for _ in range(2):
         status, said, calls = tried(meanwhile="rm -f proofs/H0_*Examples.antt")
         expect("a change that isn't refused", (status, "\ndefinition one/two: NOT REFUSED" in f"\n{said}", calls), (1, True, 1))
+    for _ in range(2):
+        status, said, calls = tried(meanwhile=f"{REFUSES}; kill -9 $$")
+        expect("a change that a prover refuses before it is killed",
+               (status, "\ndefinition one/two: NOT TRIED" in f"\n{said}", calls), (1, True, 1))
     expect("a change that is refused now", tried()[::2], (0, 1))
     # Without --gate the changes are tried by `rt check`, of which the stub of rt knows nothing.
     expect("without --gate nothing is taken from an earlier run", one.call("tools/definitions")[0], 1)
@@ -412,7 +424,7 @@ def mutants(new):
     one.top = one.top.rename(one.room / "elsewhere")
     expect("the repository is in another directory", gate(), (*whole[:2], kept, whole[3]))
     one.top = one.top.rename(one.room / "top")
-    for meanwhile in ("kill -9 $PPID", "echo src/lib.rt:1:1: error: it is no text",
+    for meanwhile in ("kill -9 $PPID", "touch killed", "echo src/lib.rt:1:1: error: it is no text",
                       "echo 'module `Rattle-low-low` is older. Run the lower steps again'"):
         expect(f"no verdict, since {meanwhile}", gate("--anew", meanwhile=meanwhile)[1], "0 passed, 4 failed")
     is_changed(one.top / "crates/small/proofs/same/Answers.antt", "answer", "reply", whole[2])
