@@ -79,7 +79,7 @@ class Copy:
         self.folder.mkdir()
         for crate in all_crates():
             root = "src/main.rt" if crate == "rt_app" else "src/lib.rt"
-            for file in (root, "specs/S.antt", "proofs/P.antt", "must-fail/m.edit"):
+            for file in (root, "specs/S.antt", "proofs/P.antt", "must-fail/mutants.md"):
                 path = self.top / "crates" / crate / file
                 path.parent.mkdir(parents=True)
                 path.write_text("//\n")
@@ -181,7 +181,7 @@ def what_it_is_given(copy):
 # `built where crates/rt_trie/specs/S.antt is another`.
 # Catches a sum without the end of a long file, the names of files or a crate's line of crates.txt: `built where .. ends
 # differently`, `.. has another name`, `.. names another crate`.
-# Catches a build for a changed edit that the prover must refuse, or for a crate on which the program doesn't depend:
+# Catches a build for a changed mutant that the prover must refuse, or for a crate on which the program doesn't depend:
 # `not built where crates/walkthrough/src/lib.rt is another`.
 # Catches a build that uses a library of another toolchain or logic: `built where the toolchain is another`.
 # Catches a build that keeps each older product or its checksum, or removes a program that may be starting: `how many of each
@@ -211,7 +211,7 @@ def what_is_built_anew(copy):
     (copy.top / "crates/rt_cidr/src/lib.rt").touch()
     expect("not proved where a file is newer and as it was", copy.built_by_call(), [])
     others = [f"crates/{crate}/src/lib.rt" for crate in sorted(set(all_crates()) - whole)]
-    for name in ("crates/rt_trie/must-fail/m.edit", *others, "crates/rt_trie/out/rlib", "README.md", "tests/rows.py"):
+    for name in ("crates/rt_trie/must-fail/mutants.md", *others, "crates/rt_trie/out/rlib", "README.md", "tests/rows.py"):
         copy.change(name)
         expect(f"not built where {name} is another", copy.built_by_call(), [])
     copy.start("run", "x", names={"VERSION": "2"})
