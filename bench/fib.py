@@ -6,10 +6,10 @@ Needs rt, gcc and rustc. The program bench/benches, bench/fib_peer.c, bench/fib_
 each round and for each number of prefixes (default: 500,000 and 1,000,000) of a real table's lengths. Each looks up a
 million addresses of two kinds: random ones, each in any of the prefixes, and local ones, in a thousand of these. A row
 has a call, and for each program the minimum of its times: nanoseconds of processor time for one prefix or address; and
-megabytes of memory. For `renew` it is the wall-clock time of one call, right after the book's own. `reader` is the
-wall-clock time of one of two threads that look up 256 addresses at once. It is measured without a writer, and with one
-that follows a thousand commands a second and publishes ten tables a second. Other libraries run only in the first
-round.
+megabytes of memory. For `renew` it is the wall-clock time of one `follow`, right after the book's own call. `reader`
+is the wall-clock time of one of two threads that look up 256 addresses at once. It is measured without a writer, and
+with one that follows a thousand commands a second and publishes ten tables a second. Other libraries run only in the
+first round.
 """
 import pathlib
 import subprocess

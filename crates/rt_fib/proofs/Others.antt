@@ -17,10 +17,9 @@ use Rattle.rt_rib.specs.Sequential.{table_after}
 use Rattle.rt_rib.specs.Book.{TableState, Serves}
 use Rattle.rt_rib.specs.Laws.{PutInAdds, TakeOutLeavesOthers, LookUpFindsBest, IsBestMatch}
 use Rattle.rt_fib.specs.declared.spans.Span.{Span}
-use Rattle.rt_fib.specs.Tables.{PreservesLookupsOutside, PreservesOtherRoutes}
-use Rattle.rt_fib.specs.Laws.{KeepsOtherRoutes}
+use Rattle.rt_fib.specs.Laws.{PreservesOtherRoutes, KeepsOtherRoutes}
 use Rattle.rt_fib.specs.inside.Entries.{at}
-use Rattle.rt_fib.specs.inside.Spans.{AreEntriesOf, IsWholly}
+use Rattle.rt_fib.specs.inside.Spans.{PreservesLookupsOutside, AreEntriesOf, IsWholly}
 use Rattle.rt_fib.specs.inside.Changes.{is_longer, answer_after, AnswerAlike, IsChange}
 use Rattle.rt_fib.proofs.Outside.{either, not_both, second_part, same_covers, found_alike, CoverAlike}
 

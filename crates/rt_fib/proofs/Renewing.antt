@@ -7,10 +7,9 @@ use Rattle.rt_rib.specs.declared.routes.Route.{Route}
 use Rattle.rt_rib.specs.LookUp.{look_up}
 use Rattle.rt_fib.specs.declared.cells.Block.{Block}
 use Rattle.rt_fib.specs.declared.spans.Span.{Span}
-use Rattle.rt_fib.specs.Tables.{PreservesLookupsOutside}
 use Rattle.rt_fib.specs.inside.Pools.{Places, Keeps}
 use Rattle.rt_fib.specs.inside.Entries.{at, Leads, IsEntry, AreFrom, AreUpTo, AreCells}
-use Rattle.rt_fib.specs.inside.Spans.{AreEntriesOf, ArePut, AreRenewed}
+use Rattle.rt_fib.specs.inside.Spans.{PreservesLookupsOutside, AreEntriesOf, ArePut, AreRenewed}
 use Rattle.rt_fib.proofs.Leading.{leads_keeps, leads_weaker}
 
 -- a slice that was lent whole

@@ -4,9 +4,9 @@ ghost use Rattle.rt_rib.specs.declared.commands.Cmd.TheVariants.{Purge};
 ghost use Rattle.rt_rib.specs.Book.{table_state, IsFeed, Serves};
 ghost use Rattle.rt_rib.specs.LookUp.{look_up};
 ghost use Rattle.rt_rib.specs.Table.{IsTable};
-ghost use Rattle.rt_fib.specs.Tables.{PreservesLookupsOutside, PreservesOtherRoutes};
-ghost use Rattle.rt_fib.specs.Laws.{KeepsOtherRoutes, KeepsOutside};
+ghost use Rattle.rt_fib.specs.Laws.{KeepsOtherRoutes, PreservesOtherRoutes};
 ghost use Rattle.rt_fib.specs.Views.{ViewShows};
+ghost use Rattle.rt_fib.specs.inside.Spans.{PreservesLookupsOutside};
 
 use crate::cells::{ANSWER_BYTES, BLOCK_BYTES, Cells};
 use crate::filling::{all_cells, put_entries, renew_cells};
@@ -95,47 +95,18 @@ impl<A: Allocator + Copy, B: Allocator + Copy> Fib<A, B> {
         self.cells.look_up_each(addresses, answers);
     }
 
-    /// Renews the answers of the prefix's addresses. The table must answer all other addresses as this one does. Then it answers by the
-    /// table. For a prefix of one route it reads and writes few places, for a prefix of length 8 about 65,536 entries.
+    /// Follows the last command that the table has answered. After an `add`, a `replace` or a `withdraw` it renews the answers of the
+    /// prefix's addresses, after a purge it is rebuilt, and after a look-up or a dump nothing changes. The law
+    /// `commands_preserve_other_routes` says that each command of a table may be followed. For a prefix of one route it reads and
+    /// writes few places, for a prefix of length 8 about 65,536 entries.
     /// Each change also marks some of the entries and what they lead to. What no address leads to any more is used again once all
     /// entries were marked. If a round of marking saw so little in use that it may take over twice the memory of a new one, the
     /// next change rebuilds it: so a table that shrank gives memory back. M1: `Refused` if memory ran out. Then it answers as
     /// before, has no more blocks and answers than before, and all that was free is free again: so trying again takes no more than the
     /// first time.
-    pub fn renew(&mut self, table: &Table<B>, prefix: Prefix) -> Result<(), Refused>
-        requires { PreservesLookupsOutside prefix self.old table.now.routes }
-        ensures ok { OnOk result (self.new ≡ table.now.routes) }
-        ensures err { OnErr result (self.new ≡ self.old) }
-    {
-        if self.cells.is_wasteful {
-            return self.build_anew(table);
-        }
-        let span = span_of(&prefix);
-        renew_cells(&mut table.lookup_cursor(), &mut self.cells, span)?;
-        self.cells.table = Snapshot::of(table);
-        keep_pace(&mut self.cells);
-        Ok(())
-    }
-
-    /// Returns the allocator of its memory.
-    fn allocator(&self) -> A {
-        *self.cells.entries.allocator()
-    }
-
-    /// Puts a new one in its place.
-    fn build_anew(&mut self, table: &Table<B>) -> Result<(), Refused>
-        ensures ok { OnOk result (self.new ≡ table.now.routes) }
-        ensures err { OnErr result (self.new ≡ self.old) }
-    {
-        *self = Fib::new(self.allocator(), table)?;
-        Ok(())
-    }
-
-    /// Follows the last command that the table has answered: it renews the command's prefix, rebuilds itself after a purge, and does
-    /// nothing after a look-up or a dump. The law `commands_preserve_lookups_outside_prefix` says that each command of a table may be
-    /// followed so. M1: `Refused` if memory ran out, and then it answers as before.
     pub fn follow(&mut self, table: &Table<B>, cmd: &Cmd) -> Result<(), Refused>
-        requires { KeepsOutside cmd.now self.old table.now.routes }
+        requires once { IsTable self.old }
+        requires others { KeepsOtherRoutes cmd.now self.old table.now.routes }
         ensures ok { OnOk result (self.new ≡ table.now.routes) }
         ensures err { OnErr result (self.new ≡ self.old) }
     {
@@ -145,12 +116,14 @@ impl<A: Allocator + Copy, B: Allocator + Copy> Fib<A, B> {
             Cmd::Withdraw { prefix } => self.renew(table, *prefix),
             Cmd::Lookup { .. } => Ok(()),
             Cmd::Dump => Ok(()),
-            Cmd::Purge => self.build_anew(table),
+            Cmd::Purge => self.rebuild(table),
         }
     }
 
-    /// Renews the answers of the prefix's addresses if only routes to this prefix changed.
-    fn renew_prefix(&mut self, table: &Table<B>, prefix: Prefix) -> Result<(), Refused>
+    /// Renews the answers of the prefix's addresses if only routes to this prefix changed. It queries the table once for the prefix's
+    /// answer, and changes only entries of addresses that no longer prefix covers. If there is no such address, or an entry
+    /// has other addresses too, it fills the entries anew.
+    fn renew(&mut self, table: &Table<B>, prefix: Prefix) -> Result<(), Refused>
         requires once { IsTable self.old }
         requires others { PreservesOtherRoutes prefix self.old table.now.routes }
         ensures ok { OnOk result (self.new ≡ table.now.routes) }
@@ -160,7 +133,7 @@ impl<A: Allocator + Copy, B: Allocator + Copy> Fib<A, B> {
         table.holds();
         let entries = span_of(&prefix);
         let Some(own) = own_answer(&self.cells, table, &prefix, entries) else {
-            return self.renew(table, prefix);
+            return self.refill(table, prefix);
         };
         if own.is_same {
             let same = Snapshot::of(table);
@@ -178,22 +151,34 @@ impl<A: Allocator + Copy, B: Allocator + Copy> Fib<A, B> {
         Ok(())
     }
 
-    /// Follows the last command that the table has answered, as `follow` does, but in less time: it asks the table once for the
-    /// prefix's answer, and then changes only entries of its addresses that no longer prefix covers. The law
-    /// `commands_preserve_other_routes` says that each command of a table may be followed so. M1: `Refused` if memory ran out, and
-    /// then it answers as before.
-    pub fn follow_command(&mut self, table: &Table<B>, cmd: &Cmd) -> Result<(), Refused>
-        requires once { IsTable self.old }
-        requires others { KeepsOtherRoutes cmd.now self.old table.now.routes }
+    /// Fills the entries of the prefix's addresses anew. The table must answer all other addresses as this one does.
+    fn refill(&mut self, table: &Table<B>, prefix: Prefix) -> Result<(), Refused>
+        requires { PreservesLookupsOutside prefix self.old table.now.routes }
         ensures ok { OnOk result (self.new ≡ table.now.routes) }
         ensures err { OnErr result (self.new ≡ self.old) }
     {
-        match cmd {
-            Cmd::Add { prefix, .. } => self.renew_prefix(table, *prefix),
-            Cmd::Replace { prefix, .. } => self.renew_prefix(table, *prefix),
-            Cmd::Withdraw { prefix } => self.renew_prefix(table, *prefix),
-            Cmd::Lookup { .. } | Cmd::Dump | Cmd::Purge => self.follow(table, cmd),
+        if self.cells.is_wasteful {
+            return self.rebuild(table);
         }
+        let span = span_of(&prefix);
+        renew_cells(&mut table.lookup_cursor(), &mut self.cells, span)?;
+        self.cells.table = Snapshot::of(table);
+        keep_pace(&mut self.cells);
+        Ok(())
+    }
+
+    /// Replaces itself by a new one.
+    fn rebuild(&mut self, table: &Table<B>) -> Result<(), Refused>
+        ensures ok { OnOk result (self.new ≡ table.now.routes) }
+        ensures err { OnErr result (self.new ≡ self.old) }
+    {
+        *self = Fib::new(self.allocator(), table)?;
+        Ok(())
+    }
+
+    /// Returns the allocator of its memory.
+    pub(crate) fn allocator(&self) -> A {
+        *self.cells.entries.allocator()
     }
 
     /// Purges the feed's routes from the table whose answers it gives, and follows. Returns the reply of the purge, and the forwarding

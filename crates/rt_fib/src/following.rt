@@ -3,7 +3,7 @@
 ghost use Rattle.std.specs.Prelude.{◌≡◌, ◌+◌, ◌<◌, ◌≤◌, ◌^◌, IfOk, IfSome, IsTrue, OnErr};
 ghost use Rattle.rt_fib.specs.inside.Pools.{places, Has, IsBack, Keeps};
 ghost use Rattle.rt_rib.specs.Table.{IsTable};
-ghost use Rattle.rt_fib.specs.Tables.{PreservesOtherRoutes};
+ghost use Rattle.rt_fib.specs.Laws.{PreservesOtherRoutes};
 ghost use Rattle.rt_fib.specs.inside.Entries.{AreAll, AreCells};
 ghost use Rattle.rt_fib.specs.inside.Spans.{AreEntriesOf};
 ghost use Rattle.rt_fib.specs.inside.Changes.{is_longer, AnswerAlike, AreNumbersAfter, HasNumber, IsChange, IsLast, IsNumberAfter, KeepsOthers, LeadsAfter};

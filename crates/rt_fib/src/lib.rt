@@ -16,7 +16,7 @@
 //!
 //! Contracts see a [`Fib`] as the routing table that it answers by: [`Fib::look_up`] answers each address what a look-up of that
 //! table does (`look_up` in `rt_rib`'s `specs/LookUp.antt`). It is proved that no place is read which isn't there, so no test tries it.
-//! [`laws`] says which commands of a table [`Fib::renew`] follows by their prefix.
+//! [`laws`] says that [`Fib::follow`] may follow each command of a table.
 //!
 //! No clause says how much memory it takes, or that many threads may look up in one: this is only tested.
 #![tactic(auto)]

@@ -67,7 +67,7 @@ fn withdraw<A: Allocator + Copy, B: Allocator + Copy>(
     commands_preserve_other_routes();
     table.holds();
     table.apply(feed, cmd)?;
-    fib.follow_command(table, &cmd)
+    fib.follow(table, &cmd)
 }
 
 /// Withdraws the feed's routes to the prefixes from the table, and follows. Error M1 (`Refused`) if memory runs out.
@@ -102,14 +102,10 @@ pub(crate) fn purge_rest<A: Allocator + Copy, B: Allocator + Copy>(
     ensures routes { table.new.routes ≡ purge feed table.old.routes }
     ensures followed { IfSome result (λ fib. fib ≡ table.new.routes) }
 {
-    let mut fib = fib;
     let rest = table.count(feed);
     table.purge(feed);
     if rest == 0 {
         return Some(fib);
     }
-    match fib.follow(table, &Cmd::Purge) {
-        Ok(()) => Some(fib),
-        Err(_) => None,
-    }
+    Fib::new(fib.allocator(), table).ok()
 }

@@ -2,19 +2,13 @@
 use Rattle.std.proofs.Common.{[], ◌∷◌, refl, arith}
 use Rattle.rt_rib.proofs.Sets.{Contains-none}
 use Rattle.rt_rib.specs.declared.routes.Route.{Route}
-use Rattle.rt_rib.specs.LookUp.{look_up}
 use Rattle.table_examples.proofs.Cidr.{ten_8}
-use Rattle.table_examples.proofs.Rib.{ten_1_16, at_10_9_0_1, via_192_0_2, route_via}
-use Rattle.rt_fib.specs.Tables.{PreservesLookupsOutside, PreservesOtherRoutes}
+use Rattle.table_examples.proofs.Rib.{ten_1_16, via_192_0_2, route_via}
+use Rattle.rt_fib.specs.Laws.{PreservesOtherRoutes}
 
 -- 10.0.0.0/8 by 192.0.2.1
 abbrev by_1 : Route
 by_1 = route_via ten_8 1 5 (via_192_0_2 1)
-
--- PreservesLookupsOutside
-a_route_of_10_0_0_0_8_is_not_within_10_1_0_0_16 : ¬ PreservesLookupsOutside ten_1_16 [] (by_1 ∷ [])
-unfolding look_up
-a_route_of_10_0_0_0_8_is_not_within_10_1_0_0_16 kept = let alike = kept at_10_9_0_1 refl in cc
 
 -- PreservesOtherRoutes
 a_route_of_10_0_0_0_8_is_not_of_10_1_0_0_16 : ¬ PreservesOtherRoutes ten_1_16 [] (by_1 ∷ [])

@@ -5,7 +5,7 @@ ghost use Rattle.rt_rib.specs.LookUp.{look_up};
 
 use rt_cidr::Addr;
 use rt_fib::Fib;
-use rt_fib::laws::commands_preserve_lookups_outside_prefix;
+use rt_fib::laws::commands_preserve_other_routes;
 use rt_rib::{Cmd, Refused, Route, Table};
 use std::alloc::Global;
 
@@ -21,7 +21,7 @@ pub fn follow(
     ensures { IfOk result (λ _. fib.new ≡ table.new.routes) }
 {
     // Make known what each command leaves unchanged, and that the table has no route twice.
-    commands_preserve_lookups_outside_prefix();
+    commands_preserve_other_routes();
     table.holds();
     table.apply(feed, cmd)?;
     fib.follow(table, &cmd)

@@ -197,7 +197,7 @@ fn followed(beside: Option<Fib<Global>>, table: &Table<Global>, cmd: &Cmd) -> Op
     ensures { FibHasRoutes result table.now.routes }
 {
     let mut fib = beside?;
-    match fib.follow_command(table, cmd) {
+    match fib.follow(table, cmd) {
         Ok(()) => Some(fib),
         Err(_) => None,
     }

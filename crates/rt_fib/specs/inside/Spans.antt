@@ -1,13 +1,19 @@
 -- Entries of one prefix, and what a change of these leaves of the others.
 use Rattle.std.specs.Prelude.{◌≡◌, ℕ, ◌+◌, ◌*◌, ◌^◌, ◌<◌, ◌≤◌, ◌⊎◌, false, List, length, get_or, Option}
+use Rattle.rt_cidr.specs.declared.address.Addr.{Addr}
 use Rattle.rt_cidr.specs.declared.prefixes.Prefix.{Prefix}
 use Rattle.rt_cidr.specs.Prefix.{covers}
 use Rattle.rt_cidr.specs.Cidr.{size_of}
 use Rattle.rt_rib.specs.declared.routes.Route.{Route}
+use Rattle.rt_rib.specs.LookUp.{look_up}
 use Rattle.rt_fib.specs.declared.cells.Block.{Block}
 use Rattle.rt_fib.specs.declared.spans.Span.{Span}
 use Rattle.rt_fib.specs.inside.Pools.{Places}
 use Rattle.rt_fib.specs.inside.Entries.{at, IsEntry}
+
+-- both tables answer alike each address that the prefix doesn't cover
+abbrev pub PreservesLookupsOutside : Prefix → List Route → List Route → Type 0
+PreservesLookupsOutside prefix old new = (addr : Addr) → covers prefix addr ≡ false → look_up addr old ≡ look_up addr new
 
 -- no address of another entry is the prefix's
 pub record AreEntriesOf (prefix : Prefix) (span : Span) : Type 0 where

@@ -15,14 +15,8 @@ returns-then-rest-eq0-clause-followed g c =
     let routes = purged_routes (table_state c.args.table.now) (table_state c.purge.new.self) c.args.feed _ c.purge.ensures in
     c.requires.same ∙ sym (routes ∙ none_purged c.args.feed c.args.table.now.routes (sym c.count-rest.ensures ∙ c.if-rest-eq0.true))
 
-pub returns-in-Ok-clause-limit : goal.returns-in-Ok-clause-limit
-returns-in-Ok-clause-limit g c = purged_limit (table_state c.args.table.now) (table_state c.purge.new.self) c.args.feed _ c.purge.ensures
+pub returns-clause-limit : goal.returns-clause-limit
+returns-clause-limit g c = purged_limit (table_state c.args.table.now) (table_state c.purge.new.self) c.args.feed _ c.purge.ensures
 
-pub returns-in-Ok-clause-routes : goal.returns-in-Ok-clause-routes
-returns-in-Ok-clause-routes g c = purged_routes (table_state c.args.table.now) (table_state c.purge.new.self) c.args.feed _ c.purge.ensures
-
-pub returns-in-Err-clause-limit : goal.returns-in-Err-clause-limit
-returns-in-Err-clause-limit g c = purged_limit (table_state c.args.table.now) (table_state c.purge.new.self) c.args.feed _ c.purge.ensures
-
-pub returns-in-Err-clause-routes : goal.returns-in-Err-clause-routes
-returns-in-Err-clause-routes g c = purged_routes (table_state c.args.table.now) (table_state c.purge.new.self) c.args.feed _ c.purge.ensures
+pub returns-clause-routes : goal.returns-clause-routes
+returns-clause-routes g c = purged_routes (table_state c.args.table.now) (table_state c.purge.new.self) c.args.feed _ c.purge.ensures

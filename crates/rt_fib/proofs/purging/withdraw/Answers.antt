@@ -3,11 +3,11 @@ use Rattle.rt_rib.specs.Book.{TableState, table_state}
 use Rattle.rt_rib.proofs.Promised.{withdrawn_rest}
 use Rattle.rt_fib.proofs.purging.withdraw.Goals as goal
 
-pub follow_command-requires-clause-once : goal.follow_command-requires-clause-once
-follow_command-requires-clause-once g c = rw c.requires.same c.holds.ensures.once
+pub follow-requires-clause-once : goal.follow-requires-clause-once
+follow-requires-clause-once g c = rw c.requires.same c.holds.ensures.once
 
-pub follow_command-requires-clause-others : goal.follow_command-requires-clause-others
-follow_command-requires-clause-others g c =
+pub follow-requires-clause-others : goal.follow-requires-clause-others
+follow-requires-clause-others g c =
     rw c.requires.same
     (c.commands_preserve_other_routes.ensures (table_state c.args.table.now) (table_state c.apply.new.self) c.args.feed _ _ c.in_ok-apply.ensures.ok)
 

@@ -1,17 +1,21 @@
-use Rattle.rt_fib.specs.Tables.{PreservesLookupsOutside}
+use Rattle.rt_fib.proofs.Placing.{keeps_same}
 use Rattle.rt_fib.proofs.Leading.{cells_keep}
-use Rattle.rt_fib.proofs.Renewing.{renewed_cells}
+use Rattle.rt_fib.proofs.Changing.{cells_alike}
+use Rattle.rt_fib.proofs.Others.{outside_stays}
 use Rattle.rt_fib.proofs.fib.Fib.renew.Goals as goal
 
 pub invariant_of-self : goal.invariant_of-self
-invariant_of-self g c =
-    let kept = c.in_err-renew_cells.ensures in
-    rw (kept.since, kept.marked, kept.table, kept.stay) (cells_keep _ _ _ _ _ _ _ _ kept.blocks kept.keeps c.self.invariant)
+invariant_of-self g c = rw c.of-same.ensures (cells_alike _ _ _ _ _ _ _ (c.in-Some.ensures.same c.if-own.true) c.self.invariant)
 
-pub keep_pace-requires : goal.keep_pace-requires
-keep_pace-requires g c =
-    let kept : PreservesLookupsOutside c.args.prefix c.self.inside.cells.table.value.routes c.args.table.now.routes = rw c.self.view_is c.requires in
-    let done = c.in_ok-renew_cells.ensures in
-    let renewed = rw c.lookup_cursor.ensures at done.put in
-    rw (c.of.ensures, done.since, done.marked)
-    (renewed_cells c.args.prefix c.span_of-span.result _ _ _ _ _ _ _ _ _ _ c.span_of-span.ensures c.self.invariant done.blocks done.keeps renewed kept)
+pub refill-requires : goal.refill-requires
+refill-requires g c = outside_stays c.args.prefix c.args.self.now c.args.table.now.routes c.look_up_finds_best.ensures c.requires.once c.holds.ensures.once c.requires.others
+
+pub invariant_of-self-in_err-number : goal.invariant_of-self-in_err-number
+invariant_of-self-in_err-number g c =
+    let kept = c.number_for.ensures in
+    rw (kept.since, kept.marked, kept.table, kept.entries, kept.blocks) (cells_keep _ _ _ _ _ _ _ _ (keeps_same _ _) kept.keeps c.self.invariant)
+
+pub change_entries-requires-clause-cells : goal.change_entries-requires-clause-cells
+change_entries-requires-clause-cells g c =
+    let kept = c.number_for.ensures in
+    rw (kept.since, kept.marked, kept.table, kept.entries, kept.blocks) (cells_keep _ _ _ _ _ _ _ _ (keeps_same _ _) kept.keeps c.self.invariant)
