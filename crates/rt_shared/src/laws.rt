@@ -99,7 +99,7 @@ pub fn running<const L: u32>()
 /// process before its view says that it has paid, by which it has found the other's bell off, or has put it off
 /// (`owing`): `rung` holds of that moment too.
 ///
-/// That the ring then wakes the other rests on the kernel, and on nine lines of the lock that no clause reads.
+/// That the ring then wakes the other rests on the kernel, and on four lines of the lock that no clause reads.
 pub fn nobody_is_forgotten<const L: u32>()
     requires { 1 ≤ L }
     ensures rung { (s : Moment) → Rule GrowsByOthers L s → NobodyIsForgotten L s }

@@ -15,7 +15,7 @@ use Rattle.ya_lock.specs.declared.rule.View.{View}
 use Rattle.ya_lock.specs.declared.rule.View.TheVariants.{Unused, Making, Filling, HandingOut, Seated, Watching, Owes, Joining, Spent}
 use Rattle.ya_lock.specs.Rule.{making_index, bell_index, GlobalView, ViewFits, Obeys, Rule, NoneIsForgotten}
 use Rattle.ya_lock.specs.Rule.{BellKnowledge, Quiet, Debt, free, view_at, OwesRing}
-use Rattle.ya_lock.specs.StepEffects.{awake, paid, FindsBell}
+use Rattle.ya_lock.specs.StepEffects.{awake, paid, SetsBell, FindsBell, ClearsBell}
 use Rattle.ya_lock.specs.inside.Lock.{IsFreeSeat}
 use Rattle.ya_lock.proofs.WordsInRow.{words_behind, word_kept, bell_behind, bell_within}
 use Rattle.ya_lock.proofs.Rings.{own_bell, finds_bell, clears_bell}
@@ -69,9 +69,9 @@ module _ {V : Type 0} (since : ℕ → V → V → Type 0) (levels : ℕ) where
 
   -- the store of a place in its own bell
   pub announces : (slots id i n place : ℕ) (me : Me (std.Option V) (View V)) → IsFreeSeat place me.0
-      → i ≡ bell_index levels place
-      → Allows (Rule since levels) slots id me i (λ _. n) (λ _ then'. then' ≡ (awake me.0, me.1))
-  announces slots id i n place me own is s rule wide at small =
+      → i ≡ bell_index levels place → n ≤ 1
+      → Allows (Rule since levels) slots id me i (λ _. n) (λ _ then'. SetsBell n me then')
+  announces slots id i n place me own is bit s rule wide at small =
       let vain : Bool = own.0 in let process : Process = own.1.0 in let value : V = own.1.1.0 in let count : ℕ = own.1.1.1.0 in
       let seat = own.1.1.1.1 in
       let x : GlobalView V = rule.0 in let o = rule.1 in
@@ -91,7 +91,7 @@ module _ {V : Type 0} (since : ℕ → V → V → Type 0) (levels : ℕ) where
               (own_bell levels s.words s.views id n place vain process value count there
               (only_here since levels s x o id place f.1) rule.2),
         ),
-        (λ k. (sym (ap awake seat ∙ awake_free vain place process value count) k, me.1)),
+        (bit, (λ k. (sym (ap awake seat ∙ awake_free vain place process value count) k, me.1))),
       )
 
   -- the parts of a seat that owes a ring
@@ -181,7 +181,7 @@ module _ {V : Type 0} (since : ℕ → V → V → Type 0) (levels : ℕ) where
   -- the store of 0 there
   pub clears : (slots id i rival : ℕ) (me : Me (std.Option V) (View V)) → OwesRing me.0 rival → rival < 2 ^ levels
       → i ≡ bell_index levels rival
-      → Allows (Rule since levels) slots id me i (λ _. 0) (λ _ then'. then' ≡ (paid me.0, me.1))
+      → Allows (Rule since levels) slots id me i (λ _. 0) (λ _ then'. ClearsBell 0 me then')
   unfolding IsDebt
   clears slots id i rival me owes below is s rule wide at small =
       let debt = in_debt me.0 rival owes in
@@ -201,5 +201,5 @@ module _ {V : Type 0} (since : ℕ → V → V → Type 0) (levels : ℕ) where
               (clears_bell levels s.words s.views id place process value count rival there
               (subst (λ (l : ℕ). bell_index levels rival < l) (sym o.wide) (bell_within levels rival below)) rule.2),
         ),
-        (λ k. (sym (ap paid seat) k, me.1)),
+        (refl, (λ k. (sym (ap paid seat) k, me.1))),
       )

@@ -1,5 +1,5 @@
 -- The effect of each atomic step of a seat on its thread's knowledge.
-use Rattle.std.specs.Prelude.{◌≡◌, ◌≢◌, ℕ, ◌+◌, Bool, true, false, List, [], ◌∷◌, Some, None}
+use Rattle.std.specs.Prelude.{◌≡◌, ◌≢◌, ◌≤◌, ℕ, ◌+◌, Bool, true, false, List, [], ◌∷◌, Some, None}
 use Rattle.std.specs.Prelude as std
 use Rattle.atomic_table.specs.Table.{Me}
 use Rattle.ya_core.specs.declared.process.Process.TheVariants.{Idle, Inside}
@@ -55,6 +55,14 @@ module _ {V : Type 0} where
   abbrev pub paid : View V → View V
   paid (Owes place process value count rival) = Seated place process value count
   paid view = view
+
+  -- a place stores this number in its own bell: 0 or 1
+  abbrev pub SetsBell : ℕ → Me (std.Option V) (View V) → Me (std.Option V) (View V) → Type 0
+  SetsBell number before after = (number ≤ 1) × (after ≡ (awake before.0, before.1))
+
+  -- a seat that owes a ring stores this number in the bell: 0
+  abbrev pub ClearsBell : ℕ → Me (std.Option V) (View V) → Me (std.Option V) (View V) → Type 0
+  ClearsBell number before after = (number ≡ 0) × (after ≡ (paid before.0, before.1))
 
   -- a seat that owes a ring loads the bell
   abbrev pub FindsBell : ℕ → Me (std.Option V) (View V) → Me (std.Option V) (View V) → Type 0

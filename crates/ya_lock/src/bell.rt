@@ -32,12 +32,13 @@ impl<V: Kept + Drop, const L: u32> TreeLock<V, L> {
         SPACING * (Self::shape().words() + 1 + place)
     }
 
-    /// Stores that value in the bell of the seat's own place.
+    /// Stores 0 or 1 in the bell of the seat's own place.
     #[inline(always)]
     fn set_bell(&self, seat: &mut LockSeat<V>, place: usize, value: u64)
         requires lock { seat.old.table_id ≡ self.now }
         requires place { place < 2 ^ L }
         requires own { IsFreeSeat place seat.old.me.0 }
+        requires bit { value ≤ 1 }
         ensures lock { seat.new.table_id ≡ seat.old.table_id }
         ensures me { seat.new.me ≡ (awake seat.old.me.0, seat.old.me.1) }
     {
@@ -45,11 +46,12 @@ impl<V: Kept + Drop, const L: u32> TreeLock<V, L> {
         shared.store::<SetBell>(seat, Self::bell(place), value);
     }
 
-    /// Sleeps until a rival rings, if the bell of the place is 1. Its seat has looked at the spin word in vain since it
-    /// last stored in its bell.
+    /// Sleeps until a rival rings, if the bell of the seat's own place is 1. The seat has looked at the spin word in vain
+    /// since it last stored in its bell.
     #[inline(always)]
     fn park<R: Wait>(&self, rt: &R, seat: &LockSeat<V>, place: usize)
         requires place { place < 2 ^ L }
+        requires own { IsFreeSeat place seat.now.me.0 }
         requires vain { has_looked_in_vain seat.now.me.0 ≡ true }
     {
         self.table.shared.park(rt, Self::bell(place), 1);

@@ -1,8 +1,7 @@
 //! The effect of each step of a seat on its thread's knowledge. Only proofs use these types.
-ghost use Rattle.std.specs.Prelude.{◌≡◌};
 ghost use Rattle.ya_lock.specs.declared.rule.View.TheVariants.{Spent};
 ghost use Rattle.ya_lock.specs.StepEffects.{BeginsMaking, TakesSlot, GivesValue, HandsOutLast, ProcessSteps, LearnsSince};
-ghost use Rattle.ya_lock.specs.StepEffects.{handed_out, rest_to_hand_out, joined_view, awake, paid, FindsBell};
+ghost use Rattle.ya_lock.specs.StepEffects.{handed_out, rest_to_hand_out, joined_view, SetsBell, FindsBell, ClearsBell};
 
 use crate::kept::Kept;
 use crate::rule::View;
@@ -52,11 +51,11 @@ impl<V: Kept, const L: u32> Play<Option<V>, View<V>> for ProcessStep<L> {
     ghost then = { λ step before found after. ProcessSteps V.since L found before.0 before.1 after };
 }
 
-/// The store of a place in its own bell: it has not looked at its spin word since.
+/// The store of 0 or 1 by a place in its own bell: it has not looked at its spin word since.
 pub struct SetBell;
 
 impl<V> Play<Option<V>, View<V>> for SetBell {
-    ghost then = { λ step before found after. after ≡ (awake before.0, before.1) };
+    ghost then = { λ step before stored after. SetsBell stored before after };
 }
 
 /// The load of the bell of a rival that is owed a ring: if it isn't 1, the rival is owed none.
@@ -70,7 +69,7 @@ impl<V> Play<Option<V>, View<V>> for FindBell {
 pub struct ClearBell;
 
 impl<V> Play<Option<V>, View<V>> for ClearBell {
-    ghost then = { λ step before found after. after ≡ (paid before.0, before.1) };
+    ghost then = { λ step before stored after. ClearsBell stored before after };
 }
 
 /// The load with which a process inside takes in an idle one.

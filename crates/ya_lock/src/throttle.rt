@@ -3,9 +3,10 @@
 //! Concurrency*, Euro-Par 2019. A nap is tuning, and no contract depends on it: no place has to end it, since it ends when
 //! its time is over, if the clock goes on.
 ghost use Rattle.std.specs.Prelude.{◌^◌, ◌<◌, ◌≤◌};
+ghost use Rattle.ya_lock.specs.inside.Lock.{IsFreeSeat};
 
 use crate::kept::Kept;
-use crate::rule::SPACING;
+use crate::rule::{LockSeat, SPACING};
 use crate::tree_lock::TreeLock;
 use crossbeam_utils::Backoff;
 use std::sync::Wait;
@@ -54,16 +55,18 @@ impl Contention {
 }
 
 impl<V: Kept + Drop, const L: u32> TreeLock<V, L> {
-    /// Naps once if the lock is crowded. `crowd` is the place's memory; returns its new memory. A place that remembers
-    /// a crowd naps as soon as it finds another place, so that the other goes on without a competitor.
+    /// Naps once if the lock is crowded. `crowd` is the memory of the seat's own place; returns its new memory. A place
+    /// that remembers a crowd naps as soon as it finds another place, so that the other goes on without a competitor.
     #[inline(always)]
     pub(crate) fn throttle_if_contended<R: Wait>(
         &self,
         rt: &R,
+        seat: &LockSeat<V>,
         place: usize,
         crowd: Contention,
     ) -> Contention
-        requires { place < 2 ^ L }
+        requires place { place < 2 ^ L }
+        requires own { IsFreeSeat place seat.now.me.0 }
     {
         if !self.is_taken() {
             return crowd.after_nobody();
@@ -75,7 +78,7 @@ impl<V: Kept + Drop, const L: u32> TreeLock<V, L> {
                 Contention::Remembered(0)
             };
         }
-        self.nap(rt, place);
+        self.nap(rt, seat, place);
         if self.is_taken_again() {
             Contention::Remembered(0)
         } else {
@@ -112,11 +115,13 @@ impl<V: Kept + Drop, const L: u32> TreeLock<V, L> {
         shared.peek(SPACING * Self::shape().c(L, 0, side)) != 0
     }
 
-    /// Sleeps for the shares of all places. The place isn't in the tree, so no rival has to wake it.
+    /// Sleeps for the shares of all places, on the bell of the seat's own place: on another one it could take a wake from
+    /// the place that sleeps there. Its place isn't in the tree, so no rival has to wake it.
     #[cold]
     #[inline(never)]
-    fn nap<R: Wait>(&self, rt: &R, place: usize)
-        requires { place < 2 ^ L }
+    fn nap<R: Wait>(&self, rt: &R, seat: &LockSeat<V>, place: usize)
+        requires place { place < 2 ^ L }
+        requires own { IsFreeSeat place seat.now.me.0 }
     {
         let shared = &self.table.shared;
         let share_of_all = Duration::from_micros(NAP_MICROS_PER_PLACE << L);

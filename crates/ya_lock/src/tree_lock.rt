@@ -75,7 +75,7 @@ impl<V: Kept + Drop, const L: u32> TreeLock<V, L> {
         ensures walks { WalksTo (walk L pass.place Idle true 0) (walk L pass.place Inside false result.remote) }
     {
         self.holds_tree();
-        let crowd = self.throttle_if_contended(rt, pass.place, pass.crowd);
+        let crowd = self.throttle_if_contended(rt, &pass.seat, pass.place, pass.crowd);
         Self::take_value(Passage::begin(self, pass).acquire(rt), crowd)
     }
 

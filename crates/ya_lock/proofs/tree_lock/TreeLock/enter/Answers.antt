@@ -1,4 +1,4 @@
-use Rattle.std.proofs.Common.{true, refl, ap, ◌∙◌, lit<}
+use Rattle.std.proofs.Common.{true, false, refl, ap, ◌∙◌, lit<}
 use Rattle.ya_core.specs.declared.process.Process.TheVariants.{Idle}
 use Rattle.ya_core.specs.WalkerModel.{walk}
 use Rattle.ya_lock.specs.Lock.{IdlePass}
@@ -8,10 +8,14 @@ use Rattle.ya_lock.proofs.tree_lock.TreeLock.enter.Goals as goal
 
 pub throttle_if_contended-crowd-requires : goal.throttle_if_contended-crowd-requires
 throttle_if_contended-crowd-requires g c =
-    let same = ap (λ (q : IdlePass g.row.V.Denot). q.lock) c.pass.view_is ∙ c.requires in (
+    let same = ap (λ (q : IdlePass g.row.V.Denot). q.lock) c.pass.view_is ∙ c.requires in
+    let pass = c.pass.inside in (
       lit< tt,
-      place_below c.pass.inside.seat.table_id c.args.self.now c.pass.inside.place g.row.L g.row.L same
-          c.holds_tree.ensures.words refl c.pass.invariant.in_tree,
+      (
+        place_below pass.seat.table_id c.args.self.now pass.place g.row.L g.row.L same
+            c.holds_tree.ensures.words refl c.pass.invariant.in_tree,
+        (false, (Idle, (pass.seen.value, (pass.remote, ap (λ m. m.0) c.pass.invariant.process)))),
+      ),
     )
 
 pub take_value-requires : goal.take_value-requires

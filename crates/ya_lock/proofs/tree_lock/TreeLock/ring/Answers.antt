@@ -1,7 +1,7 @@
-use Rattle.std.proofs.Common.{◌≡◌, ℕ, sym, ◌∙◌, subst}
+use Rattle.std.proofs.Common.{ℕ, sym, ◌∙◌, subst}
 use Rattle.atomic_table.specs.Table.{Allows}
 use Rattle.ya_lock.specs.Rule.{Rule, OwesRing}
-use Rattle.ya_lock.specs.StepEffects.{paid, FindsBell}
+use Rattle.ya_lock.specs.StepEffects.{FindsBell, ClearsBell}
 use Rattle.ya_lock.proofs.TreeSize.{bell_in}
 use Rattle.ya_lock.proofs.BellStores.{finds, clears}
 use Rattle.ya_lock.proofs.tree_lock.TreeLock.ring.Goals as goal
@@ -26,7 +26,7 @@ store-requires g c =
       found.0 ∙ (c.requires.lock ∙ sym c.self.view_is),
       bell_in lock g.row.L c.args.rival i own.words c.requires.rival c.bell-then-load-eq1.ensures,
       subst (λ (k : ℕ). Allows (Rule g.V.Kept.since k) lock.slots c.load.new.seat.id me i (λ _. 0)
-          (λ _ then'. then' ≡ (paid me.0, me.1))) (sym own.told)
+          (λ _ then'. ClearsBell 0 me then')) (sym own.told)
           (clears g.V.Kept.since g.row.L lock.slots c.load.new.seat.id i c.args.rival me
           (subst (λ m. OwesRing m.0 c.args.rival) (sym same) c.requires.owes) c.requires.rival
           c.bell-then-load-eq1.ensures),
