@@ -418,7 +418,7 @@ C = {f"{file.partition('.')[0]}: {name}": (file, *texts) for file, wrong in {
     },
     "readers.c": {
         "the second table leaves its memory to changes": ("return status == YARIB_DONE ? attach(&sides->back) : status;",
-                                                          "return status == YARIB_DONE ? proved_yarib_follow(&sides->back) : status;"),
+                                                          "return status == YARIB_DONE ? proved_yarib_fib_attach(&sides->back) : status;"),
         "a change is made in the side that readers use": (" : proved_yarib_apply(&sides->back, command, reply);",
                                                           " : proved_yarib_apply(&(yarib){sides->front.inside}, command, reply);"),
         "a change of a best route is forgotten": ("status = change ? proved", "status = change && !sides ? proved"),

@@ -46,7 +46,7 @@ enum yarib_status attach(yarib *table)
 {
     /* The forwarding table has room that only later changes write to. */
     if (begin_filling) begin_filling();
-    enum yarib_status status = proved_yarib_follow(table);
+    enum yarib_status status = proved_yarib_fib_attach(table);
     if (end_filling) end_filling();
     return status;
 }
@@ -128,12 +128,12 @@ static enum yarib_status fill(yarib *contents, yarib *table, uint32_t (*call)(ya
 
 enum yarib_status yarib_fib_new(const yarib *table, yarib *forwarding)
 {
-    READ(enter_reading, table, fill(&own.table, forwarding, proved_yarib_forward));
+    READ(enter_reading, table, fill(&own.table, forwarding, proved_yarib_fib_new));
 }
 
 enum yarib_status yarib_fib_clone(const yarib *forwarding, yarib *other)
 {
-    READ(enter_reading, forwarding, fill(&own.table, other, proved_yarib_share));
+    READ(enter_reading, forwarding, fill(&own.table, other, proved_yarib_fib_clone));
 }
 
 enum yarib_status yarib_forward(const yarib *table, yarib *forwarding) __attribute__((alias("yarib_fib_new")));

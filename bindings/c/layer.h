@@ -37,7 +37,7 @@ void end_frees(void);
 void begin_filling(void);
 void end_filling(void);
 
-/* Attaches a forwarding table to a table, as proved_yarib_follow does. */
+/* Attaches a forwarding table to a table, as proved_yarib_fib_attach does. */
 enum yarib_status attach(yarib *table);
 
 /* Frees what a handle holds, as proved_yarib_free does. */
@@ -90,9 +90,9 @@ PLAIN_READING_CALLS(DECLARE_PROVED)
 CHANGES(DECLARE_PROVED)
 void proved_yarib_free(yarib *table);
 uint32_t proved_yarib_first_difference(yarib *old_table, yarib *new_table, uint32_t by, uint32_t from, yarib_difference *difference);
-uint32_t proved_yarib_forward(yarib *table, yarib *forwarding);
-uint32_t proved_yarib_share(yarib *forwarding, yarib *other);
-uint32_t proved_yarib_follow(yarib *table);
+uint32_t proved_yarib_fib_new(yarib *table, yarib *forwarding);
+uint32_t proved_yarib_fib_clone(yarib *forwarding, yarib *other);
+uint32_t proved_yarib_fib_attach(yarib *table);
 uint32_t proved_yarib_view_write(yarib *table, uint32_t *entries, size_t entry_count, uint32_t *blocks, size_t block_count,
     uint32_t *routers, size_t router_count, size_t *used);
 

@@ -18,7 +18,7 @@ use std::sync::Arc;
 /// Makes a forwarding table with the current answers of the table. What its handle held before is freed, unless the call does
 /// nothing.
 #[unsafe(no_mangle)]
-pub extern "C" fn yarib_forward(alloc: Global, table: &mut Yarib, forwarding: &mut Yarib) -> u32
+pub extern "C" fn yarib_fib_new(alloc: Global, table: &mut Yarib, forwarding: &mut Yarib) -> u32
     ensures done { result ≡ DONE → HandleHolds table.old (λ held. HandleHolds forwarding.new (IsFibWithRoutes (routes_in held))) }
     ensures kept { result ≢ DONE → held_in forwarding.new ≡ held_in forwarding.old }
     ensures same { held_in table.new ≡ held_in table.old }
@@ -51,7 +51,7 @@ fn forwarded(alloc: Global, table: &Table<Global>) -> Option<Box<Held>>
 /// Makes another handle on the same forwarding table, for another thread. What that handle held before is freed, unless the call
 /// does nothing. The two handles are different.
 #[unsafe(no_mangle)]
-pub extern "C" fn yarib_share(alloc: Global, forwarding: &mut Yarib, other: &mut Yarib) -> u32
+pub extern "C" fn yarib_fib_clone(alloc: Global, forwarding: &mut Yarib, other: &mut Yarib) -> u32
     ensures done { result ≡ DONE → HandleHolds forwarding.old (λ held. HandleHolds other.new (IsFibWithRoutes (routes_in held))) }
     ensures kept { result ≢ DONE → held_in other.new ≡ held_in other.old }
     ensures same { held_in forwarding.new ≡ held_in forwarding.old }
@@ -83,7 +83,7 @@ fn shared(alloc: Global, fib: &Arc<Fib<Global>>) -> Option<Box<Held>>
 /// Makes a forwarding table for a table that keeps no journal, if the table doesn't have one yet. It follows each command from then
 /// on, and look-ups are by it. If memory runs out while it follows a command, it is dropped, and look-ups are by the table.
 #[unsafe(no_mangle)]
-pub extern "C" fn yarib_follow(alloc: Global, table: &mut Yarib) -> u32
+pub extern "C" fn yarib_fib_attach(alloc: Global, table: &mut Yarib) -> u32
     ensures done { result ≡ DONE → HandleHolds table.new IsFollowed }
     ensures kept { IsKept table.old table.new }
     ensures absent { result ≡ NOTHING → held_in table.old ≡ None }
