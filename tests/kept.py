@@ -493,7 +493,7 @@ def proofs(new):
 
 
 # Catches a time limit that counts as a verdict, or a wait that doesn't: `.. that goes on`, `.. that waits`.
-def variants(new):
+def limits(new):
     wait = "import threading; lock = threading.Lock(); lock.acquire(); lock.acquire()"
     for name, words, wanted in (
             ("that ends", ["sh", "-c", "exit 3"], 3), ("that passes after a while", ["sleep", "1"], 0),
@@ -503,7 +503,7 @@ def variants(new):
         expect(f"a mutant {name}", watched(words, seconds=8), wanted)
 
 
-CASES = (once, directories, archive, libraries, definitions, mutants, proofs, variants)
+CASES = (once, directories, archive, libraries, definitions, mutants, proofs, limits)
 
 
 def main():

@@ -590,11 +590,11 @@ C = {f"{file.partition('.')[0]}: {name}": (file, *texts) for file, wrong in {
 
 
 # The test that has to notice each mutant: it is run before all others. For a mutant without one all are run.
-def noticed_by(tests, variants):
+def noticed_by(tests, mutants):
     named = {name: test for test, names in tests.items() for name in names}
-    if unknown := named.keys() - variants.keys():
-        raise ValueError(f"no variants: {sorted(unknown)}")
-    return {name: (*texts, named.get(name)) for name, texts in variants.items()}
+    if unknown := named.keys() - mutants.keys():
+        raise ValueError(f"no mutants: {sorted(unknown)}")
+    return {name: (*texts, named.get(name)) for name, texts in mutants.items()}
 
 
 PYTHON = noticed_by({
