@@ -103,7 +103,8 @@ def library_stub(archive):
     calls += [f"yarib_{name}" for name in re.findall(r"^    CALL\((\w+), ", layer, re.M)]
     calls += set(re.findall(r"\b(yarib_(?:address|prefix)_\w+)\(", (TOP / "bindings/c/yarib.h").read_text()))
     source, compiled_to = archive.with_suffix(".c"), archive.with_suffix(".o")
-    source.write_text("".join(f"int {name}(void) {{ return 1; }}\n" for name in calls))
+    # the call of views is in a list, and the layer declares the proved one besides, since its arguments are others
+    source.write_text("".join(f"int {name}(void) {{ return 1; }}\n" for name in dict.fromkeys(calls)))
     subprocess.run(["gcc", "-fPIC", "-c", source, "-o", compiled_to], check=True)
     subprocess.run(["ar", "cr", archive, compiled_to], check=True)
 
