@@ -35,6 +35,11 @@ def type_name(written):
     return "Ref" * written.startswith("&") + "Slice" * ("[" in written) + name.capitalize()
 
 
+def parameters(written):
+    """Returns the names of the type parameters and constants that `<..>` introduces."""
+    return re.findall(r"(?:^|,) *(?:const )?(\w+)", re.sub(r"<[^<>]*>|\([^()]*\)", "", written[1:-1]))
+
+
 class Item:
     """An item of a source, or a member of an item: its lines of code, and the type or trait around it."""
 
@@ -76,13 +81,12 @@ class Item:
         return len(self.lines)
 
     def of_impl(self):
-        """Returns the trait of an impl, or None, and its type."""
+        """Returns the trait of an impl, or None, and its type: `Any` if that is a parameter of the impl."""
         head = " ".join(line.strip() for line in self.lines).partition("{")[0]
         head = re.sub(r"^(unsafe )?impl\s*", "", head)
-        if head.startswith("<"):
-            head = head[closing(head, 0, "<>"):].strip()
-        trait, parted, owner = head.rpartition(" for ")
-        owner = type_name(owner.strip())
+        end = closing(head, 0, "<>") if head.startswith("<") else 0
+        trait, parted, owner = head[end:].partition(" where ")[0].strip().rpartition(" for ")
+        owner = "Any" if owner in parameters(head[:end]) else type_name(owner)
         return (re.match(r"(?:\w+::)*(\w+)", trait.strip())[1] if parted else None), owner
 
     def impl_name(self):

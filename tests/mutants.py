@@ -83,6 +83,29 @@ impl Number {
         LEAST
     }
 }
+
+/// What has a number.
+pub trait Counted {
+    /// The number.
+    fn count(&self) -> u64
+        ensures { result ≡ 1 };
+}
+
+impl<T> Counted for T {
+    /// One, for any type.
+    fn count(&self) -> u64
+        ensures { result ≡ 1 }
+    {
+        1
+    }
+}
+
+/// Twice the number of any type.
+pub fn twice_counted<T>(one: &T) -> u64
+    ensures { result ≡ 2 }
+{
+    twice(one.count())
+}
 """
 # An answer to a goal that the prover would prove by itself.
 ANSWERS = """\
@@ -109,6 +132,8 @@ returns c = rw c.twice-once.ensures at c.twice.ensures
 MUTANTS = {
     "answers-the-number": ("{⏎    n + n⏎}", "{⏎    n⏎}", "twice", "refused, as it must be: "),
     "answers-the-number-by-its-goal": ("{⏎    n + n⏎}", "{⏎    n⏎}", "twice: returns", "refused, as it must be: "),
+    "calls-a-method-of-any-type": ("twice(one.count())", "2000 + one.count()", "twice_counted: returns",
+                                   "refused, as it must be: "),
     "changes-another-function": ("twice(twice(n))", "twice(n)", "twice",
                                  "BAD MUTANT: an 'old:' text is in twice 0 times"),
     "four-times-given-up": ("twice(twice(n))", "twice(n)", "four_times", "refused, as it must be: "),
