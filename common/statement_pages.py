@@ -359,7 +359,8 @@ def rows(table):
 def head_of(page, table, written):
     return [f"# {page.title}", "", *wrapped(page.said), "", *wrapped(
         "Each clause is proved. To judge what it says, read it and the definitions below it: "
-        f"{written.lines} lines on this page, comments not counted, in {written.definitions} definitions and types. "
+        f"{written.lines} lines on this page in {written.definitions} definitions and types, without comments, the clauses themselves "
+        "and what ties these to the sources (impls, and contracts of the toolchain). "
         f"[{SIGNS['title']}]({SIGNS['file']}) explains the signs and the words of the kit. A definition is printed once, below "
         "all that use it; a line with its file's name is above it, or above others of that file. Proofs and the bodies of "
         "functions need not be read. `tools/statement --write` generates this page from the sources."), "",
