@@ -48,6 +48,7 @@ case " $BREAKS " in
   *" $name=killed "*) kill -9 $$ ;;
   *" $name=changes "*) echo "// more" >>changed.rt ;;
   *" $name=waits "*) touch "$NOTES.waits"; sleep 600 ;;
+  *" $name=no-text "*) printf '\\377\\n' ;;
   *" $name=leaves-out "*) echo "left out: a case of $name, since it can't run here" ;;
   *" $name=none-kept "*) echo "small: 0 of 4 mutants were as they must be in earlier runs on this machine" ;;
   *" $name=some-kept "*) echo "small: 3 of 4 mutants were as they must be in earlier runs on this machine" ;;
@@ -114,11 +115,13 @@ class Repository:
         self.put("tools/progress", "#!/bin/sh\nexec cat\n")
         self.put("prog", "a program\n")
         self.put("changed.rt", "//\n")
+        self.put("tracked.pyc", "a file that git knows and would ignore\n")
         for name, count in {"mutants": LISTED["mutants"] - 1, "controls": 1, "definitions": LISTED["definitions"]}.items():
             self.put(f"crates/small/must-fail/{name}.md", "# A list\n" + "\n## one\n" * count)
         self.put("../bin/rt", RT)
         self.git("init", "--quiet", "--initial-branch=main")
         self.git("add", "--all")
+        self.git("add", "--force", "tracked.pyc")
         self.git("commit", "--quiet", "--message", "all")
         return self
 
@@ -253,7 +256,8 @@ def continuous_integration(new):
 def verdicts(new):
     one = new()
     commit = one.git("rev-parse", "HEAD")
-    status, lines, _ = one.test(breaks="tests/rows.py=leaves-out tests/launcher.py=is-kept")
+    kept = ("tests/launcher.py", "tools/archive", "tools/definitions")
+    status, lines, _ = one.test(breaks=" ".join(["tests/rows.py=leaves-out", *(f"{script}=is-kept" for script in kept)]))
     verdict = one.verdict()
     expect("the verdict of a clean tree", (status, verdict["verdict"], verdict["commit"], verdict["tree"], verdict["differing"],
            verdict["unknown"]), (0, "passed", commit, one.git("rev-parse", "HEAD^{tree}"), [], []))
@@ -261,7 +265,7 @@ def verdicts(new):
     expect("its counts", (sum(verdict["passed"].values()), verdict["failed"]), (int(lines[-1].split()[0]), {}))
     expect("its mutants", {name: verdict["passed"][f"tools/{name}"] for name in LISTED}, LISTED)
     expect("what was kept", verdict["kept"], ["rt: rt_diff is kept: it was proved here",
-                                              "tests/launcher.py: passed in an earlier run on this machine"])
+                                              *(f"{script}: passed in an earlier run on this machine" for script in kept)])
     expect("what was left out", verdict["left_out"], ["left out: a case of tests/rows.py, since it can't run here"])
     expect("its toolchain", (verdict["toolchain"], verdict["logic"]), ("stand-in-1", "0123456789abcdef"))
     one.put("changed.rt", "// another\n")
@@ -305,6 +309,25 @@ def verdicts(new):
            (bare.test()[0], bare.verdict()["commit"], bare.verdict()["tree"]), (0, None, None))
 
 
+# Catches a verdict that is lost by the name of a file, by what a script prints, or by a repository that has no commit: `.. that
+# is no text`, `.. without a commit`.
+def lost_verdicts(new):
+    one, name = new(), os.fsdecode(b"a name of byte \xff that is no text")
+    one.put(name, "unknown\n")
+    status, _, _ = one.test(breaks="tests/rows.py=no-text", PYTHONIOENCODING="utf-8:strict")
+    verdict = one.verdict()
+    expect("the verdict with a name and an output that is no text", (status, verdict["verdict"], verdict["unknown"]), (0, "passed", [name]))
+    bare = new()
+    shutil.rmtree(bare.top / ".git")
+    bare.git("init", "--quiet")
+    status, _, _ = bare.test()
+    verdict = bare.verdict()
+    expect("the verdict without a commit", (status, verdict["verdict"], verdict["commit"], verdict["tree"] is not None, "test" in verdict["unknown"]),
+           (0, "passed", None, True, True))
+    status, _, err = run([bare.top / "tools/verdict", "end", bare.folder], cwd=bare.top)
+    expect("tools/verdict with a word too few", (status, "tools/verdict end NOTES MODE STATUS" in err), (1, True))
+
+
 # Catches a gate that is ended and leaves an older verdict, or its files: `.. of a run that was ended`.
 def ended(new):
     one = new()
@@ -326,7 +349,7 @@ def ended(new):
     expect("the files of a run that was ended", sorted(path.name for path in one.made.iterdir()), [])
 
 
-CASES = (failing_scripts, quick, counts, environment, continuous_integration, verdicts, ended)
+CASES = (failing_scripts, quick, counts, environment, continuous_integration, verdicts, lost_verdicts, ended)
 
 
 def main():
