@@ -6,6 +6,7 @@ tests/kept.py [CASE..], or --list for the names of the cases. Needs python3, pro
 change a file of the repository while it works: its command is $MEANWHILE. tests/mutants.py calls tools/mutants with the
 real prover.
 """
+import functools
 import os
 import pathlib
 import re
@@ -153,13 +154,24 @@ class Repository:
         path.write_text(text)
         path.chmod(0o755)
 
-    def call(self, *words, meanwhile="", more="", path=()):
+    def put_with_time(self, path, text):
+        """Replaces a file's text, and leaves its time of change."""
+        time = path.stat().st_mtime_ns
+        self.put(path, text)
+        os.utime(path, ns=(time, time))
+
+    def call(self, *words, meanwhile="", more="", path=(), rest=os.environ["PATH"]):
         """The status of a call, its output, and how often the stubs were called."""
         self.notes.write_text("")
-        names = {"PATH": ":".join([*map(str, path), str(self.kit / "bin"), os.environ["PATH"]]), "KIT": str(self.kit),
+        names = {"PATH": ":".join([*map(str, path), str(self.kit / "bin"), rest]), "KIT": str(self.kit),
                  "NOTES": str(self.notes), "MEANWHILE": meanwhile, "MORE": more, "XDG_CACHE_HOME": str(self.room / "cache")}
         status, out, err = run([self.top / words[0], *words[1:]], env=os.environ | names, cwd=self.top)
         return status, out + err, len(self.notes.read_text().splitlines())
+
+    def once(self, *words, **how):
+        """The status of a script by tools/once, and how often it ran: the script and the files with these words, or one of each."""
+        status, _, calls = self.call("tools/once", *(words or ("tests/one.sh", ":", "read.txt")), **how)
+        return status, calls
 
     def change(self, name, old, new):
         """The command that changes a file of the repository."""
@@ -169,7 +181,6 @@ class Repository:
 # Catches a kept verdict on files other than those that the script read: `.. is changed`, `.. meanwhile`, `a file that isn't
 # named`.
 # Catches a file that doesn't exist and is taken for nothing: `no such file`.
-# Catches a pass without a command that stays when the command is there: `other is there`.
 def once(new):
     one = new()
     own = lambda *names, **how: one.call("tools/once", "tests/one.sh", "word", ":", *(names or ("read.txt",)), **how)
@@ -190,7 +201,9 @@ def once(new):
     expect("read.txt has other rights", ran(own()), (0, 1))
     status, said, calls = own("read.txt", "none.txt")
     expect("no such file", (status, "none.txt" in said, calls), (2, True, 0))
-    expect("no file", ran(one.call("tools/once", "tests/one.sh")), (1, 0))
+    for words in (["tests/one.sh"], ["tests/one.sh", ":"], [":", "read.txt"], ["tests/one.sh", *[":", "read.txt"] * 3]):
+        status, said, calls = one.call("tools/once", *words)
+        expect(f"no script, no file, or one part too many: {words}", (status, "\nUsage: tools/once" in said, calls), (1, True, 0))
     one = new()
     expect("a file that isn't named, but read", ran(own(more="other.txt")), (1, 1))
     expect("it passes once it is named", ran(own("read.txt", "other.txt", more="other.txt")), (0, 1))
@@ -204,38 +217,64 @@ def once(new):
     expect("the wrong one again", ran(own()), (1, 1))
     expect("what failed isn't kept", ran(own()), (1, 1))
     one = new()
-    needing = lambda **how: one.call("tools/once", "tests/one.sh", ":", "read.txt", ":", "other", **how)
-    for calls in (1, 0):
-        status, said, called = needing()
-        expect("other isn't there", (status, "left out: what needs other\n" in said, called), (0, True, calls))
-    one.put(one.room / "more/other", "#!/bin/sh\n")
-    for calls in (1, 0):
-        status, said, called = needing(path=[one.room / "more"])
-        expect("other is there", (status, "left out" in said, called), (0, False, calls))
-    one.put(one.room / "more/other", "#!/bin/sh\n# another\n")
-    expect("another other is there", ran(needing(path=[one.room / "more"])), (0, 1))
-    one.put(one.room / "more/other", "#!/bin/sh\n# anOther\n")
-    expect("another other of the same length is there", ran(needing(path=[one.room / "more"])), (0, 1))
-    one = new()
     expect("at first, --anew", ran(one.call("tools/once", "--anew", "tests/one.sh", "word", ":", "read.txt")), (0, 1))
     expect("after --anew", ran(own()), (0, 0))
-    for python in ("", "# another\n"):
-        one.put(one.room / "more/python3", f'#!/bin/sh\nexec {sys.executable} "$@"\n{python}')
-        expect(f"another python3: {python!r}", ran(own(path=[one.room / "more"])), (0, 1))
-    one.put(one.room / "gcc/gcc", '#!/bin/sh\ncat "${0%/*}/said"\n')
-    for said in ("libasan.so\n", "/lib/libasan.so\n"):
-        one.put(one.room / "gcc/said", said)
-        expect(f"a gcc that says {said!r}", ran(own(path=[one.room / "gcc"])), (0, 1))
     expect("what it prints on standard error", "wrong\n" in one.call(
         "tools/once", "--anew", "tests/one.sh", ":", "read.txt", meanwhile="echo wrong >&2")[1], True)
-    expect("before the toolchain is changed", ran(own()), (0, 0))
-    for name, text in (("KIT-ID", "2"), ("WHAT", "more"), ("bin/rattle", PROVER + "# more\n")):
-        one.put(one.kit / name, text)
-        expect(f"{name} of the toolchain is changed", ran(own()), (0, 1))
+    expect("what it prints that is no text", one.once("--anew", "tests/one.sh", ":", "read.txt", meanwhile="printf '\\377\\n'"), (0, 1))
     is_top = 'test "$PWD" = "$(cd "$(dirname "$0")/.." && pwd -P)" || exit 9'
     expect("where it runs", own("read.txt", "other.txt", meanwhile=is_top)[0], 0)
     for _ in range(2):
         expect("a script that is killed", ran(own("read.txt", "tests", meanwhile="kill -9 $$")), (137, 1))
+
+
+# Catches a pass without a command that stays when the command is there, or another one of the name: `.. other is there`.
+def commands(new):
+    one = new()
+    needing = lambda *names, **how: one.call("tools/once", "tests/one.sh", ":", "read.txt", ":", *(names or ["other"]), **how)
+    for calls in (1, 0):
+        status, said, called = needing()
+        expect("other isn't there", (status, "left out: what needs other\n" in said, called), (0, True, calls))
+    expect("another isn't there", needing("another")[::2], (0, 1))
+    one.put(one.room / "more/other", "#!/bin/sh\n")
+    for calls in (1, 0):
+        status, said, called = needing(path=[one.room / "more"])
+        expect("other is there", (status, "left out" in said, called), (0, False, calls))
+    for text in ("another", "anOther"):
+        one.put(one.room / "more/other", f"#!/bin/sh\n# {text}\n")
+        expect(f"another other is there: {text}", needing(path=[one.room / "more"])[::2], (0, 1))
+    (one.room / "elsewhere").mkdir()
+    copied = pathlib.Path(shutil.copy2(one.room / "more/other", one.room / "elsewhere"))
+    expect("an equal other of the same time is there, elsewhere", needing(path=[copied.parent])[::2], (0, 1))
+    one.put_with_time(copied, "#!/bin/sh\n# one more\n")
+    expect("a longer other of the same time is there", needing(path=[copied.parent])[::2], (0, 1))
+
+
+# Catches a kept verdict of another Python, gcc or toolchain: `another ..`, `a gcc ..`, `a longer prover ..`.
+def machines(new):
+    one, libraries = new(), ("libasan.so", "libtsan.so", "libubsan.so")
+    for python in ("", "# another\n"):
+        one.put(one.room / "more/python3", f'#!/bin/sh\nexec {sys.executable} "$@"\n{python}')
+        expect(f"another python3: {python!r}", one.once(path=[one.room / "more"]), (0, 1))
+    one.put(one.room / "gcc/gcc", '#!/bin/sh\ncat "${0%/*}/${1#*=}"\n')
+    for library in libraries:
+        one.put(one.room / "gcc" / library, f"{library}\n")
+    expect("a gcc without sanitizers", one.once(path=[one.room / "gcc"]), (0, 1))
+    for library in libraries:
+        one.put(one.room / "gcc" / library, f"/lib/{library}\n")
+        expect(f"a gcc that has {library} too", one.once(path=[one.room / "gcc"]), (0, 1))
+    (one.room / "bare").mkdir()
+    for name in ("sh", "python3", "dirname", "grep", "cat"):
+        (one.room / "bare" / name).symlink_to(shutil.which(name))
+    for calls in (1, 0):
+        expect("gcc isn't there", one.once(rest=str(one.room / "bare")), (0, calls))
+    expect("before the toolchain is changed", one.once(), (0, 1))
+    for name, text in (("KIT-ID", "2"), ("WHAT", "more"), ("bin/rattle", PROVER + "# more\n"), ("bin/rattle", PROVER + "# less\n")):
+        one.put(one.kit / name, text)
+        expect(f"another toolchain: {name} is changed", one.once(), (0, 1))
+    one.put_with_time(one.kit / "bin/rattle", PROVER + "# longer\n")
+    expect("a longer prover of the same time", one.once(), (0, 1))
+    expect("the same again", one.once(), (0, 0))
 
 
 # Catches a kept verdict on a directory of which something counts that doesn't belong to it, or doesn't count that does: `..
@@ -270,8 +309,13 @@ def archive(new):
     build = lambda *words, **how: one.call("tools/archive", "above", *words, **how)[::2]
     text, changed = FILES["crates/above/src/lib.rt"], FILES["crates/above/src/lib.rt"].replace("text", "letters")
     expect("an archive", (build(), made()), ((0, 1), text))
-    (one.top / "crates/above/out/libabove.a").unlink()
+    words = one.notes.read_text().split()
+    expect("the words for the prover", [words[0], *(words[words.index(word) + 1] for word in (
+        "--crate-name", "--crate-type", "--jobs", "--toolchain", "--backend", "--incremental"))], [
+            "build", "above", "staticlib", "1", f"{one.kit}/toolchain", "llvm", f"{one.top}/crates/above/out/incremental"])
+    shutil.rmtree(one.top / "crates/above/out")
     expect("an archive again", (build(), made()), ((0, 0), text))
+    expect("what is no archive", one.call("tools/archive", "one")[::2], (2, 0))
     expect("an archive --anew", build("--anew"), (0, 1))
     one = new()
     expect("the source is changed meanwhile", (build(meanwhile=one.change("crates/above/src/lib.rt", "text", "letters")), made()),
@@ -373,6 +417,7 @@ DECIDING = (
     ("crates/small/src/other.rt", "result ≡ 2", "result ≡ 2 + 0"), ("crates/small/specs/Small.antt", "small = 1", "small = 2"),
     ("crates/small/proofs/Lemma.antt", "lemma", "theorem"), ("tools/mutants", "not proved|no proof", "no proof|not proved"),
     ("common/mutant_copy.py", "= 200_000,", "= 200_001,"), ("common/mutant_lists.py", "it isn't written", "it is not written"),
+    ("common/mutant_copy.py", '"loop {}"', '"loop { }"'), ("common/mutant_lists.py", "own.append(found.start()", "own.append(0 + found.start()"),
     ("common/prover.py", '"--jobs", "1"', '"--jobs", "2"'), ("common/rust_sources.py", '" " * 16', '" " * 17'),
     ("common/crates.py", '"staticlib" in kind', '"staticlib" in [*kind]'),
 )
@@ -381,8 +426,21 @@ WITHOUT_WEIGHT = (
     ("crates/small/src/other.rt", "    2\n", "    1 + 1\n"), ("tools/mutants", "import argparse", "# more\nimport argparse"),
     ("common/prover.py", '"""Runs the prover', '"""Calls the prover'),
     ("common/prover.py", '"""Returns the directory', '"""Finds the directory'),
-    ("crates/one/src/lib.rt", "One", "Eins"), ("read.txt", "right", "left"),
+    ("crates/one/src/lib.rt", "One", "Eins"), ("read.txt", "right", "left"), ("crates.txt", "one_examples: one", "one_examples: one std"),
 )
+
+
+def gate_of_small(one, *words, **how):
+    """How the mutants of `small` are tried: the status, the last line, the functions that the prover looked at, and the names of
+    the mutants and controls that are as they must be."""
+    status, said, _ = one.call("tools/mutants", "--gate", "--crate", "small", *words, **how)
+    tried = {line.split()[1].removesuffix("_mutant_2") for line in one.notes.read_text().splitlines()}
+    lines = re.findall(r"^(?:mutant|control) small/([\w-]+): (?:refused|taken), as it must be", said, re.M)
+    return status, said.splitlines()[-1], tried, sorted(lines)
+
+
+# What `gate_of_small` returns if nothing is kept.
+WHOLE = 1, "3 passed, 1 failed", {"twice", "same"}, ["one-wrong", "other-wrong", "the-same"]
 
 
 # Catches a verdict on a mutant that is kept without the crates below, without the toolchain or for another mutant; a mutant
@@ -391,14 +449,7 @@ WITHOUT_WEIGHT = (
 def mutants(new):
     one = new()
     one.put(one.kit / "bin/rattle", CHECK)
-
-    def gate(*words, **how):
-        status, said, _ = one.call("tools/mutants", "--gate", "--crate", "small", *words, **how)
-        tried = {line.split()[1].removesuffix("_mutant_2") for line in one.notes.read_text().splitlines()}
-        lines = re.findall(r"^(?:mutant|control) small/([\w-]+): (?:refused|taken), as it must be", said, re.M)
-        return status, said.splitlines()[-1], tried, sorted(lines)
-
-    whole, kept = (1, "3 passed, 1 failed", {"twice", "same"}, ["one-wrong", "other-wrong", "the-same"]), {"twice"}
+    gate, whole, kept = functools.partial(gate_of_small, one), WHOLE, {"twice"}
     expect("the first run", gate(), whole)
     expect("the run again: only the mutant that isn't refused", gate(), (*whole[:2], kept, whole[3]))
     expect("the run again: what it says", "small: 3 of 4 mutants were as they must be in earlier runs" in one.call(
@@ -466,6 +517,30 @@ def mutants(new):
         expect(f"{name} was saved meanwhile, and is as it was", gate()[2], whole[2])
 
 
+# Catches a kept verdict that holds for files of other names, or is lost or breaks the run by how a list is written: `.. has
+# another name`, `.. of a list`.
+def lists(new):
+    one = new()
+    one.put(one.kit / "bin/rattle", CHECK)
+    gate, kept = functools.partial(gate_of_small, one), (*WHOLE[:2], {"twice"}, WHOLE[3])
+    expect("the first run", gate(), WHOLE)
+    for name in ("low/src/deep/nested.rt", "low/specs/inside/Nested.antt", "low/proofs/Lemma.antt"):
+        path = one.top / "crates" / name
+        moved = path.rename(path.with_stem("Other"))
+        expect(f"{name} has another name", gate()[2], WHOLE[2])
+        moved.rename(path)
+        expect(f"{name} has its name again", gate(), kept)
+    path = one.top / "crates/small/must-fail/mutants.md"
+    text = path.read_text()
+    path.write_text(text + "\n## nothing\n\nNothing.\n")
+    expect("what is no mutant of a list", gate(), (1, "3 passed, 2 failed", *kept[2:]))
+    path.write_text(text)
+    controls = one.top / "crates/small/must-fail/controls.md"
+    controls.write_text(controls.read_text().replace("in: same\n", "in: same: returns\n"))
+    for tried in (WHOLE, kept):
+        expect("a control of a list that names a goal", gate(), tried)
+
+
 # Catches a verdict on a mutant that is kept though a proof changed on which it depends: that of a closure, of its function
 # that calls itself, or of another function whose goals its own proof cites: `.. of deep is changed`.
 def proofs(new):
@@ -503,7 +578,7 @@ def limits(new):
         expect(f"a mutant {name}", watched(words, seconds=8), wanted)
 
 
-CASES = (once, directories, archive, libraries, definitions, mutants, proofs, limits)
+CASES = (once, commands, machines, directories, archive, libraries, definitions, mutants, lists, proofs, limits)
 
 
 def main():
