@@ -1,6 +1,7 @@
 #!/usr/bin/env python3
 """Calls what keeps verdicts for later runs of ./test in a small repository, with a stub of the toolchain: tools/once, tools/archive,
 tools/definitions, tools/mutants and tests/libraries.py keep a verdict for the files that were judged, and for nothing else.
+The case `changes` tests what tools/definitions says of each change.
 
 tests/kept.py [CASE..], or --list for the names of the cases. Needs python3, proves nothing, and takes a minute. A stub can
 change a file of the repository while it works: its command is $MEANWHILE. tests/mutants.py calls tools/mutants with the
@@ -405,6 +406,88 @@ def definitions(new):
     expect("without --gate nothing is taken from an earlier run", one.call("tools/definitions")[0], 1)
 
 
+# Definitions, and examples of them.
+DEFINED = "-- One.\npub one : Nat\none = 1\n\n-- Another.\npub other : Nat\nother = 1\n"
+TESTED = """use Rattle.one.specs.One.{one, other}
+
+-- one
+pub also_one : one ≡ 1
+also_one = refl
+
+-- one
+pub one_is_one : one ≡ 1
+one_is_one = also_one
+
+-- other
+pub other_is_one : other ≡ 1
+other_is_one = refl
+
+pub abbrev short : one ≡ 1
+short = refl
+"""
+# Has the stub of the prover report an error so many lines before the last one of each of these files.
+AT = """at() {
+  for file in proofs/$1; do if [ -e "$file" ]; then echo "$file:$(($(wc -l <"$file") - $2)):1: error: it isn't so"; fi; done
+}
+"""
+REFUSED, NOT_READ = "at 'H{0}_*Examples.antt' 0; ", "BAD CHANGE: the prover can't read it"
+# Changes of definitions: the old and the new text, the example, and what is said of it. The prover reports errors of those with a
+# fifth part, in the copy of this number, or in the unchanged one, which is the next.
+CHANGES = {
+    "refused": ("one = 1", "one = 2", "one_is_one", "refused, as it must be: one_is_one", REFUSED),
+    "still-proved": ("one = 1", "one = 1 + 0", "one_is_one", "NOT REFUSED: the example is still proved", ""),
+    "by-another": ("one = 1", "one = 3", "one_is_one", "NOT REFUSED by one_is_one, but by also_one", "at 'H{0}_*Examples.antt' 3; "),
+    "unread": ("one = 1", "one = 4", "one_is_one", NOT_READ, REFUSED + "at 'H{0}_*specs_One.antt' 0; "),
+    "unread-above": ("one = 1", "one = 5", "one_is_one", NOT_READ, REFUSED
+                     + "echo 'proofs/H{0}_one_examples_proofs_Examples.antt:1:1: error: it is no text'; "),
+    "never-true": ("one = 1", "one = 6", "one_is_one", "NOT TRIED: one_is_one isn't proved of a copy of the definition as it is",
+                   REFUSED + "at 'H{1}_*Examples.antt' 0; "),
+    "of-another": ("other = 1", "other = 2", "one_is_one", "BAD CHANGE: one_is_one doesn't speak of what it changes"),
+    "of-no-example": ("one = 1", "one = 2", "nothing", "BAD CHANGE: one_examples has no example nothing"),
+    "of-an-abbreviation": ("one = 1", "one = 2", "short", "BAD CHANGE: one_examples has no example short"),
+    "of-no-text": ("one = 7", "one = 2", "one_is_one", "BAD CHANGE: an 'old:' text is in specs/One.antt 0 times, and not once: one = 7"),
+    "of-a-name": ("pub other : Nat", "pub another : Nat", "other_is_one", "BAD CHANGE: it changes which names the file has"),
+    "of-a-comment": ("-- One.", "-- Eins.", "one_is_one", "BAD CHANGE: it changes no definition"),
+}
+
+
+def listed(changes, file="specs/One.antt"):
+    """The part of a list that has these changes of a file."""
+    return "".join(f"## {name}\n\n```\nfile: {file}\nold: {old}\nnew: {new}\nrefused by: {example}\n```\n\n"
+                   for name, (old, new, example, *_) in changes.items())
+
+
+# Catches a change of a definition that counts as refused though its example is still proved, the prover can't read it, or
+# something else is refused: `what is said of ..`; and a check without an end that decides about each change in it: `.. in time`.
+def changes(new):
+    one, judged = new(), {name: row for name, row in CHANGES.items() if len(row) > 4}
+    one.put(one.top / "crates/one/specs/One.antt", DEFINED)
+    one.put(one.top / "crates/one_examples/proofs/Examples.antt", TESTED)
+    says = AT + "".join(row[4].format(2 * at, 2 * at + 1) for at, row in enumerate(judged.values()))
+
+    def tried(text, meanwhile):
+        one.put(one.top / "crates/one/must-fail/definitions.md", f"# Changes\n\n{text}")
+        status, said, calls = one.call("tools/definitions", "--gate", meanwhile=meanwhile)
+        return status, dict(re.findall(r"^definition one/([\w-]+): (.*)$", said, re.M)), said.splitlines()[-1], calls
+
+    more = listed({"of-no-file": CHANGES["refused"]}, "specs/None.antt") + "## of-no-form\n\nNothing.\n"
+    wanted = {name: row[3] for name, row in CHANGES.items()} | {
+        "of-no-file": "BAD CHANGE: there is no file specs/None.antt", "of-no-form": "BAD CHANGE: it isn't written as a change is"}
+    for _ in range(2):
+        status, said, last, calls = tried(listed(CHANGES) + more, says)
+        for name, text in wanted.items():
+            expect(f"what is said of the change {name}", said.get(name), text)
+        expect("the number of changes", (status, last, calls), (1, f"1 passed, {len(wanted) - 1} failed", 1))
+    two, text = {name: CHANGES["refused"] for name in ("first", "second")}, CHANGES["refused"][3]
+    refused = AT + REFUSED.format("*[02468]")
+    is_first, is_second = (f"[ -e proofs/H{number}_one_specs_One.antt ]" for number in (0, 2))
+    expect("two changes, one of which isn't tried in time", tried(listed(two), f"if {is_second}; then exit; fi; {refused}"), (1, {
+        "first": text, "second": "NOT TRIED: one_is_one has no verdict in 120 s of processor time"}, "1 passed, 1 failed", 3))
+    for calls in (3, 0):
+        expect("two changes that are only tried one by one in time", tried(listed(two), f"if {is_first} && {is_second}; then exit; fi; {refused}"), (
+            0, dict.fromkeys(two, text), "2 passed, 0 failed", calls))
+
+
 # Files on which what is kept of mutants of `twice` and `same` in `small` depends, and others; each with a text to change.
 DECIDING = (
     ("crates/low/src/lib.rt", "result ≡ 1", "result ≡ 1 + 0"), ("crates/low/src/lib.rt", "u64 {\n    1", "u64 {\n    2"),
@@ -578,7 +661,7 @@ def limits(new):
         expect(f"a mutant {name}", watched(words, seconds=8), wanted)
 
 
-CASES = (once, commands, machines, directories, archive, libraries, definitions, mutants, lists, proofs, limits)
+CASES = (once, commands, machines, directories, archive, libraries, definitions, changes, mutants, lists, proofs, limits)
 
 
 def main():
