@@ -18,24 +18,12 @@ import tempfile
 import time
 
 from common.checks import TOP, chosen, end, expect, of_thread, run, run_case
+from common.gate_scripts import gate_texts, scripts_in
 
 # How many tests each tool lists; one of the mutants' is a control.
 LISTED = {"mutants": 4, "definitions": 2}
-# The lines of ./test, without comments and without the files that tools/once copies for a script.
-TEXT = re.sub(r"^( *)#.*\n| : .*", "", (TOP / "test").read_text().replace("\\\n", ""), flags=re.M)
-TEXT = re.sub(r"^  once (\w+) .*$", r"  tests/\1.py", TEXT, flags=re.M)
-# Scripts that are real, or stubs of another kind; and a module that the scripts use.
-REAL = {"tools/once", "tools/progress", "tools/verdict", "tests/common.py"}
-
-
-def scripts_in(text):
-    """Returns the scripts that a part of ./test calls."""
-    words = re.findall(r"(?<![\w$/.])((?:\{[\w,]+\}|\w+)/(?:\{[\w,]+\}|\w+)(?:\.py)?)(?=[\s;)]|$)", text)
-    named = subprocess.run(["bash", "-c", f"echo {' '.join(words)}"], stdout=subprocess.PIPE, text=True, check=True).stdout.split()
-    return sorted({name for name in named if re.fullmatch(r"tests/\w+\.py|tools/\w+|(?:convert|map|bindings)/test", name)} - REAL)
-
-
-SCRIPTS, QUICK = scripts_in(TEXT), scripts_in(re.search(r"^quick\(\) \{\n(.*?)^\}$", TEXT, re.M | re.S)[1])
+QUICK, SCRIPTS = (scripts_in(text) for text in gate_texts())
+SCRIPTS = sorted({*SCRIPTS, *QUICK})
 # What a stub prints last, and its status, by its end.
 STUB = """#!/usr/bin/env bash
 name="NAME"
@@ -85,6 +73,7 @@ esac
 echo "20 passed, 0 failed"
 """
 ONCE = """#!/usr/bin/env bash
+echo "tools/once $*;" >>"$NOTES"
 if [ "$1" = --anew ]; then shift; fi
 words=()
 for word; do if [ "$word" = : ]; then break; fi; words+=("$word"); done
@@ -233,8 +222,34 @@ def environment(new):
     for words in (["--anwe"], ["--quick", "--anew"], ["--quick", "more"], ["--quic"], ["-q"], ["all"]):
         status, lines, noted = new().test(*words)
         expect(f"an unknown option {words}", (status, len(lines), noted), (2, 1, ""))
+    for missing in ("rt", "gcc", "python3"):
+        one = new()
+        (one.folder / "bare").mkdir()
+        for name in {"bash", "dirname", "rt", "gcc", "python3"} - {missing}:
+            (one.folder / "bare" / name).symlink_to(one.folder / "bin/rt" if name == "rt" else shutil.which(name))
+        status, lines, noted = one.test(PATH=f"{one.folder}/bare")
+        expect(f"without {missing}", (status, len(lines), missing in lines[0], noted), (127, 1, True, ""))
     status, lines, noted = new().test("--help")
     expect("the help", (status, "--anew" in "\n".join(lines), noted), (0, True, ""))
+
+
+# Catches a gate in which --anew leaves something out, or that tries all again without it: `.. is called with --anew`; and
+# libraries of earlier runs that count as those of this one: `what is left ..`.
+def anew(new):
+    for words in ([], ["--anew"]):
+        one, old = new(), ("crates/small/out/rlib/small.rlib", "out/build/small.rlib")
+        for name in old:
+            one.put(name, "of an earlier run\n")
+        status, _, noted = one.test(*words)
+        expect(f"the status of ./test {words}", status, 0)
+        expect(f"what is left of earlier runs {words}", [name for name in old if (one.top / name).exists()], [])
+        called = [line.partition(";")[0].split() for line in noted.splitlines()]
+        for tool in ("tools/mutants", "tools/definitions", "tools/archive", "tools/once"):
+            # What follows the first word of tools/once is a script's.
+            its = [more[:1] if tool == "tools/once" else more for name, *more in called if name == tool and "--sum" not in more]
+            expect(f"{tool} is called with --anew by ./test {words}", {"--anew" in more for more in its}, {bool(words)})
+        expect(f"tests/libraries.py leaves out what passed {words}", ["tests/libraries.py", "--kept"] in called, not words)
+        expect(f"what the archive is made of {words}", ["tools/archive", "yarib_c", "--sources", "1"] in [its[:4] for its in called], True)
 
 
 # Catches a .ci/run that doesn't do what its head says: `.ci/run ..`.
@@ -322,34 +337,44 @@ def lost_verdicts(new):
     bare.git("init", "--quiet")
     status, _, _ = bare.test()
     verdict = bare.verdict()
-    expect("the verdict without a commit", (status, verdict["verdict"], verdict["commit"], verdict["tree"] is not None, "test" in verdict["unknown"]),
-           (0, "passed", None, True, True))
+    expect("the verdict without a commit", (status, verdict["verdict"], verdict["commit"]), (0, "passed", None))
+    expect("what is judged without a commit", (verdict["tree"] is not None, "test" in verdict["unknown"]), (True, True))
     status, _, err = run([bare.top / "tools/verdict", "end", bare.folder], cwd=bare.top)
     expect("tools/verdict with a word too few", (status, "tools/verdict end NOTES MODE STATUS" in err), (1, True))
 
 
 # Catches a gate that is ended and leaves an older verdict, or its files: `.. of a run that was ended`.
 def ended(new):
-    one = new()
-    (one.top / "out").mkdir()
-    (one.top / "out/gate.json").write_text("an older one\n")
-    (one.folder / "notes").write_text("")
-    with subprocess.Popen([one.top / "test", "--quick"], cwd=one.top, stdout=subprocess.DEVNULL, stderr=subprocess.DEVNULL,
-                          env=one.environment("tests/rows.py=waits", TZ="Asia/Tokyo"), start_new_session=True) as call:
-        while not (one.folder / "notes.waits").exists() and call.poll() is None:
-            time.sleep(0.02)
-        expect("an older verdict during a run", (one.top / "out/gate.json").exists(), False)
-        time.sleep(1)
-        now = datetime.datetime.now(datetime.timezone.utc).replace(microsecond=0)
-        os.killpg(call.pid, signal.SIGTERM)
-    verdict = one.verdict()
-    began, at_end = (datetime.datetime.strptime(verdict[name], "%Y-%m-%dT%H:%M:%S%z") for name in ("began", "ended"))
-    expect("the times of a run that was ended", began < now <= at_end < now + datetime.timedelta(hours=1), True)
-    expect("the verdict of a run that was ended", (verdict["verdict"], verdict["status"] != 0), ("stopped", True))
-    expect("the files of a run that was ended", sorted(path.name for path in one.made.iterdir()), [])
+    def judge(one, number):
+        (one.top / "out").mkdir()
+        (one.top / "out/gate.json").write_text("an older one\n")
+        (one.folder / "notes").write_text("")
+        with subprocess.Popen([one.top / "test", "--quick"], cwd=one.top, stdout=subprocess.DEVNULL, stderr=subprocess.DEVNULL,
+                              env=one.environment("tests/rows.py=waits", TZ="Asia/Tokyo"), start_new_session=True,
+                              preexec_fn=heed_signals) as call:
+            while not (one.folder / "notes.waits").exists() and call.poll() is None:
+                time.sleep(0.02)
+            expect("an older verdict during a run", (one.top / "out/gate.json").exists(), False)
+            time.sleep(1)
+            now = datetime.datetime.now(datetime.timezone.utc).replace(microsecond=0)
+            os.killpg(call.pid, number)
+        verdict = one.verdict()
+        began, at_end = (datetime.datetime.strptime(verdict[name], "%Y-%m-%dT%H:%M:%S%z") for name in ("began", "ended"))
+        expect(f"the times of a run that was ended by {number.name}", began < now <= at_end < now + datetime.timedelta(hours=1), True)
+        expect(f"the verdict of a run that was ended by {number.name}", (verdict["verdict"], verdict["status"], call.returncode),
+               ("stopped", 128 + number, 128 + number))
+        expect(f"the files of a run that was ended by {number.name}", sorted(path.name for path in one.made.iterdir()), [])
+
+    each(new, (signal.SIGHUP, signal.SIGINT, signal.SIGTERM), judge)
 
 
-CASES = (failing_scripts, quick, counts, environment, continuous_integration, verdicts, lost_verdicts, ended)
+def heed_signals():
+    """Undoes that whoever started this script in the background had it ignore signals, which a shell can't."""
+    for number in (signal.SIGINT, signal.SIGHUP):
+        signal.signal(number, signal.SIG_DFL)
+
+
+CASES = (failing_scripts, quick, counts, environment, anew, continuous_integration, verdicts, lost_verdicts, ended)
 
 
 def main():
