@@ -1,7 +1,7 @@
 #!/usr/bin/env python3
 """Calls what keeps verdicts for later runs of ./test in a small repository, with a stub of the toolchain: tools/once, tools/archive,
-tools/definitions, tools/mutants and tests/libraries.py keep a verdict for the files that were judged, and for nothing else.
-The case `changes` tests what tools/definitions says of each change.
+tools/definitions, tools/mutants, tests/libraries.py and bindings/test keep a verdict for the files that were judged, and for
+nothing else. It also sees what tools/definitions says of each change, and bindings/test of mutants.
 
 tests/kept.py [CASE..], or --list for the names of the cases. Needs python3, proves nothing, and takes a minute. A stub can
 change a file of the repository while it works: its command is $MEANWHILE. tests/mutants.py calls tools/mutants with the
@@ -141,9 +141,9 @@ class Repository:
         self.top, self.kit, self.notes = self.room / "top", self.room / "kit", self.room / "notes"
         for folder in ("tools", "common"):
             shutil.copytree(TOP / folder, self.top / folder, ignore=shutil.ignore_patterns("__pycache__"))
-        for name in ("libraries.py", "common.py"):
-            (self.top / "tests").mkdir(exist_ok=True)
-            shutil.copy(TOP / "tests" / name, self.top / "tests")
+        for name in ("tests/libraries.py", "tests/common.py", "bindings/test", "bindings/common.py", "yarib", "VERSION"):
+            (self.top / name).parent.mkdir(exist_ok=True)
+            shutil.copy(TOP / name, self.top / name)
         for name, text in FILES.items():
             self.put(self.top / name, text)
         for name, text in (("bin/rt", RT), ("bin/rattle", PROVER), ("toolchain/bin/clang", ""), ("KIT-ID", "1"), ("WHAT", "")):
@@ -161,10 +161,10 @@ class Repository:
         self.put(path, text)
         os.utime(path, ns=(time, time))
 
-    def call(self, *words, meanwhile="", more="", path=(), rest=os.environ["PATH"]):
+    def call(self, *words, meanwhile="", more="", path=(), rest=os.environ["PATH"], **names):
         """The status of a call, its output, and how often the stubs were called."""
         self.notes.write_text("")
-        names = {"PATH": ":".join([*map(str, path), str(self.kit / "bin"), rest]), "KIT": str(self.kit),
+        names |= {"PATH": ":".join([*map(str, path), str(self.kit / "bin"), rest]), "KIT": str(self.kit),
                  "NOTES": str(self.notes), "MEANWHILE": meanwhile, "MORE": more, "XDG_CACHE_HOME": str(self.room / "cache")}
         status, out, err = run([self.top / words[0], *words[1:]], env=os.environ | names, cwd=self.top)
         return status, out + err, len(self.notes.read_text().splitlines())
@@ -264,8 +264,8 @@ def machines(new):
     for library in libraries:
         one.put(one.room / "gcc" / library, f"/lib/{library}\n")
         expect(f"a gcc that has {library} too", one.once(path=[one.room / "gcc"]), (0, 1))
-    (one.room / "bare").mkdir()
-    for name in ("sh", "python3", "dirname", "grep", "cat"):
+    one.put(one.room / "bare/python3", f'#!/bin/sh\nexec {sys.executable} "$@"\n')
+    for name in ("sh", "dirname", "grep", "cat"):
         (one.room / "bare" / name).symlink_to(shutil.which(name))
     for calls in (1, 0):
         expect("gcc isn't there", one.once(rest=str(one.room / "bare")), (0, calls))
@@ -650,6 +650,69 @@ def proofs(new):
     expect("the run after all changes", tried()[2], set())
 
 
+# A binding for Python and its tests, which note how often they run; and mutants of it.
+BINDING = {
+    "build": '#!/bin/sh\nmkdir -p "$1" && touch "$1/libyarib.so.0"\n',
+    "c/one.h": "/* One. */\n",
+    "go/go.mod": "module one\n",
+    "python/one.py": "def one():\n    return 1\n\n\ndef two():\n    return 2\n",
+    "archive": "an archive\n",
+    **{f"python/test_{name}.py": f"""import os, subprocess, unittest
+import one
+
+class Test(unittest.TestCase):
+    def test_{tested}(self):
+        with open(os.environ["NOTES"], "a") as notes:
+            notes.write("{tested}\\n")
+        subprocess.run(os.environ["MEANWHILE"], shell=True)
+        self.assertEqual(one.{tested}(), {number})
+""" for name, tested, number in (("calls", "one", 1), ("yarib", "two", 2))},
+}
+OF_ONE, OF_TWO = ("one.py", "return 1", "return 3", "test_calls.Test.test_one"), ("one.py", "return 2", "return 3", None)
+
+
+# Catches mutants of a binding that count as noticed though all tests pass or the text isn't there once, or that are kept for
+# other files than those that were judged: `mutants ..`, `.. of the binding is changed`.
+def bindings(new):
+    one = new()
+    for name, text in BINDING.items():
+        one.put(one.top / "bindings" / name, text)
+    # The model of the table reads it.
+    one.put(one.top / "crates/rt_rib/src/limits.rt", (TOP / "crates/rt_rib/src/limits.rt").read_text())
+
+    def tried(**how):
+        names = {"YARIB_ARCHIVE": str(one.top / "bindings/archive"), "YARIB_KEPT": "1", "RT_JOBS": "1"} | how
+        return one.call("bindings/test", "--apart", "python_mutants", **{name: text for name, text in names.items() if text})
+
+    def list_mutants(**mutants):
+        one.put(one.top / "bindings/mutants.py", f"C = GO = RUST = {{}}\nPYTHON = {mutants}\n")
+
+    list_mutants(first=OF_ONE, second=OF_TWO)
+    expect("mutants", tried()[::2], (0, 3))
+    status, said, calls = tried()
+    expect("mutants again", (status, "the mutants of python failed in an earlier run" in said, calls), (0, True, 0))
+    expect("mutants again, without YARIB_KEPT", tried(YARIB_KEPT="")[::2], (0, 3))
+    for name in ("bindings/archive", "bindings/c/one.h", "bindings/python/one.py", "bindings/python/test_yarib.py", "bindings/mutants.py",
+                 "bindings/build", "bindings/test", "common/table_model.py"):
+        one.put(one.top / name, (one.top / name).read_text() + ("/* More. */\n" if name.endswith(".h") else "# more\n"))
+        expect(f"{name} of the binding is changed", tried()[::2], (0, 3))
+    one.put(one.top / "bindings/python/__pycache__/one.pyc", "built\n")
+    expect("what is built of the binding", tried()[::2], (0, 0))
+    one.put(one.top / "bindings/python/one.py", BINDING["python/one.py"] + "# less\n")
+    expect("the binding is changed meanwhile", tried(meanwhile=f"echo '# more' >>'{one.top}/bindings/python/one.py'")[0], 0)
+    expect("the changed binding", tried()[::2], (0, 3))
+    one.put(one.top / "bindings/python/one.py", BINDING["python/one.py"] + "# less\n")
+    expect("the binding before the change", tried()[::2], (0, 3))
+    for first, status, calls, part in (
+            ((*OF_ONE[:2], "return 2 - 1", OF_ONE[3]), 1, 17, "WRONG a test of python fails: first: (1, False)"),
+            ((*OF_ONE[:3], "test_yarib.Test.test_two"), 0, 8, "first: all tests are run, since test_yarib.Test.test_two does not fail"),
+            (("one.py", "return", "return 3 +", OF_ONE[3]), 1, 3, "WRONG a test of python fails: first: (2, True)")):
+        list_mutants(first=first, second=OF_TWO)
+        found, said, called = tried()
+        expect(f"mutants, one of which is {first[1:]}", (found, part in said, called), (status, True, calls))
+    expect("mutants, one of which isn't as it must be, again", tried()[::2], (1, 3))
+
+
 # Catches a time limit that counts as a verdict, or a wait that doesn't: `.. that goes on`, `.. that waits`.
 def limits(new):
     wait = "import threading; lock = threading.Lock(); lock.acquire(); lock.acquire()"
@@ -661,7 +724,7 @@ def limits(new):
         expect(f"a mutant {name}", watched(words, seconds=8), wanted)
 
 
-CASES = (once, commands, machines, directories, archive, libraries, definitions, changes, mutants, lists, proofs, limits)
+CASES = (once, commands, machines, directories, archive, libraries, definitions, changes, mutants, lists, proofs, bindings, limits)
 
 
 def main():
