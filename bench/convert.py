@@ -5,21 +5,27 @@ Needs only python3. The inputs have the given number of prefixes with the length
 paths; each is read from a file in each round. With --peers there is a single input, a dump of 20 peers with the given
 number of routes each; for 1,000,000 it is a file of 2 GB. With --tables there are three inputs of eight peers with that
 number of routes each: for 1,000,000 files of up to 2 GB. Prints for each script the minimum wall-clock time and
-processor time (user and system), and the peak memory of its largest process; `taskset -c 0` measures one process.
+processor time (user and system), the peak memory of its largest process, and that of all its processes together, which
+is sampled (PSS: what several processes share counts once); `taskset -c 0` measures one process.
 """
 import argparse
+import contextlib
 import json
+import os
 import pathlib
 import random
 import subprocess
+import sys
 import tempfile
+import time
 
 from common import figures
 from common.inputs import real_prefixes, write_apart
 from common.table_model import dotted, row
-from common.timed import passed
 
 PEERS, OF_TABLES = 20, 8
+# seconds between two samples of memory
+EACH = 0.05
 PATHS = 100_000
 
 
@@ -150,10 +156,38 @@ EIGHT_PEERS = (
 )
 
 
+def processes(first):
+    """A process and all that it made."""
+    found = [first]
+    for process in found:
+        with contextlib.suppress(OSError):
+            found += pathlib.Path(f"/proc/{process}/task/{process}/children").read_text().split()
+    return found
+
+
+def memory_of(process):
+    """The bytes of a process, with its share of what it has in common with others."""
+    with contextlib.suppress(OSError):
+        for line in pathlib.Path(f"/proc/{process}/smaps_rollup").read_text().splitlines():
+            if line.startswith("Pss:"):
+                return int(line.split()[1]) * 1024
+    return 0
+
+
 def measure(words, path):
-    """Seconds of wall-clock and processor time, and peak bytes of a converter that reads that file."""
-    with open(path, "rb") as file:
-        return passed(words, stdin=file, stdout=subprocess.DEVNULL)
+    """Seconds of wall-clock and processor time of a script that reads that file, and peak bytes of its largest process and of all."""
+    start, together = time.perf_counter(), 0
+    with open(path, "rb") as file, tempfile.TemporaryFile() as said:
+        child = subprocess.Popen(words, stdin=file, stdout=subprocess.DEVNULL, stderr=said)
+        while not (ended := os.wait4(child.pid, os.WNOHANG))[0]:
+            together = max(together, sum(map(memory_of, processes(child.pid))))
+            time.sleep(EACH)
+        seconds, (_, status, usage) = time.perf_counter() - start, ended
+        child.returncode = os.waitstatus_to_exitcode(status)
+        if child.returncode:
+            said.seek(0)
+            sys.exit(f"{words}: status {child.returncode}: {said.read().decode()}")
+    return seconds, usage.ru_utime + usage.ru_stime, usage.ru_maxrss * 1024, together
 
 
 def main():
@@ -171,8 +205,8 @@ def main():
             script = figures.TOP / ("map" if name.endswith("map") else "convert") / name
             call = [script, *([folder] if name.endswith("feeds") else [])]
             rounds = [measure(call, path) for _ in range(words.rounds)]
-            seconds, processors, peak = map(min, zip(*rounds))
-        row = f"clock {seconds:6.1f} s | processors {processors:6.1f} s | memory {peak / 1e6:4.0f} MB"
+            seconds, processors, peak, together = map(min, zip(*rounds))
+        row = f"clock {seconds:6.1f} s | processors {processors:6.1f} s | memory {peak / 1e6:4.0f} MB | together {together / 1e6:4.0f} MB"
         print(f"{name:16} {about:14} | {row}", flush=True)
 
 
