@@ -3,7 +3,7 @@ cut (samples/make-bird)."""
 import re
 import typing
 
-from trial import SAMPLES, Failed, best_of, files_of, longest, run_here, state
+from trial import SAMPLES, Failed, best_of, expect, files_of, longest, run_here, state, text_of
 
 OTHERWISE = 3
 PEERS = range(21, 26)
@@ -62,6 +62,16 @@ def check_cuts(made):
             raise Failed(f"BIRD 3 cut behind {last[:cut][-60:]!r}: status {status}, and it says {said}")
 
 
+def check_banner(made):
+    """A listing of BIRD 3 is read by what it has: without the first line, which names the version, it gives the same."""
+    data = Lab("debian-sid-bird3", "aigp").path("all").read_bytes()
+    found = []
+    for name, text in (("whole", data), ("without banner", data.partition(b"\n")[2])):
+        status, said = run_here("bird-to-feeds", text, made / name)
+        found.append((status, said, text_of(files_of(made / name))))
+    expect("BIRD 3 without its banner", found[1], found[0])
+
+
 def check_protocols(made):
     """A file of --protocols that isn't one, or is of another BIRD, is refused."""
     lab = Lab("debian-13", "identifiers")
@@ -113,5 +123,6 @@ def check(made):
     for number, lab in enumerate(LABS):
         check_lab(folder / f"lab{number}", lab)
     check_cuts(folder)
+    check_banner(folder)
     check_protocols(folder)
     check_finders(folder)

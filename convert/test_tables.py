@@ -1,11 +1,12 @@
 """Tests of the converters from a table: what they accept in options and files, and outputs that can't be written."""
 import json
 import os
+import re
 import resource
 import subprocess
 
 from rows import row_text
-from trial import Failed, expect, printed, run, run_copy
+from trial import HERE, Failed, expect, printed, run, run_copy
 
 TABLE = printed([row_text("10.0.0.0/8", "192.0.2.1")])
 OWN = {"dst": "10.1.0.0/16", "gateway": "192.0.2.1", "dev": "uplink", "flags": []}
@@ -234,6 +235,18 @@ def check_replaced(made, first, others):
     expect(f"the kernel's routes after those of {first} are replaced", sorted(replaced, key=str), sorted(others + own, key=str))
 
 
+def check_pages():
+    """The pages' commands that install a table notice if it was truncated, or if a command before failed."""
+    pages = HERE / "README.md", HERE.parent / "README.md", *(HERE.parent / "docs").glob("*.md")
+    blocks = [block for page in pages
+              for block in re.findall(r"(?ms)^```sh\n(.*?)^```", page.read_text()) if re.search(r"\| *\S*table-to-(?:ip|bird|frr)", block)]
+    for block in blocks:
+        if not block.startswith("set -o pipefail\n") or " --total " not in block or "&& ip -batch" not in block:
+            raise Failed(f"these commands of a page don't notice a truncated table: {block}")
+    if len(blocks) < 2:
+        raise Failed(f"{len(blocks)} of the pages' commands install a table")
+
+
 def check(made):
     check_replace_file(made)
     check_interfaces()
@@ -241,4 +254,5 @@ def check(made):
     check_json_hops()
     check_short_write(made)
     check_total()
+    check_pages()
     check_kernel(made)
