@@ -59,6 +59,14 @@ def check_beside_bgpdump(made):
                (*other, text_of(files_of(made / f"text{number}"))))
 
 
+def check_dump_behind(made):
+    """A table dump that comes after updates announces routes again, as in what bgpdump makes of it."""
+    updates, dump = FILES[1], DUMP
+    status, said = run_here("mrt-to-feeds", read(f"{updates}.mrt") + without_identifiers(read(f"{dump}.mrt")), made / "behind")
+    other = run_here("bgpdump-to-feeds", read(f"{updates}.txt") + read(f"{dump}.txt"), made / "behind-text")
+    expect("a dump after updates", (status, said, text_of(files_of(made / "behind"))), (*other, text_of(files_of(made / "behind-text"))))
+
+
 def check_compressed(made):
     """Files compressed by gzip or bzip2, also in several parts, give the same."""
     data = read(f"{DUMP}.mrt")
@@ -115,5 +123,5 @@ def check(made):
     folder = made / "mrt-files"
     folder.mkdir()
     check_paths()
-    for each in (check_beside_bgpdump, check_compressed, check_cut, check_other):
+    for each in (check_beside_bgpdump, check_dump_behind, check_compressed, check_cut, check_other):
         each(folder)
