@@ -26,49 +26,59 @@ NO_HOP = "255.255.255.255"
 
 
 class Merits:
-    """The number of its route's merit, or 0, for each line of a peer's feed. Numbers that another process gave stay as they are:
-    only if updates follow the dump, it has to be known what they stand for."""
+    """The key of each line's merit (`Peer.merit_key`) in a feed of dumped routes, in little memory."""
 
     def __init__(self):
-        # the last ones, and before these parts of other processes, each with the numbers that theirs stand for
-        self.last, self.parts = array.array("I"), []
+        # Most keys are numbers of a byte. Of other lines there are the different keys, and the number of one for each line.
+        self.parts = []
 
-    def kept(self, greatest):
-        """The numbers for `join`, none of which is greater than that, in little memory: most pieces have few different ones."""
-        size = next(size for size in "BHI" if greatest < 256 ** array.array(size).itemsize)
-        return size, array.array(size, self.last).tobytes()
+    def extend(self, keys):
+        """Adds the keys of further lines."""
+        try:
+            part = bytes(keys)
+        except (ValueError, TypeError):
+            different = {key: number for number, key in enumerate(dict.fromkeys(keys))}
+            size = next(size for size in "BHI" if len(different) <= 256 ** array.array(size).itemsize)
+            part = [*different], size, array.array(size, map(different.get, keys)).tobytes()
+        self.join([part])
 
-    def join(self, kept, own):
-        """Adds numbers of another process; `own` has this process's number for each of them."""
-        if self.last:
-            self.parts.append((self.last[:], None))
-            # it stays the same object
-            del self.last[:]
-        self.parts.append((array.array(*kept), own))
-
-    def __bool__(self):
-        return bool(self.last or self.parts)
+    def join(self, parts):
+        """Adds the parts of further lines."""
+        for part in parts:
+            if type(part) is tuple:
+                self.parts.append(part)
+            elif self.parts and type(self.parts[-1]) is bytearray:
+                self.parts[-1] += part
+            else:
+                self.parts.append(bytearray(part))
 
     def __iter__(self):
-        for numbers, own in (*self.parts, (self.last, None)):
-            yield from numbers if own is None else map(own.__getitem__, numbers)
+        for part in self.parts:
+            if type(part) is tuple:
+                keys, size, numbers = part
+                yield from map(keys.__getitem__, array.array(size, numbers))
+            else:
+                yield from part
 
 
 class Peer:
     """A peer, and the lines of its feed. Its BGP identifier is 0 if the input doesn't show it."""
 
-    def __init__(self, address, system, number, lines, internal, identifier=0):
+    def __init__(self, address, system, number, parts, internal, identifier=0):
         feeds.is_address(address)
         parsed = ipaddress.ip_address(address)
         # no two peers have the same
         self.place = ((parsed.version << 128 | int(parsed)) << 64 | int(system)) << 32 | number
         self.internal, self.identifier = internal, identifier
         self.order = self.order_of(identifier, 0)
-        self.add_line = lines.append
-        # the numbers of merits, by `merit_key`
-        self.numbers = {}
-        self.merits = Merits()
-        self.add_merit = self.merits.last.append
+        # a line has two of them
+        self.add_part = parts.append
+        # of the lines of dumped routes, the keys of their merits: the last ones, and those before
+        self.keys, self.merits = [], Merits()
+        self.add_key = self.keys.append
+        # if there are updates, for each line the number of its route's merit, or 0, and these numbers by key
+        self.lines, self.numbers = array.array("I"), {}
+        self.add_merit = self.lines.append
         self.routes = {}
         self.paths = {}
         self.announced = False
@@ -77,8 +87,17 @@ class Peer:
         self.stamp, self.time = "", 0
 
     def merit_key(self, merit, order):
-        """The key of a merit's number; nearly all routes of a peer have its order."""
+        """The key of a merit; nearly all routes of a peer have its order."""
         return merit if order is self.order else (merit, order)
+
+    def settle(self):
+        """Keeps the last keys in little memory."""
+        if self.keys:
+            self.merits.extend(self.keys)
+            self.keys.clear()
+
+    def has_lines(self):
+        return bool(self.keys or self.merits.parts or self.lines)
 
     def order_of(self, identifier, clusters):
         """What is compared after MED, as one number: kind of session, identifier, CLUSTER_LIST, address and AS."""
@@ -100,6 +119,10 @@ def number_of(text):
 def merit_of(local_pref, length, origin):
     """The values compared before MED, as one number; collectors write 0 if no local preference is set."""
     return choice.before_med(local_pref or choice.LOCAL_PREF, length, origin)
+
+
+def twice(text):
+    return feeds.Refused(f"{text} occurs twice: the input has more than one table dump")
 
 
 class Converter:
@@ -124,7 +147,7 @@ class Converter:
         """The peer of that address and AS."""
         if key not in self.peers:
             internal = key[1] == str(self.arguments.local_as)
-            self.peers[key] = Peer(*key, len(self.peers), self.files.lines(key), internal, identifier)
+            self.peers[key] = Peer(*key, len(self.peers), self.files.parts(key), internal, identifier)
         return self.peers[key]
 
     def hop(self, prefix, text):
@@ -165,16 +188,26 @@ class Converter:
 
     def begin_group(self, text):
         """Begins the routes to that prefix. Two texts that differ only past the prefix's length are the same prefix."""
-        self.text, prefix = text, feeds.prefix_of(text, True)
-        if prefix is not None and prefix == self.prefix:
-            return
+        prefix = feeds.prefix_of(text, True)
+        if prefix is None or prefix != self.prefix:
+            self.begin_prefix(prefix, text)
+        self.text = text
+
+    def begin_prefix(self, prefix, text):
+        """Begins the routes to another prefix, which is None if it isn't one of IPv4."""
         if self.group:
             self.end_group()
-        if prefix is not None:
-            if prefix in self.met:
-                raise feeds.Refused(f"{text} occurs twice: the input has more than one table dump")
-            self.met.add(prefix)
+        if prefix is not None and not self.met.add(prefix):
+            raise twice(text)
         self.prefix = prefix
+
+    def begin_at(self, place, text):
+        """The same for a prefix whose place is known."""
+        if self.group:
+            self.end_group()
+        if not self.met.add_at(*place):
+            raise twice(text)
+        self.text = self.prefix = text
 
     def begins(self, text):
         """Begins the routes to a prefix, if they weren't begun; returns False if it isn't one of IPv4."""
@@ -192,10 +225,24 @@ class Converter:
             routes = best
         begin, by_rank = f"add {self.prefix} ", self.by_rank
         for end_of, (merit, order, _, _, _, peer, hop) in zip(feeds.ends(len(routes)), routes):
-            peer.add_line(begin + end_of[hop] if by_rank else f"{begin}{self.preference_of(merit)} {hop}\n")
+            peer.add_part(begin)
+            peer.add_part(end_of[hop] if by_rank else f"{self.preference_of(merit)} {hop}\n")
             # as `merit_key` does, which would take as long as all of this
-            key = merit if order is peer.order else (merit, order)
-            peer.add_merit(peer.numbers.get(key) or self.merit_number(merit, order, peer))
+            peer.add_key(merit if order is peer.order else (merit, order))
+
+    def number_lines(self):
+        """Numbers the merits of the lines of dumped routes, from the first update on."""
+        for peer in self.peers.values():
+            peer.settle()
+            keys = (key if type(key) is tuple else (key, peer.order) for key in peer.merits)
+            peer.lines.extend(peer.numbers.get(peer.merit_key(*key)) or self.merit_number(*key, peer) for key in keys)
+            peer.merits = Merits()
+
+    def after_block(self):
+        """Keeps and writes what waits, if that is much."""
+        for peer in self.peers.values():
+            peer.settle()
+        self.files.flush_many()
 
     def end_piece(self):
         """Ends a part of the dump, after which another prefix comes."""
@@ -210,21 +257,20 @@ class Converter:
         """What was read, for `join`."""
         if self.updates:
             raise feeds.Refused("there are updates")
-        # all routes of a peer have its order
-        peers = [(key, peer.announced, [(number, merit) for merit, number in peer.numbers.items()], peer.merits.kept(len(self.merits)))
-                 for key, peer in self.peers.items()]
-        return feeds.prefixes_of(self.met).kept(), peers, self.files.gathered(), self.notes.counted()
+        for peer in self.peers.values():
+            peer.settle()
+        peers = [(key, peer.announced, peer.merits.parts) for key, peer in self.peers.items()]
+        return self.met.kept(), peers, self.files.gathered(), self.notes.counted()
 
     def join(self, gathered):
         """Adds what was read of a later part of the dump; returns False if a prefix occurs twice."""
         prefixes, peers, texts, counted = gathered
         if not self.met.join(prefixes):
             return False
-        for key, announced, numbers, merits in peers:
+        for key, announced, merits in peers:
             peer = self.peers.get(key) or self.peer(key)
             peer.announced = peer.announced or announced
-            own = {number: peer.numbers.get(merit) or self.merit_number(merit, peer.order, peer) for number, merit in numbers}
-            peer.merits.join(merits, own)
+            peer.merits.join(merits)
         self.files.join(texts)
         self.notes.join(counted)
         return True
@@ -233,14 +279,15 @@ class Converter:
         """From the first update on it has to be known which routes a peer has."""
         self.end_group()
         self.files.flush()
-        self.updates, self.met = True, set()
+        self.updates, self.met = True, None
+        self.number_lines()
         for key, peer in self.peers.items():
-            if peer.merits:
+            if peer.lines:
                 self.files.rewrite(key, self.keep_dumped(key, peer))
 
     def keep_dumped(self, key, peer):
         """The lines of a peer's dumped routes with the preference 0, while what the peer has is kept."""
-        for line, merit in zip(self.files.written(key), peer.merits):
+        for line, merit in zip(self.files.written(key), peer.lines):
             _, prefix, _, hop = line.split()
             self.keep(peer, prefix, (merit, hop))
             yield f"add {prefix}{UNSET}{hop}\n"
@@ -318,7 +365,8 @@ class Converter:
         peer.routes[self.same.setdefault(prefix, prefix)] = self.same.setdefault(now, now)
 
     def write(self, peer, line, merit):
-        peer.add_line(line)
+        peer.add_part(line)
+        peer.add_part("")
         peer.add_merit(merit)
 
     def finish(self):
@@ -348,35 +396,36 @@ class Converter:
         # a line without a route has no preference
         places[0] = UNSET
         for key, peer in self.peers.items():
-            if peer.merits:
-                preferences = map(places.__getitem__, peer.merits)
+            if peer.lines:
+                preferences = map(places.__getitem__, peer.lines)
                 self.files.rewrite(key, map(str.replace, self.files.written(key), itertools.repeat(UNSET), preferences))
 
     def names(self):
         """A peer's name is its address, with its AS if several peers have the address."""
-        counts = collections.Counter(address for (address, _), peer in self.peers.items() if peer.merits)
+        counts = collections.Counter(address for (address, _), peer in self.peers.items() if peer.has_lines())
         several = {address for address, count in counts.items() if count > 1}
         return [f"{address}_AS{system}" if address in several else address for address, system in self.files.waiting]
 
 
 def convert(arguments, given, take, is_in_pieces=False):
-    """Converts what `take(given, converter)` reads. If it can be read in pieces, other processes convert some of these."""
+    """Converts what `take(given, converter)` reads. If it can be read in pieces, it takes blocks, and other processes convert some
+    of the pieces."""
     notes = feeds.Notes()
     with feeds.FeedFiles(arguments) as files:
-        converter = Converter(arguments, notes, files, feeds.prefix_set())
-        given.after_block = files.flush_many
+        converter = Converter(arguments, notes, files, feeds.Prefixes())
+        given.after_block = converter.after_block
         if is_in_pieces:
             work = functools.partial(of_piece, arguments, given.read, take)
             feeds.read_ahead(given, converter.state, work, converter.join, files)
         with given.named():
-            take(given, converter)
+            take(given.by_block() if is_in_pieces else given, converter)
         return converter.finish()
 
 
 def of_piece(arguments, read, take, data, _state):
     """What is in a piece of a dump."""
-    converter = Converter(arguments, feeds.Notes(), feeds.Gathered(arguments), set())
-    take([*read(feeds.text_of(data)), feeds.BOUNDARY], converter)
+    converter, text = Converter(arguments, feeds.Notes(), feeds.Gathered(arguments), feeds.Prefixes()), feeds.text_of(data)
+    take([feeds.Block(text, read(text), ends=True)], converter)
     return converter.gathered()
 
 

@@ -13,7 +13,6 @@ import re
 import shlex
 import signal
 import stat
-import struct
 import sys
 import typing
 from socket import AF_INET, inet_pton
@@ -78,9 +77,22 @@ ENDS = f"""exit status:
 # the signals that end a converter
 ENDING = (signal.SIGTERM, signal.SIGHUP, signal.SIGINT)
 # the number of an address's four bytes
-NUMBER = struct.Struct(">I").unpack
+number_of = int.from_bytes
 # the bits past a prefix of that length
 HOST_BITS = {str(length): (1 << 32 - length) - 1 for length in range(33)}
+
+
+def level_of(length):
+    """For prefixes of that length: their level, how many bits of an address are behind those of the level's key and behind the
+    prefix, the first of their places in a tree of the level, and the masks of the bits in the tree and past the prefix."""
+    level = (length - 1) // 8 if length else 0
+    own = length - 8 * level
+    return level << 32, 32 - 8 * level, 32 - length, 1 << own, (1 << own) - 1, (1 << 32 - length) - 1
+
+
+LEVELS = {str(length): level_of(length) for length in range(33)}
+# the bits of the places in a tree of eight levels
+BITS = [1 << place for place in range(512)]
 
 
 def say(*lines):
@@ -203,7 +215,7 @@ class Progress:
             if self.input.size:
                 parts.append(f"{100 * self.input.done // self.input.size} % of the input")
         if self.files:
-            taken = self.files.taken + sum(map(len, self.files.waiting.values()))
+            taken = self.files.taken + sum(map(len, self.files.waiting.values())) // 2
             parts.append(f"{len(self.files.waiting)} sources, {taken:,} routes")
         os.write(2, (ERASED + ", ".join(parts)).encode())
 
@@ -298,13 +310,26 @@ def refuse_other_forms(data):
             raise Refused(f"the input begins with a byte order mark ({encoding}): write it as UTF-8 without one")
 
 
+class Block:
+    """Whole entries: their text, the entries as the converter takes them, and an iterator over those that are not in use yet; `ends`
+    is True if a boundary follows."""
+
+    def __init__(self, text, entries, ends=False):
+        self.text, self.entries, self.ends = text, entries, ends
+        self.rest = iter(entries)
+
+    @functools.cached_property
+    def lines(self):
+        return self.text.split("\n")
+
+
 class Lines(Input):
     """The entries of standard input, which here are its lines."""
 
     def __init__(self, most):
         super().__init__(most)
-        # of the last block: its text, the entries, and an iterator over those that are not in use yet
-        self.text, self.entries, self.rest = "", [], iter(())
+        # the last block
+        self.block = Block("", [])
 
     def last_end(self, data, begin):
         """The end of the last whole entry, which is not before `begin`; -1 if there is none."""
@@ -360,16 +385,20 @@ class Lines(Input):
             number = self.lines + len(earlier) + 1
             raise Refused(f"line {number} has no line end (LF), so the input is truncated: {decoded(last[:100])!r}")
 
-    def __iter__(self):
+    def by_block(self):
+        """The entries in blocks."""
         for text, ends in self.texts():
             self.before = self.lines
             self.lines += text.count("\n") + 1
-            self.text, self.entries = text, self.read(text)
-            self.rest = iter(self.entries)
-            yield from self.rest
-            if ends:
-                yield BOUNDARY
+            self.block = Block(text, self.read(text), ends)
+            yield self.block
             self.after_block()
+
+    def __iter__(self):
+        for block in self.by_block():
+            yield from block.rest
+            if block.ends:
+                yield BOUNDARY
 
     @contextlib.contextmanager
     def named(self):
@@ -378,8 +407,8 @@ class Lines(Input):
         try:
             yield
         except (ValueError, LookupError) as error:
-            behind = getattr(error, "behind", 0)
-            *earlier, entry = self.split(self.text)[: len(self.entries) - operator.length_hint(self.rest)]
+            behind, block = getattr(error, "behind", 0), self.block
+            *earlier, entry = self.split(block.text)[: len(block.entries) - operator.length_hint(block.rest)]
             number = self.before + 1 + behind + sum(entry.count("\n") + 1 for entry in earlier)
             line = entry.split("\n")[behind]
             what = f": {error}" if isinstance(error, Wrong) else f" is not understood: {line[:100]!r}"
@@ -585,7 +614,7 @@ def member(record, name, kind, absent=None):
 def address_number(text):
     """The number of an IPv4 address; OSError or ValueError for any other text. An address has a single text, without
     leading zeros."""
-    return NUMBER(inet_pton(AF_INET, text))[0]
+    return number_of(inet_pton(AF_INET, text), "big")
 
 
 @functools.lru_cache(MOST_KNOWN)
@@ -603,7 +632,7 @@ def prefix_of(text, trailing_bits=False):
     them."""
     address, _, length = text.partition("/")
     try:
-        number, past = NUMBER(inet_pton(AF_INET, address))[0], HOST_BITS[length]
+        number, past = number_of(inet_pton(AF_INET, address), "big"), HOST_BITS[length]
     except (OSError, ValueError, KeyError):
         if is_ipv6(text, ipaddress.IPv6Interface if trailing_bits else ipaddress.IPv6Network):
             return None
@@ -777,7 +806,8 @@ def add_lines(files, prefix, offers, by_rank, notes):
     if by_rank and type(offers) is SameOffers and offers.ends and not files.looked_up:
         begin, waiting = f"add {prefix} ", files.waiting
         for source, end in offers.ends:
-            (waiting.get(source) or files.lines(source)).append(begin + end)
+            parts = waiting.get(source) or files.parts(source)
+            parts += begin, end
         return
     if files.has_all_hops:
         offers = list(of_used_routes(offers))
@@ -792,10 +822,10 @@ def add_lines(files, prefix, offers, by_rank, notes):
                 files.found[source, sought] = found
         if over_interface:
             files.over[over_interface] = files.over.get(over_interface, 0) + 1
-        lines = files.waiting.get(source) or files.lines(source)
+        parts = files.waiting.get(source) or files.parts(source)
         if sought or source in files.looked_up:
             files.mark(source, sought is not None)
-        lines.append(begin + end_of[hop] if by_rank else f"{begin}{preference_of(prefix, offer)} {hop}\n")
+        parts += begin, end_of[hop] if by_rank else f"{preference_of(prefix, offer)} {hop}\n"
 
 
 def file_names(sources):
@@ -812,7 +842,8 @@ def file_names(sources):
 
 
 class Gathered:
-    """The lines of the sources' feeds. A source's lines are appended to its list in `waiting`."""
+    """The lines of the sources' feeds. Two parts of each line are appended to its source's list in `waiting`: many lines have the
+    same parts."""
 
     def __init__(self, arguments):
         self.has_all_hops = getattr(arguments, "all_hops", False)
@@ -826,7 +857,7 @@ class Gathered:
         # by option and interface, the number of routes whose interface the feeds don't show
         self.over = {}
 
-    def lines(self, source):
+    def parts(self, source):
         return self.waiting.setdefault(source, [])
 
     def mark(self, source, is_looked_up):
@@ -839,11 +870,11 @@ class Gathered:
     def count_of(self, source):
         """The number of a source's lines so far."""
         number = list(self.waiting).index(source)
-        return (self.counts[number] if number < len(self.counts) else 0) + len(self.waiting[source])
+        return (self.counts[number] if number < len(self.counts) else 0) + len(self.waiting[source]) // 2
 
     def gathered(self):
         """What was gathered, for `join`."""
-        texts = [(source, len(lines), "".join(lines)) for source, lines in self.waiting.items()]
+        texts = [(source, len(parts) // 2, "".join(parts)) for source, parts in self.waiting.items()]
         over = [(option.name, interface, number) for (option, interface), number in self.over.items()]
         return texts, self.sought, {source: bytes(marks) for source, marks in self.looked_up.items()}, self.found, over
 
@@ -874,18 +905,18 @@ class FeedFiles(Gathered):
 
     def flush_many(self):
         """Writes what waits, if that is much."""
-        if sum(map(len, self.waiting.values())) > MOST_WAITING or sum(map(len, self.texts.values())) > MOST_TEXTS:
+        if sum(map(len, self.waiting.values())) > 2 * MOST_WAITING or sum(map(len, self.texts.values())) > MOST_TEXTS:
             self.flush()
 
     def settle(self):
         """Makes texts of the lines that wait."""
         self.counts += [0] * (len(self.waiting) - len(self.counts))
-        for number, (source, lines) in enumerate(self.waiting.items()):
-            if lines:
-                self.texts.setdefault(source, []).append("".join(lines))
-                self.taken += len(lines)
-                self.counts[number] += len(lines)
-                lines.clear()
+        for number, (source, parts) in enumerate(self.waiting.items()):
+            if parts:
+                self.texts.setdefault(source, []).append("".join(parts))
+                self.taken += len(parts) // 2
+                self.counts[number] += len(parts) // 2
+                parts.clear()
 
     def flush(self):
         """Writes what waits."""
@@ -901,7 +932,7 @@ class FeedFiles(Gathered):
         texts, sought, looked_up, found, over = gathered
         self.settle()
         for source, number, _ in texts:
-            self.lines(source)
+            self.parts(source)
             if marks := looked_up.get(source):
                 self.looked_up.setdefault(source, bytearray(self.count_of(source))).extend(marks)
             elif source in self.looked_up:
@@ -1019,66 +1050,61 @@ def end_by_signals():
             signal.signal(number, end)
 
 
+def place_of(text):
+    """The place of an IPv4 prefix in `Prefixes`: a key, and a bit of the key's number. None for any other text."""
+    address, _, length = text.partition("/")
+    try:
+        number = number_of(inet_pton(AF_INET, address), "big")
+        level, behind_key, behind, first, mask, past = LEVELS[length]
+    except (OSError, ValueError, KeyError):
+        return None
+    return None if number & past else (level | number >> behind_key, BITS[first | number >> behind & mask])
+
+
 class Prefixes:
     """The prefixes of a table, in little memory: those that share the bits before their last eight are one number, with a bit
     for each. Prefixes that aren't IPv4 are kept as they are."""
 
     def __init__(self):
-        self.bits, self.others, self.number = {}, set(), 0
-
-    @staticmethod
-    def place(prefix):
-        """The key of a prefix and its bit, which is its place in a tree of eight levels."""
-        address, _, length = prefix.partition("/")
-        number, length = NUMBER(inet_pton(AF_INET, address))[0], int(length)
-        level = (length - 1) // 8 if length else 0
-        own = length - 8 * level
-        return level << 32 | number >> 32 - 8 * level, 1 << (1 << own | number >> 32 - length & (1 << own) - 1)
+        self.bits, self.others = {}, set()
 
     def __contains__(self, prefix):
-        if ":" in prefix:
+        if (place := place_of(prefix)) is None:
             return prefix in self.others
-        key, bit = self.place(prefix)
+        key, bit = place
         return self.bits.get(key, 0) & bit != 0
 
     def __len__(self):
-        return self.number
+        return sum(map(int.bit_count, self.bits.values())) + len(self.others)
 
     def add(self, prefix):
-        self.number += 1
-        if ":" in prefix:
-            self.others.add(prefix)
-        else:
-            key, bit = self.place(prefix)
-            self.bits[key] = self.bits.get(key, 0) | bit
+        """Adds a prefix; returns False if it is there already."""
+        if (place := place_of(prefix)) is not None:
+            return self.add_at(*place)
+        is_new = prefix not in self.others
+        self.others.add(prefix)
+        return is_new
+
+    def add_at(self, key, bit):
+        """The same for a prefix at that place."""
+        before = self.bits.get(key, 0)
+        self.bits[key] = before | bit
+        return before & bit == 0
 
     def kept(self):
         """The prefixes, for `join`."""
-        return self.bits, self.others, self.number
+        return self.bits, self.others
 
     def join(self, kept):
         """Adds these prefixes; returns False if one of them is there already, and then adds none."""
-        bits, others, number = kept
+        bits, others = kept
         # hardly any, since tables are in order
         common = self.bits.keys() & bits.keys()
         if not self.others.isdisjoint(others) or any(self.bits[key] & bits[key] for key in common):
             return False
         self.bits |= bits | {key: self.bits[key] | bits[key] for key in common}
         self.others |= others
-        self.number += number
         return True
-
-
-def prefix_set():
-    """An empty set of prefixes; if there are several processes, one that theirs can be joined to."""
-    return Prefixes() if several_processes() else set()
-
-
-def prefixes_of(texts):
-    made = Prefixes()
-    for text in texts:
-        made.add(text)
-    return made
 
 
 def several_processes():
@@ -1111,16 +1137,15 @@ class Parts:
 
     def work(self, data, state):
         """The result of a piece."""
-        notes, files, met = Notes(), Gathered(self.arguments), set()
+        notes, files, met = Notes(), Gathered(self.arguments), Prefixes()
         reader = self.reader.of_piece(state, notes)
         for prefix, offers in reader.read_piece(data):
-            if prefix in met:
+            if not met.add(prefix):
                 raise Refused(f"{prefix} occurs twice")
-            met.add(prefix)
             add_lines(files, prefix, offers, self.arguments.by == "rank", notes)
         if reader.state() != state:
             raise Refused("the state after the piece is another")
-        return prefixes_of(met).kept(), files.gathered(), notes.counted(), reader.counted()
+        return met.kept(), files.gathered(), notes.counted(), reader.counted()
 
     def join(self, files, met, notes, result):
         """Adds the result of a piece; returns False if a prefix occurs twice."""
@@ -1136,7 +1161,7 @@ class Parts:
 def convert_table(arguments, given, read, reader=None):
     """Converts the table that `read(given, arguments, notes)` yields: each prefix with its offers, best first. Of a table that
     can be read in pieces, `reader` is the reader."""
-    notes, met = Notes(), prefix_set() if reader else set()
+    notes, met = Notes(), Prefixes()
     with FeedFiles(arguments) as files:
         given.after_block = files.flush_many
         if reader:
@@ -1144,9 +1169,8 @@ def convert_table(arguments, given, read, reader=None):
             read_ahead(given, reader.state, parts.work, functools.partial(parts.join, files, met, notes), files)
         with given.named():
             for prefix, offers in read(given, arguments, notes):
-                if prefix in met:
+                if not met.add(prefix):
                     raise Refused(f"{prefix} occurs twice: the input has more than one table, or isn't in order")
-                met.add(prefix)
                 add_lines(files, prefix, offers, arguments.by == "rank", notes)
         tell_of_finders(files, met, notes)
         for option in (arguments.connected, arguments.ipv6_hop):

@@ -234,8 +234,9 @@ def check_prefixes(_):
     for _ in range(100):
         joined, expected = feeds.Prefixes(), set()
         for _ in range(8):
-            part = set(draw.sample(every, draw.randrange(1, 12)))
-            expect("prefixes are joined", joined.join(feeds.prefixes_of(part).kept()), expected.isdisjoint(part))
+            part, other = set(draw.sample(every, draw.randrange(1, 12))), feeds.Prefixes()
+            expect("prefixes are added", [other.add(prefix) for prefix in (*part, *part)], [True] * len(part) + [False] * len(part))
+            expect("prefixes are joined", joined.join(other.kept()), expected.isdisjoint(part))
             expected |= part if expected.isdisjoint(part) else set()
         expect("the joined prefixes", {prefix for prefix in every if prefix in joined}, expected)
         expect("the number of joined prefixes", len(joined), len(expected))

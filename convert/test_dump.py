@@ -1,0 +1,124 @@
+"""Tests of table dumps: lines that are taken together, as most are, give what lines do that are each read by themselves."""
+import random
+
+import collected
+from test_pieces import constants
+from trial import expect, files_of, run_here, text_of
+
+# an AS that no path has; with --local-as each line is read by itself
+ABSENT = "--local-as 4199999999"
+PEERS = (("192.0.2.1", "65001"), ("192.0.2.2", "65002"), ("192.0.2.2", "65003"), ("192.0.2.10", "65001"), ("192.0.2.9", "4200000001"),
+         ("2001:db8::1", "65001"))
+LINE = "{kind}|{time}|B|{peer}|{prefix}|{path}|{origin}|{hop}|{local_pref}|{med}|65001:1|NAG||\n"
+# what a line may have once in a while in place of what most have
+SELDOM = (("kind", ("TABLE_DUMP", "TABLE_DUMP2", "TABLE_DUMP2_AP")), ("path", ("", "{65007,65008}", "(65100) 65001", "65001 {65007}")),
+          ("hop", ("255.255.255.255", "192.0.2.77", "2001:db8::77")), ("origin", ("EGP", "INCOMPLETE")), ("local_pref", ("100", "200", "50")),
+          ("med", ("", "4294967295", "0000000007")), ("time", ("1795441784",)))
+WRONG = ("none of bgpdump's\n", "TABLE_DUMP2|0|B|192.0.2.1|65001|10.0.0.0/33|65001|IGP|192.0.2.1|0|0||NAG||\n",
+         "TABLE_DUMP2|0|B|192.0.2.300|65001|10.0.0.0/8|65001|IGP|192.0.2.1|0|0||NAG||\n",
+         "TABLE_DUMP2|0|B|192.0.2.1|x|10.0.0.0/8|65001|IGP|192.0.2.1|0|0||NAG||\n",
+         "TABLE_DUMP2|0|B|192.0.2.1|65001|10.0.0.0/8|65001|none|192.0.2.1|0|0||NAG||\n",
+         "TABLE_DUMP2|0|B|192.0.2.1|65001|10.0.0.0/8|65001|IGP|none|0|0||NAG||\n",
+         "TABLE_DUMP2|0|B|192.0.2.1|65001|10.0.0.0/8|65001|IGP|192.0.2.1|0|x||NAG||\n",
+         "TABLE_DUMP2|0|B|192.0.2.1|65001|10.0.0.0/8|65001|IGP|192.0.2.1|0|4294967296||NAG||\n", "TABLE_DUMP2|0|B|192.0.2.1|65001\n")
+UPDATES = ("BGP4MP|1795441790|W|192.0.2.1|65001|{prefix}\n", "BGP4MP|1795441790|STATE|192.0.2.1|65001|6|1\n",
+           "BGP4MP|1795441791|A|192.0.2.2|65002|{prefix}|65002 65009|IGP|192.0.2.2|0|0||NAG||\n")
+
+
+def drawn_line(draw, peer, prefix, often):
+    address, system = peer
+    path = " ".join([system if draw.random() < 0.8 else "65001", *(str(draw.randrange(65000, 65010)) for _ in range(draw.randrange(4)))])
+    values = {"kind": "TABLE_DUMP2", "time": 1795441783, "path": path, "origin": "IGP", "hop": "192.0.2.1" if ":" in address else address,
+              "local_pref": 0, "med": draw.choice((0, 0, 0, 10, 20))}
+    for name, others in SELDOM:
+        if draw.random() < often:
+            values[name] = draw.choice(others)
+    if values["kind"].endswith("_AP"):
+        values["path"] = f"{draw.randrange(3)}|{values['path']}"
+    return LINE.format(peer=f"{address}|{system}", prefix=prefix, **values)
+
+
+def drawn_prefix(draw, number):
+    kind = draw.random()
+    base = f"10.{number // 256}.{number % 256}"
+    return f"2001:db8:{number:x}::/48" if kind < 0.05 else f"{base}.1/24" if kind < 0.1 else f"{base}.0/24"
+
+
+def drawn_dump(draw):
+    """A dump with lines that aren't as most are, and sometimes with a wrong line, a prefix that comes twice, or updates."""
+    often, lines = draw.choice((0, 0.01, 0.05)), []
+    for number in sorted(draw.sample(range(2000), 60)):
+        prefix = drawn_prefix(draw, number)
+        peers = draw.sample(PEERS, draw.randrange(1, len(PEERS) + 1))
+        if draw.random() < 0.05:
+            peers.append(draw.choice(peers))
+        for peer in peers:
+            other = prefix.replace(".1/24", ".0/24") if draw.random() < 0.1 else prefix
+            lines.append(drawn_line(draw, peer, other, often))
+    if draw.random() < 0.2:
+        lines.insert(draw.randrange(len(lines)), draw.choice((*WRONG, lines[0])))
+    if draw.random() < 0.2:
+        updates = [draw.choice(UPDATES).format(prefix=drawn_prefix(draw, draw.randrange(2000))) for _ in range(20)]
+        lines[draw.choice((len(lines), len(lines) // 2)) :] = [*updates, *lines[len(lines) // 2 : draw.choice((0, len(lines)))]]
+    return "".join(lines).encode()
+
+
+def check_same(made, name, options, data, piece, block):
+    """Lines that are taken together, by one process and by several, give what each by itself gives."""
+    found = []
+    for kind, more, constant in (("by themselves", ABSENT, constants(1 << 20, 1, block)), ("together", "", constants(1 << 20, 1, block)),
+                                 ("in pieces", "", constants(piece, 3, block))):
+        folder = made / f"{name} {kind}"
+        status, said = run_here(f"bgpdump-to-feeds {options} {more}", data, folder, constants=constant)
+        found.append((status, said, text_of(files_of(folder)) if folder.exists() else None))
+        expect(f"bgpdump-to-feeds {options} of {name} whose lines are taken {kind}", found[-1], found[0])
+
+
+def check_drawn(made):
+    draw = random.Random(941)
+    for number in range(40):
+        options = draw.choice(("--ipv6-hop 192.0.2.6", "--ipv6-hop 192.0.2.6 --by local-pref", "--ipv6-hop 192.0.2.6 --merge 2", ""))
+        check_same(made, f"drawn{number}", options, drawn_dump(draw), draw.randrange(300, 9000), draw.randrange(100, 9000))
+
+
+def check_many(made):
+    """More next hops of a peer, and more peers, than are known at a time."""
+    form = "TABLE_DUMP2|0|B|{}|65001|10.{}.{}.0/24|65001 {}|IGP|192.{}.{}.1|0|{}||NAG||\n"
+    hops = "".join(form.format("192.0.2.1", number // 256, number % 256, number, number // 256, number % 256, number) for number in range(3000))
+    check_same(made, "hops", "", hops.encode(), 40000, 1 << 20)
+    peers = "".join(form.format(f"192.{number >> 16}.{number >> 8 & 255}.{number & 255}", number // 50 // 256, number // 50 % 256, number, 0, 2, 0)
+                    for number in range(4500))
+    check_same(made, "peers", "--merge 8", peers.encode(), 40000, 1 << 20)
+
+
+def check_names(made):
+    """A peer without routes of IPv4 makes no difference to the name of another with its address."""
+    form = "TABLE_DUMP2|0|B|192.0.2.1|{}|{}|65001|IGP|192.0.2.1|0|0||NAG||\n"
+    lines = [form.format(65001, f"10.0.{number}.0/24") for number in range(100)]
+    lines[50:50] = [form.format(65002, f"2001:db8:{number}::/48") for number in range(50)]
+    check_same(made, "names", "", "".join(lines).encode(), 1500, 1 << 20)
+
+
+def check_merits(_):
+    """The keys of merits are kept as they are, whatever they are."""
+    draw = random.Random(942)
+    parts = [[draw.choice(keys) for _ in range(number)] for keys in (range(200), [7, 300], [-1 << 90, (1 << 90, 5), 3], range(70000), [1])
+             for number in (1, 50, 70000)]
+    draw.shuffle(parts)
+    merits, joined = collected.Merits(), collected.Merits()
+    for part in parts:
+        other = collected.Merits()
+        merits.extend(part)
+        other.extend(part)
+        joined.join(other.parts)
+    for found in (merits, joined):
+        expect("the keys of merits", list(found), [key for part in parts for key in part])
+
+
+def check(made):
+    folder = made / "dumps"
+    folder.mkdir()
+    check_drawn(folder)
+    check_many(folder)
+    check_names(folder)
+    check_merits(folder)
