@@ -28,6 +28,19 @@ def block(prefix):
     return number(base), int(length)
 
 
+# The commands of a feed's text, each with the number of its fields. Version 1 has no `purge`.
+FIELDS = {"add": 3, "replace": 3, "withdraw": 1, "lookup": 1, "dump": 0, "purge": 0}
+
+
+def command_of(line, version):
+    """The words of a line that is a command, or the number of the line's fault: 1 if its first word is no command of this
+    version, and 2 if the command has another number of fields."""
+    name, *fields = line.split(" ")
+    if name not in FIELDS or (name, version) == ("purge", 1):
+        return 1
+    return (name, *fields) if len(fields) == FIELDS[name] else 2
+
+
 class Table:
     """The sequential table, from its definition, over the words of a feed's line. A route is (prefix, feed, preference,
     hop)."""

@@ -14,20 +14,18 @@ same commands have led to the same table.
 The judge is for texts whose lines are valid or have the fault E1, and for runs with ample memory: it doesn't accept a
 refusal as an answer.
 """
-from common.table_model import Table, table_text
-
-TAKES = {"add": 3, "replace": 3, "withdraw": 1, "lookup": 1, "dump": 0}
+from common.table_model import Table, command_of, table_text
 
 
 def read(text):
     """The commands of a text, each with its line's number; None instead of a command if the line's fault is E1."""
-    takes, commands = TAKES, []
+    version, commands = 1, []
     if text.startswith("version 2\n"):
-        text, takes = text.removeprefix("version 2"), TAKES | {"purge": 0}
+        text, version = text.removeprefix("version 2"), 2
     for number, line in enumerate(text.split("\n"), 1):
         if line[:1] not in ("", "#"):
-            name, *fields = line.split(" ")
-            commands.append((number, (name, *fields) if takes.get(name) == len(fields) else None))
+            command = command_of(line, version)
+            commands.append((number, command if isinstance(command, tuple) else None))
     return commands
 
 

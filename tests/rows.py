@@ -20,7 +20,7 @@ import time
 from typing import NamedTuple
 
 from common.checks import chosen, compare, end, expect, is_unproved, run_each
-from common.table_model import (E1, E3, E8, HAS_CR, MAX_FEEDS, TOO_MANY_FILES, Table, dotted, json_text, members, route_text,
+from common.table_model import (E1, E3, E8, HAS_CR, MAX_FEEDS, TOO_MANY_FILES, Table, command_of, dotted, json_text, members, route_text,
                                 run_text, table_text)
 from common.worked import REPLAYS, SIX, WORKED, report
 import linearizability
@@ -402,38 +402,34 @@ def answers_with_names(yarib):
 
 # Hostile lines
 
-TAKES = {b"add": 3, b"replace": 3, b"withdraw": 1, b"lookup": 1, b"dump": 0}
-
-
 def reading(line, version):
     """The contents of the line: a command's name and fields as they are printed, None, or the number of its fault."""
     if len(line) > 128:
         return 8
     if line[:1] in (b"", b"#"):
         return None
-    name, *fields = line.split(b" ")
-    takes = TAKES | {b"purge": 0} if version == 2 else TAKES
-    if name not in takes:
-        return 1
-    if len(fields) != takes[name]:
-        return 2
+    # Each byte is a character.
+    command = command_of(line.decode("latin-1"), version)
+    if isinstance(command, int):
+        return command
+    name, *fields = command
     faults = [fault(field, version) for fault, field in zip(FIELD_FAULTS[name], fields)]
-    return next(filter(None, faults), None) or tuple(part.decode() for part in (name, *fields))
+    return next(filter(None, faults), None) or command
 
 
 def decimal(text):
     """The number of a decimal without leading zeros, or None for any other text."""
-    return int(text) if re.fullmatch(rb"0|[1-9][0-9]*", text) else None
+    return int(text) if re.fullmatch(r"0|[1-9][0-9]*", text) else None
 
 
 def address(text):
-    octets = [decimal(part) for part in text.split(b".")]
+    octets = [decimal(part) for part in text.split(".")]
     is_address = len(octets) == 4 and all(octet is not None and octet < 256 for octet in octets)
     return int.from_bytes(octets, "big") if is_address else None
 
 
 def prefix_fault(text, _version):
-    base, *lengths = text.split(b"/")
+    base, *lengths = text.split("/")
     base, length = address(base), decimal(lengths[0]) if len(lengths) == 1 else None
     if base is None or length is None:
         return 3
@@ -450,13 +446,12 @@ def preference_fault(text, _version):
 
 
 def hop_fault(text, version):
-    return 7 if address(text) is None and (version == 1 or text != b"discard") else None
+    return 7 if address(text) is None and (version == 1 or text != "discard") else None
 
 
 OFFER_FAULTS = (prefix_fault, preference_fault, hop_fault)
 FIELD_FAULTS = {
-    b"add": OFFER_FAULTS, b"replace": OFFER_FAULTS, b"withdraw": (prefix_fault,), b"lookup": (address_fault,),
-    b"dump": (), b"purge": (),
+    "add": OFFER_FAULTS, "replace": OFFER_FAULTS, "withdraw": (prefix_fault,), "lookup": (address_fault,), "dump": (), "purge": (),
 }
 
 
