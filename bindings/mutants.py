@@ -734,6 +734,7 @@ GO = noticed_by({
         "an entry's feed", "an entry's prefix", "an entry's preference", "an entry's hop", "an entry's address",
         "an entry's reply", "only best is forgotten", "a selection's hop is forgotten", "the best of a prefix is the shortest",
         "all matches are cut to the best", "lists of hops may differ in length", "an address in a view is another",
+        "save writes another feed", "load adds to another feed", "a text is read up to its last byte",
     ),
     "TestWhatIsRefusedIsNamed": (
         "a selection's feed is forgotten", "a selection's router of IPv6 is accepted", "by route as by hop", "by hop as by route", "an error blames the prefix",
@@ -770,9 +771,6 @@ GO = noticed_by({
     ),
     "TestGoroutinesChangeOneConcurrentTable": (
         "two changes of a concurrent table at once",
-    ),
-    "TestFilesHoldEveryRoute": (
-        "save writes another feed", "load adds to another feed", "a text is read up to its last byte",
     ),
     "TestEveryFaultyLineIsNamed": (
         "load counts lines from 0", "load names a whole long line", "load returns the number of lines", "a full feed has the route",
@@ -832,13 +830,14 @@ RUST = noticed_by({
     "model replies_and_routes_are_the_models": (
         "an entry's discard is a router", "addresses are read backwards", "a selection's feed is forgotten",
         "a selection's hop is forgotten", "no route and a discard are exchanged", "an address in a view is another",
+        "a purge and a dump are exchanged", "save writes another feed", "load adds to another feed", "a text is read up to its last byte",
+        "a saved text is cut",
     ),
     "model lists_at_page_boundaries": (
         "an entry's feed", "an entry's preference", "an entry's length",
     ),
-    "model files_hold_every_route": (
-        "a purge and a dump are exchanged", "save writes another feed", "load adds to another feed", "a text is read up to its last byte",
-        "a saved text is cut", "a refused save is overlooked",
+    "model files_that_are_refused": (
+        "a refused save is overlooked",
     ),
     "model pages_follow_one_another": (
         "a page that just fits is the last", "a page is given again",

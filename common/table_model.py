@@ -138,26 +138,32 @@ def json_text(value):
     return json.dumps(value, separators=(",", ":"))
 
 
-def differences_text(old, new, by, names=({}, {})):
-    """What a comparison of two tables prints: between adjacent boundaries of their prefixes, both tables give a single
-    answer. A feed's number is replaced by its name if its side has names."""
-
-    def said(table, border, named):
-        best = table.covering(dotted(border))[:1]
-        if by == "route" or not best:
-            return shown((best[0][0], named.get(best[0][1], best[0][1]), *best[0][2:])) if best else "no route"
-        return "discard" if best[0][3] == "discard" else f"via {best[0][3]}"
-
+def differences(old, new, answer):
+    """The ranges of addresses to which two tables give different answers, each with both: between adjacent boundaries of
+    their prefixes, both tables give a single answer. `answer` returns the answer of a table to an address."""
     ends = {base + size for table in (old, new) for base, length in map(block, table.offered)
             for size in (0, 1 << 32 - length)}
     ranges = []
     for border in sorted({0, *ends} - {1 << 32}):
-        answers = said(old, border, names[0]), said(new, border, names[1])
+        answers = answer(old, border), answer(new, border)
         if not ranges or ranges[-1][1] != answers:
             ranges.append((border, answers))
     lasts = [first - 1 for first, _ in ranges[1:]] + [(1 << 32) - 1]
-    rows = [(first, last, *answers) for (first, answers), last in zip(ranges, lasts) if answers[0] != answers[1]]
-    return "".join(f"{dotted(first)}-{dotted(last)} {was} -> {now}\n" for first, last, was, now in rows)
+    return [(first, last, *answers) for (first, answers), last in zip(ranges, lasts) if answers[0] != answers[1]]
+
+
+def differences_text(old, new, by, names=({}, {})):
+    """What a comparison of two tables prints. A feed's number is replaced by its name if its side has names."""
+
+    def said(table, border):
+        best = table.covering(dotted(border))[:1]
+        if by == "route" or not best:
+            named = names[0] if table is old else names[1]
+            return shown((best[0][0], named.get(best[0][1], best[0][1]), *best[0][2:])) if best else "no route"
+        return "discard" if best[0][3] == "discard" else f"via {best[0][3]}"
+
+    return "".join(f"{dotted(first)}-{dotted(last)} {was} -> {now}\n"
+                   for first, last, was, now in differences(old, new, said))
 
 
 def ran(texts, refused, limit=65_536):

@@ -1,14 +1,16 @@
 package yarib
 
 import (
+	"bytes"
+	"encoding/hex"
 	"errors"
 	"fmt"
 	"io"
 	"math"
-	"math/rand"
 	"net/netip"
 	"os"
 	"runtime"
+	"sort"
 	"strconv"
 	"strings"
 	"testing"
@@ -64,25 +66,6 @@ func table(t *testing.T, limit uint32, isJournaled bool) *Table {
 	return made
 }
 
-func (m *model) all(asked netip.Addr) []Route {
-	found := []Route{}
-	for length := 32; length >= 0; length-- {
-		prefix := netip.PrefixFrom(asked, length).Masked()
-		found = append(found, m.listed(func(route Route) bool { return route.Prefix == prefix })...)
-	}
-	return found
-}
-
-func onlyBest(routes []Route) []Route {
-	found := []Route{}
-	for k, route := range routes {
-		if k == 0 || routes[k-1].Prefix != route.Prefix {
-			found = append(found, route)
-		}
-	}
-	return found
-}
-
 // written returns a command as a journal lists it: without the fields that its operation doesn't use.
 func written(command Command) Command {
 	one := Command{Operation: command.Operation, Feed: command.Feed}
@@ -100,202 +83,6 @@ func written(command Command) Command {
 func numberOf(asked netip.Addr) uint64 {
 	octets := asked.As4()
 	return uint64(octets[0])<<24 | uint64(octets[1])<<16 | uint64(octets[2])<<8 | uint64(octets[3])
-}
-
-// differences goes over the ranges between adjacent boundaries of all prefixes, in each of which each table gives one answer.
-func (m *model) differences(newer *model, by By) []Difference {
-	isEnd := map[uint64]bool{0: true, 1 << 32: true}
-	for _, side := range []*model{m, newer} {
-		for at := range side.routes {
-			base := numberOf(at.prefix.Addr())
-			isEnd[base], isEnd[base+1<<(32-at.prefix.Bits())] = true, true
-		}
-	}
-	answer := func(side *model, at uint64) (Route, bool) {
-		route, found := side.best(addressOf(uint32(at)))
-		if by == ByHop && found {
-			return Route{Prefix: netip.MustParsePrefix("0.0.0.0/0"), Hop: route.Hop}, true
-		}
-		return route, found
-	}
-	ends, ranges := sortedNumbers(isEnd), []Difference{}
-	for k, first := range ends[:len(ends)-1] {
-		one := Difference{First: addressOf(uint32(first)), Last: addressOf(uint32(ends[k+1] - 1))}
-		one.Before, one.HasBefore = answer(m, first)
-		one.After, one.HasAfter = answer(newer, first)
-		if last := len(ranges) - 1; last >= 0 && ranges[last].Before == one.Before && ranges[last].After == one.After &&
-			ranges[last].HasBefore == one.HasBefore && ranges[last].HasAfter == one.HasAfter {
-			ranges[last].Last = one.Last
-		} else {
-			ranges = append(ranges, one)
-		}
-	}
-	found := []Difference{}
-	for _, one := range ranges {
-		if one.Before != one.After || one.HasBefore != one.HasAfter {
-			found = append(found, one)
-		}
-	}
-	return found
-}
-
-func sortedNumbers(numbers map[uint64]bool) []uint64 {
-	found := make([]uint64, 0, len(numbers))
-	for one := range numbers {
-		found = append(found, one)
-	}
-	for k := range found {
-		for i := k; i > 0 && found[i] < found[i-1]; i-- {
-			found[i], found[i-1] = found[i-1], found[i]
-		}
-	}
-	return found
-}
-
-func TestEveryCallAnswersAsTheModel(t *testing.T) {
-	for seed := int64(0); seed < 12; seed++ {
-		draw, limit := rand.New(rand.NewSource(seed)), []uint32{3, 1000000}[seed%2]
-		m, plain, journaled := model{int(limit), map[place]Route{}}, table(t, limit, false), table(t, limit, true)
-		if seed%4 == 3 {
-			must(t, plain.FibAttach())
-		}
-		entries, commands, outcomes := []Entry{}, []Command{}, []Outcome{}
-		for k := 0; k < 200; k++ {
-			command := drawnCommand(draw)
-			if k%50 == 7 {
-				command.Feed = MaxFeed + 1
-			}
-			commands = append(commands, command)
-			if command.Feed == MaxFeed+1 {
-				outcomes = append(outcomes, Outcome{Err: &CommandError{command, ErrNumber}})
-				continue
-			}
-			wanted := m.apply(command)
-			outcomes = append(outcomes, Outcome{Reply: wanted})
-			entries = append(entries, Entry{written(command), wanted})
-			reply, err := applied(&plain.common, command)
-			same(t, "a reply", reply, wanted)
-			var reason error
-			if why := map[Code]error{Exists: ErrExists, Full: ErrFull, Missing: ErrMissing}[wanted.Code]; why != nil {
-				reason = &CommandError{written(command), why}
-			}
-			same(t, "an error", plainly(err), plainly(reason))
-		}
-		found, err := journaled.ApplyEach(commands)
-		must(t, err)
-		same(t, "outcomes", resultsOf(found), resultsOf(outcomes))
-		listed, err := journaled.Journal()
-		must(t, err)
-		same(t, "the journal", listed, entries)
-		for k := 0; k < 30; k++ {
-			compareReads(t, &plain.common, &m, draw)
-		}
-	}
-}
-
-// applied executes a command by its own call if there is one.
-func applied(one *common, command Command) (Reply, error) {
-	switch command.Operation {
-	case Add:
-		return one.Add(command.Feed, command.Prefix, command.Pref, command.Hop)
-	case Replace:
-		return one.Replace(command.Feed, command.Prefix, command.Pref, command.Hop)
-	case Withdraw:
-		return one.Withdraw(command.Feed, command.Prefix)
-	}
-	return one.Apply(command)
-}
-
-func compareReads(t *testing.T, one *common, m *model, draw *rand.Rand) {
-	prefix := drawnPrefix(draw)
-	asked := prefix.Addr()
-	all, err := one.LookUpAll(asked)
-	must(t, err)
-	same(t, "all routes of an address", all, m.all(asked))
-	wanted, isThere := m.best(asked)
-	for _, form := range []netip.Addr{asked, netip.AddrFrom16(asked.As16())} {
-		route, found, err := one.LookUp(form)
-		must(t, err)
-		same(t, "a look-up", []any{route, found}, []any{wanted, isThere})
-	}
-	covering := func(route Route) bool { return route.Prefix.Bits() <= prefix.Bits() && route.Prefix.Contains(asked) }
-	within := func(route Route) bool {
-		return prefix.Bits() <= route.Prefix.Bits() && prefix.Contains(route.Prefix.Addr())
-	}
-	for part, isIn := range map[Part]func(Route) bool{
-		All: func(Route) bool { return true }, Within: within, Covering: covering,
-		Exact: func(route Route) bool { return route.Prefix == prefix },
-	} {
-		chosen := Selection{Part: part, Prefix: prefix, Feed: uint32(draw.Intn(6)), OnlyBest: draw.Intn(2) == 1}
-		// Any next hop, or one that routes of the model have.
-		hops := []*Hop{nil, {}, {addressOf(1), true}, {addressOf(2), true}}
-		chosen.Hop = hops[(prefix.Bits()+int(chosen.Feed))%len(hops)]
-		routes := m.listed(isIn)
-		if chosen.OnlyBest {
-			routes = onlyBest(routes)
-		}
-		wanted := []Route{}
-		for _, route := range routes {
-			if (chosen.Feed == 0 || route.Feed == chosen.Feed) && (chosen.Hop == nil || route.Hop == *chosen.Hop) {
-				wanted = append(wanted, route)
-			}
-		}
-		found, err := one.Select(chosen)
-		must(t, err)
-		same(t, fmt.Sprint(chosen), found, wanted)
-	}
-	compareNumbers(t, one, m, draw)
-	longest := onlyBest(m.listed(covering))
-	route, found, err := one.LookUpPrefix(prefix)
-	must(t, err)
-	same(t, "whether a prefix is covered", found, len(longest) > 0)
-	if found {
-		same(t, "the longest match of a prefix", route, longest[len(longest)-1])
-	}
-}
-
-// seen has the calls that return next hops as numbers.
-type seen interface {
-	Hops(addresses []uint32, noRoute, discard uint32, hops []uint32) error
-	ViewNew() (*View, error)
-}
-
-// compareNumbers compares next hops as numbers with the model, of a table and, if a forwarding table is attached, of a view.
-func compareNumbers(t *testing.T, one seen, m *model, draw *rand.Rand) {
-	t.Helper()
-	asked, wanted := []uint32{}, []uint32{}
-	for k := draw.Intn(40); k > 0; k-- {
-		address := drawnPrefix(draw).Addr()
-		route, isThere := m.best(address)
-		asked = append(asked, uint32(numberOf(address)))
-		router, isVia := route.Hop.Router()
-		switch {
-		case !isThere:
-			wanted = append(wanted, 1<<31+1)
-		case !isVia:
-			wanted = append(wanted, 1<<31+2)
-		default:
-			wanted = append(wanted, uint32(numberOf(router)))
-		}
-	}
-	found := make([]uint32, len(asked))
-	must(t, one.Hops(asked, 1<<31+1, 1<<31+2, found))
-	same(t, "hops", found, wanted)
-	if err := one.Hops(asked, 0, 1, make([]uint32, len(asked)+1)); !errors.Is(err, ErrSize) {
-		t.Fatal(err)
-	}
-	if draw.Intn(10) > 0 {
-		return
-	}
-	view, err := one.ViewNew()
-	if table, isTable := one.(*common); isTable {
-		if attached, also := table.FibIsAttached(); also != nil || !attached {
-			same(t, "whether there is a view", []bool{view == nil, errors.Is(err, ErrKind)}, []bool{true, true})
-			return
-		}
-	}
-	must(t, err)
-	compareView(t, view, asked, wanted)
 }
 
 func compareView(t *testing.T, view *View, asked, wanted []uint32) {
@@ -372,39 +159,6 @@ func TestEveryViewStaysAsItWasMade(t *testing.T) {
 	same(t, "the zero view", []any{number, zero.LookUpEach([]uint32{1}, hops[:1]), hops[0], zero.Memory()}, []any{uint32(0), nil, uint32(0), 0})
 }
 
-func TestBothSidesOfEachDifference(t *testing.T) {
-	for seed := int64(0); seed < 40; seed++ {
-		draw := rand.New(rand.NewSource(seed))
-		models := []*model{{99, map[place]Route{}}, {99, map[place]Route{}}}
-		tables := []*Table{table(t, 99, false), table(t, 99, true)}
-		for k := 0; k < []int{1, 4, 12}[seed%3]; k++ {
-			command := drawnCommand(draw)
-			for side := range models {
-				if draw.Intn(3) > 0 {
-					wanted := models[side].apply(command)
-					reply, err := tables[side].Apply(command)
-					must(t, err)
-					same(t, "a reply", reply, wanted)
-				}
-			}
-		}
-		for _, by := range []By{ByHop, ByRoute} {
-			for _, sides := range [][2]int{{0, 1}, {1, 0}, {0, 0}} {
-				found, err := tables[sides[0]].Differences(tables[sides[1]], by)
-				must(t, err)
-				wanted := models[sides[0]].differences(models[sides[1]], by)
-				same(t, "differences", found, wanted)
-				count := 0
-				must(t, tables[sides[0]].WalkDifferences(tables[sides[1]], by, func(Difference) bool { count++; return count < 2 }))
-				if len(wanted) > 2 {
-					wanted = wanted[:2]
-				}
-				same(t, "where a walk ends", count, len(wanted))
-			}
-		}
-	}
-}
-
 func TestListsAtPageBoundaries(t *testing.T) {
 	for _, border := range []int{64, 256, 4096} {
 		for size := border - 1; size <= border+1; size++ {
@@ -457,21 +211,31 @@ func TestListsAtPageBoundaries(t *testing.T) {
 }
 
 func TestAllMatchesAtPageBoundaries(t *testing.T) {
-	one, m, added := table(t, 99, false), model{99, map[place]Route{}}, 0
+	one, wanted := table(t, 99, false), []Route{}
 	asked := netip.MustParseAddr("10.0.0.0")
 	for length := 0; length <= 4; length++ {
 		for feed := uint32(1); feed <= MaxFeed; feed++ {
-			command := Command{Operation: Add, Feed: feed, Prefix: netip.PrefixFrom(asked, length).Masked(), Pref: feed % 7}
-			same(t, "a reply", m.apply(command), Reply{Code: Added})
-			_, err := one.Apply(command)
+			route := Route{netip.PrefixFrom(asked, length).Masked(), feed, feed % 7, Discard}
+			_, err := one.Add(feed, route.Prefix, route.Pref, route.Hop)
 			must(t, err)
-			if added++; added%64 < 2 || added%64 == 63 {
+			if wanted = append(wanted, route); len(wanted)%64 < 2 || len(wanted)%64 == 63 {
+				sort.Slice(wanted, func(i, j int) bool { return isBetter(wanted[i], wanted[j]) })
 				all, err := one.LookUpAll(asked)
 				must(t, err)
-				same(t, "all matches", all, m.all(asked))
+				same(t, "all matches", all, wanted)
 			}
 		}
 	}
+}
+
+func isBetter(one, other Route) bool {
+	if one.Prefix.Bits() != other.Prefix.Bits() {
+		return one.Prefix.Bits() > other.Prefix.Bits()
+	}
+	if one.Pref != other.Pref {
+		return one.Pref < other.Pref
+	}
+	return one.Feed < other.Feed
 }
 
 func TestWhatIsRefused(t *testing.T) {
@@ -587,80 +351,24 @@ func lineOf(route Route) string {
 	return "add " + route.Prefix.String() + " " + strconv.Itoa(int(route.Pref)) + " " + route.Hop.String() + "\n"
 }
 
-func TestFilesHoldEveryRoute(t *testing.T) {
-	for seed := int64(0); seed < 8; seed++ {
-		draw := rand.New(rand.NewSource(seed))
-		one, m, other := table(t, 1000000, false), model{1000000, map[place]Route{}}, table(t, 1000000, false)
-		for k := 0; k < 200; k++ {
-			command := drawnCommand(draw)
-			m.apply(command)
-			_, err := one.Apply(command)
-			must(t, err)
-		}
-		for feed := uint32(1); feed <= 6; feed++ {
-			wanted, text := m.listed(func(route Route) bool { return route.Feed == feed }), strings.Builder{}
-			must(t, one.Save(&text, feed))
-			lines := "version 2\n"
-			for _, route := range wanted {
-				lines += lineOf(route)
-			}
-			same(t, "a file", text.String(), lines)
-			// The last line may lack its end, and the reader may return one byte at a time.
-			count, err := other.Load(iotest.OneByteReader(strings.NewReader(strings.TrimSuffix(lines, "\n"))), feed)
-			must(t, err)
-			same(t, "how many routes were loaded", count, len(wanted))
-		}
-		found, err := other.Routes()
-		must(t, err)
-		same(t, "routes loaded", found, m.listed(func(Route) bool { return true }))
-	}
-}
-
 func TestEveryFaultyLineIsNamed(t *testing.T) {
-	good, long := "add 10.0.0.0/8 1 192.0.2.1\n", strings.Repeat("#", 128)
-	for _, faulty := range []struct {
-		text   string
-		line   int
-		count  int
-		reason error
-	}{
-		{"", 0, 0, nil},
-		{good, 0, 1, nil},
-		{"\n# a comment\n\n" + good + long + "\n" + long, 0, 1, nil},
-		{good + long + "#\n", 2, 1, ErrLine},
-		{good + strings.Repeat("#", 9999), 2, 1, ErrLine},
-		{good + "version 2\n", 2, 1, ErrLine},
-		{"version 2\nadd 10.0.0.0/8 4294967295 discard\n" + good, 3, 1, ErrExists},
-		{"add 10.0.0.0/8 1 discard\n", 1, 0, ErrLine},
-		{"version 2\r\n", 1, 0, ErrLine},
-		{good + "add 11.0.0.0/8 1 192.0.2.1\r\n", 2, 1, ErrLine},
-		{good + "add  11.0.0.0/8 1 192.0.2.1\n", 2, 1, ErrLine},
-		{good + "replace 10.0.0.0/8 1 192.0.2.1\n", 2, 1, ErrLine},
-		{good + "add 11.0.0.0/8 1\n", 2, 1, ErrLine},
-		{good + "add 11.0.0.0/8 4294967296 192.0.2.1\n", 2, 1, ErrLine},
-		{good + "add 11.0.0.0/8 01 192.0.2.1\n", 2, 1, ErrLine},
-		{good + "add 11.0.0.0/8 +1 192.0.2.1\n", 2, 1, ErrLine},
-		{good + "add 11.0.0.0/8 1 192.0.2.01\n", 2, 1, ErrLine},
-		{good + "add 11.0.0.0/8 1 ::1\n", 2, 1, ErrLine},
-		{good + "add 11.0.0.1/8 1 192.0.2.1\n", 2, 1, ErrBits},
-		{good + "add 11.0.0.0/33 1 192.0.2.1\n", 2, 1, ErrLength},
-		{good + "add ::/0 1 192.0.2.1\n", 2, 1, ErrLine},
-		{good + "\x00\n", 2, 1, ErrLine},
-		{good + "add 11.0.0.0/8 1 192.0.2.1\x00\n", 2, 1, ErrLine},
-		{good + "\nadd 11.0.0.0/8 1 192.0.2.1\nadd 12.0.0.0/8 1 192.0.2.1\n", 4, 2, ErrFull},
-	} {
-		one := table(t, 2, false)
-		count, err := one.Load(strings.NewReader(faulty.text), 3)
+	reasons := map[string]error{"-": nil, "line": ErrLine, "bits": ErrBits, "length": ErrLength, "exists": ErrExists, "full": ErrFull}
+	for _, line := range sections(t, "files")[0].lines {
+		text, err := hex.DecodeString(line.call[1][1:])
+		must(t, err)
+		one, wanted, number := table(t, 2, false), int(numberIn(line.answer[0])), int(numberIn(line.answer[1]))
+		count, err := one.Load(bytes.NewReader(text), 3)
 		held, also := one.Count()
 		must(t, also)
-		same(t, faulty.text, []int{count, held}, []int{faulty.count, faulty.count})
+		same(t, string(text), []int{count, held}, []int{wanted, wanted})
 		var failure *LineError
-		if faulty.line == 0 {
+		if number == 0 {
 			must(t, err)
-		} else if !errors.As(err, &failure) || failure.Line != faulty.line || !errors.Is(err, faulty.reason) {
-			t.Fatalf("%q: %v", faulty.text, err)
+		} else if !errors.As(err, &failure) || failure.Line != number || !errors.Is(err, reasons[line.answer[2]]) {
+			t.Fatalf("%q: %v", text, err)
 		}
 	}
+	good := "add 10.0.0.0/8 1 192.0.2.1\n"
 	// What can't be read whole changes nothing.
 	one, broken := table(t, 2, false), errors.New("broken")
 	if count, err := one.Load(io.MultiReader(strings.NewReader(good), iotest.ErrReader(broken)), 1); count != 0 || !errors.Is(err, broken) {
@@ -687,79 +395,6 @@ func TestEveryFaultyLineIsNamed(t *testing.T) {
 type failing struct{ err error }
 
 func (one failing) Write([]byte) (int, error) { return 0, one.err }
-
-// TestASourceIsOneFeedInEveryAnswer compares feeds 2 to 4, to which a source is dealt, with one feed 2 of the model.
-func TestASourceIsOneFeedInEveryAnswer(t *testing.T) {
-	for seed := int64(0); seed < 12; seed++ {
-		draw, used := rand.New(rand.NewSource(seed)), map[uint32]bool{}
-		one, m := table(t, 1000000, false), model{1000000, map[place]Route{}}
-		source, err := NewSource(one, 2, 3)
-		must(t, err)
-		for k := 0; k < 300; k++ {
-			command := drawnCommand(draw)
-			command.Feed = []uint32{1, 2, 2, 2, 5}[draw.Intn(5)]
-			wanted := m.apply(command)
-			if command.Feed != 2 {
-				_, err := one.Apply(command)
-				must(t, err)
-				continue
-			}
-			reply, err := Reply{}, error(nil)
-			switch command.Operation {
-			case Add:
-				reply, err = source.Add(command.Prefix, command.Pref, command.Hop)
-				if wanted.Code == Exists && draw.Intn(2) == 0 {
-					command.Operation = Replace
-					wanted = m.apply(command)
-					reply, err = source.Put(command.Prefix, command.Pref, command.Hop)
-				}
-			case Replace:
-				reply, err = source.Replace(command.Prefix, command.Pref, command.Hop)
-			case Withdraw:
-				reply, err = source.Withdraw(command.Prefix)
-			case Purge:
-				count, err := source.Purge()
-				must(t, err)
-				same(t, "a purge", Reply{Code: Purged, Count: uint32(count)}, wanted)
-				continue
-			default:
-				continue
-			}
-			same(t, "a reply", reply, wanted)
-			same(t, "whether nothing changed", err != nil, wanted.Code == Exists || wanted.Code == Missing)
-		}
-		asOne := func(route Route) Route {
-			if 2 <= route.Feed && route.Feed <= 4 {
-				used[route.Feed] = true
-				same(t, "the feed of a prefix", source.FeedOf(route.Prefix), route.Feed)
-				route.Feed = 2
-			}
-			return route
-		}
-		routes, err := one.Routes()
-		must(t, err)
-		for k := range routes {
-			routes[k] = asOne(routes[k])
-		}
-		same(t, "routes", routes, m.listed(func(Route) bool { return true }))
-		own, err := source.Routes()
-		must(t, err)
-		for k := range own {
-			own[k] = asOne(own[k])
-		}
-		same(t, "the source's routes", own, m.listed(func(route Route) bool { return route.Feed == 2 }))
-		for k := 0; k < 50; k++ {
-			asked := drawnPrefix(draw).Addr()
-			route, found, err := one.LookUp(asked)
-			must(t, err)
-			wanted, isThere := m.best(asked)
-			same(t, "a look-up", []any{asOne(route), found}, []any{wanted, isThere})
-		}
-		if len(own) > 20 && len(used) != 3 {
-			t.Fatal(used)
-		}
-	}
-}
 
 // The feeds of these prefixes are the same in each language's package.
 func TestWhereEveryPrefixOfASourceIs(t *testing.T) {

@@ -2,10 +2,8 @@ package yarib
 
 import (
 	"errors"
-	"math/rand"
 	"net/netip"
 	"runtime"
-	"strings"
 	"sync"
 	"sync/atomic"
 	"testing"
@@ -18,59 +16,6 @@ func concurrentTable(t *testing.T, limit uint32) *ConcurrentTable {
 	must(t, err)
 	t.Cleanup(func() { must(t, made.Close()) })
 	return made
-}
-
-func TestEveryCallOfAConcurrentTableAnswersAsTheModel(t *testing.T) {
-	for seed := int64(0); seed < 12; seed++ {
-		draw, limit := rand.New(rand.NewSource(seed)), []uint32{3, 1000000}[seed%2]
-		m, one, rounds := model{int(limit), map[place]Route{}}, concurrentTable(t, limit), 40
-		if seed%4 == 3 {
-			// a change of a short prefix writes up to 128 MB of forwarding tables
-			rounds = 10
-			must(t, one.FibAttach())
-			bytes, err := one.Memory()
-			must(t, err)
-			if bytes < 2<<26 {
-				t.Fatal(bytes)
-			}
-		}
-		for k := 0; k < rounds; k++ {
-			commands, outcomes := []Command{}, []Outcome{}
-			for j := draw.Intn(5); j >= 0; j-- {
-				command := drawnCommand(draw)
-				reply, err := applied(&one.common, command)
-				wanted := m.apply(command)
-				same(t, "a reply", reply, wanted)
-				same(t, "whether nothing changed", err != nil, unchanged(wanted.Code) != nil)
-			}
-			for j := draw.Intn(5); j > 0; j-- {
-				command := drawnCommand(draw)
-				if draw.Intn(20) == 0 {
-					command.Feed = MaxFeed + 1
-					outcomes = append(outcomes, Outcome{Err: &CommandError{command, ErrNumber}})
-				} else {
-					outcomes = append(outcomes, Outcome{Reply: m.apply(command)})
-				}
-				commands = append(commands, command)
-			}
-			found, err := one.ApplyEach(commands)
-			must(t, err)
-			same(t, "outcomes", resultsOf(found), resultsOf(outcomes))
-			compareReads(t, &one.common, &m, draw)
-		}
-		checkParts(t, &one.common, &m, draw)
-		checkPages(t, &one.common, &m, draw)
-		checkLookUps(t, &one.common, &m, draw)
-		for feed := uint32(1); feed <= 5; feed++ {
-			text, other := strings.Builder{}, concurrentTable(t, limit)
-			must(t, one.Save(&text, feed))
-			_, err := other.Load(strings.NewReader(text.String()), feed)
-			must(t, err)
-			found, err := other.Routes()
-			must(t, err)
-			same(t, "routes loaded", found, m.listed(func(route Route) bool { return route.Feed == feed }))
-		}
-	}
 }
 
 func TestASourceOfAConcurrentTable(t *testing.T) {
@@ -129,6 +74,18 @@ func publishedTable(k uint32) []Route {
 func numberOfTable(route Route) uint32 {
 	router, _ := route.Hop.Router()
 	return uint32(numberOf(router))
+}
+
+func isSame(one, other []Route) bool {
+	if len(one) != len(other) {
+		return false
+	}
+	for k := range one {
+		if one[k] != other[k] {
+			return false
+		}
+	}
+	return true
 }
 
 // waysToRead are calls that read a concurrent table. Each returns what it found, and what it would find in table k.

@@ -1,12 +1,15 @@
-"""Compares every call of Python's binding, with random arguments, with a model of the table in plain Python: every
-field of every element, both sides of each difference, every journal entry, and lists at every page boundary.
+"""Compares every call of Python's binding, with arguments in every form, with test vectors: every field of every element, both
+sides of each difference, every journal entry, and lists at every page boundary.
 
-    YARIB_LIBRARY=bindings/out/libyarib.so.0 python3 bindings/python/test_calls.py
+    python3 -m common.table_vectors FILE
+    PYTHONPATH=. YARIB_VECTORS=FILE YARIB_LIBRARY=bindings/out/libyarib.so.0 python3 bindings/python/test_calls.py
 """
 import array
 import copy
 import ctypes
+import functools
 import ipaddress
+import itertools
 import os
 import pathlib
 import pickle
@@ -26,137 +29,91 @@ LAST = (1 << 32) - 1
 BORDERS = [size + more for size in (64, 256, 4096) for more in (-1, 0, 1)]
 
 
-def holds(outer, inner):
-    """Returns True if every address of the prefix `inner` is one of `outer`."""
-    return outer[1] <= inner[1] and outer[0] >> 32 - outer[1] == inner[0] >> 32 - outer[1]
-
-
-PARTS = {"routes": lambda prefix, other: True, "exact": lambda prefix, other: prefix == other,
-         "within": holds, "covering": lambda prefix, other: holds(other, prefix)}
-
-
 def in_order(route):
     return route.base, route.length, route.pref, route.feed
 
 
-class Model:
-    """The sequential table and its journal, from their definitions. A route is found by base, length and feed."""
+def sections(kind):
+    """Returns the sections of this kind: the words of the first line, and of each other line the words of its call and of its
+    answer. common/table_vectors.py describes them."""
+    found = []
+    for line in pathlib.Path(os.environ["YARIB_VECTORS"]).read_text().splitlines():
+        call, is_call, answer = line.partition(" =")
+        if is_call:
+            found[-1][1].append((call.split(), answer.split()))
+        else:
+            found.append((call.split(), []))
+    return [section for section in found if section[0][0] == kind]
 
-    def __init__(self, limit):
-        self.limit, self.stored, self.entries = limit, {}, []
 
-    def own(self, feed):
-        return [key for key in self.stored if key[2] == feed]
+def address_in(word):
+    return int(ADDRESS(word))
 
-    def listed(self):
-        return sorted(self.stored.values(), key=in_order)
 
-    def selected(self, part, prefix=(0, 0), feed=None, best=False, via="any"):
-        routes = [route for route in self.listed() if PARTS[part](prefix, route[:2])]
-        if best:
-            routes = [route for before, route in zip([None, *routes], routes)
-                      if before is None or before[:2] != route[:2]]
-        return [route for route in routes if feed in (None, route.feed) and via in ("any", route.via)]
+def prefix_in(word):
+    base, length = word.split("/")
+    return address_in(base), int(length)
 
-    def all(self, address):
-        found = self.selected("covering", (address, 32))
-        return sorted(found, key=lambda route: (-route.length, route.pref, route.feed))
 
-    def best(self, address):
-        return (self.all(address) or [None])[0]
+def via_in(word):
+    return None if word == "discard" else address_in(word)
 
-    def apply(self, feed, name, prefix=None, pref=None, via=None):
-        """Executes a command with a prefix as (base, length), or an address, and returns its outcome."""
-        said, count, route = self.said(feed, name, prefix, pref, via)
-        outcome = yarib.Outcome(said, count, route, None)
-        self.entries.append(yarib.Entry(self.written(feed, name, prefix, pref, via), outcome))
-        return outcome
 
-    def said(self, feed, name, prefix, pref, via):
-        if name == "lookup":
-            route = self.best(prefix)
-            return ("found" if route else "no route"), 0, route
-        if name == "dump":
-            return "dumped", len(self.stored), None
-        own = self.own(feed)
-        if name == "purge":
-            for key in own:
-                del self.stored[key]
-            return "purged", len(own), None
-        return self.changed((*prefix, feed), name, pref, via, len(own)), 0, None
+@functools.cache
+def route_in(word):
+    if word == "-":
+        return None
+    prefix, feed, pref, hop = word.split(",")
+    return yarib.Route(*prefix_in(prefix), int(feed), int(pref), via_in(hop))
 
-    def changed(self, key, name, pref, via, own):
-        if name == "add" and (key in self.stored or own >= self.limit):
-            return "exists" if key in self.stored else "full"
-        if name != "add" and key not in self.stored:
-            return "missing"
-        if name == "withdraw":
-            del self.stored[key]
-            return "withdrawn"
-        self.stored[key] = yarib.Route(*key, pref, via)
-        return "added" if name == "add" else "replaced"
 
-    def written(self, feed, name, prefix, pref, via):
-        """Returns a command as the journal lists it."""
-        if name in ("dump", "purge"):
-            return feed, name
-        if name == "lookup":
-            return feed, name, ADDRESS(prefix)
-        words = (pref, None if via is None else ADDRESS(via)) if name != "withdraw" else ()
-        return (feed, name, NETWORK(prefix), *words)
+def routes_in(words):
+    return list(map(route_in, words))
 
-    def differences(self, other, by):
-        """Returns the ranges for which two tables give different answers: between adjacent boundaries of all prefixes
-        each table gives one answer."""
-        def answer(table, address):
-            route = table.best(address)
-            if by == "route":
-                return route
-            return False if route is None else None if route.via is None else ADDRESS(route.via)
 
-        ends = {end for table in (self, other) for base, length, _ in table.stored
-                for end in (base, base + (1 << 32 - length))}
-        firsts, ranges = sorted({0, *ends} - {LAST + 1}), []
-        for first, beyond in zip(firsts, [*firsts[1:], LAST + 1]):
-            answers = answer(self, first), answer(other, first)
-            if ranges and ranges[-1][2:] == answers:
-                ranges[-1] = (ranges[-1][0], beyond - 1, *answers)
-            else:
-                ranges.append((first, beyond - 1, *answers))
-        return [yarib.Difference(*one) for one in ranges if one[2] != one[3] or (one[2] is None) != (one[3] is None)]
+def command_in(words):
+    """Returns the name of a command and its arguments, as numbers."""
+    name, *fields = words
+    kinds = [address_in] if name == "lookup" else [prefix_in, int, via_in]
+    return name, *(read(field) for read, field in zip(kinds, fields))
+
+
+def outcome_in(words):
+    said, *values = words
+    if said == "range":
+        return yarib.Outcome("unanswered", 0, None, "bad number")
+    if said == "found":
+        return yarib.Outcome("found", 0, route_in(*values), None)
+    return yarib.Outcome("no route" if said == "none" else said, int(values[0]) if values else 0, None, None)
+
+
+def commands_in(call, answer):
+    """Returns the commands that a call executes, each with its feed and its outcome."""
+    name, feed, *words = call
+    if name == "apply":
+        return [(int(feed), command_in(words), outcome_in(answer))]
+    return [(int(feed), command_in([part, *words]), outcome_in([said])) for part, said in zip(("add", "replace"), answer)]
+
+
+def entry_of(feed, command, outcome):
+    """Returns the entry of the journal."""
+    name, *fields = command
+    kinds = [ADDRESS] if name == "lookup" else [NETWORK, int, lambda via: None if via is None else ADDRESS(via)]
+    return yarib.Entry((feed, name, *(form(field) for form, field in zip(kinds, fields))), outcome)
 
 
 class Drawn(random.Random):
-    """Random arguments: few prefixes, one inside another, in every form that a call accepts."""
+    """Arguments in a random one of the forms that a call accepts."""
 
-    def base_of(self):
-        return self.choice((0, 1 << 31, 10 << 24, 0xFFFFFFE0)) + self.randrange(32)
-
-    def prefix(self):
-        length = self.choice((0, 1, 8, 23, 24, 25, 30, 31, 32))
-        return self.base_of() >> 32 - length << 32 - length, length
-
-    def via(self):
-        return self.choice((None, 0, 1, LAST, 0xC0000201))
-
-    def put(self):
-        return self.choice((0, 1, 2, LAST)), self.via()
-
-    def given_prefix(self, prefix):
+    def prefix(self, prefix):
         return self.choice((prefix, list(prefix), NETWORK(prefix), str(NETWORK(prefix))))
 
-    def given(self, address):
+    def address(self, address):
         return None if address is None else self.choice((address, ADDRESS(address), str(ADDRESS(address))))
 
-    def feed(self):
-        return self.choice((1, 2, 3, yarib.MAX_FEED))
-
-    def selection(self):
-        return {"feed": self.choice((None, None, 1, 2, 3, yarib.MAX_FEED)), "best": self.choice((False, True)),
-                "via": self.choice(("any", "any", "any", self.via()))}
-
-    def given_selection(self, chosen):
-        return chosen if chosen["via"] == "any" else chosen | {"via": self.given(chosen["via"])}
+    def command(self, name, *fields):
+        forms = [self.address] if name == "lookup" else [self.prefix, int, self.address]
+        return name, *(form(field) for form, field in zip(forms, fields))
 
 
 class Limited(unittest.TestCase):
@@ -174,37 +131,59 @@ class Limited(unittest.TestCase):
         """Compares types, too: 0 is not False, and a route is not a tuple of its fields."""
         self.assertEqual(repr(found), repr(wanted))
 
-    def compare(self, table, model, draw):
-        """Compares every call that reads with random arguments."""
-        prefix, address = draw.prefix(), draw.base_of()
-        self.assert_same(len(table), len(model.stored))
-        self.assert_same(table.routes(), model.listed())
-        self.assert_same(list(table), model.listed())
-        self.assert_same(table.look_up(draw.given(address)), model.best(address))
-        self.assert_same(table.look_up_all(draw.given(address)), model.all(address))
-        chosen = draw.selection()
-        self.assert_same(table.routes(**draw.given_selection(chosen)), model.selected("routes", **chosen))
-        for part in ("exact", "within", "covering"):
-            chosen = draw.selection()
-            found = getattr(table, part)(draw.given_prefix(prefix), **draw.given_selection(chosen))
-            self.assert_same(found, model.selected(part, prefix, **chosen))
-        exact = model.selected("exact", prefix)
-        self.assert_same(draw.given_prefix(prefix) in table, bool(exact))
-        self.assert_same(draw.given(address) in table, model.best(address) is not None)
-        self.assert_same(table.get(draw.given_prefix(prefix), 7), exact[0] if exact else 7)
-        self.assert_same(table.get(draw.given(address)), model.best(address))
-        best = (model.selected("covering", prefix, best=True) or [None])[-1]
-        self.assert_same(table.look_up_prefix(draw.given_prefix(prefix)), best)
-        pref, feed = draw.choice((0, 1, 2, LAST)), draw.choice((0, 1, 2, 3, yarib.MAX_FEED, yarib.MAX_FEED + 1))
-        wanted = [route for route in model.listed() if in_order(route) >= (*prefix, pref, feed)]
-        self.assert_same(list(table.routes_from(draw.given_prefix(prefix), pref, feed)), wanted)
+    def compare(self, table, draw, call, answer):
+        """Compares what a call that reads returns, and calls that follow from it."""
+        name, *words = call
+        getattr(self, f"compare_{name}")(table, draw, answer, *words)
 
-    def compare_lists(self, table, model, draw):
+    def compare_count(self, table, draw, answer):
+        self.assert_same(len(table), int(*answer))
+
+    def compare_routes(self, table, draw, answer):
+        self.assert_same(table.routes(), routes_in(answer))
+        self.assert_same(list(table), routes_in(answer))
+
+    def compare_look_up(self, table, draw, answer, word):
+        address, best = address_in(word), route_in(*answer)
+        self.assert_same(table.look_up(draw.address(address)), best)
+        self.assert_same(draw.address(address) in table, best is not None)
+        self.assert_same(table.get(draw.address(address)), best)
+
+    def compare_look_up_all(self, table, draw, answer, word):
+        self.assert_same(table.look_up_all(draw.address(address_in(word))), routes_in(answer))
+
+    def compare_look_up_prefix(self, table, draw, answer, word):
+        self.assert_same(table.look_up_prefix(draw.prefix(prefix_in(word))), route_in(*answer))
+
+    def compare_select(self, table, draw, answer, part, word, feed, hop, best):
+        prefix, routes = prefix_in(word), routes_in(answer)
+        chosen = {"feed": int(feed) or None, "best": best == "1", "via": hop if hop == "any" else draw.address(via_in(hop))}
+        call = table.routes if part == "all" else functools.partial(getattr(table, part), draw.prefix(prefix))
+        self.assert_same(call(**chosen), routes)
+        if part == "exact" and chosen == {"feed": None, "best": False, "via": "any"}:
+            self.assert_same(draw.prefix(prefix) in table, bool(routes))
+            self.assert_same(table.get(draw.prefix(prefix), 7), routes[0] if routes else 7)
+
+    def compare_routes_from(self, table, draw, answer, word, pref, feed):
+        self.assert_same(list(table.routes_from(draw.prefix(prefix_in(word)), int(pref), int(feed))), routes_in(answer))
+
+    def compare_save(self, table, draw, answer, word):
+        """Compares the file of a feed's routes, and what another table loads of it. The last line may lack its end."""
+        feed, routes, other = int(word), routes_in(answer), type(table)()
+        lines = [f"add {NETWORK(one[:2])} {one.pref} {'discard' if one.via is None else ADDRESS(one.via)}" for one in routes]
+        with tempfile.TemporaryDirectory() as folder:
+            path = pathlib.Path(folder, "one.feed")
+            table.save(path, feed)
+            self.assertEqual(path.read_text(), "".join(f"{line}\n" for line in ["version 2", *lines]))
+            path.write_text("\n".join(["version 2", *lines]))
+            self.assert_same(other.load(path, feed), len(routes))
+        self.assert_same(other.routes(), routes)
+
+    def compare_look_up_each(self, table, draw, answer, *words):
         """Compares look-ups of many addresses, by elements, slices and the memory that they lie in."""
-        asked = [draw.base_of() for _ in range(draw.choice((0, 1, 31, 32, 33, 70)))]
-        wanted = [model.best(address) for address in asked]
+        asked, wanted = list(map(address_in, words)), routes_in(answer)
         for addresses in (asked, array.array("I", asked), memoryview(array.array("I", asked)).toreadonly(),
-                          map(draw.given, asked)):
+                          map(draw.address, asked)):
             answers = table.look_up_each(addresses)
             self.assert_same([len(answers), list(answers), answers[:]], [len(asked), wanted, wanted])
             self.assert_same([answers[k] for k in range(len(asked))], wanted)
@@ -250,106 +229,85 @@ ERRORS = {"exists": yarib.Exists, "full": yarib.Full, "missing": yarib.Missing}
 
 
 class Calls(Limited):
-    def drawn_command(self, draw):
-        name = draw.choices(("add", "replace", "withdraw", "lookup", "dump", "purge"), (60, 15, 15, 10, 3, 2))[0]
-        if name in ("dump", "purge"):
-            return [name]
-        if name == "lookup":
-            return [name, draw.base_of()]
-        return [name, draw.prefix(), *(draw.put() if name != "withdraw" else ())]
-
-    def given_command(self, draw, name, *words):
-        if name == "lookup":
-            return name, draw.given(words[0])
-        if name in ("dump", "purge"):
-            return name,
-        put = (words[1], draw.given(words[2])) if len(words) > 1 else ()
-        return (name, draw.given_prefix(words[0]), *put)
-
-    def change(self, table, model, draw):
-        """Executes a random command by a call of its own, or by `apply`, and compares what it says."""
-        feed, command = draw.feed(), self.drawn_command(draw)
-        self.before = dict(model.stored)
-        name, outcome = command[0], model.apply(feed, *command)
+    def execute(self, table, draw, feed, command, outcome):
+        """Executes a command by a call of its own, or by `apply`, and compares what it returns."""
+        name, *fields = command
+        if outcome.said == "unanswered":
+            return self.assertRaises(yarib.Invalid, table.apply, feed, *draw.command(*command))
         if name in ("lookup", "dump") or draw.random() < 0.3:
-            return self.assert_same(table.apply(feed, *self.given_command(draw, *command)), outcome)
+            return self.assert_same(table.apply(feed, *draw.command(*command)), outcome)
         if name == "purge":
             return self.assert_same(table.purge(feed), outcome.count)
-        if name in ("add", "replace") and outcome.said != "full" and draw.random() < 0.3:
-            return self.put(table, model, draw, feed, command, outcome)
-        words = [draw.given_prefix(command[1])]
-        if name != "withdraw":
-            words += [draw.given(command[3]), command[2]]
+        prefix, *offer = draw.command(*command)[1:]
         if error := ERRORS.get(outcome.said):
-            with self.assertRaises(error):
-                getattr(table, name)(*words, feed=feed)
-        else:
-            self.assertIsNone(getattr(table, name)(*words, feed=feed))
+            return self.assertRaises(error, getattr(table, name), prefix, *offer[::-1], feed=feed)
+        self.assertIsNone(getattr(table, name)(prefix, *offer[::-1], feed=feed))
 
-    def put(self, table, model, draw, feed, command, outcome):
-        """Executes `put` instead of `add` and `replace`; the journal has both commands if the first one failed."""
-        _, prefix, pref, via = command
-        put = draw.given_prefix(prefix), draw.given(via), pref, feed
-        if outcome.said == "missing" and len(model.own(feed)) >= model.limit:
-            model.entries[-1] = yarib.Entry((feed, "add", *model.entries[-1].command[2:]), yarib.Outcome("full", 0, None, None))
-            return self.assertRaises(yarib.Full, table.put, *put)
-        del model.entries[-1]
-        if outcome.said in ("replaced", "added"):
-            model.stored = dict(self.before)
-        if model.apply(feed, "add", prefix, pref, via).said == "exists":
-            model.apply(feed, "replace", prefix, pref, via)
-            return self.assertIs(table.put(*put), False)
-        self.assertIs(table.put(*put), True)
+    def put(self, table, draw, feed, command, said):
+        """Executes `put`; `said` is the reply to the last of its commands."""
+        _, prefix, pref, via = draw.command(*command)
+        if said == "full":
+            return self.assertRaises(yarib.Full, table.put, prefix, via, pref, feed)
+        self.assertIs(table.put(prefix, via, pref, feed), said == "added")
+
+    def step(self, table, draw, call, answer):
+        """Executes a call, compares what it returns, and returns the entries that it appends to a journal."""
+        if call[0] not in ("apply", "put"):
+            self.compare(table, draw, call, answer)
+            return []
+        commands = commands_in(call, answer)
+        if call[0] == "put":
+            self.put(table, draw, *commands[0][:2], answer[-1])
+        else:
+            self.execute(table, draw, *commands[0])
+        return [entry_of(*one) for one in commands if one[2].said != "unanswered"]
 
     def test_each_call_answers_as_the_model(self):
-        for seed in range(8):
-            draw, limit = Drawn(seed), (3, 8, 1_000_000)[seed % 3]
-            model, table = Model(limit), yarib.Table(limit, journal=seed % 2 == 1)
-            if seed % 4 == 2:
+        for at, ((_, limit), lines) in enumerate(sections("table")):
+            draw, table, entries = Drawn(at), yarib.Table(int(limit), journal=at % 2 == 0), []
+            if at % 8 == 3:
                 table.fib_attach()
-            for _ in range(100):
-                self.change(table, model, draw)
-                self.compare(table, model, draw)
-            self.compare_lists(table, model, draw)
-            self.compare_lists(table.fib_new(), model, draw)
-            if seed % 2:
-                self.assert_same(table.journal(), model.entries)
+            for call, answer in lines:
+                entries += self.step(table, draw, call, answer)
+            for call, answer in lines:
+                if at % 4 == 0 and call[0] == "look_up_each":
+                    self.compare(table.fib_new(), draw, call, answer)
+            if at % 2 == 0:
+                self.assert_same(table.journal(), entries)
 
     def test_each_call_of_a_concurrent_table_answers_as_the_model(self):
-        for seed in range(20, 24):
-            draw, limit = Drawn(seed), (3, 1_000_000)[seed % 2]
-            model, table = Model(limit), yarib.ConcurrentTable(limit)
-            if seed % 4 == 2:
+        for at, ((_, limit), lines) in enumerate(sections("table")[2:6]):
+            draw, table = Drawn(at), yarib.ConcurrentTable(int(limit))
+            if at == 1:
                 table.fib_attach()
-            for k in range(100):
-                if k % 10 == 9:
-                    commands = [(draw.feed(), *self.drawn_command(draw)) for _ in range(9)]
-                    wanted = [model.apply(*command) for command in commands]
-                    self.assert_same(table.apply_each([(feed, *self.given_command(draw, *words)) for feed, *words in commands]), wanted)
-                self.change(table, model, draw)
-                self.compare(table, model, draw)
-            self.compare_lists(table, model, draw)
+            for name, group in itertools.groupby(lines, lambda line: line[0][0]):
+                group = list(group)
+                if name == "apply" and len(group) > 1:
+                    self.execute_each(table, draw, [commands_in(*line)[0] for line in group])
+                else:
+                    for call, answer in group:
+                        self.step(table, draw, call, answer)
+
+    def execute_each(self, table, draw, commands):
+        """Executes commands in one call, and compares their outcomes."""
+        given = [(feed, *draw.command(*command)) for feed, command, _ in commands]
+        self.assert_same(table.apply_each(given), [outcome for *_, outcome in commands])
 
     def test_which_best_routes_change(self):
-        for seed in range(300, 309):
-            draw, model = Drawn(seed), Model(5)
-            table = yarib.ConcurrentTable(5) if seed % 3 == 2 else yarib.Table(5, journal=seed % 3 == 1)
-            for _ in range(200):
-                feed, command = draw.feed(), self.drawn_command(draw)
-                old = {route[:2]: route for route in model.selected("routes", best=True)}
-                given = self.given_command(draw, *command)
-                if command[0] in ("lookup", "dump"):
+        for at, ((_, limit), lines) in enumerate(sections("changes")):
+            draw, limit = Drawn(at), int(limit)
+            table = yarib.ConcurrentTable(limit) if at % 3 == 2 else yarib.Table(limit, journal=at % 3 == 1)
+            for (_, feed, *words), answer in lines:
+                feed, given, size = int(feed), draw.command(*command_in(words)), 2 if words == ["purge"] else 1
+                if answer == ["refused"]:
                     self.assertRaises(yarib.Error, table.apply_changed, feed, *given)
                     continue
-                outcome = model.apply(feed, *command)
-                new = {route[:2]: route for route in model.selected("routes", best=True)}
-                changes = [yarib.Change(*prefix, old.get(prefix), new.get(prefix)) for prefix in sorted({*old, *new})
-                           if old.get(prefix) != new.get(prefix)]
-                if command[0] == "purge":
+                outcome, sides = outcome_in(answer[:size]), routes_in(answer[size:])
+                changes = [yarib.Change(*(before or after)[:2], before, after) for before, after in zip(sides[::2], sides[1::2])]
+                if words == ["purge"]:
                     self.assert_same((table.purge_changes(feed), table.purge(feed)), (changes, outcome.count))
                 else:
-                    self.assert_same(table.apply_changed(feed, *given), (outcome, changes[0] if changes else None))
-            self.compare(table, model, draw)
+                    self.assert_same(table.apply_changed(feed, *given), (outcome, *(changes or [None])))
         for feed in (0, yarib.MAX_FEED + 1):
             with self.assertRaisesRegex(yarib.Invalid, f"feed {feed} is not 1 to {yarib.MAX_FEED}"):
                 table.purge_changes(feed)
@@ -357,16 +315,17 @@ class Calls(Limited):
         self.assert_same(yarib.Change(10 << 24, 8, None, None).prefix, NETWORK("10.0.0.0/8"))
 
     def test_many_commands_in_one_call(self):
-        for seed in range(6):
-            draw = Drawn(100 + seed)
-            model, table = Model(5), yarib.Table(5, journal=seed % 2 == 1)
-            commands = [(draw.feed(), *self.drawn_command(draw)) for _ in range(300)]
-            wanted = [model.apply(*command) for command in commands]
-            given = [(feed, *self.given_command(draw, *words)) for feed, *words in commands]
-            self.assert_same(table.apply_each(given), wanted)
-            self.compare(table, model, draw)
-            if seed % 2:
-                self.assert_same(table.journal(), model.entries)
+        """Then the calls that read, which are last in a section."""
+        for at, ((_, limit), lines) in enumerate(sections("table")):
+            draw, table = Drawn(100 + at), yarib.Table(int(limit), journal=at % 2 == 1)
+            last = max(k for k, (call, _) in enumerate(lines) if call[0] in ("apply", "put"))
+            changing = [line for line in lines[:last + 1] if line[0][0] in ("apply", "put")]
+            commands = [command for line in changing for command in commands_in(*line)]
+            self.execute_each(table, draw, commands)
+            for call, answer in lines[last + 1:]:
+                self.compare(table, draw, call, answer)
+            if at % 2:
+                self.assert_same(table.journal(), [entry_of(*one) for one in commands if one[2].said != "unanswered"])
 
     def test_a_command_without_an_answer_says_why(self):
         table = yarib.Table()
@@ -376,67 +335,68 @@ class Calls(Limited):
             yarib.Outcome("added", 0, None, None), yarib.Outcome("dumped", 1, None, None)])
 
     def test_both_sides_of_each_difference(self):
-        for seed in range(40):
-            draw = Drawn(200 + seed)
-            models, tables = [Model(99), Model(99)], [yarib.Table(99), yarib.Table(99, journal=seed % 2 == 1)]
-            for k in range(draw.choice((1, 4, 12))):
-                prefix, feed, (pref, via) = draw.prefix(), draw.feed(), draw.put()
-                for side in draw.choice(((0,), (1,), (0, 1))):
-                    wanted = models[side].apply(feed, "add", prefix, pref, via)
-                    self.assert_same(tables[side].apply(feed, "add", prefix, pref, via), wanted)
-            for by in ("hop", "route"):
-                for one, other in ((0, 1), (1, 0), (0, 0)):
-                    found = list(tables[one].differences(tables[other], by))
-                    self.assert_same(found, models[one].differences(models[other], by))
-            self.assert_same(list(tables[0].differences(tables[1])), models[0].differences(models[1], "hop"))
+        hop_in = lambda word: False if word == "-" else None if word == "discard" else ADDRESS(word)
+        for at, (_, lines) in enumerate(sections("pair")):
+            tables = {"old": yarib.Table(99), "new": yarib.Table(99, journal=at % 2 == 1)}
+            for (name, *words), answer in lines:
+                if name != "differences":
+                    self.assert_same(tables[name].apply(int(words[0]), *command_in(words[1:])), outcome_in(answer))
+                    continue
+                old, new, by = words
+                answer_in = hop_in if by == "hop" else route_in
+                wanted = [yarib.Difference(address_in(first), address_in(last), answer_in(before), answer_in(after))
+                          for first, last, before, after in zip(*(answer[k::4] for k in range(4)))]
+                self.assert_same(list(tables[old].differences(tables[new], by)), wanted)
+                if by == "hop":
+                    self.assert_same(list(tables[old].differences(tables[new])), wanted)
 
 
 class Borders(Limited):
     """Lists of as many elements as a page has, and of one fewer and one more."""
 
-    def filled(self, size, journal=False):
-        """Returns a table with so many routes to prefixes inside 10.0.0.0/8, of several feeds, and its model."""
-        model = Model(1_000_000)
-        table = yarib.Table(journal=journal)
-        commands = [(1 + k % 3, "add", ((10 << 24) + 4 * (k // 2), 30), k % 5, k) for k in range(size)]
-        for command, outcome in zip(commands, table.apply_each(commands)):
-            self.assertEqual(outcome.said, "added", command)
-            feed, _, prefix, pref, via = command
-            model.stored[(*prefix, feed)] = yarib.Route(*prefix, feed, pref, via)
-        return table, model
+    def filled(self, size):
+        """Returns a table with so many routes to prefixes inside 10.0.0.0/8, of several feeds, and these routes in order."""
+        routes = [yarib.Route((10 << 24) + 4 * (k // 2), 30, 1 + k % 3, k % 5, k) for k in range(size)]
+        table = yarib.Table()
+        outcomes = table.apply_each([(one.feed, "add", one[:2], one.pref, one.via) for one in routes])
+        self.assertEqual({outcome.said for outcome in outcomes}, {"added"})
+        return table, sorted(routes, key=in_order)
+
+    def bests(self, routes):
+        return [next(group) for _, group in itertools.groupby(routes, lambda one: one[:2])]
 
     def test_lists_of_routes(self):
         for size in BORDERS:
-            table, model = self.filled(size)
-            wanted = model.listed()
-            self.assertEqual(len(wanted), size)
+            table, wanted = self.filled(size)
             for found in (table.routes(), list(table), table.within("10.0.0.0/8"), list(table.routes_from((0, 0)))):
                 self.assert_same(found, wanted)
             for feed in (1, 3):
                 self.assert_same(table.routes(feed=feed), [route for route in wanted if route.feed == feed])
-            self.assert_same(list(table.routes_from((wanted[-1].base, 30), 0, 0)), model.selected("exact", wanted[-1][:2]))
+            last = [route for route in wanted if route.base == wanted[-1].base]
+            self.assert_same(list(table.routes_from((wanted[-1].base, 30), 0, 0)), last)
 
     def test_lists_of_answers(self):
-        table, model = self.filled(100)
+        table, routes = self.filled(100)
+        best = {route.base: route for route in self.bests(routes)}
         for size in [0, 1, 31, 32, 33, *BORDERS]:
             asked = [(10 << 24) + 3 * k % 250 for k in range(size)]
-            best = {address: model.best(address) for address in set(asked)}
             answers = table.look_up_each(array.array("I", asked))
-            self.assert_same(list(answers), [best[address] for address in asked])
+            self.assert_same(list(answers), [best.get(address & -4) for address in asked])
 
     def test_lists_of_one_address(self):
         """All feeds and lengths: the longest lists of routes."""
-        model, table, added = Model(99), yarib.Table(), 0
+        table, routes = yarib.Table(), []
         for length in range(33):
             prefix = (10 << 24) >> 32 - length << 32 - length, length
             for feed in range(1, yarib.MAX_FEED + 1):
                 table.add(prefix, via=feed, pref=feed % 7, feed=feed)
-                model.stored[(*prefix, feed)] = yarib.Route(*prefix, feed, feed % 7, feed)
-                added += 1
-                if added in (63, 64, 65, 127, 128, 255, 256, 257, 33 * yarib.MAX_FEED):
-                    self.assert_same(table.look_up_all("10.0.0.0"), model.all(10 << 24))
-                    self.assert_same(table.covering("10.0.0.0/32"), model.listed())
-                    self.assert_same(table.exact(prefix), model.selected("exact", prefix))
+                routes.append(yarib.Route(*prefix, feed, feed % 7, feed))
+                if len(routes) in (63, 64, 65, 127, 128, 255, 256, 257, 33 * yarib.MAX_FEED):
+                    routes.sort(key=in_order)
+                    best_first = sorted(routes, key=lambda one: (-one.length, one.pref, one.feed))
+                    self.assert_same(table.look_up_all("10.0.0.0"), best_first)
+                    self.assert_same(table.covering("10.0.0.0/32"), routes)
+                    self.assert_same(table.exact(prefix), [route for route in routes if route[:2] == prefix])
 
     def test_lists_of_entries(self):
         for size in BORDERS:
@@ -450,9 +410,8 @@ class Borders(Limited):
 
     def test_lists_of_differences(self):
         for size in BORDERS:
-            table, model = self.filled(2 * size)
-            bests = model.selected("routes", best=True)
-            wanted = [yarib.Difference(one.base, one.base + 3, False, ADDRESS(one.via)) for one in bests]
+            table, routes = self.filled(2 * size)
+            wanted = [yarib.Difference(one.base, one.base + 3, False, ADDRESS(one.via)) for one in self.bests(routes)]
             self.assert_same(list(yarib.Table().differences(table)), wanted)
 
 
@@ -633,38 +592,39 @@ class Conventions(Limited):
         self.assertIn("closed", repr(table))
         self.assertRaises(yarib.Refused, table.routes)
 
+    def load_texts(self, path):
+        """Loads each text of the test vectors, and compares what is loaded and what the error says."""
+        reasons = {"exists": (yarib.Exists, "feed 3: "), "full": (yarib.Full, "feed 3: "), "line": (yarib.Invalid, "not an add line: "),
+                   "bits": (yarib.Invalid, "bad bits: "), "length": (yarib.Invalid, "bad length: ")}
+        (_, lines), = sections("files")
+        for (_, text), (count, number, reason) in lines:
+            table = yarib.Table(2)
+            path.write_bytes(bytes.fromhex(text[1:]))
+            if reason == "-":
+                self.assertEqual(table.load(path, 3), int(count))
+            else:
+                error, said = reasons[reason]
+                with self.assertRaisesRegex(error, f"one.feed:{number}: {said}") as caught:
+                    table.load(path, 3)
+                said = str(caught.exception)
+                self.assertTrue(len(said.splitlines()) == 1 and len(said) < len(str(path)) + 200, said)
+            self.assertEqual(len(table), int(count), text)
+
     def test_saved_tables_load(self):
-        draw, table, other, model = Drawn(7), yarib.Table(), yarib.Table(), Model(1_000_000)
+        table, other = self.made(), yarib.Table()
         with tempfile.TemporaryDirectory() as folder:
             path = pathlib.Path(folder, "one.feed")
-            for _ in range(200):
-                model.apply(draw.feed(), "add", draw.prefix(), *draw.put())
-            for one in model.listed():
-                table.add(one[:2], one.via, one.pref, one.feed)
             for feed in (1, 2, 3, yarib.MAX_FEED, 5):
                 table.save(path, feed)
-                self.assertEqual(other.load(str(path), feed), len(model.own(feed)))
-            self.assert_same(other.routes(), model.listed())
+                self.assertEqual(other.load(str(path), feed), len(table.routes(feed)))
+            self.assert_same(other.routes(), table.routes())
             path.write_text("version 2\n\n# said\nadd 10.0.0.0/8 1 discard\nadd 11.0.0.0/8 2 192.0.2.1")
             other.purge(5)
             other.load(path, 5)
             self.assert_same(other.routes(5), [yarib.Route(10 << 24, 8, 5, 1, None), yarib.Route(11 << 24, 8, 5, 2, 0xC0000201)])
             with self.assertRaisesRegex(yarib.Exists, "one.feed:4: feed 5: 'add 10.0.0.0/8 1 discard'"):
                 other.load(path, 5)
-            for line, said in (("add 12.0.0.0/8 01 discard", "not an add line"), ("add 12.0.0.0/8 1 discard\r", "not an add line"),
-                               ("add 12.0.0.1/8 1 discard", "bad bits"), ("purge", "not an add line"), ("add 12.0.0.0/33 1 discard", "bad length"),
-                               ("add 12.0.0.0/8  1 discard", "not an add line"), ("withdraw 10.0.0.0/8", "not an add line"),
-                               ("version 2", "not an add line"), ("#" * 129, "not an add line"), ("#" * 999, "not an add line"), ("add 12.0.0.0/8 -1 discard", "not an add line"),
-                               ("add 12.0.0.0/8 4294967296 discard", "not an add line"), ("add 12.0.0.0/8 1 \u00e4", "not an add line"),
-                               ("add 12.0.0.0/8 1 discard\0", "not an add line"), ("\0", "not an add line")):
-                path.write_text(f"version 2\n{line}\n", encoding="utf-8")
-                with self.assertRaisesRegex(yarib.Invalid, f"one.feed:2: {said}: ") as caught:
-                    other.load(path, 6)
-                said = str(caught.exception)
-                self.assertTrue(len(said.splitlines()) == 1 and len(said) < len(folder) + 200, said)
-            path.write_text("add 12.0.0.0/8 1 discard\n")
-            self.assertRaisesRegex(yarib.Invalid, "one.feed:1: ", other.load, path, 6)
-            self.assertEqual(other.routes(6), [])
+            self.load_texts(path)
             path.write_text("version 2\nadd 1.0.0.0/8 1 discard\nadd 2.0.0.0/8 1 discard\n")
             for kind in (yarib.Table, yarib.ConcurrentTable):
                 small = kind(1)
@@ -707,32 +667,39 @@ class Conventions(Limited):
             lines = path.read_text().split("\n")
             self.assertEqual((len(lines), lines[0], lines[-2:]), (50_002, "version 2", ["add 12.52.240.0/20 49999 0.0.195.79", ""]))
 
+    def deal(self, source, draw, words, answer):
+        """Executes a command of a source, and compares what it returns."""
+        if words[0] == "purge":
+            return self.assert_same(source.purge(), outcome_in(answer).count)
+        _, prefix, *offer = draw.command(*command_in(["add" if words[0] == "put" else words[0], *words[1:]]))
+        call = getattr(source, words[0])
+        if words[0] == "put":
+            self.assertIs(call(prefix, *offer[::-1]), answer[-1] == "added")
+        elif error := ERRORS.get(answer[0]):
+            self.assertRaises(error, call, prefix, *offer[::-1])
+        else:
+            call(prefix, *offer[::-1])
+
+    def compare_dealt(self, table, source, draw, call, answer):
+        """Compares what a call of a source, or of its table, returns. The feeds of the source are its first one."""
+        one_feed = lambda route: route and route._replace(feed=source.feeds[0] if route.feed in source.feeds else route.feed)
+        name, *words = call
+        if name == "deal":
+            self.deal(source, draw, words, answer)
+        elif name == "apply":
+            outcome = table.apply(int(words[0]), *draw.command(*command_in(words[1:])))
+            self.assert_same(outcome._replace(route=one_feed(outcome.route)), outcome_in(answer))
+        elif name == "look_up":
+            self.assert_same(one_feed(table.look_up(draw.address(address_in(*words)))), route_in(*answer))
+        else:
+            self.assert_same(list(map(one_feed, (table if name == "routes" else source).routes())), routes_in(answer))
+
     def test_a_source_of_more_routes_than_a_feed_may_have(self):
-        draw, model, table = Drawn(9), Model(1_000_000), yarib.Table(1_000_000)
-        source = yarib.Source(table, 3, 3)
-        one_feed = lambda route: route and route._replace(feed=3 if route.feed in (3, 4, 5) else route.feed)
-        for _ in range(300):
-            name = draw.choice(("add", "add", "put", "put", "replace", "withdraw"))
-            prefix, (pref, via) = draw.prefix(), draw.put()
-            words = (pref, via) if name != "withdraw" else ()
-            given = (draw.given_prefix(prefix), *(words and (via, pref)))
-            if name == "put":
-                is_there = model.apply(3, "replace", prefix, *words).said == "replaced"
-                self.assertIs(source.put(*given), not is_there)
-                if not is_there:
-                    model.apply(3, "add", prefix, *words)
-            elif error := ERRORS.get(model.apply(3, name, prefix, *words).said):
-                self.assertRaises(error, getattr(source, name), *given)
-            else:
-                getattr(source, name)(*given)
-            feed, prefix, via = draw.choice((1, 2, 6)), draw.prefix(), draw.via()
-            self.assertEqual(table.apply(feed, "add", prefix, pref, via), model.apply(feed, "add", prefix, pref, via))
-            self.assert_same(list(map(one_feed, table)), model.listed())
-            address = draw.base_of()
-            self.assert_same(one_feed(table.look_up(address)), model.best(address))
-        self.assert_same(list(map(one_feed, source.routes())), sorted(model.selected("routes", feed=3)))
-        self.assertEqual(source.purge(), len(model.own(3)))
-        self.assertEqual(source.routes(), [])
+        for (_, first, feeds), lines in sections("source"):
+            draw, table = Drawn(int(first)), yarib.Table(1_000_000)
+            source = yarib.Source(table, int(first), int(feeds))
+            for call, answer in lines:
+                self.compare_dealt(table, source, draw, call, answer)
         for first, feeds in ((0, 2), (yarib.MAX_FEED, 2), (1, 0), (1, yarib.MAX_FEED + 1), (yarib.MAX_FEED - 1, 3)):
             self.assertRaises(ValueError, yarib.Source, table, first, feeds)
         self.assertEqual(yarib.Source(table, 1, yarib.MAX_FEED).feeds, range(1, yarib.MAX_FEED + 1))

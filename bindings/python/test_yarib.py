@@ -791,38 +791,5 @@ class Threads(unittest.TestCase):
         self.assertRaises(yarib.Refused, len, table)
 
 
-class Model(unittest.TestCase):
-    """Random commands of several feeds, beside the model of the program's tests."""
-
-    def test_replies_and_routes_are_the_model_s(self):
-        for seed in range(20):
-            draw = random.Random(seed)
-            limit = draw.choice((3, 8, 1000))
-            table, model = yarib.Table(limit, journal=seed % 2 == 1), table_model.Table(limit)
-            for _ in range(400):
-                feed, words = draw.randrange(1, yarib.MAX_FEED + 1) if seed % 4 else draw.randrange(1, 4), self.words(draw)
-                self.assertEqual(self.said(table.apply(feed, *self.typed(words))), model.apply(feed, words),
-                                 (seed, words))
-
-    def words(self, draw):
-        length = draw.choice((0, 1, 2, 3, 30, 31, 32))
-        base = draw.choice((0, 1 << 31, 10 << 24, 0xFFFFFFF8)) + draw.randrange(8)
-        prefix = f"{ADDRESS(base >> 32 - length << 32 - length)}/{length}"
-        put = [prefix, str(draw.randrange(3)), str(ADDRESS(draw.randrange(4)))]
-        kinds = {"add": put, "replace": put, "withdraw": [prefix], "lookup": [str(ADDRESS(base))],
-                 "dump": [], "purge": []}
-        name = draw.choices(list(kinds), (12, 4, 4, 4, 1, 1))[0]
-        return [name, *kinds[name]]
-
-    def typed(self, words):
-        name, *rest = words
-        return (name, rest[0], int(rest[1]), rest[2]) if name in ("add", "replace") else words
-
-    def said(self, outcome):
-        if outcome.said == "found":
-            return f"route {outcome.route}"
-        return f"{outcome.said} {outcome.count}" if outcome.said in ("dumped", "purged") else outcome.said
-
-
 if __name__ == "__main__":
     unittest.main()

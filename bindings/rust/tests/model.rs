@@ -1,9 +1,12 @@
-//! Random commands beside a model of the table in plain Rust, and what the crate adds to the library's calls.
-#![allow(clippy::cast_possible_truncation, clippy::too_many_lines)]
+//! The calls of both tables: their answers compared with test vectors, and what the crate adds to the library's calls.
+#![allow(clippy::too_many_lines)]
 
 mod routes;
 
-use routes::{adding, line, place, rank, route, shown, Draw, Model};
+use routes::{
+    adding, address, bytes, changed, command, found, hop, line, number, place, prefix, rank, reply,
+    route, sections, shown, Line,
+};
 use std::collections::BTreeSet;
 use std::net::Ipv4Addr;
 use std::sync::atomic::{AtomicBool, Ordering};
@@ -11,79 +14,68 @@ use std::sync::RwLock;
 use std::thread;
 use yarib::{
     Answer, By, Command, ConcurrentTable, Error, Fib, FileError, Hop, Part, Prefix, Reply, Route,
-    RoutesFrom, Selection, Source, Table, View, FIRST_ROUTER, MAX_FEED, NUMBER_DISCARD,
-    NUMBER_NO_ROUTE,
+    Selection, Source, Table, View, FIRST_ROUTER, MAX_FEED, NUMBER_DISCARD, NUMBER_NO_ROUTE,
 };
+
+/// The commands of `put`: a journal has the second one if the first finds a route.
+const PUT: [fn(Prefix, u32, Hop) -> Command; 2] = [Command::Add, Command::Replace];
 
 #[test]
 fn replies_and_routes_are_the_models() {
-    for seed in 0..20 {
-        let mut draw = Draw(seed);
-        let limit = [3, 1_000_000][seed as usize % 2];
-        let mut model = Model::new(limit);
+    for (at, (head, lines)) in sections("table").into_iter().enumerate() {
+        let limit = number(head[1]);
         let mut plain = Table::new(limit).unwrap();
+        if at % 8 == 3 {
+            plain.fib_attach().unwrap();
+        }
+        let (mut commands, mut replies) = (Vec::new(), Vec::new());
+        for (call, answer) in &lines {
+            match &call[..] {
+                ["apply", feed, words @ ..] => {
+                    commands.push((number(feed), command(words)));
+                    replies.push(reply(answer));
+                    let found = plain.apply(number(feed), command(words));
+                    assert_eq!(found, reply(answer), "{at}: {call:?}");
+                }
+                ["put", feed, to, pref, via] => {
+                    let (feed, to, pref, via) = (number(feed), prefix(to), number(pref), hop(via));
+                    let last = &answer[answer.len() - 1..];
+                    assert_eq!(plain.put(feed, to, pref, via), changed(last), "{call:?}");
+                    for (make, word) in PUT.iter().zip(answer) {
+                        commands.push((feed, make(to, pref, via)));
+                        replies.push(reply(&[*word]));
+                    }
+                }
+                _ => compare_read(&plain, call, answer),
+            }
+            if at % 8 == 1 && call[0] == "look_up_each" {
+                compare_fib(&plain.fib_new().unwrap(), call, answer);
+            }
+        }
         let mut journaled = Table::with_journal(limit).unwrap();
-        let asked: Vec<(u32, Command)> = (0..500)
-            .map(|_| (1 + draw.below(5), draw.command()))
-            .collect();
-        for (feed, command) in &asked {
-            let wanted = model.apply(*feed, *command);
-            assert_eq!(
-                plain.apply(*feed, *command),
-                Ok(wanted),
-                "{seed}: {command:?}"
-            );
-        }
-        let replies = journaled.apply_each(&asked).unwrap();
-        let entries = journaled.journal().unwrap();
-        assert_eq!(entries.len(), asked.len());
-        for ((reply, entry), (feed, command)) in replies.iter().zip(&entries).zip(&asked) {
-            assert_eq!(
-                (Ok(entry.reply), entry.feed, entry.command),
-                (*reply, *feed, *command)
-            );
-        }
-        assert_eq!(plain.routes().unwrap(), model.listed());
-        assert_eq!(plain.count().unwrap(), model.routes.len());
-        check_parts(&|asked| plain.select(asked), &model, &mut draw);
-        check_pages(
-            &|prefix, preference, feed| plain.routes_from(prefix, preference, feed),
-            &model,
-            &mut draw,
-        );
+        compare_journal(&mut journaled, &commands, &replies);
+        assert_eq!(journaled.routes(), plain.routes());
         assert_eq!(journaled.differences(&plain, By::Route).count(), 0);
-        let addresses: Vec<u32> = (0..300)
-            .map(|_| u32::from(draw.prefix().base()).wrapping_add(draw.below(2)))
-            .collect();
-        let wanted: Vec<Option<Route>> = addresses
-            .iter()
-            .map(|address| model.best(*address))
-            .collect();
-        assert_eq!(plain.look_up_each(&addresses).unwrap(), wanted);
-        let forms: Vec<Ipv4Addr> = addresses.iter().copied().map(Ipv4Addr::from).collect();
-        assert_eq!(plain.look_up_addresses(&forms).unwrap(), wanted);
-        assert_eq!(plain.look_up_addresses(&[]), Ok(Vec::new()));
-        let hops = hops_of(&wanted);
-        let mut found = vec![0; hops.len()];
-        plain.hops(&addresses, NONE, DROP, &mut found).unwrap();
-        assert_eq!(found, hops);
-        if seed == 7 {
-            let forwarding = plain.fib_new().unwrap();
-            found.fill(0);
-            forwarding.hops(&addresses, NONE, DROP, &mut found).unwrap();
-            assert_eq!(found, hops);
-            compare_view(&forwarding.view_new().unwrap(), &addresses, &wanted);
-            assert_eq!(forwarding.look_up_each(&addresses).unwrap(), wanted);
-            assert_eq!(forwarding.look_up_addresses(&forms).unwrap(), wanted);
-        }
-        for (address, best) in addresses.iter().zip(&wanted).take(20) {
-            let mut listed = model.listed();
-            listed.retain(|route| route.prefix.contains(Ipv4Addr::from(*address)));
-            listed.sort_by_key(rank);
-            let found = plain.look_up_all(Ipv4Addr::from(*address)).unwrap();
-            assert_eq!((found.first(), &found), (best.as_ref(), &listed));
-        }
     }
+}
+
+/// Executes all commands in one call, and compares their replies and the journal.
+fn compare_journal(
+    table: &mut Table,
+    commands: &[(u32, Command)],
+    replies: &[yarib::Result<Reply>],
+) {
+    assert_eq!(table.apply_each(commands).unwrap(), replies);
+    let answered = commands.iter().zip(replies);
+    let wanted: Vec<_> = answered
+        .filter_map(|(&(feed, command), reply)| Some((feed, command, reply.ok()?)))
+        .collect();
+    let entries = table.journal().unwrap();
+    let found: Vec<_> = entries
+        .iter()
+        .map(|one| (one.feed, one.command, one.reply))
+        .collect();
+    assert_eq!(found, wanted);
 }
 
 /// The numbers of no route and of a discard in these tests.
@@ -117,166 +109,154 @@ fn compare_view(view: &View, addresses: &[u32], wanted: &[Option<Route>]) {
     assert!(view.memory() >= (1 << 26) + 12);
 }
 
-fn contains(prefix: Prefix, other: Prefix) -> bool {
-    let past = 32 - u32::from(prefix.len());
-    let first = |one: Prefix| u64::from(u32::from(one.base())) >> past;
-    prefix.len() <= other.len() && first(prefix) == first(other)
-}
-
-/// Parts of the table are those of the model's list.
-fn check_parts(
-    select: &dyn Fn(Selection) -> yarib::Result<Vec<Route>>,
-    model: &Model,
-    draw: &mut Draw,
-) {
-    for _ in 0..20 {
-        let prefix = draw.prefix();
-        let feed = [None, Some(1 + draw.below(5))][draw.below(2) as usize];
-        let hop = [None, Some(draw.hop())][draw.below(2) as usize];
-        let only_best = draw.below(2) == 1;
-        let mut listed = model.listed();
-        if only_best {
-            listed.dedup_by_key(|route| route.prefix);
-        }
-        listed.retain(|route| feed.map_or(true, |feed| route.feed == feed));
-        listed.retain(|route| hop.map_or(true, |hop| route.hop == hop));
-        let parts: [(Part, &dyn Fn(Prefix) -> bool); 4] = [
-            (Part::All, &|_| true),
-            (Part::Within(prefix), &|one| contains(prefix, one)),
-            (Part::Covering(prefix), &|one| contains(one, prefix)),
-            (Part::Exact(prefix), &|one| one == prefix),
-        ];
-        for (part, is_in) in parts {
-            let wanted: Vec<Route> = listed
-                .iter()
-                .filter(|route| is_in(route.prefix))
-                .copied()
-                .collect();
-            let asked = Selection {
-                part,
-                feed,
-                hop,
-                only_best,
-            };
-            assert_eq!(select(asked).unwrap(), wanted, "{asked:?}");
-        }
+/// Returns the selection that a call's words describe.
+fn selection(part: &str, to: &str, feed: &str, via: &str, only_best: &str) -> Selection {
+    Selection {
+        part: match part {
+            "all" => Part::All,
+            "within" => Part::Within(prefix(to)),
+            "covering" => Part::Covering(prefix(to)),
+            _ => Part::Exact(prefix(to)),
+        },
+        feed: Some(number(feed)).filter(|feed| *feed > 0),
+        hop: Some(via).filter(|via| *via != "any").map(hop),
+        only_best: only_best == "1",
     }
 }
 
-/// The routes from a place on are those of the model's list that don't stand before it.
-fn check_pages<'a>(
-    routes_from: &dyn Fn(Prefix, u32, u32) -> RoutesFrom<'a>,
-    model: &Model,
-    draw: &mut Draw,
-) {
-    for _ in 0..20 {
-        let from = (draw.prefix(), draw.below(4), draw.below(7));
-        let mut wanted = model.listed();
-        wanted.retain(|route| place(route) >= from);
-        let pages = routes_from(from.0, from.1, from.2);
-        let found: Vec<Route> = pages.map(Result::unwrap).collect();
-        assert_eq!(found, wanted, "{from:?}");
-    }
+/// Defines a function that compares what a call that reads a table of this type returns.
+macro_rules! compare_reads {
+    ($name:ident, $table:ty) => {
+        fn $name(table: &$table, call: &[&str], answer: &[&str]) {
+            let routes = || routes::routes(answer);
+            match *call {
+                ["count"] => assert_eq!(table.count(), answer[0].parse().map_err(|_| Error::Text)),
+                ["routes"] => assert_eq!(table.routes(), Ok(routes())),
+                ["look_up", asked] => {
+                    let asked = address(asked);
+                    assert_eq!(table.look_up(asked), Ok(found(answer[0])));
+                    let host = Prefix::from(asked);
+                    assert_eq!(table.look_up_prefix(host), Ok(found(answer[0])));
+                }
+                ["look_up_all", asked] => {
+                    assert_eq!(table.look_up_all(address(asked)), Ok(routes()));
+                }
+                ["look_up_prefix", asked] => {
+                    let answered = table.look_up_prefix(prefix(asked));
+                    assert_eq!(answered, Ok(found(answer[0])), "{call:?}");
+                }
+                ["select", part, to, feed, via, only_best] => {
+                    let asked = selection(part, to, feed, via, only_best);
+                    assert_eq!(table.select(asked), Ok(routes()), "{asked:?}");
+                }
+                ["routes_from", from, pref, feed] => {
+                    let pages = table.routes_from(prefix(from), number(pref), number(feed));
+                    let listed: Vec<Route> = pages.map(Result::unwrap).collect();
+                    assert_eq!(listed, routes(), "{call:?}");
+                }
+                ["look_up_each", ref asked @ ..] => {
+                    let forms: Vec<Ipv4Addr> = asked.iter().map(|one| address(one)).collect();
+                    let asked: Vec<u32> = forms.iter().copied().map(u32::from).collect();
+                    let wanted: Vec<_> = answer.iter().map(|one| found(one)).collect();
+                    assert_eq!(table.look_up_each(&asked), Ok(wanted.clone()));
+                    assert_eq!(table.look_up_addresses(&forms), Ok(wanted.clone()));
+                    let mut hops = vec![0; asked.len()];
+                    table.hops(&asked, NONE, DROP, &mut hops).unwrap();
+                    assert_eq!(hops, hops_of(&wanted));
+                    match table.view_new() {
+                        Ok(view) => compare_view(&view, &asked, &wanted),
+                        Err(error) => {
+                            let refused = (error, table.fib_is_attached());
+                            assert_eq!(refused, (Error::Kind, Ok(false)));
+                        }
+                    }
+                }
+                ["save", feed] => {
+                    let (feed, mut text) = (number(feed), Vec::new());
+                    table.save(feed, &mut text).unwrap();
+                    let wanted = String::from("version 2\n") + &listed_lines(&routes());
+                    assert_eq!(String::from_utf8(text).unwrap(), wanted);
+                    #[allow(unused_mut)]
+                    let mut other = <$table>::new(1_000_000).unwrap();
+                    // The last line may lack its end.
+                    let count = other.load(feed, wanted.trim_end().as_bytes()).unwrap();
+                    assert_eq!((count, other.routes()), (routes().len(), Ok(routes())));
+                }
+                _ => panic!("{call:?}"),
+            }
+        }
+    };
+}
+
+compare_reads!(compare_read, Table);
+compare_reads!(compare_concurrent_read, ConcurrentTable);
+
+fn listed_lines(routes: &[Route]) -> String {
+    routes.iter().map(line).collect()
+}
+
+fn compare_fib(fib: &Fib, call: &[&str], answer: &[&str]) {
+    let forms: Vec<Ipv4Addr> = call[1..].iter().map(|one| address(one)).collect();
+    let asked: Vec<u32> = forms.iter().copied().map(u32::from).collect();
+    let wanted: Vec<_> = answer.iter().map(|one| found(one)).collect();
+    let mut hops = vec![0; asked.len()];
+    fib.hops(&asked, NONE, DROP, &mut hops).unwrap();
+    assert_eq!(hops, hops_of(&wanted));
+    compare_view(&fib.view_new().unwrap(), &asked, &wanted);
+    assert_eq!(fib.look_up_each(&asked), Ok(wanted.clone()));
+    assert_eq!(fib.look_up_addresses(&forms), Ok(wanted));
+}
+
+/// Executes a command by the call of its own, if there is one, and compares what it returns.
+fn execute(table: &ConcurrentTable, call: &[&str], answer: &[&str]) {
+    let (feed, asked) = (number(call[1]), command(&call[2..]));
+    let (found, wanted) = match asked {
+        Command::Add(to, pref, via) => (table.add(feed, to, pref, via), changed(answer)),
+        Command::Replace(to, pref, via) => (table.replace(feed, to, pref, via), changed(answer)),
+        Command::Withdraw(to) => (table.withdraw(feed, to), changed(answer)),
+        other => (table.apply(feed, other), reply(answer)),
+    };
+    assert_eq!(found, wanted, "{call:?}");
+}
+
+/// Executes commands that follow one another in one call, and compares their replies.
+fn execute_each(table: &ConcurrentTable, lines: &[Line]) {
+    let asked: Vec<_> = lines
+        .iter()
+        .map(|(call, _)| (number(call[1]), command(&call[2..])))
+        .collect();
+    let wanted: Vec<_> = lines.iter().map(|(_, answer)| reply(answer)).collect();
+    assert_eq!(table.apply_each(&asked), Ok(wanted));
 }
 
 /// The commands of a concurrent table, by all its calls.
 #[test]
 fn a_concurrent_table_answers_as_the_model() {
-    for seed in 0..12 {
-        let (mut draw, limit) = (Draw(4000 + seed), [3, 1_000_000][seed as usize % 2]);
-        let mut model = Model::new(limit);
-        let table = ConcurrentTable::new(limit).unwrap();
-        let rounds = if seed % 4 == 3 {
+    for (at, (head, lines)) in sections("table").into_iter().enumerate() {
+        let table = ConcurrentTable::new(number(head[1])).unwrap();
+        if at % 8 == 3 {
             table.fib_attach().unwrap();
             assert!(table.memory().unwrap() >= 2 << 26);
-            20 // a change of a short prefix writes up to 128 MB of forwarding tables
-        } else {
-            80
-        };
-        for _ in 0..rounds {
-            let (feed, command) = (1 + draw.below(5), draw.command());
-            let found = match command {
-                Command::Add(prefix, preference, hop) => table.add(feed, prefix, preference, hop),
-                Command::Replace(prefix, preference, hop) => {
-                    table.replace(feed, prefix, preference, hop)
+        }
+        let mut rest = &lines[..];
+        while let Some((call, answer)) = rest.first() {
+            let commands = rest.iter().take_while(|(call, _)| call[0] == "apply");
+            let size = commands.count().max(1);
+            match call[..] {
+                ["apply", ..] if size == 1 => execute(&table, call, answer),
+                ["apply", ..] => execute_each(&table, &rest[..size]),
+                ["put", feed, to, pref, via] => {
+                    let put = table.put(number(feed), prefix(to), number(pref), hop(via));
+                    assert_eq!(put, changed(&answer[answer.len() - 1..]), "{call:?}");
                 }
-                Command::Withdraw(prefix) => table.withdraw(feed, prefix),
-                other => table.apply(feed, other),
-            };
-            let wanted = match model.apply(feed, command) {
-                Reply::Exists => Err(Error::Exists),
-                Reply::Full => Err(Error::Full),
-                Reply::Missing => Err(Error::Missing),
-                other => Ok(other),
-            };
-            assert_eq!(found, wanted);
-            let asked: Vec<(u32, Command)> = (0..draw.below(6))
-                .map(|_| (1 + draw.below(5), draw.command()))
-                .chain([(MAX_FEED + 1, Command::Dump)])
-                .collect();
-            let wanted: Vec<_> = asked
-                .iter()
-                .map(|(feed, command)| match feed {
-                    feed if *feed > MAX_FEED => Err(Error::Number),
-                    _ => Ok(model.apply(*feed, *command)),
-                })
-                .collect();
-            assert_eq!(table.apply_each(&asked), Ok(wanted));
-            let (prefix, feed, preference) = (draw.prefix(), 1 + draw.below(5), draw.below(3));
-            let is_there = model.routes.contains_key(&(prefix, feed));
-            let made = if is_there {
-                Command::Replace
-            } else {
-                Command::Add
-            };
-            let wanted = match model.apply(feed, made(prefix, preference, Hop::Discard)) {
-                Reply::Full => Err(Error::Full),
-                other => Ok(other),
-            };
-            assert_eq!(table.put(feed, prefix, preference, Hop::Discard), wanted);
+                _ => compare_concurrent_read(&table, call, answer),
+            }
+            rest = &rest[size..];
         }
-        compare_reads(&table, &model, &mut draw);
-        let other = ConcurrentTable::new(limit).unwrap();
-        for feed in 1..=5 {
-            let mut text = Vec::new();
-            table.save(feed, &mut text).unwrap();
-            other.load(feed, &text[..]).unwrap();
-        }
-        assert_eq!(other.routes().unwrap(), model.listed());
+        let count = table.count().unwrap();
+        assert!(table.memory().unwrap() >= 2 * 62 * count.min(1));
     }
     assert_eq!(ConcurrentTable::new(0).unwrap_err(), Error::Number);
-}
-
-fn compare_reads(table: &ConcurrentTable, model: &Model, draw: &mut Draw) {
-    assert_eq!(table.routes().unwrap(), model.listed());
-    assert_eq!(table.count().unwrap(), model.routes.len());
-    assert!(table.memory().unwrap() >= 2 * 62 * model.routes.len().min(1));
-    check_parts(&|asked| table.select(asked), model, draw);
-    check_pages(
-        &|prefix, preference, feed| table.routes_from(prefix, preference, feed),
-        model,
-        draw,
-    );
-    let addresses: Vec<Ipv4Addr> = (0..100).map(|_| draw.prefix().base()).collect();
-    let numbers: Vec<u32> = addresses.iter().copied().map(u32::from).collect();
-    let wanted: Vec<Option<Route>> = numbers.iter().map(|one| model.best(*one)).collect();
-    assert_eq!(table.look_up_each(&numbers).unwrap(), wanted);
-    assert_eq!(table.look_up_addresses(&addresses).unwrap(), wanted);
-    let mut found = vec![0; numbers.len()];
-    table.hops(&numbers, NONE, DROP, &mut found).unwrap();
-    assert_eq!(found, hops_of(&wanted));
-    match table.view_new() {
-        Ok(view) => compare_view(&view, &numbers, &wanted),
-        Err(error) => assert_eq!((error, table.fib_is_attached()), (Error::Kind, Ok(false))),
-    }
-    for (address, best) in addresses.iter().zip(&wanted) {
-        assert_eq!(table.look_up(*address).unwrap(), *best);
-        assert_eq!(table.look_up_prefix(Prefix::from(*address)).unwrap(), *best);
-        let mut listed = model.listed();
-        listed.retain(|route| route.prefix.contains(*address));
-        listed.sort_by_key(rank);
-        assert_eq!(table.look_up_all(*address).unwrap(), listed);
-    }
 }
 
 #[test]
@@ -303,8 +283,7 @@ fn pages_follow_one_another() {
 }
 
 #[test]
-fn a_followed_table_answers_as_before() {
-    let (mut draw, mut model) = (Draw(5), Model::new(50));
+fn a_followed_table_counts_its_memory() {
     let mut table = Table::new(50).unwrap();
     assert_eq!(
         (table.memory(), table.fib_is_attached()),
@@ -312,19 +291,7 @@ fn a_followed_table_answers_as_before() {
     );
     table.fib_attach().unwrap();
     assert_eq!(table.fib_is_attached(), Ok(true));
-    assert!(table.memory().unwrap() >= 1 << 26);
-    for _ in 0..300 {
-        let (feed, command) = (1 + draw.below(3), draw.command());
-        let wanted = model.apply(feed, command);
-        assert_eq!(table.apply(feed, command), Ok(wanted));
-        for _ in 0..10 {
-            let address = u32::from(draw.prefix().base()).wrapping_add(draw.below(2));
-            assert_eq!(
-                table.look_up(Ipv4Addr::from(address)).unwrap(),
-                model.best(address)
-            );
-        }
-    }
+    table.put(1, all_addresses(), 0, Hop::Discard).unwrap();
     assert!(table.memory().unwrap() >= 1 << 26);
     assert_eq!(
         Table::with_journal(5).unwrap().fib_attach(),
@@ -522,7 +489,7 @@ fn threads_look_up_beside_changes() {
         while !ended.load(Ordering::Relaxed) {
             let found = table.read().unwrap().look_up(eight.base()).unwrap();
             let hop = found.expect("the prefix covers it").hop;
-            assert!(number(hop) >= number(last));
+            assert!(router_of(hop) >= router_of(last));
             last = hop;
         }
     };
@@ -541,74 +508,43 @@ fn threads_look_up_beside_changes() {
     assert_eq!(found.map(|route| route.hop), Some(via(changes)));
 }
 
-fn number(hop: Hop) -> u32 {
+fn router_of(hop: Hop) -> u32 {
     match hop {
         Hop::Via(router) => u32::from(router),
         Hop::Discard => u32::MAX,
     }
 }
 
-/// Returns what a model's table answers for an address, as a comparison gives it.
-fn answer(model: &Model, by: By, address: u32) -> Answer {
-    match (model.best(address), by) {
-        (None, _) => Answer::NoRoute,
-        (Some(route), By::Hop) => Answer::Hop(route.hop),
-        (Some(route), By::Route) => Answer::Route(route),
-        (_, other) => panic!("{other:?}"),
+/// Returns what a table answers for the addresses of a range.
+fn answer_in(word: &str, by: By) -> Answer {
+    match (word, by) {
+        ("-", _) => Answer::NoRoute,
+        (word, By::Hop) => Answer::Hop(hop(word)),
+        (word, _) => Answer::Route(found(word).unwrap()),
     }
-}
-
-/// Between adjacent boundaries of all prefixes, each table gives one answer.
-fn differences(old: &Model, new: &Model, by: By) -> Vec<(u32, u32, Answer, Answer)> {
-    let mut ends = BTreeSet::from([0, 1 << 32]);
-    for (prefix, _) in old.routes.keys().chain(new.routes.keys()) {
-        let base = u64::from(u32::from(prefix.base()));
-        ends.extend([base, base + (1 << (32 - prefix.len()))]);
-    }
-    let mut found: Vec<(u32, u32, Answer, Answer)> = Vec::new();
-    for (first, beyond) in ends.iter().zip(ends.iter().skip(1)) {
-        let (first, last) = (*first as u32, (*beyond - 1) as u32);
-        let sides = (answer(old, by, first), answer(new, by, first));
-        match found.last_mut() {
-            Some(one) if (one.2, one.3) == sides => one.1 = last,
-            _ => found.push((first, last, sides.0, sides.1)),
-        }
-    }
-    found.retain(|one| one.2 != one.3);
-    found
 }
 
 #[test]
 fn both_sides_of_each_difference() {
-    for seed in 0..40 {
-        let mut draw = Draw(1000 + seed);
-        let made = || Model::new(99);
-        let mut models = [made(), made()];
+    let side = |name: &str| usize::from(name == "new");
+    for (_, lines) in sections("pair") {
         let mut tables = [Table::new(99).unwrap(), Table::with_journal(99).unwrap()];
-        for _ in 0..[1, 4, 20][seed as usize % 3] {
-            let (feed, command) = (1 + draw.below(5), draw.command());
-            for side in 0..2 {
-                if draw.below(3) > 0 {
-                    let wanted = models[side].apply(feed, command);
-                    assert_eq!(tables[side].apply(feed, command), Ok(wanted));
-                }
-            }
-        }
-        for by in [By::Hop, By::Route] {
-            for (old, new) in [(0, 1), (1, 0), (0, 0)] {
-                let found: Vec<_> = tables[old]
-                    .differences(&tables[new], by)
+        for (call, answer) in &lines {
+            if let ["differences", old, new, by] = call[..] {
+                let by = if by == "hop" { By::Hop } else { By::Route };
+                let found: Vec<_> = tables[side(old)]
+                    .differences(&tables[side(new)], by)
                     .map(Result::unwrap)
-                    .map(|one| {
-                        (
-                            u32::from(one.first),
-                            u32::from(one.last),
-                            one.before,
-                            one.after,
-                        )
-                    })
+                    .map(|one| (one.first, one.last, one.before, one.after))
                     .collect();
-                assert_eq!(found, differences(&models[old], &models[new], by));
+                let range = |words: &[&str]| {
+                    let (before, after) = (answer_in(words[2], by), answer_in(words[3], by));
+                    (address(words[0]), address(words[1]), before, after)
+                };
+                assert_eq!(found, answer.chunks(4).map(range).collect::<Vec<_>>());
+            } else {
+                let replied = tables[side(call[0])].apply(number(call[1]), command(&call[2..]));
+                assert_eq!(replied, reply(answer));
             }
         }
     }
@@ -738,39 +674,8 @@ fn commands_are_lines_of_a_feed_file() {
     }
 }
 
-/// Returns a model and a table after the same random commands.
-fn filled(seed: u64, feeds: u32) -> (Model, Table) {
-    let mut draw = Draw(seed);
-    let (mut model, mut table) = (Model::new(1_000_000), Table::new(1_000_000).unwrap());
-    for _ in 0..200 {
-        let (feed, command) = (1 + draw.below(feeds), draw.command());
-        assert_eq!(table.apply(feed, command), Ok(model.apply(feed, command)));
-    }
-    (model, table)
-}
-
 #[test]
-fn files_hold_every_route() {
-    for seed in 0..8 {
-        let (model, table) = filled(2000 + seed, 5);
-        let mut other = Table::new(1_000_000).unwrap();
-        for feed in 1..=6 {
-            let (mut wanted, mut count) = (String::from("version 2\n"), 0);
-            for one in model.listed().iter().filter(|one| one.feed == feed) {
-                wanted += &line(one);
-                count += 1;
-            }
-            let mut text = Vec::new();
-            table.save(feed, &mut text).unwrap();
-            assert_eq!(String::from_utf8(text).unwrap(), wanted);
-            // The last line may lack its end.
-            assert_eq!(
-                other.load(feed, wanted.trim_end().as_bytes()).unwrap(),
-                count
-            );
-        }
-        assert_eq!(other.routes().unwrap(), model.listed());
-    }
+fn files_that_are_refused() {
     let one = Table::new(5).unwrap();
     for feed in [0, MAX_FEED + 1] {
         let refused = one.save(feed, Vec::new());
@@ -794,73 +699,29 @@ impl std::io::Read for Broken<'_> {
 
 #[test]
 fn faulty_lines_are_named() {
-    let (good, long) = ("add 10.0.0.0/8 1 192.0.2.1\n", "#".repeat(128));
-    let with = |line: &str| format!("{good}{line}");
-    let cases = [
-        (String::new(), 0, 0, None),
-        (with(""), 0, 1, None),
-        (format!("\n# \u{e9}\n\n{good}{long}\n{long}"), 0, 1, None),
-        (with(&format!("{long}#\n")), 2, 1, None),
-        (with(&"#".repeat(9999)), 2, 1, None),
-        (with("version 2\n"), 2, 1, None),
-        (
-            format!("version 2\nadd 10.0.0.0/8 4294967295 discard\n{good}"),
-            3,
-            1,
-            Some(Error::Exists),
-        ),
-        ("add 10.0.0.0/8 1 discard\n".to_string(), 1, 0, None),
-        ("version 2\r\n".to_string(), 1, 0, None),
-        (with("add 11.0.0.0/8 1 192.0.2.1\r\n"), 2, 1, None),
-        (with("add  11.0.0.0/8 1 192.0.2.1\n"), 2, 1, None),
-        (with("replace 10.0.0.0/8 1 192.0.2.1\n"), 2, 1, None),
-        (with("add 11.0.0.0/8 1\n"), 2, 1, None),
-        (with("add 11.0.0.0/8 4294967296 192.0.2.1\n"), 2, 1, None),
-        (with("add 11.0.0.0/8 01 192.0.2.1\n"), 2, 1, None),
-        (with("add 11.0.0.0/8 +1 192.0.2.1\n"), 2, 1, None),
-        (with("add 11.0.0.0/8 1 192.0.2.01\n"), 2, 1, None),
-        (with("add 11.0.0.0/8 1 ::1\n"), 2, 1, None),
-        (
-            with("add 11.0.0.1/8 1 192.0.2.1\n"),
-            2,
-            1,
-            Some(Error::Bits),
-        ),
-        (
-            with("add 11.0.0.0/33 1 192.0.2.1\n"),
-            2,
-            1,
-            Some(Error::Length),
-        ),
-        (with("add ::/0 1 192.0.2.1\n"), 2, 1, None),
-        (with("\0\n"), 2, 1, None),
-        (with("add 11.0.0.0/8 1 192.0.2.1\0\n"), 2, 1, None),
-        (
-            with("\nadd 11.0.0.0/8 1 192.0.2.1\nadd 12.0.0.0/8 1 192.0.2.1\n"),
-            4,
-            2,
-            Some(Error::Full),
-        ),
+    let reasons = [
+        ("exists", Error::Exists),
+        ("full", Error::Full),
+        ("bits", Error::Bits),
+        ("length", Error::Length),
     ];
-    for (text, wanted, count, reason) in cases {
-        let mut table = Table::new(2).unwrap();
-        match table.load(3, text.as_bytes()) {
-            Ok(added) => assert_eq!((0, count, None), (wanted, added, reason), "{text}"),
-            Err(FileError::Line { line, text: found }) => {
-                assert_eq!((line, None), (wanted, reason), "{text}");
-                assert!(found.len() <= 129 && text.contains(&found));
+    for (call, answer) in sections("files").remove(0).1 {
+        let (mut table, text) = (Table::new(2).unwrap(), bytes(call[1]));
+        let (line, found, reason) = match table.load(3, &text[..]) {
+            Ok(count) => {
+                assert_eq!(count.to_string(), answer[0]);
+                (0, String::new(), "-")
             }
-            Err(FileError::Route {
-                line,
-                text: found,
-                error,
-            }) => {
-                assert_eq!((line, Some(error)), (wanted, reason), "{text}");
-                assert!(text.contains(&found));
+            Err(FileError::Line { line, text }) => (line, text, "line"),
+            Err(FileError::Route { line, text, error }) => {
+                let reason = reasons.iter().find(|one| one.1 == error);
+                (line, text, reason.expect("a route isn't added").0)
             }
             Err(other) => panic!("{other}"),
-        }
-        assert_eq!(table.count(), Ok(count), "{text}");
+        };
+        assert!(found.len() <= 129 && String::from_utf8_lossy(&text).contains(&found));
+        let (count, line) = (table.count().unwrap().to_string(), line.to_string());
+        assert_eq!([&count[..], &line[..], reason], answer[..], "{call:?}");
     }
     let mut table = Table::new(2).unwrap();
     let said = |refused: Result<usize, FileError>| refused.unwrap_err().to_string();
@@ -896,84 +757,73 @@ fn faulty_lines_are_named() {
     ));
 }
 
-/// The feeds 2 to 4 of a table, to which a source is dealt, answer as one feed 2 of the model.
-#[test]
-fn a_source_is_one_feed() {
-    let mut used = BTreeSet::new();
-    for seed in 0..12 {
-        let (mut draw, source) = (Draw(3000 + seed), Source::new(2, 3).unwrap());
-        let mut model = Model::new(1_000_000);
-        let mut table = Table::new(1_000_000).unwrap();
-        for _ in 0..300 {
-            let feed = [1, 2, 2, 2, 5][draw.below(5) as usize];
-            let command = draw.command();
-            let is_put = draw.below(2) == 1;
-            let found = match command {
-                _ if feed != 2 => table.apply(feed, command),
-                Command::Add(prefix, preference, hop)
-                    if is_put && model.routes.contains_key(&(prefix, 2)) =>
-                {
-                    let wanted = model.apply(2, Command::Replace(prefix, preference, hop));
-                    assert_eq!(source.put(&mut table, prefix, preference, hop), Ok(wanted));
-                    continue;
-                }
-                Command::Add(prefix, preference, hop) => {
-                    source.add(&mut table, prefix, preference, hop)
-                }
-                Command::Replace(prefix, preference, hop) => {
-                    source.replace(&mut table, prefix, preference, hop)
-                }
-                Command::Withdraw(prefix) => source.withdraw(&mut table, prefix),
-                Command::Purge => source.purge(&mut table).map(Reply::Purged),
-                _ => continue,
-            };
-            let wanted = match model.apply(feed, command) {
-                Reply::Exists if feed == 2 => Err(Error::Exists),
-                Reply::Missing if feed == 2 => Err(Error::Missing),
-                Reply::Found(route) => Ok(Reply::Found(route)),
-                other => Ok(other),
-            };
-            match (command, found) {
-                (Command::Lookup(_), Ok(Reply::Found(route))) => {
-                    assert_eq!(Ok(Reply::Found(as_one(route))), wanted);
-                }
-                _ => assert_eq!(found, wanted),
-            }
-        }
-        let routes = table.routes().unwrap();
-        for one in &routes {
-            if (2..=4).contains(&one.feed) {
-                assert_eq!(source.feed_of(one.prefix), one.feed);
-                used.insert(one.feed);
-            }
-        }
-        let listed: Vec<Route> = routes.into_iter().map(as_one).collect();
-        assert_eq!(listed, model.listed());
-        let own: Vec<Route> = source
-            .routes(&table)
-            .unwrap()
-            .into_iter()
-            .map(as_one)
-            .collect();
-        let mut wanted = model.listed();
-        wanted.retain(|one| one.feed == 2);
-        assert_eq!(own, wanted);
-        for _ in 0..50 {
-            let address = draw.prefix().base();
-            let found = table.look_up(address).unwrap().map(as_one);
-            assert_eq!(found, model.best(u32::from(address)));
-        }
+/// Executes a command of a source by its call.
+fn deal(source: Source, table: &mut Table, words: &[&str]) -> yarib::Result<Reply> {
+    match *words {
+        ["put", to, pref, via] => source.put(table, prefix(to), number(pref), hop(via)),
+        ["add", to, pref, via] => source.add(table, prefix(to), number(pref), hop(via)),
+        ["replace", to, pref, via] => source.replace(table, prefix(to), number(pref), hop(via)),
+        ["withdraw", to] => source.withdraw(table, prefix(to)),
+        _ => source.purge(table).map(Reply::Purged),
     }
-    assert_eq!(used.len(), 3);
 }
 
-fn as_one(route: Route) -> Route {
-    let feed = if (2..=4).contains(&route.feed) {
-        2
-    } else {
-        route.feed
-    };
-    Route { feed, ..route }
+/// The feeds of a table to which a source is dealt answer as one feed, the first of them.
+#[test]
+fn a_source_is_one_feed() {
+    for (head, lines) in sections("source") {
+        let (first, feeds) = (number(head[1]), number(head[2]));
+        let (source, mut used) = (Source::new(first, feeds).unwrap(), BTreeSet::new());
+        let mut table = Table::new(1_000_000).unwrap();
+        let mut as_one = |route: Route| {
+            if !(first..first + feeds).contains(&route.feed) {
+                return route;
+            }
+            assert_eq!(source.feed_of(route.prefix), route.feed);
+            used.insert(route.feed);
+            Route {
+                feed: first,
+                ..route
+            }
+        };
+        for (call, answer) in &lines {
+            match call[..] {
+                ["apply", feed, ref words @ ..] => {
+                    let replied = match table.apply(number(feed), command(words)) {
+                        Ok(Reply::Found(route)) => Ok(Reply::Found(as_one(route))),
+                        other => other,
+                    };
+                    assert_eq!(replied, reply(answer));
+                }
+                ["deal", "put", ..] => {
+                    let last = &answer[answer.len() - 1..];
+                    assert_eq!(deal(source, &mut table, &call[1..]), changed(last));
+                }
+                ["deal", ref words @ ..] => {
+                    assert_eq!(deal(source, &mut table, words), changed(answer));
+                }
+                ["look_up", asked] => {
+                    let best = table.look_up(address(asked)).unwrap();
+                    assert_eq!(best.map(&mut as_one), found(answer[0]));
+                }
+                ["routes"] => {
+                    let listed = table.routes().unwrap().into_iter();
+                    assert_eq!(
+                        listed.map(&mut as_one).collect::<Vec<_>>(),
+                        routes::routes(answer)
+                    );
+                }
+                _ => {
+                    let own = source.routes(&table).unwrap().into_iter();
+                    assert_eq!(
+                        own.map(&mut as_one).collect::<Vec<_>>(),
+                        routes::routes(answer)
+                    );
+                }
+            }
+        }
+        assert_eq!(used.len(), 3);
+    }
 }
 
 /// The feeds of these prefixes are the same in each language's package.

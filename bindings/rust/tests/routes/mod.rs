@@ -1,10 +1,9 @@
-//! Routes for the tests: how they are made, put in order and written, and a model of the table in plain Rust. Of the tests
-//! only this file names each field.
-#![allow(dead_code, clippy::cast_possible_truncation)]
+//! Routes for the tests: how they are made, put in order and written, and how the words of test vectors are read. Of the
+//! tests only this file names each field.
+#![allow(dead_code)]
 
-use std::collections::BTreeMap;
 use std::net::Ipv4Addr;
-use yarib::{Command, Hop, Prefix, Reply, Route};
+use yarib::{Command, Error, Hop, Prefix, Reply, Result, Route};
 
 pub fn route(prefix: Prefix, feed: u32, preference: u32, hop: Hop) -> Route {
     Route {
@@ -48,113 +47,105 @@ pub fn line(route: &Route) -> String {
     format!("add {base}/{len} {} {hop}\n", route.pref)
 }
 
-/// Numbers that look drawn, the same in each run.
-pub struct Draw(pub u64);
+/// A call and its answer, each as words.
+pub type Line = (Vec<&'static str>, Vec<&'static str>);
 
-impl Draw {
-    pub fn below(&mut self, size: u32) -> u32 {
-        self.0 = self
-            .0
-            .wrapping_mul(6_364_136_223_846_793_005)
-            .wrapping_add(1_442_695_040_888_963_407);
-        ((self.0 >> 32) % u64::from(size)) as u32
-    }
-
-    pub fn prefix(&mut self) -> Prefix {
-        let len = [0, 1, 8, 23, 24, 25, 31, 32][self.below(8) as usize];
-        let base = [0, 1 << 31, 10 << 24, 0xffff_ffe0][self.below(4) as usize] + self.below(32);
-        let kept = if len == 0 {
-            0
-        } else {
-            base >> (32 - len) << (32 - len)
-        };
-        Prefix::new(Ipv4Addr::from(kept), len).expect("no bit is set past the length")
-    }
-
-    pub fn hop(&mut self) -> Hop {
-        match self.below(3) {
-            0 => Hop::Discard,
-            last => Hop::Via(Ipv4Addr::from(last)),
+/// Returns the sections of this kind: the words of the first line of each, and its other lines. `common/table_vectors.py`
+/// writes and describes them.
+pub fn sections(kind: &str) -> Vec<(Vec<&'static str>, Vec<Line>)> {
+    let file = std::env::var("YARIB_VECTORS").expect("common/table_vectors.py says how to make it");
+    let text: &'static str = Box::leak(std::fs::read_to_string(file).unwrap().into_boxed_str());
+    let words = |text: &'static str| text.split_whitespace().collect();
+    let mut sections: Vec<(Vec<&str>, Vec<Line>)> = Vec::new();
+    for line in text.lines() {
+        match (line.split_once(" ="), sections.last_mut()) {
+            (Some((call, answer)), Some(section)) => section.1.push((words(call), words(answer))),
+            _ => sections.push((words(line), Vec::new())),
         }
     }
+    sections.retain(|(head, _)| head[0] == kind);
+    sections
+}
 
-    pub fn command(&mut self) -> Command {
-        match self.below(40) {
-            0..=19 => Command::Add(self.prefix(), self.below(3), self.hop()),
-            20..=25 => Command::Replace(self.prefix(), self.below(3), self.hop()),
-            26..=31 => Command::Withdraw(self.prefix()),
-            32..=37 => Command::Lookup(self.prefix().base()),
-            38 => Command::Dump,
-            _ => Command::Purge,
-        }
+/// Returns a text, which is `x` and hexadecimal digits.
+pub fn bytes(word: &str) -> Vec<u8> {
+    let digits = (1..word.len()).step_by(2);
+    digits
+        .map(|at| u8::from_str_radix(&word[at..at + 2], 16).unwrap())
+        .collect()
+}
+
+pub fn number(word: &str) -> u32 {
+    word.parse().unwrap()
+}
+
+pub fn address(word: &str) -> Ipv4Addr {
+    word.parse().unwrap()
+}
+
+pub fn prefix(word: &str) -> Prefix {
+    let (base, len) = word.split_once('/').unwrap();
+    Prefix::new(address(base), len.parse().unwrap()).unwrap()
+}
+
+pub fn hop(word: &str) -> Hop {
+    if word == "discard" {
+        Hop::Discard
+    } else {
+        Hop::Via(address(word))
     }
 }
 
-/// The sequential table from its definition: routes by prefix and feed.
-pub struct Model {
-    limit: u32,
-    pub routes: BTreeMap<(Prefix, u32), Route>,
+/// Returns a route, or `None` for `-`.
+pub fn found(word: &str) -> Option<Route> {
+    let fields: Vec<&str> = word.split(',').collect();
+    match fields[..] {
+        ["-"] => None,
+        [to, feed, pref, via] => Some(route(prefix(to), number(feed), number(pref), hop(via))),
+        _ => panic!("{word}"),
+    }
 }
 
-impl Model {
-    pub fn new(limit: u32) -> Model {
-        let routes = BTreeMap::new();
-        Model { limit, routes }
-    }
+pub fn routes(words: &[&str]) -> Vec<Route> {
+    words.iter().filter_map(|word| found(word)).collect()
+}
 
-    pub fn best(&self, address: u32) -> Option<Route> {
-        let covers = |prefix: Prefix| {
-            let past = 32 - u32::from(prefix.len());
-            u64::from(u32::from(prefix.base())) >> past == u64::from(address) >> past
-        };
-        self.routes
-            .values()
-            .filter(|route| covers(route.prefix))
-            .min_by_key(|route| rank(route))
-            .copied()
+pub fn command(words: &[&str]) -> Command {
+    match *words {
+        ["add", to, pref, via] => Command::Add(prefix(to), number(pref), hop(via)),
+        ["replace", to, pref, via] => Command::Replace(prefix(to), number(pref), hop(via)),
+        ["withdraw", to] => Command::Withdraw(prefix(to)),
+        ["lookup", asked] => Command::Lookup(address(asked)),
+        ["dump"] => Command::Dump,
+        ["purge"] => Command::Purge,
+        _ => panic!("{words:?}"),
     }
+}
 
-    pub fn apply(&mut self, feed: u32, command: Command) -> Reply {
-        let own = self.routes.keys().filter(|key| key.1 == feed).count();
-        match command {
-            Command::Add(prefix, preference, hop) => {
-                if self.routes.contains_key(&(prefix, feed)) {
-                    return Reply::Exists;
-                }
-                if own >= self.limit as usize {
-                    return Reply::Full;
-                }
-                self.routes
-                    .insert((prefix, feed), route(prefix, feed, preference, hop));
-                Reply::Added
-            }
-            Command::Replace(prefix, preference, hop) => match self.routes.get_mut(&(prefix, feed))
-            {
-                None => Reply::Missing,
-                Some(old) => {
-                    *old = route(prefix, feed, preference, hop);
-                    Reply::Replaced
-                }
-            },
-            Command::Withdraw(prefix) => match self.routes.remove(&(prefix, feed)) {
-                None => Reply::Missing,
-                Some(_) => Reply::Withdrawn,
-            },
-            Command::Lookup(address) => self
-                .best(u32::from(address))
-                .map_or(Reply::NoRoute, Reply::Found),
-            Command::Dump => Reply::Dumped(self.routes.len() as u32),
-            Command::Purge => {
-                self.routes.retain(|key, _| key.1 != feed);
-                Reply::Purged(own as u32)
-            }
-            other => panic!("{other:?}"),
-        }
-    }
+/// Returns the reply to a command, or the error if its feed is none.
+pub fn reply(words: &[&str]) -> Result<Reply> {
+    Ok(match *words {
+        ["added"] => Reply::Added,
+        ["exists"] => Reply::Exists,
+        ["full"] => Reply::Full,
+        ["replaced"] => Reply::Replaced,
+        ["withdrawn"] => Reply::Withdrawn,
+        ["missing"] => Reply::Missing,
+        ["found", word] => Reply::Found(found(word).unwrap()),
+        ["none"] => Reply::NoRoute,
+        ["dumped", count] => Reply::Dumped(number(count)),
+        ["purged", count] => Reply::Purged(number(count)),
+        ["range"] => return Err(Error::Number),
+        _ => panic!("{words:?}"),
+    })
+}
 
-    pub fn listed(&self) -> Vec<Route> {
-        let mut routes: Vec<Route> = self.routes.values().copied().collect();
-        routes.sort_by_key(place);
-        routes
+/// Returns what the call of a command's own returns: an error if the command changes nothing.
+pub fn changed(words: &[&str]) -> Result<Reply> {
+    match reply(words)? {
+        Reply::Exists => Err(Error::Exists),
+        Reply::Full => Err(Error::Full),
+        Reply::Missing => Err(Error::Missing),
+        other => Ok(other),
     }
 }
