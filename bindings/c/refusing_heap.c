@@ -1,14 +1,9 @@
 /* In the place of the heap's object: the call of this number finds no memory, and those behind it do. */
+#include "own_heap.h"
 #include "refusing_heap.h"
 
-#include <stdbool.h>
 #include <stdlib.h>
 #include <string.h>
-
-struct tried {
-    bool ok;
-    void *block;
-};
 
 long refused_call;
 static char nothing;

@@ -9,6 +9,13 @@
 /* Room for the text of a route and its end. */
 enum { MAX_ROUTE_TEXT = 100 };
 
+/* Returns the size of a table, or SIZE_MAX if the call fails. */
+static inline size_t memory_of(const yarib *table)
+{
+    size_t bytes;
+    return yarib_memory(table, &bytes) == YARIB_DONE ? bytes : SIZE_MAX;
+}
+
 /* A route to 10.0.0.0/8 of feed 1. */
 static const yarib_command add_eight = {
     .operation = YARIB_ADD, .feed = 1, .base = 10u << 24, .len = 8, .pref = 5, .hop = YARIB_VIA, .via = 7};

@@ -2,12 +2,8 @@
  * inside: so it is known which call is under way. Those that must not run return YARIB_BUSY and change nothing; reading calls run
  * during reading calls. */
 #include "check.h"
+#include "own_heap.h"
 #include "routes.h"
-
-struct tried {
-    bool ok;
-    void *block;
-};
 
 static yarib table = YARIB_EMPTY, other = YARIB_EMPTY, forwarding = YARIB_EMPTY;
 static void (*inside)(void);

@@ -20,13 +20,6 @@ static enum way way;
 /* Each feed's routes, from feed 1 on; the best routes that only the changes keep. */
 static yarib_route routes[FEEDS + 1][PREFIXES], plane[PREFIXES];
 
-static uint32_t draw(uint32_t below)
-{
-    static uint64_t last = 1;
-    last = last * 6364136223846793005u + 1442695040888963407u;
-    return (uint32_t)(last >> 33) % below;
-}
-
 static bool is_none(const yarib_route *route)
 {
     return route->hop == YARIB_NO_ROUTE;
@@ -86,9 +79,9 @@ static void install(const yarib_change *change, int prefix)
 
 static void change_one(void)
 {
-    int prefix = (int)draw(PREFIXES);
-    yarib_command command = put_command(YARIB_ADD + draw(3), 1 + draw(FEEDS), prefixes[prefix].base, prefixes[prefix].len, draw(3), draw(2));
-    if (draw(8) == 0) command.hop = YARIB_DISCARD;
+    int prefix = (int)(draw() % PREFIXES);
+    yarib_command command = put_command(YARIB_ADD + draw() % 3, 1 + draw() % FEEDS, prefixes[prefix].base, prefixes[prefix].len, draw() % 3, draw() % 2);
+    if (draw() % 8 == 0) command.hop = YARIB_DISCARD;
     yarib_route before = best_of(prefix, 0), after;
     yarib_reply reply;
     yarib_change change;
@@ -106,7 +99,7 @@ static void change_one(void)
 /* The changes of a purge, in one piece and in pieces, and then the purge. */
 static void purge(void)
 {
-    uint32_t feed = 1 + draw(FEEDS);
+    uint32_t feed = 1 + draw() % FEEDS;
     yarib_change changes[PREFIXES + 1], one;
     const yarib_command command = {.operation = YARIB_PURGE, .feed = feed};
     yarib_reply reply;
@@ -220,7 +213,7 @@ int main(void)
         int commands = way == FOLLOWED ? COMMANDS / 10 : COMMANDS;
         begin();
         for (int k = 0; k < commands; k++) {
-            if (draw(40) == 0) purge();
+            if (draw() % 40 == 0) purge();
             else change_one();
             if (k % 100 == 0) refuse();
         }

@@ -15,20 +15,6 @@ static struct place {
     bool is_in;
 } places[PLACES];
 
-static uint32_t draw(void)
-{
-    static uint64_t last = 1;
-    last = last * 6364136223846793005u + 1442695040888963407u;
-    return (uint32_t)(last >> 32);
-}
-
-static size_t told(yarib *table)
-{
-    size_t bytes;
-    CHECK(yarib_memory(table, &bytes) == YARIB_DONE);
-    return bytes;
-}
-
 static size_t count(yarib *table)
 {
     size_t routes;
@@ -109,7 +95,7 @@ int main(void)
     for (uint32_t k = 1; k <= CHANGES; k++) {
         change(&table);
         if (k % FIRST != 0) continue;
-        last = told(&table);
+        last = memory_of(&table);
         if (k == FIRST) first = last;
         printf("after %u changes %zu routes, %zu bytes\n", k, count(&table), last);
     }

@@ -2,6 +2,7 @@
  * or hold a reading call where it is: so it is known which calls run at the same time. */
 #define _POSIX_C_SOURCE 200809L
 #include "check.h"
+#include "own_heap.h"
 #include "routes.h"
 
 #include <pthread.h>
@@ -12,11 +13,6 @@
 #include <unistd.h>
 
 enum { ROOM = 600, LIMIT = 100 };
-
-struct tried {
-    bool ok;
-    void *block;
-};
 
 static yarib_concurrent table = YARIB_CONCURRENT_EMPTY;
 

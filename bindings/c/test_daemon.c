@@ -3,6 +3,7 @@
  * which may refuse. So nothing depends on when a thread runs. */
 #define _GNU_SOURCE
 #include "check.h"
+#include "own_heap.h"
 #include "routes.h"
 
 #include <errno.h>
@@ -23,11 +24,6 @@
 #include <unistd.h>
 
 enum { LIMIT = 1000, ROUTES = 50 };
-
-struct tried {
-    bool ok;
-    void *block;
-};
 
 /* What this thread does during its next call for memory, and how far its blocks are from the begin of a cache line. */
 static __thread void (*inside)(void);

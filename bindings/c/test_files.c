@@ -51,13 +51,6 @@ static size_t count(void)
     return total;
 }
 
-static uint32_t draw(uint32_t below)
-{
-    static uint64_t last = 3;
-    last = last * 6364136223846793005u + 1442695040888963407u;
-    return (uint32_t)((last >> 32) * below >> 32);
-}
-
 static yarib_command add(uint32_t feed, uint32_t base, uint8_t len, uint32_t preference, bool is_discard, uint32_t via)
 {
     uint32_t masked = len == 0 ? 0 : base & 0xffffffffu << (32 - len);
@@ -78,8 +71,8 @@ static void fill(uint32_t routes)
 {
     CHECK(new_table(YARIB_MAX_LIMIT) == YARIB_DONE);
     for (uint32_t k = 0; k < routes; k++) {
-        uint32_t feed = draw(5) == 0 ? 1 + draw(3) : 2;
-        added(add(feed, draw(0xffffffff), (uint8_t)draw(33), draw(3) ? draw(100) : draw(0xffffffff), draw(9) == 0, draw(0xffffffff)));
+        uint32_t feed = draw() % 5 == 0 ? 1 + draw() % 3 : 2;
+        added(add(feed, draw(), (uint8_t)(draw() % 33), draw() % 3 ? draw() % 100 : draw(), draw() % 9 == 0, draw()));
     }
 }
 

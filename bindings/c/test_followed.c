@@ -3,6 +3,7 @@
  * be read, a look-up that reads them ends its process by a signal. */
 #define _GNU_SOURCE
 #include "check.h"
+#include "own_heap.h"
 #include "routes.h"
 
 #include <signal.h>
@@ -17,11 +18,6 @@ static const size_t ENTRIES = (size_t)1 << 26;
 static char *entries;
 static int built;
 static bool is_refusing, is_usual, is_filling;
-
-struct tried {
-    bool ok;
-    void *block;
-};
 
 void begin_filling(void)
 {

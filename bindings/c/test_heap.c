@@ -27,7 +27,7 @@ struct held {
 static struct held shelves[SHELVES];
 static pthread_mutex_t locks[SHELVES];
 
-static uint32_t draw(uint64_t *last, uint32_t below)
+static uint32_t draw_below(uint64_t *last, uint32_t below)
 {
     *last = *last * 6364136223846793005u + 1442695040888963407u;
     return (uint32_t)((*last >> 32) * below >> 32);
@@ -40,18 +40,18 @@ static void check(const struct held *one)
 
 static void fill(struct held *one, uint64_t *last)
 {
-    one->fill = draw(last, 256);
+    one->fill = draw_below(last, 256);
     memset(one->at, one->fill, one->size);
 }
 
 static size_t drawn_size(uint64_t *last)
 {
-    return draw(last, 8) == 0 ? draw(last, 3000) : draw(last, 140);
+    return draw_below(last, 8) == 0 ? draw_below(last, 3000) : draw_below(last, 140);
 }
 
 static void visit(struct held *one, uint64_t *last)
 {
-    size_t alignment = (size_t)1 << draw(last, 5);
+    size_t alignment = (size_t)1 << draw_below(last, 5);
     if (one->at) check(one);
     if (!one->at) {
         one->size = drawn_size(last);
@@ -59,7 +59,7 @@ static void visit(struct held *one, uint64_t *last)
         CHECK(made.ok && (uintptr_t)made.block % alignment == 0);
         one->at = made.block;
         fill(one, last);
-    } else if (draw(last, 3) == 0) {
+    } else if (draw_below(last, 3) == 0) {
         size_t size = drawn_size(last), kept = size < one->size ? size : one->size;
         struct tried moved = rattle_realloc(one->at, kept, size, 1);
         CHECK(moved.ok);
@@ -78,7 +78,7 @@ static void *work(void *seed)
     static __thread struct frees frees;
     uint64_t last = (uintptr_t)seed;
     for (int k = 0; k < (is_watched ? CALLS / 5 : CALLS); k++) {
-        uint32_t shelf = draw(&last, SHELVES), end = draw(&last, 400);
+        uint32_t shelf = draw_below(&last, SHELVES), end = draw_below(&last, 400);
         /* Half of the time blocks are kept to be freed together. */
         if (end == 0) end_frees();
         if (end == 1) begin_frees(&frees);
@@ -210,7 +210,7 @@ static void give_back_many(bool is_kept)
         memset(many[k] = made.block, 1, 40);
     }
     for (uint32_t k = MANY - 1; k > 0; k--) {
-        uint32_t other = draw(&last, k + 1);
+        uint32_t other = draw_below(&last, k + 1);
         void *one = many[k];
         many[k] = many[other];
         many[other] = one;

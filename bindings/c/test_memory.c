@@ -57,24 +57,10 @@ static size_t given(bool by_pages)
     return bytes;
 }
 
-static size_t told(yarib *table)
-{
-    size_t bytes;
-    CHECK(yarib_memory(table, &bytes) == YARIB_DONE);
-    return bytes;
-}
-
 static bool is_near(size_t said, size_t taken)
 {
     printf(", told %zu, given %zu", said, taken);
     return said <= SLACK + taken / 10 * 13 && taken <= SLACK + said / 10 * 13;
-}
-
-static uint32_t draw(void)
-{
-    static uint64_t last = 1;
-    last = last * 6364136223846793005u + 1442695040888963407u;
-    return (uint32_t)(last >> 32);
 }
 
 /* Returns a random bit that depends only on the prefix, the feed and the purpose. */
@@ -137,20 +123,20 @@ static void measure(enum shape shape, enum who who, uint32_t count, uint32_t fee
     size_t pages = given(true), blocks = given(false);
     printf("%u of %s %s, %u feeds", count, shapes[shape], whose[who], feeds);
     fill(&table, YARIB_PLAIN, who, count, feeds);
-    size_t said = told(&table);
+    size_t said = memory_of(&table);
     CHECK(is_near(said, given(true) - pages) && is_near(said, given(false) - blocks));
     for (uint32_t feed = 1; feed <= feeds; feed++)
         for (uint32_t k = 0; k < count; k++)
             if (offers(who, feeds, k, feed) && coin(k, feed, 1)) apply(&table, YARIB_WITHDRAW, feed, k);
-    CHECK(is_near(told(&table), given(false) - blocks));
+    CHECK(is_near(memory_of(&table), given(false) - blocks));
     for (uint32_t feed = 1; feed <= feeds / 2; feed++) CHECK(apply(&table, YARIB_PURGE, feed, 0) == YARIB_PURGED);
-    CHECK(is_near(told(&table), given(false) - blocks));
+    CHECK(is_near(memory_of(&table), given(false) - blocks));
     for (uint32_t k = 0; k < count; k++) if (offers(who, feeds, k, feeds)) apply(&table, YARIB_ADD, feeds, k);
-    CHECK(is_near(told(&table), given(false) - blocks));
+    CHECK(is_near(memory_of(&table), given(false) - blocks));
     for (uint32_t feed = 1; feed <= feeds; feed++) CHECK(apply(&table, YARIB_PURGE, feed, 0) == YARIB_PURGED);
     printf("\n");
     /* malloc counts the freed blocks that a thread keeps for itself, a few of each size. */
-    CHECK(told(&table) == 0 && given(false) - blocks <= 2 * SLACK);
+    CHECK(memory_of(&table) == 0 && given(false) - blocks <= 2 * SLACK);
     yarib_free(&table);
 }
 
@@ -162,7 +148,7 @@ static void measure_left(enum shape shape, enum who who, uint32_t count, uint32_
     size_t blocks = given(false);
     fill(&table, YARIB_PLAIN, who, count, feeds);
     for (uint32_t k = 0; k < count / 2; k++) CHECK(apply(&table, YARIB_WITHDRAW, 1, k) == YARIB_WITHDRAWN);
-    size_t taken = given(false) - blocks, said = told(&table);
+    size_t taken = given(false) - blocks, said = memory_of(&table);
     printf("without prefixes that contain others: told %zu, given %zu\n", said, taken);
     CHECK(said <= SLACK + taken / 10 * 13 && taken <= SLACK + 2 * said);
     yarib_free(&table);
@@ -194,7 +180,7 @@ static void measure_journal(enum shape shape, enum who who, uint32_t count, uint
     choose(shape, count);
     size_t before = given(true);
     fill(&table, YARIB_JOURNALED, who, count, feeds);
-    size_t taken = given(true) - before, said = told(&table);
+    size_t taken = given(true) - before, said = memory_of(&table);
     printf("with a journal, %u feeds: told %zu, given %zu\n", feeds, said, taken);
     CHECK(said <= SLACK + taken / 10 * 13 && taken <= SLACK + 2 * said);
     yarib_free(&table);
@@ -205,15 +191,15 @@ static void measure_forwarding(enum shape shape, enum who who, uint32_t count, u
     yarib table = YARIB_EMPTY, forwarding = YARIB_EMPTY;
     choose(shape, count);
     fill(&table, YARIB_PLAIN, who, count, feeds);
-    size_t before = given(true), plain = told(&table);
+    size_t before = given(true), plain = memory_of(&table);
     CHECK(yarib_forward(&table, &forwarding) == YARIB_DONE);
-    size_t taken = given(true) - before, said = told(&forwarding);
+    size_t taken = given(true) - before, said = memory_of(&forwarding);
     printf("a forwarding table: told %zu, given %zu\n", said, taken);
     CHECK(said <= taken && taken <= said + said / 100);
     yarib_free(&forwarding);
     CHECK(yarib_follow(&table) == YARIB_DONE);
     taken = given(true) - before;
-    said = told(&table) - plain;
+    said = memory_of(&table) - plain;
     printf("one beside a table: told %zu, given %zu\n", said, taken);
     CHECK(said <= taken && taken <= said + said / 100);
     yarib_free(&table);

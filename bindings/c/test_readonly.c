@@ -3,6 +3,7 @@
  * a forwarding table atomically. */
 #define _GNU_SOURCE
 #include "check.h"
+#include "own_heap.h"
 #include "routes.h"
 
 #include <signal.h>
@@ -17,11 +18,6 @@ static const size_t WHOLE = (size_t)1 << 30;
 static char *range;
 static size_t given;
 static bool is_frozen;
-
-struct tried {
-    bool ok;
-    void *block;
-};
 
 static bool is_in_range(const void *block)
 {
@@ -56,13 +52,6 @@ static void freeze(bool is_now)
 {
     is_frozen = is_now;
     CHECK(mprotect(range, WHOLE, is_now ? PROT_READ : PROT_READ | PROT_WRITE) == 0);
-}
-
-static uint32_t draw(void)
-{
-    static uint64_t last = 7;
-    last = last * 6364136223846793005u + 1442695040888963407u;
-    return (uint32_t)(last >> 32);
 }
 
 static yarib_command add(uint32_t feed)

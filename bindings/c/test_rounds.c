@@ -15,20 +15,6 @@ static struct prefix {
     uint8_t len, is_in;
 } prefixes[PREFIXES];
 
-static uint32_t draw(void)
-{
-    static uint64_t last = 1;
-    last = last * 6364136223846793005u + 1442695040888963407u;
-    return (uint32_t)(last >> 32);
-}
-
-static size_t told(yarib *table)
-{
-    size_t bytes;
-    CHECK(yarib_memory(table, &bytes) == YARIB_DONE);
-    return bytes;
-}
-
 static yarib_reply apply_by(yarib *table, uint32_t feed, uint32_t operation, const struct prefix *prefix)
 {
     const yarib_command command = put_command(operation, feed, prefix->base, prefix->len, feed == 1, draw());
@@ -67,7 +53,7 @@ static size_t compare(yarib *table)
         CHECK(yarib_look_up(table, edges, 4, found, 4) == YARIB_DONE && yarib_look_up(&fresh, edges, 4, wanted, 4) == YARIB_DONE);
         CHECK(memcmp(found, wanted, sizeof found) == 0);
     }
-    size_t bytes = told(&fresh);
+    size_t bytes = memory_of(&fresh);
     yarib_free(&fresh);
     return bytes;
 }
@@ -75,13 +61,13 @@ static size_t compare(yarib *table)
 /* Adds best routes of feed 2 to this many of the prefixes, and purges them. Only a rebuild returns memory. */
 static void purge(yarib *table, uint32_t count, bool is_rebuilt)
 {
-    size_t before = told(table), added = 0;
+    size_t before = memory_of(table), added = 0;
     for (uint32_t k = 0; k < count; k++)
         added += apply_by(table, 2, YARIB_ADD, &prefixes[k * (PREFIXES / count)]).code == YARIB_ADDED;
     const struct prefix none = {0};
     yarib_reply reply = apply_by(table, 2, YARIB_PURGE, &none);
     CHECK(reply.code == YARIB_PURGED && reply.count == added);
-    size_t after = told(table);
+    size_t after = memory_of(table);
     if (is_rebuilt != (after < before)) fprintf(stderr, "before a purge of %u routes %zu, after it %zu\n", count, before, after);
     CHECK(is_rebuilt == (after < before) && after > 64 << 20);
     compare(table);
@@ -100,10 +86,10 @@ int main(void)
     CHECK(yarib_follow(&table) == YARIB_DONE);
     change(&table, FIRST);
     compare(&table);
-    size_t first = told(&table), fresh;
+    size_t first = memory_of(&table), fresh;
     for (uint32_t k = 0; k < MORE; k += STEP) {
         change(&table, STEP);
-        size_t later = told(&table), differ = later > first ? later - first : first - later;
+        size_t later = memory_of(&table), differ = later > first ? later - first : first - later;
         if (differ > first / 50) fprintf(stderr, "after %d changes %zu, after %u more %zu\n", FIRST, first, k + STEP, later);
         CHECK(differ <= first / 50);
     }
@@ -115,7 +101,7 @@ int main(void)
     purge(&table, MANY, true);
     for (uint32_t k = 0; k < PREFIXES; k++) apply(&table, YARIB_WITHDRAW, &prefixes[k]);
     for (uint32_t k = 0; k < 20000; k++) apply(&table, k % 2 ? YARIB_WITHDRAW : YARIB_ADD, &prefixes[0]);
-    size_t empty = told(&table);
+    size_t empty = memory_of(&table);
     fresh = compare(&table);
     printf("without routes %zu, a new one %zu\n", empty, fresh);
     CHECK(empty <= 2 * fresh);

@@ -10,14 +10,6 @@
 
 enum { MOST = 150000, PAGE = 4096 };
 
-static uint32_t seed = 1;
-
-static uint32_t draw(void)
-{
-    seed = seed * 1664525 + 1013904223;
-    return seed >> 8 ^ seed << 11;
-}
-
 /* The edges of all prefixes, and the addresses next to them. */
 static uint32_t edges[4 * MOST];
 static size_t edge_count;
