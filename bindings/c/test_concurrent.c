@@ -276,7 +276,7 @@ static void change_many(void)
     }
 }
 
-/* The list of a large batch is used for smaller ones if there is no memory for another one, and else given back. */
+/* The list of a large batch is used for smaller ones if memory runs out, and else given back. */
 static void keep_lists(void)
 {
     enum { MANY = 5000 };
@@ -324,7 +324,7 @@ static void reader_meets_end(void)
     entered = 0;
 }
 
-/* A table grows between the calls of a save, which list its routes: the file has those of one table. */
+/* A table grows between the calls of a save, which list its routes: the file has the routes of a single table. */
 static bool is_plain;
 
 static void grow(void)
@@ -352,7 +352,7 @@ static void save_meets_changes(void)
     }
 }
 
-/* A table that is to replace the published one: routes of three feeds, of which two have the same prefix. */
+/* A table that is to replace the published one: routes of three feeds, two of them to the same prefix. */
 static void make_other(yarib *aside, uint32_t kind)
 {
     yarib_reply reply;
@@ -393,7 +393,7 @@ static void replace(void)
         CHECK(yarib_count(&aside, &total) == YARIB_DONE && total == 4);
         CHECK(yarib_concurrent_fib_is_attached(&table, &attached) == YARIB_DONE && attached == 0);
     }
-    /* Both sides allow so many routes: feed 1 has two. */
+    /* The limit of both sides is 2, and feed 1 has two routes. */
     CHECK(yarib_concurrent_replace(&table, 2, &aside) == YARIB_DONE);
     for (int k = 0; k < 2; k++) {
         yarib_reply reply;
@@ -473,7 +473,7 @@ static void copy(void)
 static yarib other = YARIB_EMPTY;
 static yarib_concurrent second = YARIB_CONCURRENT_EMPTY;
 
-/* So many reading calls are to be under way, each inside another one, and then a comparison has this status. */
+/* The number of reading calls under way, each inside another one, and the status of a comparison then. */
 static int to_nest;
 static enum yarib_status nested_status;
 
@@ -534,7 +534,7 @@ static void compare_tables(void)
     CHECK(yarib_concurrent_replace(&second, LIMIT, &model) == YARIB_DONE);
     CHECK(yarib_concurrent_first_difference(&table, &second, 1, 0, &found) == YARIB_NONE_LEFT);
     compare_in_last_places();
-    /* Neither call left a reader behind. */
+    /* After both calls, no reader is left. */
     compare_both();
     CHECK(yarib_concurrent_free(&second) == YARIB_DONE && yarib_free(&aside) == YARIB_DONE);
 }
@@ -710,7 +710,7 @@ static void reader_is_held_in_each_way(void)
     }
 }
 
-/* The tests, each of which begins with tables of its own. */
+/* The tests. Each begins with its own tables. */
 static const struct {
     const char *name;
     void (*run)(void);
@@ -718,7 +718,7 @@ static const struct {
     {"change_at_random", change_at_random}, {"change_many", change_many}, {"keep_lists", keep_lists},
     {"reader_meets_end", reader_meets_end}, {"replace", replace}, {"copy", copy}, {"compare_tables", compare_tables}, {"save_meets_changes", save_meets_changes}, {"reader_is_held", reader_is_held_in_each_way}};
 
-/* With a word, only the test of this name is run; the status is 2 if there is none. */
+/* With an argument, only the test with this name is run; the status is 2 if no test has it. */
 int main(int size, char **words)
 {
     yarib_command one = add(1, 1);
