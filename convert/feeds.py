@@ -44,13 +44,13 @@ BLOCK = 1 << 20
 # how much of the input a process converts at once, how many such pieces are read ahead for each process, and the number of
 # processes, 0 for as many as there are processors
 PIECE, AHEAD, PROCESSES = 1 << 20, 2, 0
-# what is read between two entries if nothing before it matters to what comes after it
+# is read between two entries if the second one doesn't depend on what came before
 BOUNDARY = None
 # seconds between two lines of progress
 EACH = 1
 # a longer line or value isn't a table's, and a table has fewer bytes
 LONGEST, MOST_BYTES = 1 << 24, 10**11
-# JSON: the maximum length of what isn't a string, and what may be between values
+# JSON: the maximum length of a value that isn't a string, and the blanks between values
 LONGEST_WORD, BLANKS = 16, re.compile(r"[ \t\r\n]*")
 KINDS = {"[": "a list", "{": "an object"}
 # a member of an object whose name is a prefix
@@ -116,7 +116,7 @@ class Offer(typing.NamedTuple):
     sought: str | None = None
     # the option that would give the next hop, and the interface, if the feed doesn't show the interface
     over: tuple | None = None
-    # the next hop by which the daemon reaches the address that it looked up, if it shows that
+    # the next hop that the daemon uses for the address that it looked up, if it shows that
     found: str | None = None
 
 
@@ -155,7 +155,7 @@ class Notes:
         self.left_out, self.told = {}, {}
         self.differs = False
         self.last_multipath = None
-        # what the daemon chose beside what the rules give
+        # the daemon's choices, compared with what the rules give
         self.choices = SelfCheck()
 
     def leave_out(self, name, number=1, differs=False):
@@ -332,7 +332,7 @@ class Lines(Input):
         self.block = Block("", [])
 
     def last_end(self, data, begin):
-        """The end of the last whole entry, which is not before `begin`; -1 if there is none."""
+        """The end of the last whole entry, at `begin` or later; -1 if no entry ends there."""
         return data.rfind(b"\n", begin)
 
     def split(self, text):
@@ -583,7 +583,7 @@ class Json(Input):
 
     @classmethod
     def of_members(cls, data, command):
-        """The document of a piece: an object with these members, before each of which there is a comma."""
+        """The document of a piece: an object with these members, each after a comma."""
         made = cls.__new__(cls)
         made.command, made.decode, made.ahead = command, json.JSONDecoder().raw_decode, None
         made.text, made.at, made.ended, made.before = "{" + decoded(data)[1:] + "}", 0, True, 0
@@ -601,7 +601,7 @@ class Json(Input):
 
 
 def member(record, name, kind, absent=None):
-    """The member of a JSON object; `absent` is the value of a missing one, which is refused if `absent` is None."""
+    """The member of a JSON object; `absent` is the value of a missing one. If `absent` is None, the object is refused."""
     if type(record) is not dict:
         raise Missing(f"an object was expected: {json.dumps(record)[:100]}")
     value = record.get(name, absent)
@@ -712,7 +712,7 @@ class GiveAddress(argparse.Action):
 
 
 def offers_of_hops(prefix, hops, made, arguments, notes):
-    """The offers that `made` makes of a route's next hops, of which the first is used. Further ones have sources of their
+    """The offers that `made` makes of a route's next hops. The first next hop is used. Further ones have sources of their
     own, if they are wanted, and else are counted."""
     if len(hops) > 1 and not arguments.all_hops:
         notes.leave_out(FURTHER_HOPS, len(hops) - 1)
@@ -792,8 +792,8 @@ def preference_of(prefix, offer):
 
 
 class SameOffers(list):
-    """The offers of several prefixes, best first. `ends` has for each its source and the end of its line, if there is nothing
-    else to keep or to count of them."""
+    """The offers of several prefixes, best first. `ends` has the source and the end of the line of each, if nothing else has to be
+    kept or counted."""
 
     def __init__(self, offers):
         super().__init__(offers)
@@ -847,7 +847,7 @@ class Gathered:
 
     def __init__(self, arguments):
         self.has_all_hops = getattr(arguments, "all_hops", False)
-        # of each source, in the order of `waiting`, the number of lines that don't wait any more
+        # for each source, in the order of `waiting`, the number of lines that don't wait any more
         self.waiting, self.counts = {}, []
         # the sources with the addresses that the daemon looked up for them, and of these sources, for each line, whether the
         # next hop was looked up
@@ -1128,7 +1128,7 @@ def read_ahead(given, state, work, join, files):
 
 
 class Parts:
-    """How pieces of a table are converted: `state()` is what matters to a piece of what came before it, and `read(data, state,
+    """How pieces of a table are converted: `state()` is what a piece needs from before it, and `read(data, state,
     notes)` yields the prefixes of a piece with their offers; `counted()` is what else a piece gives, and `join(counted)` adds
     it."""
 
@@ -1196,7 +1196,7 @@ class Found(typing.NamedTuple):
 
 
 def routes_to(files, met, addresses):
-    """The routes that cover each of the addresses, in the order in which they are used."""
+    """The routes that cover each of the addresses; the one that is used first comes first."""
     lengths = {address: {prefix: length for prefix, length in covering(address).items() if prefix in met} for address in addresses}
     wanted, routes = {prefix for found in lengths.values() for prefix in found}, {}
     for source in files.waiting:
@@ -1211,13 +1211,13 @@ def routes_to(files, met, addresses):
 
 def is_found_without(finder, hop, seeker, routes):
     """Returns True if the routes give the same next hop without those of the finder. A route of the seeker, or one that was
-    itself looked up, may be gone as well: it is no way to its own next hop."""
+    itself looked up, may be gone as well: it doesn't lead to its own next hop."""
     other = next((route for route in routes if of_hop(route.source) != finder), None)
     return other is not None and of_hop(other.source) != seeker and not other.is_looked_up and other.hop == hop
 
 
 def ways_to(address, routes, sought):
-    """The routes by which the daemon finds a next hop. If the next hop of the first of these was itself looked up, the routes to
+    """The routes with which the daemon finds a next hop. If the next hop of the first of these was itself looked up, the routes to
     that follow, and so on."""
     met = set()
     while address in routes and routes[address] and address not in met:
@@ -1344,7 +1344,7 @@ def count(text):
 
 @contextlib.contextmanager
 def output():
-    """Opens standard output for what a script writes. Python's own may be without a buffer (PYTHONUNBUFFERED), and then
+    """Opens standard output for a script. Python's own may be without a buffer (PYTHONUNBUFFERED), and then
     drops what the system doesn't accept at once."""
     if sys.stdout is None:
         raise Refused("standard output is closed")
