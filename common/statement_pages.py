@@ -133,7 +133,7 @@ def public_function(crate, owner, name):
 
 def in_order(speakers, known, brief=()):
     """What clauses, ties and definitions rest on, each below all that speak of it, but for what is known; and the
-    library's words. What is brief is shown by its first line alone, so what it rests on doesn't count."""
+    library's words. Only the first line of what is brief is shown, so what it rests on doesn't count."""
     order, library, visited = [], {}, set()
 
     def visit(definition):
@@ -156,7 +156,7 @@ def in_order(speakers, known, brief=()):
 
 
 def by_file(order, brief):
-    """The definitions in an order in which each is below all that speak of it, those of a file together as far as that
+    """The definitions, each below all that speak of it, those of a file together as far as that
     allows."""
     uses = {one.key: () if one.key in brief else {used.key for used in speaks_of(one) if isinstance(used, Definition)}
             for one in order}
@@ -216,7 +216,7 @@ def name_of_file(file):
 
 
 def fenced(language, lines):
-    """A fence with these lines; nothing if there are none."""
+    """A fence with these lines; nothing without lines."""
     return [f"```{language}", *lines, "```", ""] if lines else []
 
 
@@ -302,7 +302,7 @@ def kit_parts(types, definitions, **_):
 
 def of_kit(said, types, functions, definitions, written):
     """What the toolchain says of a chapter: its types and the contracts of its functions, and the definitions in these.
-    Each table is of files, with the names that are taken of each."""
+    Each table has files, with the names to show from each."""
     kinds, terms = kit_parts(types, definitions)
     written.counts(len(kinds + terms), sum(one.count() for one in kinds + terms))
     calls = [call for file, names in functions.items() for call in kit_functions(file, names)]

@@ -123,7 +123,7 @@ struct adder {
 enum yarib_status add_lines(FILE *file, uint32_t feed, const struct adder *adder, yarib_loaded *loaded);
 
 /* A place, with a cache line of its own: the handle that a call of its owner reads, and the number of publications that the call saw
- * before it. The owner is a thread, by the address of what is its own. */
+ * before it. The owner is a thread: the address of its own data. */
 struct place {
     const void *reading;
     uint64_t since;
@@ -140,7 +140,7 @@ struct thread {
 /* bindings/build puts what is a thread's own into the memory that it begins with. Other such memory is allocated when it is first used. */
 extern __thread struct thread this_thread;
 
-/* The mark of a handle's word that a change, or an end, has under way. Its upper 16 bits then tell a child of a fork from its parent. */
+/* The mark of a handle's word that a change, or an end, has under way. Its upper 16 bits differ between a fork's child and its parent. */
 #define CHANGING ((uintptr_t)1)
 #define CONTENTS (((uintptr_t)1 << 48) - 1 - CHANGING)
 
@@ -151,7 +151,7 @@ extern __thread struct thread this_thread;
 /* Enters a reading call with a place that is lent to it, or with one that its thread has from now on. */
 struct place *enter_lent_place(const void *handle, uint64_t since);
 
-/* Enters a reading call of a handle, and returns its place, or null if all are taken. Of a plain table `since` is 0. */
+/* Enters a reading call of a handle, and returns its place, or null if no place is free. `since` is 0 for a plain table. */
 SHORT struct place *enter_place(const void *handle, uint64_t since)
 {
     struct place *place = this_thread.place;

@@ -26,7 +26,7 @@
 /* Places, and how many of them may be a thread's own: a change reads all that were ever in use. */
 enum { PLACES = 1024, OWN_PLACES = 256 };
 
-/* glibc keeps the values of so many keys in the thread itself, and allocates memory for those of others. */
+/* glibc keeps the values of this many keys in the thread itself, and allocates memory for those of others. */
 enum { KEYS_OF_THREAD = 32 };
 
 /* A change that waits spins so often, twice as long each time, and then naps, twice as long after so many naps: so a nap takes about a

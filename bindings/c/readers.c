@@ -22,7 +22,7 @@
 #define LINE ((size_t)64)
 
 struct sides {
-    /* The front's handle, of which readers make copies. Only a publication writes it. */
+    /* The front's handle. Readers copy it. Only a publication writes it. */
     yarib front;
     char apart[LINE - sizeof(yarib)];
     /* Only changes use the rest. `published` is the number of the publication after which readers may still be in the back or in the
@@ -297,7 +297,7 @@ enum yarib_status yarib_concurrent_fib_attach(yarib_concurrent *table)
     CHANGE(table, attach_both(table, own.inside));
 }
 
-/* Enters a reading call, whose copy of the front's handle is empty if the concurrent table is. Returns YARIB_BUSY if all places are taken. */
+/* Enters a reading call, whose copy of the front's handle is empty if the concurrent table is. Returns YARIB_BUSY if no place is free. */
 SHORT enum yarib_status try_to_enter(const yarib_concurrent *table, struct reading *own)
 {
     own->place = enter_place(table, __atomic_load_n(&publications.number, __ATOMIC_SEQ_CST));
@@ -307,7 +307,7 @@ SHORT enum yarib_status try_to_enter(const yarib_concurrent *table, struct readi
     return YARIB_DONE;
 }
 
-/* Enters a reading call. It waits only while all places are taken. */
+/* Enters a reading call. It waits only while no place is free. */
 SHORT enum yarib_status enter(const yarib_concurrent *table, struct reading *own)
 {
     unsigned times = 0;

@@ -1,5 +1,5 @@
 /* What a daemon does to the library: it forks, sandboxes itself, cancels threads, and shares processors with busy processes. The library
- * gets its memory from the functions below, in which a test holds a call where it is; and calls the kernel by the functions below them,
+ * gets its memory from the functions below, where a test holds a call; and calls the kernel by the functions below them,
  * which may refuse. So nothing depends on when a thread runs. */
 #define _GNU_SOURCE
 #include "check.h"
@@ -302,7 +302,7 @@ static void fork_beside_changes(void)
     end();
 }
 
-/* The reading call in which a process is forked goes on in the child, where it is the one that changes wait for. */
+/* The reading call in which a process is forked goes on in the child, where changes wait for it. */
 static void meet_own_call(void)
 {
     CHECK(change(YARIB_ADD, 100) == YARIB_BUSY && change_concurrent(YARIB_ADD, 100) == YARIB_DONE);
@@ -495,7 +495,7 @@ static void cancel_load(void)
     end();
 }
 
-/* Beside busy processes, more than there are processors, a change that waits doesn't yield, and takes hardly any time of a processor. */
+/* While more processes are busy than there are processors, a change that waits doesn't yield, and takes hardly any time of a processor. */
 static double processor_time;
 
 static void *change_late(void *unused)
@@ -548,7 +548,7 @@ static const struct {
     {"refuse_barriers_in_midst", refuse_barriers_in_midst}, {"sandbox", sandbox}, {"cancel", cancel}, {"cancel_load", cancel_load},
     {"wait_beside_busy", wait_beside_busy}, {"lines", lines}};
 
-/* With a word, only the test of this name is run; the status is 2 if there is none. */
+/* With an argument, only the test with this name is run; the status is 2 if no test has it. */
 int main(int size, char **words)
 {
     int run = 0;

@@ -1,7 +1,7 @@
 /* Saving and loading the routes of a table and of a concurrent one: what is written and read, byte for byte; each line that isn't an
  * add; files that can't be written or read after each of their bytes; each allocation refused in turn; calls meanwhile.
  *
- * With arguments it reads lines from standard input, and prints 1 for each of which a file could be loaded, else 0: the argument
+ * With arguments it reads lines from standard input, and prints 1 for each line that loads, else 0: the argument
  * "2" loads each after the line `version 2`. */
 #define _GNU_SOURCE
 #include "check.h"
@@ -92,7 +92,7 @@ static size_t expect(uint32_t feed, char *text)
 
 static char text[ROUTES * LINE], again[ROUTES * LINE];
 
-/* A stream over memory that fails after so many bytes, and makes a call before its first one. */
+/* A stream over memory that fails after a number of bytes, and makes a call before its first one. */
 struct stream {
     char *bytes;
     size_t size, at, most;
@@ -313,7 +313,7 @@ static void fail_files(void)
     free_table();
 }
 
-/* Statuses of an empty handle, of a feed that is none, and of what isn't a table. Nothing is written or read then. */
+/* Statuses of an empty handle, of an invalid feed, and of what isn't a table. Nothing is written or read then. */
 static void refuse(void)
 {
     struct stream stream = {.bytes = again, .most = sizeof again}, lines = {.bytes = text, .size = 5, .most = 6};
@@ -531,7 +531,7 @@ static const struct {
 } tests[] = {{"save", refuse_and_save}, {"texts", load_texts}, {"fail", fail_files}, {"memory", refuse_memory}, {"meet", meet_calls},
     {"journaled", load_journaled_plain}};
 
-/* With a word, only the test of this name is run, and lines reads a text of the version that the second word names; the status is 2 if
+/* With an argument, only the test with this name is run, and lines reads a text of the version in the second one; the status is 2 if
  * there is none. */
 int main(int size, char **words)
 {

@@ -469,7 +469,7 @@ static const struct {
 } tests[] = {{"steps", open_in_steps}, {"few", take_few}, {"calls", call_threads}, {"forks", call_and_fork}, {"give_back", give_back},
     {"give_back_together", give_back_together}, {"resizes", resize_large}, {"large", map_large}, {"fills", fill_large}, {"large_refused", map_refused}, {"refuse", refuse}};
 
-/* With a word, only the test of this name is run; the status is 2 if there is none. With a second word, a sanitizer or valgrind runs
+/* With an argument, only the test with this name is run; the status is 2 if no test has it. With a second one, a sanitizer or valgrind runs
  * it. They run only calls and resizes: they need more memory and time, and report what a child's missing threads held. */
 int main(int size, char **words)
 {

@@ -12,7 +12,7 @@
 #include <unistd.h>
 #include <yarib.h>
 
-/* The first TELLING ways to ask tell which table it is. */
+/* The first TELLING ways to read show which table it is. */
 enum { READERS = 4, CHANGES = 200, PREFIXES = 64, CROWD = 400, TELLING = 9, WAYS = 11 };
 
 static yarib_concurrent table = YARIB_CONCURRENT_EMPTY, nothing = YARIB_CONCURRENT_EMPTY;
@@ -68,7 +68,7 @@ static void check_answer(const yarib_route *answer, uint32_t address, uint32_t k
     CHECK(answer->len == (k % 2 && (address & 0xff0000) == 0 ? 16 : 8));
 }
 
-/* Asks in one way, and compares all that it gives with one table, whose number it returns. */
+/* Reads in one way, compares all that was found with one table, and returns the number of that table. */
 static uint32_t read_once(int way)
 {
     static __thread uint32_t asked[PREFIXES], hops[PREFIXES];

@@ -21,7 +21,7 @@ static void note_edges(uint32_t base, uint8_t len)
     for (int k = 0; k < 4 && edge_count < 4 * MOST; k++) edges[edge_count++] = all[k];
 }
 
-/* Executes a command of a random route. Of the routers only the first `routers` are used; 0.0.0.0 and 0.0.0.1 are among them. */
+/* Executes a command of a random route. Only the first `routers` routers are used; 0.0.0.0 and 0.0.0.1 are among them. */
 static void change(yarib *table, uint32_t operation, uint32_t routers)
 {
     static const uint8_t lens[] = {0, 1, 7, 8, 9, 15, 16, 17, 22, 23, 24, 24, 24, 25, 26, 30, 31, 32};
@@ -168,7 +168,7 @@ static void compare_concurrent(void)
 }
 
 /* The sizes of a new forwarding table: 256 numbers for each /24 with a longer prefix, and a number for each router that an answer
- * has. A change needs at most one more of each. Catches a yarib_view_sizes that writes sizes of which these are a part. */
+ * has. A change needs at most one more of each. Catches a yarib_view_sizes that writes larger sizes. */
 static void bound_sizes(void)
 {
     const uint32_t changes = 300;
@@ -197,7 +197,7 @@ static void bound_sizes(void)
     }
 }
 
-/* Each array one number too small, and what is no forwarding table: nothing is written. */
+/* Each array one number too small, and a handle without a forwarding table: nothing is written. */
 static void refuse(void)
 {
     yarib table = YARIB_EMPTY, forwarding = YARIB_EMPTY;
@@ -254,7 +254,7 @@ int main(void)
     compare_concurrent();
     for (uint32_t round = 0; round < 6; round++) compare_tables(1 + draw() % 2000, 1 + draw() % 40);
     compare_tables(0, 1);
-    /* So many routers that several share a place in which a number is kept. */
+    /* Enough routers that several share a place for a kept number. */
     compare_tables(100000, 0xffffffff);
     return 0;
 }
