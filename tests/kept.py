@@ -236,7 +236,7 @@ def commands(new):
     for calls in (1, 0):
         status, said, called = needing()
         expect("other isn't there", (status, "left out: what needs other\n" in said, called), (0, True, calls))
-    expect("another isn't there", needing("another")[::2], (0, 1))
+    expect("others isn't there either", needing("others")[::2], (0, 1))
     one.put(one.room / "more/other", "#!/bin/sh\n")
     for calls in (1, 0):
         status, said, called = needing(path=[one.room / "more"])
@@ -298,6 +298,8 @@ def directories(new):
     (one.top / "read/link").unlink()
     (one.top / "read/link").symlink_to("more/c.txt")
     expect("a link leads to an equal file in a directory", own(), (0, 1))
+    (one.top / "read/folder").symlink_to("more")
+    expect("a link to a directory is in a directory", own(), (0, 1))
     for name in ("out/one", "more/target/two", "__pycache__/three.pyc"):
         one.put(one.top / "read" / name, "built\n")
         expect(f"what is built in a directory: {name}", own(), (0, 0))
