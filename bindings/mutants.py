@@ -377,6 +377,8 @@ C = {f"{file.partition('.')[0]}: {name}": (file, *texts) for file, wrong in {
                                                     "__atomic_load_n(&place->since, __ATOMIC_ACQUIRE) > published)"),
         "readers aren't waited for": ("    while ((readers = find_readers(handle, published)) == OTHER_THREADS) rest(&times);\n    return readers == NOBODY",
                                       "    readers = find_readers(handle, published);\n    (void)times;\n    return readers != THIS_THREAD"),
+        "a wait asks for no barrier": ("    if (see_readers() != YARIB_DONE) return YARIB_NO_BARRIER;\n    while ((readers",
+                                       "    while ((readers"),
         "a change that waits is cancelled": ("        syscall(SYS_nanosleep, &nap, NULL);\n", "        nanosleep(&nap, NULL);\n"),
         "a change that waits yields": ("        syscall(SYS_nanosleep, &nap, NULL);\n", "        sched_yield();\n"),
         "a change that waits spins": ("    if (*times < SPINS) {", "    if (*times < 99 * SPINS) {"),
@@ -437,6 +439,18 @@ C = {f"{file.partition('.')[0]}: {name}": (file, *texts) for file, wrong in {
         "new sides are published after the wait": ("    __atomic_store_n(&table->inside, marked(sides), __ATOMIC_SEQ_CST);\n", "    (void)sides;\n"),
         "no wait for readers between forwarding tables": ("    publish(sides);\n    status = settle(table, sides);\n    return",
                                                           "    publish(sides);\n    status = YARIB_DONE;\n    return"),
+        "publications are counted without a lock": (
+            "sides->published = __atomic_add_fetch(&publications.number, 1, __ATOMIC_SEQ_CST);", "sides->published = ++publications.number;"),
+        "new sides are counted without a lock": (
+            "return __atomic_add_fetch(&publications.number, 1, __ATOMIC_SEQ_CST);", "return ++publications.number;"),
+        "a table is freed inside a call of its own thread": (
+            "    if (find_readers(table, NEVER) == THIS_THREAD) return YARIB_BUSY;\n"
+            "    enum yarib_status status = wait_for_readers(table, publish_sides(table, NULL));\n    if (status != YARIB_DONE) return status;\n",
+            "    enum yarib_status status = wait_for_readers(table, publish_sides(table, NULL));\n"
+            "    if (status == YARIB_NO_BARRIER) return status;\n"),
+        "a forwarding table is attached inside a call of its own thread": (
+            "    if (find_readers(table, NEVER) == THIS_THREAD) return YARIB_BUSY;\n    enum yarib_status status = prepare(sides, 0);\n",
+            "    enum yarib_status status = prepare(sides, 0);\n"),
         "a reader claims the next publication": ("enter_place(table, __atomic_load_n(&publications.number, __ATOMIC_SEQ_CST))",
                                                  "enter_place(table, 1 + __atomic_load_n(&publications.number, __ATOMIC_SEQ_CST))"),
         "a free that is refused is made": ("    if (status != YARIB_DONE) return status;\n    destroy(own->inside);\n",
@@ -923,6 +937,8 @@ C = noticed_by({
     ),
     "test_concurrent reader_meets_end": (
         "readers: the second side isn't new", "readers: a new table loses the one before",
+        "readers: a table is freed inside a call of its own thread",
+        "readers: a forwarding table is attached inside a call of its own thread",
     ),
     "test_concurrent save_meets_changes": (
         "copies: a list of a table that grew is cut",
@@ -961,7 +977,7 @@ C = noticed_by({
         "places: a place stays a thread's after its end",
     ),
     "test_daemon refuse_barriers_in_midst": (
-        "readers: a free that is refused is made",
+        "readers: a free that is refused is made", "places: a wait asks for no barrier",
     ),
     "test_daemon cancel": (
         "places: a change that waits is cancelled",
@@ -979,7 +995,8 @@ C = noticed_by({
         "places: a key's memory is allocated",
     ),
     "test_readers": (
-        "places: two calls have one place",
+        "places: two calls have one place", "readers: publications are counted without a lock",
+        "readers: new sides are counted without a lock",
     ),
     "test_heap give_back": (
         "heap: a slab in use is given back", "heap: no slab is given back", "heap: a block ends after its slab",
