@@ -30,6 +30,19 @@ def next_counted(ahead):
     return piece
 pieces.Ahead.next = next_counted
 """
+# a piece is converted again if objects of the first time refer to themselves, which nothing would free
+COLLECTED = """
+serve_all = pieces.serve
+def serve_collected(requests, results, work):
+    def work_collected(data, state):
+        gc.collect()
+        result = work(data, state)
+        if gc.collect():
+            raise Refused("objects refer to themselves")
+        return result
+    serve_all(requests, results, work_collected)
+pieces.serve = serve_collected
+"""
 DYING = """
 pieces.serve = lambda *_: os._exit(9)
 """
@@ -106,12 +119,13 @@ def check_samples(made, conversions):
 
 
 def check_joined(made):
-    """Most pieces are converted by other processes."""
+    """Most pieces are converted by other processes, which keep nothing of them."""
     for number, (command, sample, least) in enumerate(JOINED):
         data = (SAMPLES / sample).read_bytes()
-        _, signs, said = run(command, data, made / f"joined{number}", constants=constants(3000) + COUNTED)
-        if signs.count("J") < least:
-            raise Failed(f"of the pieces of samples/{sample} {signs} were joined; {said}")
+        for changed in (COUNTED, COLLECTED + COUNTED):
+            _, signs, said = run(command, data, made / f"joined{number}", constants=constants(3000) + changed)
+            if signs.count("J") < least:
+                raise Failed(f"of the pieces of samples/{sample} {signs} were joined; {said}")
         check_same(made, f"joined-{number}", command, data, (3000,))
 
 
