@@ -4,13 +4,12 @@
  *
  *     bindings/build && gcc -O2 -I bindings/c bench/beside.c bindings/out/libyarib.a -pthread -o beside && ./beside 8 */
 #define _POSIX_C_SOURCE 200809L
+#include "measured.h"
+
 #include <pthread.h>
 #include <signal.h>
 #include <stdatomic.h>
-#include <stdio.h>
-#include <stdlib.h>
 #include <sys/wait.h>
-#include <time.h>
 #include <unistd.h>
 #include <yarib.h>
 
@@ -23,26 +22,18 @@ static atomic_size_t looked_up;
 static pid_t busy[MOST_BUSY];
 static int busy_ones;
 
-/* Ends the busy processes too. */
-static void need(int holds)
+static void end_busy(void)
 {
-    if (holds) return;
-    fputs("bench/beside.c: a call failed\n", stderr);
-    for (int k = 0; k < busy_ones; k++) kill(busy[k], SIGKILL);
-    exit(1);
+    for (; busy_ones > 0; busy_ones--) kill(busy[busy_ones - 1], SIGKILL), waitpid(busy[busy_ones - 1], NULL, 0);
 }
 
-static uint32_t draw(uint64_t *last)
+static double now(clockid_t which) { return time_of(which, 1e6); }
+
+/* Returns a number that looks random, from a state of the thread's own. */
+static uint32_t draw_from(uint64_t *last)
 {
     *last = *last * 6364136223846793005u + 1442695040888963407u;
     return (uint32_t)(*last >> 32);
-}
-
-static double now(clockid_t which)
-{
-    struct timespec time;
-    clock_gettime(which, &time);
-    return (double)time.tv_sec * 1e6 + (double)time.tv_nsec / 1e3;
 }
 
 static void *read_on(void *seed)
@@ -51,7 +42,7 @@ static void *read_on(void *seed)
     while (!atomic_load(&is_over)) {
         uint32_t asked[AT_ONCE];
         yarib_route answers[AT_ONCE];
-        for (int k = 0; k < AT_ONCE; k++) asked[k] = draw(&last);
+        for (int k = 0; k < AT_ONCE; k++) asked[k] = draw_from(&last);
         need(yarib_concurrent_look_up(&table, asked, AT_ONCE, answers, AT_ONCE) == YARIB_DONE);
         atomic_fetch_add(&looked_up, AT_ONCE);
     }
@@ -74,29 +65,15 @@ static void start_busy(void)
 
 static void fill(void)
 {
-    uint64_t last = 7;
     yarib_reply reply;
     need(yarib_concurrent_new(&table, 1000000) == YARIB_DONE);
     for (int k = 0; k < ROUTES; k++) {
-        uint8_t length = (uint8_t)(16 + draw(&last) % 9);
-        yarib_command add = {.operation = YARIB_ADD, .feed = 1, .base = draw(&last) >> (32 - length) << (32 - length), .len = length,
-            .hop = YARIB_VIA, .via = draw(&last) % 64};
+        uint8_t length = (uint8_t)(16 + draw() % 9);
+        yarib_command add = {.operation = YARIB_ADD, .feed = 1, .base = draw() >> (32 - length) << (32 - length), .len = length,
+            .hop = YARIB_VIA, .via = draw() % 64};
         need(yarib_concurrent_apply(&table, &add, &reply) == YARIB_DONE);
     }
     need(yarib_concurrent_fib_attach(&table) == YARIB_DONE);
-}
-
-static int compare(const void *one, const void *other)
-{
-    double first = *(const double *)one, second = *(const double *)other;
-    return first < second ? -1 : first > second;
-}
-
-static void show(const char *name, double *times)
-{
-    qsort(times, CHANGES, sizeof *times, compare);
-    printf("%s: median %.1f us, 99 %% %.1f, 99.9 %% %.1f, most %.1f\n", name, times[CHANGES / 2], times[CHANGES / 100 * 99],
-        times[CHANGES / 1000 * 999], times[CHANGES - 1]);
 }
 
 int main(int count, char **words)
@@ -105,7 +82,7 @@ int main(int count, char **words)
     int wanted = count > 1 ? atoi(words[1]) : 8;
     pthread_t threads[READERS];
     yarib_reply reply;
-    need(wanted >= 0 && wanted <= MOST_BUSY);
+    need(wanted >= 0 && wanted <= MOST_BUSY && atexit(end_busy) == 0);
     fill();
     while (busy_ones < wanted) start_busy();
     for (uintptr_t k = 0; k < READERS; k++) need(pthread_create(&threads[k], NULL, read_on, (void *)(k + 1)) == 0);
@@ -125,10 +102,10 @@ int main(int count, char **words)
     size_t looked = atomic_load(&looked_up);
     atomic_store(&is_over, 1);
     for (int k = 0; k < READERS; k++) pthread_join(threads[k], NULL);
-    for (int k = 0; k < busy_ones; k++) need(kill(busy[k], SIGKILL) == 0 && waitpid(busy[k], NULL, 0) == busy[k]);
     printf("%d changes in %.2f s beside %d readers and %d busy processes; %.2f million look-ups a second\n", CHANGES, taken / 1e6, READERS,
         busy_ones, (double)looked / taken);
-    show("clock", clock_time);
-    show("processor time", processor);
+    end_busy();
+    print_times("clock", clock_time, CHANGES);
+    print_times("processor time", processor, CHANGES);
     return yarib_concurrent_free(&table) == YARIB_DONE ? 0 : 1;
 }

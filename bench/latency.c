@@ -43,19 +43,6 @@ static void fill(void)
     need(yarib_concurrent_fib_attach(&table) == YARIB_DONE);
 }
 
-static int compare(const void *one, const void *other)
-{
-    double first = *(const double *)one, second = *(const double *)other;
-    return first < second ? -1 : first > second;
-}
-
-static void show(const char *name, double *times)
-{
-    qsort(times, CHANGES, sizeof *times, compare);
-    printf("%s: median %.1f, 99 %% %.1f, 99.9 %% %.1f, 99.99 %% %.1f, most %.1f\n", name, times[CHANGES / 2], times[CHANGES / 100 * 99],
-        times[CHANGES / 1000 * 999], times[CHANGES / 10000 * 9999], times[CHANGES - 1]);
-}
-
 int main(void)
 {
     yarib_command *chosen = routes;
@@ -73,7 +60,7 @@ int main(void)
         clock_time[k] = now(CLOCK_MONOTONIC) - began;
         need(reply.code == (k % 3 == 0 ? YARIB_WITHDRAWN : k % 3 == 1 ? YARIB_ADDED : YARIB_REPLACED));
     }
-    show("processor time", processor);
-    show("clock", clock_time);
+    print_times("processor time", processor, CHANGES);
+    print_times("clock", clock_time, CHANGES);
     return yarib_concurrent_free(&table) == YARIB_DONE ? 0 : 1;
 }

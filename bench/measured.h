@@ -26,6 +26,23 @@ static inline double time_of(clockid_t clock, double a_second)
     return ((double)time.tv_sec + (double)time.tv_nsec / 1e9) * a_second;
 }
 
+/* Orders numbers for qsort. */
+static inline int by_number(const void *one, const void *other)
+{
+    double first = *(const double *)one, second = *(const double *)other;
+    return first < second ? -1 : first > second;
+}
+
+/* Sorts the times of calls, and prints the time that each of some percentages of them took at most. */
+static inline void print_times(const char *name, double *times, size_t count)
+{
+    static const double parts[] = {50, 99, 99.9, 99.99};
+    qsort(times, count, sizeof *times, by_number);
+    printf("%s:", name);
+    for (size_t k = 0; k < sizeof parts / sizeof *parts; k++) printf(" %g %% %.1f,", parts[k], times[(size_t)((double)count / 100 * parts[k])]);
+    printf(" most %.1f\n", times[count - 1]);
+}
+
 /* Draws a length. How many prefixes have each is as in a full table, in thousandths. */
 static inline uint8_t draw_full_length(void)
 {

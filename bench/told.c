@@ -44,15 +44,9 @@ static double execute(yarib *table, size_t count, int tells)
     return (time_of(CLOCK_THREAD_CPUTIME_ID, 1e9) - from) / (double)count;
 }
 
-static int compare(const void *one, const void *other)
-{
-    double first = *(const double *)one, second = *(const double *)other;
-    return first < second ? -1 : first > second;
-}
-
 static double median(double *of)
 {
-    qsort(of, TURNS, sizeof *of, compare);
+    qsort(of, TURNS, sizeof *of, by_number);
     return of[TURNS / 2];
 }
 
