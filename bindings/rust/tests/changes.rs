@@ -5,6 +5,20 @@ use routes::{command, found, number, reply, sections, Line};
 use std::net::Ipv4Addr;
 use yarib::{Change, Command, ConcurrentTable, Error, Reply, Result, Table};
 
+/// Executes a command by the calls of a table that return its changes.
+macro_rules! changing {
+    ($table:ident) => {
+        |feed, command| {
+            if command == Command::Purge {
+                let changes = $table.purge_changes(feed)?;
+                return Ok(($table.apply(feed, command)?, changes));
+            }
+            let (reply, change) = $table.apply_changed(feed, command)?;
+            Ok((reply, change.into_iter().collect()))
+        }
+    };
+}
+
 /// Returns the change between two routes to a prefix, each of which may be none.
 fn change(sides: &[&str]) -> Change {
     let (before, after) = (found(sides[0]), found(sides[1]));
@@ -41,14 +55,7 @@ fn changes_are_those_of_the_best_routes() {
     for (at, (head, lines)) in sections("changes").into_iter().enumerate() {
         let make = [Table::new, Table::with_journal][at % 2];
         let mut table = make(number(head[1])).unwrap();
-        compare(&lines, |feed, command| {
-            if command == Command::Purge {
-                let changes = table.purge_changes(feed)?;
-                return Ok((table.apply(feed, command)?, changes));
-            }
-            let (reply, change) = table.apply_changed(feed, command)?;
-            Ok((reply, change.into_iter().collect()))
-        });
+        compare(&lines, changing!(table));
     }
 }
 
@@ -56,14 +63,7 @@ fn changes_are_those_of_the_best_routes() {
 fn changes_of_a_concurrent_table() {
     for (head, lines) in sections("changes") {
         let table = ConcurrentTable::new(number(head[1])).unwrap();
-        compare(&lines, |feed, command| {
-            if command == Command::Purge {
-                let changes = table.purge_changes(feed)?;
-                return Ok((table.apply(feed, command)?, changes));
-            }
-            let (reply, change) = table.apply_changed(feed, command)?;
-            Ok((reply, change.into_iter().collect()))
-        });
+        compare(&lines, changing!(table));
         assert_eq!(table.purge_changes(0), Err(Error::Number));
         assert_eq!(table.apply_changed(65, Command::Purge), Err(Error::Number));
     }
