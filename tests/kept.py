@@ -681,6 +681,8 @@ def bindings(new):
         one.put(one.top / "bindings" / name, text)
     # The model of the table reads it.
     one.put(one.top / "crates/rt_rib/src/limits.rt", (TOP / "crates/rt_rib/src/limits.rt").read_text())
+    # These tests read no test vectors, which take two seconds to write.
+    one.put(one.top / "common/table_vectors.py", "def write(file):\n    pass\n")
 
     def tried(**how):
         names = {"YARIB_ARCHIVE": str(one.top / "bindings/archive"), "YARIB_KEPT": "1", "RT_JOBS": "1"} | how
@@ -695,7 +697,7 @@ def bindings(new):
     expect("mutants again", (status, "the mutants of python failed in an earlier run" in said, calls), (0, True, 0))
     expect("mutants again, without YARIB_KEPT", tried(YARIB_KEPT="")[::2], (0, 3))
     for name in ("bindings/archive", "bindings/c/one.h", "bindings/python/one.py", "bindings/python/test_yarib.py", "bindings/mutants.py",
-                 "bindings/build", "bindings/test", "common/table_model.py"):
+                 "bindings/build", "bindings/test", "common/table_model.py", "common/table_vectors.py"):
         one.put(one.top / name, (one.top / name).read_text() + ("/* More. */\n" if name.endswith(".h") else "# more\n"))
         expect(f"{name} of the binding is changed", tried()[::2], (0, 3))
     one.put(one.top / "bindings/python/__pycache__/one.pyc", "built\n")
