@@ -168,7 +168,10 @@ class Release:
         self.add_tar(f"yarib-{VERSION}-linux-x86_64", tree)
 
     def add_sources(self):
-        """Adds the bindings for Go and Rust, each beside the library, where it looks for it."""
+        """Adds the bindings for Go and Rust, each with the library and the test vectors, where it and its tests look for them."""
+        # It needs the sources of the crates, and ./release --verify has none.
+        from . import table_vectors
+        vectors = table_vectors.text()
         for language, name in (("go", "go"), ("rust", "cargo")):
             tree = Tree()
             for path in tracked(f"bindings/{language}"):
@@ -178,6 +181,7 @@ class Release:
             for header in ("yarib.h", "yarib_check.h"):
                 tree.files[f"c/{header}"] = self.staged.files[f"include/{header}"]
             tree.files["out/libyarib.a"] = self.staged.files["lib/libyarib.a"]
+            tree.add("out/vectors", vectors)
             self.add_tar(f"yarib-{VERSION}-{name}", tree)
 
     def add_wheel_and_sdist(self):

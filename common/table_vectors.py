@@ -275,8 +275,12 @@ def vectors():
         yield from source(Drawn(300 + seed), 2 + seed % 2, 3, 200)
 
 
+def text():
+    return "".join(one + "\n" for one in vectors())
+
+
 def write(file):
-    pathlib.Path(file).write_text("".join(one + "\n" for one in vectors()))
+    pathlib.Path(file).write_text(text())
 
 
 if __name__ == "__main__":

@@ -221,11 +221,15 @@ def bindings(folder):
         status, _, said = run(["go", "build", "-o", pathlib.Path("go-example").resolve(), "./example"],
                               cwd=f"yarib-{VERSION}-go/go", timeout=300)
         expect("the archive for Go", (status, said), (0, ""))
+        ended = run(["go", "test", "-run", "BothSides", "."], cwd=f"yarib-{VERSION}-go/go", timeout=300)
+        expect("a test of the archive for Go, by its test vectors", ended[0], 0)
         built.append(pathlib.Path("go-example").resolve())
     if shutil.which("cargo"):
         crate = pathlib.Path(f"yarib-{VERSION}-cargo/rust")
         status, _, said = run(["cargo", "build", "--offline", "-q", "--example", "two_feeds"], cwd=crate, timeout=300)
         expect("the archive for Rust", (status, said), (0, ""))
+        ended = run(["cargo", "test", "--offline", "-q", "--test", "changes"], cwd=crate, timeout=300)
+        expect("a test of the archive for Rust, by its test vectors", ended[0], 0)
         built.append((crate / "target/debug/examples/two_feeds").resolve())
     return built
 

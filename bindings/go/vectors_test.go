@@ -22,9 +22,13 @@ type section struct {
 // sections returns the sections of this kind. common/table_vectors.py writes and describes them.
 func sections(t *testing.T, kind string) []section {
 	t.Helper()
-	text, err := os.ReadFile(os.Getenv("YARIB_VECTORS"))
+	file := os.Getenv("YARIB_VECTORS")
+	if file == "" {
+		file = "../out/vectors"
+	}
+	text, err := os.ReadFile(file)
 	if err != nil {
-		t.Fatal("YARIB_VECTORS: common/table_vectors.py says how to make it:", err)
+		t.Fatal("the README says how to make test vectors:", err)
 	}
 	all := []section{}
 	for _, one := range strings.Split(strings.TrimSuffix(string(text), "\n"), "\n") {

@@ -53,8 +53,9 @@ pub type Line = (Vec<&'static str>, Vec<&'static str>);
 /// Returns the sections of this kind: the words of the first line of each, and its other lines. `common/table_vectors.py`
 /// writes and describes them.
 pub fn sections(kind: &str) -> Vec<(Vec<&'static str>, Vec<Line>)> {
-    let file = std::env::var("YARIB_VECTORS").expect("common/table_vectors.py says how to make it");
-    let text: &'static str = Box::leak(std::fs::read_to_string(file).unwrap().into_boxed_str());
+    let file = std::env::var("YARIB_VECTORS").unwrap_or_else(|_| "../out/vectors".to_string());
+    let text = std::fs::read_to_string(file).expect("the README says how to make test vectors");
+    let text: &'static str = Box::leak(text.into_boxed_str());
     let words = |text: &'static str| text.split_whitespace().collect();
     let mut sections: Vec<(Vec<&str>, Vec<Line>)> = Vec::new();
     for line in text.lines() {
