@@ -1,11 +1,24 @@
 -- Places that are taken, and what then stays in use.
-use Rattle.std.proofs.Common.{◌≡◌, ℕ, ◌<◌, ◌≤◌, ◌⊎◌, List, [], ◌∷◌, ◌++◌, length, take, get_or, get_or-set_other, get_or-take, subst, sym, refl, ap, ◌∙◌, inl, inr, arith}
+use Rattle.std.proofs.Common.{◌≡◌, ℕ, ◌+◌, ◌<◌, ◌≤◌, ◌⊎◌, List, [], ◌∷◌, ◌++◌, length, take, drop, add-one, get_or, get_or-set_other, get_or-take, subst, sym, refl, ap, ◌∙◌, inl, inr, arith}
 use Rattle.std.proofs.Math.ListN.{set}
-use Rattle.std.proofs.lemmas.List.{length-set, length-take, get_or_default, get_or_append_left, get_or_push, length_push}
+use Rattle.std.proofs.lemmas.List.{length-set, length-take, set_split, take_all, drop_all, get_or_default, get_or_append_left, get_or_push, length_push}
 use Rattle.std.proofs.lemmas.Bool.{cases_eq, cases_lt}
-use Rattle.rt_fib.specs.inside.Pools.{Places, Filling, IsUsed, Has, IsFree, Keeps, IsTaken, WereUnused, Fills, IsBack, AreCleared}
+use Rattle.rt_fib.specs.inside.Pools.{with_value, Places, Filling, IsUsed, Has, IsFree, Keeps, IsTaken, WereUnused, Fills, IsBack, AreCleared}
 
 module _ {T : Type 0} where
+  -- a value that is put into a place of the list
+  pub value_set : (values : List T) (n : ℕ) (value : T) → n < length values → with_value values n value ≡ set values n value
+  value_set values n value below =
+      let split : set values n value ≡ take n values ++ value ∷ drop (n + 1) values = rw add-one (set_split values n value below) in
+      sym split
+
+  -- and one that is put at its end
+  pub value_pushed : (values : List T) (n : ℕ) (value : T) → n ≡ length values → with_value values n value ≡ values ++ value ∷ []
+  value_pushed values n value is =
+      let whole : take n values ≡ values = take_all n values (omega (arith, is)) in
+      let none : drop (n + 1) values ≡ [] = drop_all (n + 1) values (omega (arith, is)) in
+      rw (whole, none)
+
   -- what is in use since a later round is so since an earlier one
   pub weaker : (pool : Places T) (s t n : ℕ) (value : T) → s ≤ t → Has pool t n value → Has pool s n value
   weaker pool s t n value before has = record {

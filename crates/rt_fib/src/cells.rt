@@ -2,12 +2,14 @@
 //! answers.
 ghost use Rattle.std.specs.Prelude.{◌≡◌, ℕ, ◌+◌, ◌<◌, ◌≤◌, ◌^◌, IfOk, get_or, length, map, take};
 ghost use Rattle.rt_rib.specs.LookUp.{look_up};
-ghost use Rattle.rt_fib.specs.inside.Pools.{places};
+ghost use Rattle.rt_fib.specs.Hops.{next_hop};
+ghost use Rattle.rt_fib.specs.inside.Pools.{places, Has};
 ghost use Rattle.rt_fib.specs.inside.Entries.{at, entry_at, AreAll};
 
+use crate::answers::{ANSWER_BYTES, AnswerPool};
 use crate::pools::{Pool, copy_pool};
 use rt_cidr::Addr;
-use rt_rib::{Refused, Route, Table};
+use rt_rib::{Hop, Refused, Route, Table};
 use std::alloc::Allocator;
 use std::snapshot::Snapshot;
 
@@ -25,7 +27,7 @@ pub(crate) struct Block {
 #[derive(Drop)]
 pub(crate) struct Pools<A: Allocator + Copy> {
     pub(crate) blocks: Pool<Block, A>,
-    pub(crate) answers: Pool<Option<Route>, A>,
+    pub(crate) answers: AnswerPool<A>,
     /// The counts of blocks and answers that this round has seen in use. No clause mentions them.
     pub(crate) seen: Seen,
     /// The number that an answer got last, by its prefix's length. No clause mentions them.
@@ -105,35 +107,49 @@ const AT_ONCE: usize = 16;
 /// Says how many bytes a block takes, with its stamp.
 pub(crate) const BLOCK_BYTES: usize = 1032;
 
-/// Says how many bytes an answer takes, with its stamp.
-pub(crate) const ANSWER_BYTES: usize = 32;
-
 impl<A: Allocator + Copy, B: Allocator + Copy> Cells<A, B> {
     /// Looks up the address.
     pub(crate) fn look_up(&self, addr: Addr) -> Option<Route>
-        requires { AreAll self.now.entries.items (places self.now.pools.blocks) (places self.now.pools.answers) self.now.since self.now.table.value.routes }
+        requires { AreAll self.now.entries.items (places self.now.pools.blocks) self.now.pools.answers.places self.now.since self.now.table.value.routes }
         ensures { result ≡ look_up addr self.now.table.value.routes }
     {
         self.answer_by(self.entries[(addr.0 / 256) as usize], addr)
     }
 
+    /// Looks up the address's next hop.
+    pub(crate) fn look_up_hop(&self, addr: Addr) -> Option<Hop>
+        requires { AreAll self.now.entries.items (places self.now.pools.blocks) self.now.pools.answers.places self.now.since self.now.table.value.routes }
+        ensures { result ≡ next_hop (look_up addr self.now.table.value.routes) }
+    {
+        let number = self.number_by(self.entries[(addr.0 / 256) as usize], addr);
+        self.pools.answers.hop(number)
+    }
+
     /// Looks up the address, by its entry.
     fn answer_by(&self, entry: u32, addr: Addr) -> Option<Route>
-        requires right { AreAll self.now.entries.items (places self.now.pools.blocks) (places self.now.pools.answers) self.now.since self.now.table.value.routes }
+        requires right { AreAll self.now.entries.items (places self.now.pools.blocks) self.now.pools.answers.places self.now.since self.now.table.value.routes }
         requires entry { entry ≡ entry_at self.now.entries.items addr }
         ensures { result ≡ look_up addr self.now.table.value.routes }
     {
+        self.pools.answers.answer(self.number_by(entry, addr))
+    }
+
+    /// Returns the number of the address's answer, by its entry.
+    fn number_by(&self, entry: u32, addr: Addr) -> u32
+        requires right { AreAll self.now.entries.items (places self.now.pools.blocks) self.now.pools.answers.places self.now.since self.now.table.value.routes }
+        requires entry { entry ≡ entry_at self.now.entries.items addr }
+        ensures { Has self.now.pools.answers.places self.now.since result (look_up addr self.now.table.value.routes) }
+    {
         if entry < LONG {
-            return self.pools.answers.values[entry as usize];
+            return entry;
         }
         let block = &self.pools.blocks.values[(entry - LONG) as usize];
-        let number = block.numbers[(addr.0 % 256) as usize];
-        self.pools.answers.values[number as usize]
+        block.numbers[(addr.0 % 256) as usize]
     }
 
     /// Looks up each address, in order.
     pub(crate) fn look_up_each(&self, addresses: &[Addr], answers: &mut [Option<Route>])
-        requires right { AreAll self.now.entries.items (places self.now.pools.blocks) (places self.now.pools.answers) self.now.since self.now.table.value.routes }
+        requires right { AreAll self.now.entries.items (places self.now.pools.blocks) self.now.pools.answers.places self.now.since self.now.table.value.routes }
         requires size { length answers.old ≡ length addresses.now }
         ensures { answers.new ≡ map (λ addr. look_up addr self.now.table.value.routes) addresses.now }
     {
@@ -154,7 +170,7 @@ impl<A: Allocator + Copy, B: Allocator + Copy> Cells<A, B> {
         start: usize,
         size: usize,
     )
-        requires right { AreAll self.now.entries.items (places self.now.pools.blocks) (places self.now.pools.answers) self.now.since self.now.table.value.routes }
+        requires right { AreAll self.now.entries.items (places self.now.pools.blocks) self.now.pools.answers.places self.now.since self.now.table.value.routes }
         requires few { size ≤ AT_ONCE }
         requires within { start + size ≤ length addresses.now }
         requires size { length answers.old ≡ length addresses.now }
@@ -189,15 +205,14 @@ impl<A: Allocator + Copy, B: Allocator + Copy> Cells<A, B> {
         ensures entries { IfOk result (λ c. c.entries.items ≡ self.now.entries.items) }
         ensures blocks { IfOk result (λ c. c.pools.blocks.values.items ≡ self.now.pools.blocks.values.items) }
         ensures block_stamps { IfOk result (λ c. c.pools.blocks.stamps.items ≡ self.now.pools.blocks.stamps.items) }
-        ensures answers { IfOk result (λ c. c.pools.answers.values.items ≡ self.now.pools.answers.values.items) }
-        ensures answer_stamps { IfOk result (λ c. c.pools.answers.stamps.items ≡ self.now.pools.answers.stamps.items) }
+        ensures answers { IfOk result (λ c. c.pools.answers.places ≡ self.now.pools.answers.places) }
         ensures since { IfOk result (λ c. c.since ≡ self.now.since) }
         ensures marked { IfOk result (λ c. c.marked ≡ self.now.marked) }
         ensures table { IfOk result (λ c. c.table.value ≡ table.now) }
     {
         let entries = Vec::from_slice(alloc, &self.entries)?;
         let blocks = copy_pool(alloc, &self.pools.blocks)?;
-        let answers = copy_pool(alloc, &self.pools.answers)?;
+        let answers = self.pools.answers.copy(alloc)?;
         Ok(Cells {
             entries,
             pools: Pools {

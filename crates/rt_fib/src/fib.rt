@@ -4,11 +4,12 @@ ghost use Rattle.rt_rib.specs.declared.commands.Cmd.TheVariants.{Purge};
 ghost use Rattle.rt_rib.specs.Book.{table_state, IsFeed, Serves};
 ghost use Rattle.rt_rib.specs.LookUp.{look_up};
 ghost use Rattle.rt_rib.specs.Table.{IsTable};
+ghost use Rattle.rt_fib.specs.Hops.{next_hop};
 ghost use Rattle.rt_fib.specs.Laws.{KeepsOtherRoutes, PreservesOtherRoutes};
 ghost use Rattle.rt_fib.specs.Views.{ViewShows};
 ghost use Rattle.rt_fib.specs.inside.Spans.{PreservesLookupsOutside};
 
-use crate::cells::{ANSWER_BYTES, BLOCK_BYTES, Cells};
+use crate::cells::{BLOCK_BYTES, Cells};
 use crate::filling::{all_cells, put_entries, renew_cells};
 use crate::following::{Change, change_entries, number_for, own_answer};
 use crate::marking::keep_pace;
@@ -18,7 +19,7 @@ use crate::spans::{ENTRIES, span_of};
 use crate::views::{ViewSizes, hop_numbers, show_blocks, show_entries};
 use rt_cidr::{Addr, Prefix};
 use rt_rib::laws::look_up_finds_best;
-use rt_rib::{Cmd, Refused, Reply, Route, Table};
+use rt_rib::{Cmd, Hop, Refused, Reply, Route, Table};
 use std::alloc::Allocator;
 use std::fmt;
 use std::marker::Model;
@@ -26,7 +27,7 @@ use std::snapshot::Snapshot;
 
 /// Holds what a routing table answers each address, in memory of the allocator. Contracts see the routes of that table. Its memory is
 /// its own: many threads may look up while the table changes. It takes 64 MiB, about 1 KiB for each 256 addresses of one entry that
-/// have more than one answer, and 32 bytes for each answer.
+/// have more than one answer, and 36 bytes for each answer.
 #[derive(Drop)]
 pub struct Fib<A: Allocator + Copy, B: Allocator + Copy = A> {
     cells: Cells<A, B>,
@@ -42,7 +43,7 @@ impl<A: Allocator + Copy, B: Allocator + Copy> Model for Fib<A, B> {
 
     ghost view = { λ f. f.cells.table.value.routes };
 
-    ghost invariant = { λ f. AreCells f.cells.entries.items (places f.cells.pools.blocks) (places f.cells.pools.answers) f.cells.since
+    ghost invariant = { λ f. AreCells f.cells.entries.items (places f.cells.pools.blocks) f.cells.pools.answers.places f.cells.since
         f.cells.marked f.cells.table.value.routes };
 }
 
@@ -51,7 +52,7 @@ impl<A: Allocator + Copy, B: Allocator + Copy> fmt::Debug for Fib<A, B> {
     fn fmt<W: fmt::Write>(&self, f: &mut fmt::Formatter<W>) -> fmt::Result {
         f.debug_struct("Fib")
             .field("blocks", &self.cells.pools.blocks.values.len())
-            .field("answers", &self.cells.pools.answers.values.len())
+            .field("answers", &self.cells.pools.answers.len())
             .finish_non_exhaustive()
     }
 }
@@ -93,6 +94,14 @@ impl<A: Allocator + Copy, B: Allocator + Copy> Fib<A, B> {
         ensures { answers.new ≡ map (λ addr. look_up addr self.now) addresses.now }
     {
         self.cells.look_up_each(addresses, answers);
+    }
+
+    /// Looks up the address's next hop: that of the route that `look_up` returns, or `None` if no prefix covers the address. It reads 4
+    /// bytes in place of the answer, and the answer too only for the routers 0.0.0.0 to 0.0.0.2.
+    pub fn look_up_hop(&self, addr: Addr) -> Option<Hop>
+        ensures { result ≡ next_hop (look_up addr self.now) }
+    {
+        self.cells.look_up_hop(addr)
     }
 
     /// Follows the last command that the table has answered. After an `add`, a `replace` or a `withdraw` it renews the answers of the
@@ -211,7 +220,7 @@ impl<A: Allocator + Copy, B: Allocator + Copy> Fib<A, B> {
         let pools = &self.cells.pools;
         ViewSizes {
             blocks: pools.blocks.values.len().saturating_mul(256),
-            routers: pools.answers.values.len().saturating_add(2),
+            routers: pools.answers.len().saturating_add(2),
         }
     }
 
@@ -237,7 +246,7 @@ impl<A: Allocator + Copy, B: Allocator + Copy> Fib<A, B> {
         let cells = &self.cells;
         let mut list = Vec::new(self.allocator());
         list.resize(2, 0u32)?;
-        let numbers = hop_numbers(self.allocator(), &cells.pools.answers.values, &mut list)?;
+        let numbers = hop_numbers(self.allocator(), cells.pools.answers.values(), &mut list)?;
         if entries.len() != ENTRIES as usize || routers.len() < list.len() {
             return Ok(false);
         }
@@ -257,7 +266,7 @@ impl<A: Allocator + Copy, B: Allocator + Copy> Fib<A, B> {
     {
         let cells = &self.cells;
         let blocks = bytes_reserved(&cells.pools.blocks, BLOCK_BYTES);
-        let answers = bytes_reserved(&cells.pools.answers, ANSWER_BYTES);
+        let answers = cells.pools.answers.bytes();
         let entries = cells.entries.capacity().saturating_mul(4);
         entries.saturating_add(blocks).saturating_add(answers)
     }

@@ -6,9 +6,8 @@ ghost use Rattle.rt_fib.specs.inside.Entries.{AreCells, AreFrom, IsEntry};
 ghost use Rattle.rt_fib.specs.inside.Pieces.{IsNumberedFrom, IsNumberedAt, AreNumbers};
 ghost use Rattle.rt_fib.specs.inside.Spans.{ArePut, AreRenewed};
 
-use crate::cells::{
-    ANSWER_BYTES, BLOCK_BYTES, Block, Cells, KEPT_LENGTHS, LONG, Pools, Seen, most_waste,
-};
+use crate::answers::{ANSWER_BYTES, AnswerPool};
+use crate::cells::{BLOCK_BYTES, Block, Cells, KEPT_LENGTHS, LONG, Pools, Seen, most_waste};
 use crate::pools::{empty_pool, is_used, put, reserve, take_back, touch};
 use crate::spans::{ENTRIES, Span};
 use rt_cidr::Addr;
@@ -52,20 +51,20 @@ pub(crate) fn is_again<A: Allocator + Copy>(
 ) -> bool
     requires { since + 1 < 2 ^ 32 }
     ensures kept { pools.new.blocks ≡ pools.old.blocks }
-    ensures fills { Fills since (filling pools.old.answers) (filling pools.new.answers) }
+    ensures fills { Fills since pools.old.answers pools.new.answers }
     ensures short { IsTrue result → number < 2 ^ 31 }
-    ensures number { IsTrue result → Has (places pools.new.answers) (since + 1) number found }
+    ensures number { IsTrue result → Has pools.new.answers.places (since + 1) number found }
 {
     if number >= LONG {
         return false;
     }
-    if !is_used(&pools.answers, since, number) {
+    if !pools.answers.is_used(since, number) {
         return false;
     }
-    if !is_same(pools.answers.values[number as usize], found) {
+    if !is_same(pools.answers.answer(number), found) {
         return false;
     }
-    touch(&mut pools.answers, number, since);
+    pools.answers.touch(number, since);
     true
 }
 
@@ -89,9 +88,9 @@ pub(crate) fn number_of<A: Allocator + Copy>(
 ) -> Result<u32, Refused>
     requires { since + 1 < 2 ^ 32 }
     ensures blocks { pools.new.blocks ≡ pools.old.blocks }
-    ensures fills { Fills since (filling pools.old.answers) (filling pools.new.answers) }
+    ensures fills { Fills since pools.old.answers pools.new.answers }
     ensures short { IfOk result (λ number. number < 2 ^ 31) }
-    ensures number { IfOk result (λ number. Has (places pools.new.answers) (since + 1) number found) }
+    ensures number { IfOk result (λ number. Has pools.new.answers.places (since + 1) number found) }
 {
     let place = kept_place(&found);
     let kept = pools.kept[place];
@@ -102,7 +101,7 @@ pub(crate) fn number_of<A: Allocator + Copy>(
         pools.kept[place] = before;
         return Ok(before);
     }
-    let number = put(&mut pools.answers, since, found)?;
+    let number = pools.answers.put(since, found)?;
     pools.kept[place] = number;
     Ok(number)
 }
@@ -112,11 +111,10 @@ pub(crate) fn keep_number<A: Allocator + Copy>(pools: &mut Pools<A>, number: u32
     ensures blocks { pools.new.blocks ≡ pools.old.blocks }
     ensures answers { pools.new.answers ≡ pools.old.answers }
 {
-    let i = number as usize;
-    if i >= pools.answers.values.len() {
+    if number as usize >= pools.answers.len() {
         return;
     }
-    let found = pools.answers.values[i];
+    let found = pools.answers.answer(number);
     pools.kept[kept_place(&found)] = number;
 }
 
@@ -152,8 +150,8 @@ fn piece_at<A: Allocator + Copy, B: Allocator + Copy>(
     requires { since + 1 < 2 ^ 32 }
     ensures kept { table.new ≡ table.old }
     ensures blocks { pools.new.blocks ≡ pools.old.blocks }
-    ensures fills { Fills since (filling pools.old.answers) (filling pools.new.answers) }
-    ensures piece { IfOk result (λ piece. IsNumberedAt table.old (places pools.new.answers) (since + 1) addr.0 piece) }
+    ensures fills { Fills since pools.old.answers pools.new.answers }
+    ensures piece { IfOk result (λ piece. IsNumberedAt table.old pools.new.answers.places (since + 1) addr.0 piece) }
 {
     let (found, to) = table.lookup_range(addr);
     let before = number_before(entries, pools, addr);
@@ -171,11 +169,11 @@ fn piece_on<A: Allocator + Copy, B: Allocator + Copy>(
     addr: Addr,
 ) -> Result<Piece, Refused>
     requires since { since + 1 < 2 ^ 32 }
-    requires piece { IsNumberedFrom table.old (places pools.old.answers) (since + 1) addr.0 piece }
+    requires piece { IsNumberedFrom table.old pools.old.answers.places (since + 1) addr.0 piece }
     ensures kept { table.new ≡ table.old }
     ensures blocks { pools.new.blocks ≡ pools.old.blocks }
-    ensures fills { Fills since (filling pools.old.answers) (filling pools.new.answers) }
-    ensures piece { IfOk result (λ piece. IsNumberedAt table.old (places pools.new.answers) (since + 1) addr.0 piece) }
+    ensures fills { Fills since pools.old.answers pools.new.answers }
+    ensures piece { IfOk result (λ piece. IsNumberedAt table.old pools.new.answers.places (since + 1) addr.0 piece) }
 {
     if addr.0 <= piece.last.0 {
         return Ok(piece);
@@ -201,12 +199,12 @@ fn numbers_from<A: Allocator + Copy, B: Allocator + Copy>(
 ) -> Result<Numbered, Refused>
     requires since { since + 1 < 2 ^ 32 }
     requires fits { first + 256 ≤ 2 ^ 32 }
-    requires piece { IsNumberedFrom table.old (places pools.old.answers) (since + 1) first piece }
+    requires piece { IsNumberedFrom table.old pools.old.answers.places (since + 1) first piece }
     ensures kept { table.new ≡ table.old }
     ensures blocks { pools.new.blocks ≡ pools.old.blocks }
-    ensures fills { Fills since (filling pools.old.answers) (filling pools.new.answers) }
-    ensures numbers { IfOk result (λ b. AreNumbers table.old b.numbers (places pools.new.answers) (since + 1) first 256) }
-    ensures piece { IfOk result (λ b. IsNumberedFrom table.old (places pools.new.answers) (since + 1) (first + 256) b.piece) }
+    ensures fills { Fills since pools.old.answers pools.new.answers }
+    ensures numbers { IfOk result (λ b. AreNumbers table.old b.numbers pools.new.answers.places (since + 1) first 256) }
+    ensures piece { IfOk result (λ b. IsNumberedFrom table.old pools.new.answers.places (since + 1) (first + 256) b.piece) }
 {
     let mut piece = piece;
     let mut numbers = [0u32; 256];
@@ -305,15 +303,15 @@ fn run_of<A: Allocator + Copy, B: Allocator + Copy>(
     requires since { since + 1 < 2 ^ 32 }
     requires before { i < end }
     requires fits { end ≤ 2 ^ 24 }
-    requires piece { IsNumberedFrom table.old (places pools.old.answers) (since + 1) (i * 256) piece }
+    requires piece { IsNumberedFrom table.old pools.old.answers.places (since + 1) (i * 256) piece }
     ensures kept { table.new ≡ table.old }
     ensures blocks { Fills since (filling pools.old.blocks) (filling pools.new.blocks) }
-    ensures fills { Fills since (filling pools.old.answers) (filling pools.new.answers) }
+    ensures fills { Fills since pools.old.answers pools.new.answers }
     ensures onward { IfOk result (λ run. i < run.end) }
     ensures within { IfOk result (λ run. run.end ≤ end) }
     ensures entry { IfOk result (λ run. (j : ℕ) → i ≤ j → j < run.end
-        → IsEntry table.old (places pools.new.blocks) (places pools.new.answers) (since + 1) j run.entry) }
-    ensures piece { IfOk result (λ run. IsNumberedFrom table.old (places pools.new.answers) (since + 1) (run.end * 256) run.piece) }
+        → IsEntry table.old (places pools.new.blocks) pools.new.answers.places (since + 1) j run.entry) }
+    ensures piece { IfOk result (λ run. IsNumberedFrom table.old pools.new.answers.places (since + 1) (run.end * 256) run.piece) }
 {
     let first = i * 256;
     let piece = piece_on(table, entries, pools, since, piece, Addr(first))?;
@@ -350,9 +348,9 @@ fn span_entries<A: Allocator + Copy, B: Allocator + Copy>(
     requires fits { span.end ≤ 2 ^ 24 }
     ensures kept { table.new ≡ table.old }
     ensures blocks { Fills since (filling pools.old.blocks) (filling pools.new.blocks) }
-    ensures fills { Fills since (filling pools.old.answers) (filling pools.new.answers) }
+    ensures fills { Fills since pools.old.answers pools.new.answers }
     ensures entries { IfOk result (λ fresh.
-        AreFrom span.first fresh.items (places pools.new.blocks) (places pools.new.answers) (since + 1) table.old (span.end - span.first)) }
+        AreFrom span.first fresh.items (places pools.new.blocks) pools.new.answers.places (since + 1) table.old (span.end - span.first)) }
 {
     let mut entries = Vec::with_capacity(alloc, (span.end - span.first) as usize)?;
     let first = span.first * 256;
@@ -375,16 +373,17 @@ fn span_entries<A: Allocator + Copy, B: Allocator + Copy>(
 fn reserve_waste<A: Allocator + Copy>(pools: &mut Pools<A>)
     ensures blocks { pools.new.blocks.values.items ≡ pools.old.blocks.values.items }
     ensures block_stamps { pools.new.blocks.stamps.items ≡ pools.old.blocks.stamps.items }
-    ensures answers { pools.new.answers.values.items ≡ pools.old.answers.values.items }
-    ensures answer_stamps { pools.new.answers.stamps.items ≡ pools.old.answers.stamps.items }
+    ensures answers { pools.new.answers.places ≡ pools.old.answers.places }
 {
     let block_count = pools.blocks.values.len();
-    let answer_count = pools.answers.values.len();
+    let answer_count = pools.answers.len();
     let waste = most_waste(block_count);
     reserve(&mut pools.blocks, block_count.min(waste / BLOCK_BYTES));
-    reserve(&mut pools.answers, answer_count.min(waste / ANSWER_BYTES));
+    pools
+        .answers
+        .reserve(answer_count.min(waste / ANSWER_BYTES));
     pools.blocks.due = 0;
-    pools.answers.due = 0;
+    pools.answers.take_due();
 }
 
 /// Returns the cells with the table's answers to all addresses.
@@ -392,12 +391,12 @@ pub(crate) fn all_cells<A: Allocator + Copy, B: Allocator + Copy>(
     alloc: A,
     table: &Table<B>,
 ) -> Result<Cells<A, B>, Refused>
-    ensures cells { IfOk result (λ c. AreCells c.entries.items (places c.pools.blocks) (places c.pools.answers) c.since c.marked table.now.routes) }
+    ensures cells { IfOk result (λ c. AreCells c.entries.items (places c.pools.blocks) c.pools.answers.places c.since c.marked table.now.routes) }
     ensures table { IfOk result (λ c. c.table.value ≡ table.now) }
 {
     let mut pools = Pools {
         blocks: empty_pool(alloc),
-        answers: empty_pool(alloc),
+        answers: AnswerPool::empty(alloc),
         seen: Seen::none(),
         kept: [LONG; KEPT_LENGTHS],
     };
@@ -453,21 +452,21 @@ pub(crate) fn renew_cells<A: Allocator + Copy, B: Allocator + Copy>(
     requires size { length cells.old.entries.items ≡ 2 ^ 24 }
     ensures kept { table.new ≡ table.old }
     ensures blocks { Keeps cells.old.since (places cells.old.pools.blocks) (places cells.new.pools.blocks) }
-    ensures keeps { Keeps cells.old.since (places cells.old.pools.answers) (places cells.new.pools.answers) }
+    ensures keeps { Keeps cells.old.since cells.old.pools.answers.places cells.new.pools.answers.places }
     ensures put { OnOk result (AreRenewed cells.old.entries.items cells.new.entries.items (places cells.new.pools.blocks)
-        (places cells.new.pools.answers) (cells.old.since + 1) table.old span) }
+        cells.new.pools.answers.places (cells.old.since + 1) table.old span) }
     ensures stay { OnErr result (cells.new.entries.items ≡ cells.old.entries.items) }
     ensures blocks_back { OnErr result (IsBack cells.old.since (places cells.old.pools.blocks) (places cells.new.pools.blocks)) }
-    ensures answers_back { OnErr result (IsBack cells.old.since (places cells.old.pools.answers) (places cells.new.pools.answers)) }
+    ensures answers_back { OnErr result (IsBack cells.old.since cells.old.pools.answers.places cells.new.pools.answers.places) }
     ensures since { cells.new.since ≡ cells.old.since }
     ensures marked { cells.new.marked ≡ cells.old.marked }
     ensures table { cells.new.table.value ≡ cells.old.table.value }
 {
     let alloc = *cells.entries.allocator();
-    let block_count = cells.pools.blocks.values.len();
-    let answer_count = cells.pools.answers.values.len();
     cells.pools.blocks.taken.clear();
-    cells.pools.answers.taken.clear();
+    cells.pools.answers.begin();
+    let block_count = cells.pools.blocks.values.len();
+    let answer_count = cells.pools.answers.len();
     match span_entries(
         alloc,
         table,
@@ -488,7 +487,7 @@ pub(crate) fn renew_cells<A: Allocator + Copy, B: Allocator + Copy>(
         }
         Err(refused) => {
             take_back(&mut cells.pools.blocks, block_count);
-            take_back(&mut cells.pools.answers, answer_count);
+            cells.pools.answers.take_back(answer_count);
             Err(refused)
         }
     }

@@ -8,9 +8,9 @@ ghost use Rattle.rt_fib.specs.inside.Entries.{AreAll, AreCells};
 ghost use Rattle.rt_fib.specs.inside.Spans.{AreEntriesOf};
 ghost use Rattle.rt_fib.specs.inside.Changes.{is_longer, AnswerAlike, AreNumbersAfter, HasNumber, IsChange, IsLast, IsNumberAfter, KeepsOthers, LeadsAfter};
 
+use crate::answers::AnswerPool;
 use crate::cells::{Block, Cells, LONG, Pools};
 use crate::filling::{is_same, keep_number, number_before, number_of};
-use crate::pools::{Pool, take_back};
 use crate::spans::{ENTRIES, Span, is_whole};
 use rt_cidr::laws::{nested, ranges};
 use rt_cidr::{Addr, Prefix};
@@ -46,11 +46,10 @@ pub(crate) fn is_longer(answer: Option<Route>, len: u8) -> bool
 
 /// Returns true if the number is of an answer that is no route to a prefix longer than this.
 fn is_own<A: Allocator + Copy>(pools: &Pools<A>, len: u8, number: u32) -> bool {
-    let i = number as usize;
-    if i >= pools.answers.values.len() {
+    if number as usize >= pools.answers.len() {
         return false;
     }
-    !is_longer(pools.answers.values[i], len)
+    !is_longer(pools.answers.answer(number), len)
 }
 
 /// Returns which of the entry's addresses has an answer that is no route to a prefix longer than this.
@@ -111,7 +110,7 @@ pub(crate) fn own_answer<A: Allocator + Copy, B: Allocator + Copy>(
     prefix: &Prefix,
     span: Span,
 ) -> Option<Own>
-    requires cells { AreAll cells.now.entries.items (places cells.now.pools.blocks) (places cells.now.pools.answers) cells.now.since
+    requires cells { AreAll cells.now.entries.items (places cells.now.pools.blocks) cells.now.pools.answers.places cells.now.since
         cells.now.table.value.routes }
     requires span { AreEntriesOf prefix.now span }
     requires once { IsTable cells.now.table.value.routes }
@@ -150,16 +149,16 @@ pub(crate) fn number_for<A: Allocator + Copy, B: Allocator + Copy>(
     requires { cells.old.since + 1 < 2 ^ 32 }
     ensures entries { cells.new.entries.items ≡ cells.old.entries.items }
     ensures blocks { cells.new.pools.blocks ≡ cells.old.pools.blocks }
-    ensures keeps { Keeps cells.old.since (places cells.old.pools.answers) (places cells.new.pools.answers) }
+    ensures keeps { Keeps cells.old.since cells.old.pools.answers.places cells.new.pools.answers.places }
     ensures short { IfOk result (λ number. number < 2 ^ 31) }
-    ensures number { IfOk result (λ number. Has (places cells.new.pools.answers) (cells.old.since + 1) number found) }
-    ensures back { OnErr result (IsBack cells.old.since (places cells.old.pools.answers) (places cells.new.pools.answers)) }
+    ensures number { IfOk result (λ number. Has cells.new.pools.answers.places (cells.old.since + 1) number found) }
+    ensures back { OnErr result (IsBack cells.old.since cells.old.pools.answers.places cells.new.pools.answers.places) }
     ensures since { cells.new.since ≡ cells.old.since }
     ensures marked { cells.new.marked ≡ cells.old.marked }
     ensures table { cells.new.table.value ≡ cells.old.table.value }
 {
-    let count = cells.pools.answers.values.len();
-    cells.pools.answers.taken.clear();
+    cells.pools.answers.begin();
+    let count = cells.pools.answers.len();
     let left = number_before(
         &cells.entries,
         &cells.pools,
@@ -170,7 +169,7 @@ pub(crate) fn number_for<A: Allocator + Copy, B: Allocator + Copy>(
     match number_of(&mut cells.pools, cells.since, before, found) {
         Ok(number) => Ok(number),
         Err(refused) => {
-            take_back(&mut cells.pools.answers, count);
+            cells.pools.answers.take_back(count);
             Err(refused)
         }
     }
@@ -178,20 +177,19 @@ pub(crate) fn number_for<A: Allocator + Copy, B: Allocator + Copy>(
 
 /// Returns what becomes of the number of an answer.
 fn number_after<A: Allocator + Copy>(
-    answers: &Pool<Option<Route>, A>,
+    answers: &AnswerPool<A>,
     since: u32,
     change: &Change,
     number: u32,
 ) -> u32
-    requires { HasNumber (places answers.now) since change.now }
+    requires { HasNumber answers.now.places since change.now }
     ensures short { number < 2 ^ 31 → result < 2 ^ 31 }
-    ensures after { IsNumberAfter (places answers.now) since change.now number result }
+    ensures after { IsNumberAfter answers.now.places since change.now number result }
 {
-    let i = number as usize;
-    if i >= answers.values.len() {
+    if number as usize >= answers.len() {
         return number;
     }
-    if is_longer(answers.values[i], change.len) {
+    if is_longer(answers.answer(number), change.len) {
         return number;
     }
     change.number
@@ -199,13 +197,13 @@ fn number_after<A: Allocator + Copy>(
 
 /// Returns what becomes of the numbers of a block.
 fn numbers_after<A: Allocator + Copy>(
-    answers: &Pool<Option<Route>, A>,
+    answers: &AnswerPool<A>,
     since: u32,
     change: &Change,
     numbers: &[u32; 256],
 ) -> [u32; 256]
-    requires { HasNumber (places answers.now) since change.now }
-    ensures { AreNumbersAfter (places answers.now) since change.now numbers.now result 256 }
+    requires { HasNumber answers.now.places since change.now }
+    ensures { AreNumbersAfter answers.now.places since change.now numbers.now result 256 }
 {
     let mut after = [0u32; 256];
     'numbers: for k in 0..256usize {
@@ -222,11 +220,11 @@ fn change_block<A: Allocator + Copy>(
     i: u32,
     entry: u32,
 )
-    requires number { HasNumber (places pools.old.answers) since change.now }
+    requires number { HasNumber pools.old.answers.places since change.now }
     requires long { 2 ^ 31 ≤ entry }
     ensures answers { pools.new.answers ≡ pools.old.answers }
     ensures blocks { KeepsOthers i (places pools.old.blocks) (places pools.new.blocks) }
-    ensures leads { LeadsAfter (places pools.old.blocks) (places pools.new.blocks) (places pools.old.answers) since change.now i entry entry }
+    ensures leads { LeadsAfter (places pools.old.blocks) (places pools.new.blocks) pools.old.answers.places since change.now i entry entry }
 {
     let place = (entry - LONG) as usize;
     if place >= pools.blocks.values.len() {
@@ -249,12 +247,12 @@ fn entry_after<A: Allocator + Copy>(
     i: u32,
     entry: u32,
 ) -> Last
-    requires number { HasNumber (places pools.old.answers) since change.now }
-    requires last { IsLast (places pools.old.answers) since change.now last }
+    requires number { HasNumber pools.old.answers.places since change.now }
+    requires last { IsLast pools.old.answers.places since change.now last }
     ensures answers { pools.new.answers ≡ pools.old.answers }
     ensures blocks { KeepsOthers i (places pools.old.blocks) (places pools.new.blocks) }
-    ensures last { IsLast (places pools.old.answers) since change.now result }
-    ensures leads { LeadsAfter (places pools.old.blocks) (places pools.new.blocks) (places pools.old.answers) since change.now i entry result.after }
+    ensures last { IsLast pools.old.answers.places since change.now result }
+    ensures leads { LeadsAfter (places pools.old.blocks) (places pools.new.blocks) pools.old.answers.places since change.now i entry result.after }
 {
     if entry >= LONG {
         change_block(pools, since, change, i, entry);
@@ -277,13 +275,13 @@ pub(crate) fn change_entries<A: Allocator + Copy, B: Allocator + Copy>(
     change: &Change,
     span: Span,
 )
-    requires cells { AreCells cells.old.entries.items (places cells.old.pools.blocks) (places cells.old.pools.answers) cells.old.since
+    requires cells { AreCells cells.old.entries.items (places cells.old.pools.blocks) cells.old.pools.answers.places cells.old.since
         cells.old.marked cells.old.table.value.routes }
-    requires number { HasNumber (places cells.old.pools.answers) cells.old.since change.now }
+    requires number { HasNumber cells.old.pools.answers.places cells.old.since change.now }
     requires fits { span.end ≤ 2 ^ 24 }
     requires ordered { span.first < span.end }
     requires change { IsChange change.now.len change.now.answer span cells.old.table.value.routes table.now.routes }
-    ensures cells { AreCells cells.new.entries.items (places cells.new.pools.blocks) (places cells.new.pools.answers) cells.new.since
+    ensures cells { AreCells cells.new.entries.items (places cells.new.pools.blocks) cells.new.pools.answers.places cells.new.since
         cells.new.marked table.now.routes }
     ensures table { cells.new.table.value ≡ table.now }
 {

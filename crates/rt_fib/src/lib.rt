@@ -21,6 +21,7 @@
 //! No clause says how much memory it takes, or that many threads may look up in one: this is only tested.
 #![tactic(auto)]
 
+mod answers;
 mod cells;
 mod fib;
 mod filling;

@@ -4,8 +4,9 @@ ghost use Rattle.std.specs.Prelude.{◌≡◌, ◌+◌, ◌<◌, ◌^◌};
 ghost use Rattle.rt_fib.specs.inside.Pools.{places, Keeps};
 ghost use Rattle.rt_fib.specs.inside.Entries.{AreCells, LeadsOn};
 
+use crate::answers::ANSWER_BYTES;
 use crate::cells::{
-    ANSWER_BYTES, BLOCK_BYTES, Cells, ENTRY_BYTES, LONG, PACE, Pools, Seen, bytes_of, most_waste,
+    BLOCK_BYTES, Cells, ENTRY_BYTES, LONG, PACE, Pools, Seen, bytes_of, most_waste,
 };
 use crate::filling::is_again;
 use crate::pools::{touch, trim};
@@ -21,23 +22,22 @@ fn mark_number<A: Allocator + Copy>(pools: &mut Pools<A>, since: u32, last: u32,
     requires since { since + 1 < 2 ^ 32 }
     requires short { entry < 2 ^ 31 }
     ensures blocks { pools.new.blocks ≡ pools.old.blocks }
-    ensures keeps { Keeps since (places pools.old.answers) (places pools.new.answers) }
-    ensures leads { LeadsOn (places pools.old.blocks) (places pools.old.answers) (places pools.new.blocks) (places pools.new.answers)
+    ensures keeps { Keeps since pools.old.answers.places pools.new.answers.places }
+    ensures leads { LeadsOn (places pools.old.blocks) pools.old.answers.places (places pools.new.blocks) pools.new.answers.places
         since entry result }
 {
     if entry == last || entry % COMPARE_EVERY != since % COMPARE_EVERY {
-        touch(&mut pools.answers, entry, since);
+        pools.answers.touch(entry, since);
         return entry;
     }
-    let i = entry as usize;
-    if i >= pools.answers.values.len() {
+    if entry as usize >= pools.answers.len() {
         return entry;
     }
-    let found = pools.answers.values[i];
+    let found = pools.answers.answer(entry);
     if is_again(pools, since, last, found) {
         return last;
     }
-    touch(&mut pools.answers, entry, since);
+    pools.answers.touch(entry, since);
     entry
 }
 
@@ -45,8 +45,8 @@ fn mark_number<A: Allocator + Copy>(pools: &mut Pools<A>, since: u32, last: u32,
 fn mark_entry<A: Allocator + Copy>(pools: &mut Pools<A>, since: u32, last: u32, entry: u32) -> u32
     requires since { since + 1 < 2 ^ 32 }
     ensures blocks { Keeps since (places pools.old.blocks) (places pools.new.blocks) }
-    ensures keeps { Keeps since (places pools.old.answers) (places pools.new.answers) }
-    ensures leads { LeadsOn (places pools.old.blocks) (places pools.old.answers) (places pools.new.blocks) (places pools.new.answers)
+    ensures keeps { Keeps since pools.old.answers.places pools.new.answers.places }
+    ensures leads { LeadsOn (places pools.old.blocks) pools.old.answers.places (places pools.new.blocks) pools.new.answers.places
         since entry result }
 {
     if entry < LONG {
@@ -61,7 +61,7 @@ fn mark_entry<A: Allocator + Copy>(pools: &mut Pools<A>, since: u32, last: u32, 
     pools.seen.see_block();
     'numbers: for k in 0..256usize {
         pools.seen.see(numbers[k]);
-        touch(&mut pools.answers, numbers[k], since);
+        pools.answers.touch(numbers[k], since);
     }
     entry
 }
@@ -80,14 +80,13 @@ fn last_marked<A: Allocator + Copy, B: Allocator + Copy>(cells: &Cells<A, B>) ->
 fn end_round<A: Allocator + Copy>(pools: &mut Pools<A>, is_wasteful: &mut bool)
     ensures blocks { pools.new.blocks.values.items ≡ pools.old.blocks.values.items }
     ensures block_stamps { pools.new.blocks.stamps.items ≡ pools.old.blocks.stamps.items }
-    ensures answers { pools.new.answers.values.items ≡ pools.old.answers.values.items }
-    ensures answer_stamps { pools.new.answers.stamps.items ≡ pools.old.answers.stamps.items }
+    ensures answers { pools.new.answers.places ≡ pools.old.answers.places }
 {
     let waste = most_waste(pools.blocks.values.len());
     trim(&mut pools.blocks, waste / BLOCK_BYTES);
-    trim(&mut pools.answers, waste / ANSWER_BYTES);
+    pools.answers.trim(waste / ANSWER_BYTES);
     let needed = bytes_of(pools.seen.blocks, pools.seen.answers);
-    let taken = bytes_of(pools.blocks.values.len(), pools.answers.values.len());
+    let taken = bytes_of(pools.blocks.values.len(), pools.answers.len());
     let most = needed.saturating_mul(2).saturating_add(ENTRY_BYTES);
     *is_wasteful = taken.saturating_add(taken / 4) > most;
     pools.seen = Seen::none();
@@ -95,9 +94,9 @@ fn end_round<A: Allocator + Copy>(pools: &mut Pools<A>, is_wasteful: &mut bool)
 
 /// Marks this number of entries. An entry with a block counts as 256.
 fn mark<A: Allocator + Copy, B: Allocator + Copy>(cells: &mut Cells<A, B>, count: usize)
-    requires { AreCells cells.old.entries.items (places cells.old.pools.blocks) (places cells.old.pools.answers) cells.old.since
+    requires { AreCells cells.old.entries.items (places cells.old.pools.blocks) cells.old.pools.answers.places cells.old.since
         cells.old.marked cells.old.table.value.routes }
-    ensures cells { AreCells cells.new.entries.items (places cells.new.pools.blocks) (places cells.new.pools.answers) cells.new.since
+    ensures cells { AreCells cells.new.entries.items (places cells.new.pools.blocks) cells.new.pools.answers.places cells.new.since
         cells.new.marked cells.new.table.value.routes }
     ensures table { cells.new.table.value ≡ cells.old.table.value }
 {
@@ -120,15 +119,15 @@ fn mark<A: Allocator + Copy, B: Allocator + Copy>(cells: &mut Cells<A, B>, count
 
 /// Marks some entries, and more for each answer that was filled and each block that fell out of use.
 pub(crate) fn keep_pace<A: Allocator + Copy, B: Allocator + Copy>(cells: &mut Cells<A, B>)
-    requires { AreCells cells.old.entries.items (places cells.old.pools.blocks) (places cells.old.pools.answers) cells.old.since
+    requires { AreCells cells.old.entries.items (places cells.old.pools.blocks) cells.old.pools.answers.places cells.old.since
         cells.old.marked cells.old.table.value.routes }
-    ensures cells { AreCells cells.new.entries.items (places cells.new.pools.blocks) (places cells.new.pools.answers) cells.new.since
+    ensures cells { AreCells cells.new.entries.items (places cells.new.pools.blocks) cells.new.pools.answers.places cells.new.since
         cells.new.marked cells.new.table.value.routes }
     ensures table { cells.new.table.value ≡ cells.old.table.value }
 {
     let blocks = cells.pools.blocks.due.saturating_mul(BLOCK_BYTES);
-    let answers = cells.pools.answers.due.max(1).saturating_mul(ANSWER_BYTES);
+    let due = cells.pools.answers.take_due();
+    let answers = due.max(1).saturating_mul(ANSWER_BYTES);
     cells.pools.blocks.due = 0;
-    cells.pools.answers.due = 0;
     mark(cells, blocks.saturating_add(answers).saturating_mul(PACE));
 }

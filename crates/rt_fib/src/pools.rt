@@ -1,7 +1,7 @@
 //! Lists whose places are used again. Each place has a stamp, the round in which it was last marked as used. Whatever is in use has at
 //! least the stamp that the round began with, so a place with a lower stamp is free.
-ghost use Rattle.std.specs.Prelude.{◌≡◌, ℕ, ◌+◌, ◌<◌, ◌≤◌, ◌^◌, IfOk, IfSome, IsTrue, [], length, get_or};
-ghost use Rattle.rt_fib.specs.inside.Pools.{places, filling, AreCleared, Filling, Fills, Has, IsBack, IsFree, IsUsed, Keeps};
+ghost use Rattle.std.specs.Prelude.{◌≡◌, ℕ, ◌+◌, ◌<◌, ◌≤◌, ◌^◌, IfOk, IfSome, IsTrue, OnErr, [], length, get_or, take};
+ghost use Rattle.rt_fib.specs.inside.Pools.{places, filling, with_value, AreCleared, Filling, Fills, Has, IsBack, IsFree, IsUsed, Keeps};
 
 use crate::cells::LONG;
 use rt_rib::Refused;
@@ -144,6 +144,8 @@ fn put_at<T: Copy, A: Allocator + Copy>(
     requires free { IsFree (places pool.old) since n }
     ensures fills { Fills since (filling pool.old) (filling pool.new) }
     ensures there { IfOk result (λ _. Has (places pool.new) (since + 1) n value) }
+    ensures put { IfOk result (λ _. pool.new.values.items ≡ with_value pool.old.values.items n value) }
+    ensures kept { OnErr result (pool.new.values.items ≡ pool.old.values.items) }
 {
     pool.taken.push(n)?;
     pool.values[n as usize] = value;
@@ -161,6 +163,9 @@ fn append_value<T: Copy, A: Allocator + Copy>(
     ensures fills { Fills since (filling pool.old) (filling pool.new) }
     ensures short { IfOk result (λ n. n < 2 ^ 31) }
     ensures there { IfOk result (λ n. Has (places pool.new) (since + 1) n value) }
+    ensures within { IfOk result (λ n. n ≤ length pool.old.values.items) }
+    ensures put { IfOk result (λ n. pool.new.values.items ≡ with_value pool.old.values.items n value) }
+    ensures kept { OnErr result (pool.new.values.items ≡ pool.old.values.items) }
 {
     let n = pool.values.len();
     if n >= LONG as usize {
@@ -182,6 +187,9 @@ pub(crate) fn put<T: Copy, A: Allocator + Copy>(
     ensures fills { Fills since (filling pool.old) (filling pool.new) }
     ensures short { IfOk result (λ n. n < 2 ^ 31) }
     ensures there { IfOk result (λ n. Has (places pool.new) (since + 1) n value) }
+    ensures within { IfOk result (λ n. n ≤ length pool.old.values.items) }
+    ensures put { IfOk result (λ n. pool.new.values.items ≡ with_value pool.old.values.items n value) }
+    ensures kept { OnErr result (pool.new.values.items ≡ pool.old.values.items) }
 {
     pool.due = pool.due.saturating_add(1);
     let count = pool.values.len();
@@ -200,6 +208,7 @@ pub(crate) fn touch<T: Copy, A: Allocator + Copy>(pool: &mut Pool<T, A>, n: u32,
     ensures keeps { Keeps since (places pool.old) (places pool.new) }
     ensures fills { since ≤ get_or pool.old.stamps.items n 0 → Fills since (filling pool.old) (filling pool.new) }
     ensures touched { (t : ℕ) → (value : T) → Has (places pool.old) t n value → Has (places pool.new) (since + 1) n value }
+    ensures values { pool.new.values.items ≡ pool.old.values.items }
 {
     let i = n as usize;
     if i >= pool.stamps.len() {
@@ -225,8 +234,9 @@ fn clear_each(stamps: &mut [u32], taken: &[u32])
 
 /// Undoes a refused renewal: the free places that it filled are free again, and the pool keeps only its first places.
 pub(crate) fn take_back<T: Copy, A: Allocator + Copy>(pool: &mut Pool<T, A>, count: usize)
-    ensures { (since : ℕ) → (start : Filling T) → start.taken ≡ [] → Fills since start (filling pool.old)
+    ensures back { (since : ℕ) → (start : Filling T) → start.taken ≡ [] → Fills since start (filling pool.old)
         → count ≡ length start.places.values → IsBack since start.places (places pool.new) }
+    ensures values { pool.new.values.items ≡ take count pool.old.values.items }
 {
     clear_each(pool.stamps.as_mut_slice(), pool.taken.as_slice());
     pool.values.truncate(count);

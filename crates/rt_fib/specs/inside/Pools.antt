@@ -1,5 +1,5 @@
 -- Places that are reused once nothing leads to them.
-use Rattle.std.specs.Prelude.{◌≡◌, ℕ, ◌<◌, ◌≤◌, ◌⊎◌, List, length, get_or}
+use Rattle.std.specs.Prelude.{◌≡◌, ℕ, ◌+◌, ◌<◌, ◌≤◌, ◌⊎◌, List, ◌∷◌, ◌++◌, length, get_or, take, drop}
 use Rattle.rt_fib.specs.declared.pools.Pool.{Pool}
 
 -- the value at each place, and the round in which the place was last seen in use
@@ -37,6 +37,10 @@ module _ {T A : Type 0} where
   filling pool = record { places = places pool; taken = pool.taken.items }
 
 module _ {T : Type 0} where
+  -- the list with the value at this place, or at its end
+  abbrev pub with_value : List T → ℕ → T → List T
+  with_value values n value = take n values ++ value ∷ drop (n + 1) values
+
   -- the place is there, and in use since this round or a later one
   pub record IsUsed (pool : Places T) (since n : ℕ) : Type 0 where
     pub within : n < length pool.values

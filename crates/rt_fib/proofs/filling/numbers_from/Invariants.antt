@@ -1,5 +1,5 @@
 use Rattle.std.proofs.Common.{◌≡◌, ◌+◌, length}
-use Rattle.rt_fib.specs.inside.Pools.{places, filling, Fills}
+use Rattle.rt_fib.specs.inside.Pools.{Fills}
 use Rattle.rt_fib.specs.inside.Pieces.{IsNumberedFrom, AreNumbers}
 use Rattle.rt_fib.proofs.filling.numbers_from.Given as goal
 
@@ -8,8 +8,8 @@ abbrev pub invariant-numbers : goal.invariant-numbers
 invariant-numbers g l = record {
   kept : l.table ≡ l.fn.table;
   blocks : l.pools.blocks ≡ l.fn.pools.blocks;
-  fills : Fills l.since (filling l.fn.pools.answers) (filling l.pools.answers);
+  fills : Fills l.since l.fn.pools.answers l.pools.answers;
   full : length l.numbers ≡ 256;
-  made : AreNumbers l.fn.table l.numbers (places l.pools.answers) (l.since + 1) l.first l.k;
-  piece : IsNumberedFrom l.fn.table (places l.pools.answers) (l.since + 1) (l.first + l.k) l.piece;
+  made : AreNumbers l.fn.table l.numbers l.pools.answers.places (l.since + 1) l.first l.k;
+  piece : IsNumberedFrom l.fn.table l.pools.answers.places (l.since + 1) (l.first + l.k) l.piece;
 }

@@ -11,9 +11,9 @@ invariant-entries g l = record {
   within : l.i ≤ l.fn.span.end;
   kept : l.table ≡ l.fn.table;
   blocks : Fills l.since (filling l.fn.pools.blocks) (filling l.pools.blocks);
-  fills : Fills l.since (filling l.fn.pools.answers) (filling l.pools.answers);
-  made : AreFrom l.fn.span.first l.entries.items (places l.pools.blocks) (places l.pools.answers) (l.since + 1) l.fn.table (l.i - l.fn.span.first);
-  piece : IsNumberedFrom l.fn.table (places l.pools.answers) (l.since + 1) (l.i * 256) l.piece;
+  fills : Fills l.since l.fn.pools.answers l.pools.answers;
+  made : AreFrom l.fn.span.first l.entries.items (places l.pools.blocks) l.pools.answers.places (l.since + 1) l.fn.table (l.i - l.fn.span.first);
+  piece : IsNumberedFrom l.fn.table l.pools.answers.places (l.since + 1) (l.i * 256) l.piece;
 }
 
 abbrev pub decreases-entries : goal.decreases-entries

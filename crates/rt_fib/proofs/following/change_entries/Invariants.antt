@@ -10,7 +10,7 @@ invariant-entries g l = record {
   marked : l.cells.marked ≡ l.fn.cells.marked;
   answers : l.cells.pools.answers ≡ l.fn.cells.pools.answers;
   size : length l.cells.entries.items ≡ 2 ^ 24;
-  all : AreUntil l.cells.entries.items (places l.cells.pools.blocks) (places l.cells.pools.answers) l.cells.since l.fn.cells.table.value.routes l.table.routes l.i (2 ^ 24);
-  first : AreUntil l.cells.entries.items (places l.cells.pools.blocks) (places l.cells.pools.answers) (l.cells.since + 1) l.fn.cells.table.value.routes l.table.routes l.i l.cells.marked;
-  last : IsLast (places l.cells.pools.answers) l.cells.since l.change l.last;
+  all : AreUntil l.cells.entries.items (places l.cells.pools.blocks) l.cells.pools.answers.places l.cells.since l.fn.cells.table.value.routes l.table.routes l.i (2 ^ 24);
+  first : AreUntil l.cells.entries.items (places l.cells.pools.blocks) l.cells.pools.answers.places (l.cells.since + 1) l.fn.cells.table.value.routes l.table.routes l.i l.cells.marked;
+  last : IsLast l.cells.pools.answers.places l.cells.since l.change l.last;
 }

@@ -6,7 +6,7 @@ use Rattle.rt_fib.proofs.marking.mark.Given as goal
 -- all is right so far
 abbrev pub invariant-mark : goal.invariant-mark
 invariant-mark g l = record {
-  cells : AreCells l.cells.entries.items (places l.cells.pools.blocks) (places l.cells.pools.answers) l.cells.since l.cells.marked l.cells.table.value.routes;
+  cells : AreCells l.cells.entries.items (places l.cells.pools.blocks) l.cells.pools.answers.places l.cells.since l.cells.marked l.cells.table.value.routes;
   table : l.cells.table.value ≡ l.fn.cells.table.value;
 }
 

@@ -8,8 +8,8 @@ use Rattle.rt_fib.proofs.marking.mark_entry.Given as goal
 abbrev pub invariant-numbers : goal.invariant-numbers
 invariant-numbers g l = record {
   blocks : Keeps l.since (places l.fn.pools.blocks) (places l.pools.blocks);
-  keeps : Keeps l.since (places l.fn.pools.answers) (places l.pools.answers);
+  keeps : Keeps l.since l.fn.pools.answers.places l.pools.answers.places;
   block : (value : Block) → Has (places l.fn.pools.blocks) l.since l.block value → Has (places l.pools.blocks) (l.since + 1) l.block value;
-  on : (i : ℕ) (value : Option Route) → i < l.k → Has (places l.fn.pools.answers) l.since (get_or l.numbers i 0) value
-      → Has (places l.pools.answers) (l.since + 1) (get_or l.numbers i 0) value;
+  on : (i : ℕ) (value : Option Route) → i < l.k → Has l.fn.pools.answers.places l.since (get_or l.numbers i 0) value
+      → Has l.pools.answers.places (l.since + 1) (get_or l.numbers i 0) value;
 }

@@ -7,12 +7,12 @@ use Rattle.rt_fib.proofs.marking.mark_number.Goals as goal
 pub returns-clause-leads : goal.returns-clause-leads
 returns-clause-leads g c =
     let again = c.is_again.ensures in
-    rw again.kept (whole_on (places c.args.pools.now.blocks) (places c.args.pools.now.answers) (places c.touch-2.new.pool) c.args.since c.args.entry c.requires.short
+    rw again.kept (whole_on (places c.args.pools.now.blocks) c.args.pools.now.answers.places c.touch-2.new.self.places c.args.since c.args.entry c.requires.short
     (λ value has. c.touch-2.ensures.touched c.args.since value (again.fills.keeps.each c.args.since c.args.entry value (omega arith) has)))
 
 pub returns-then-entry-last-clause-leads : goal.returns-then-entry-last-clause-leads
 returns-then-entry-last-clause-leads g c =
-    whole_on _ (places c.args.pools.now.answers) _ c.args.since c.args.entry c.requires.short (λ value has. c.touch.ensures.touched c.args.since value has)
+    whole_on _ c.args.pools.now.answers.places _ c.args.since c.args.entry c.requires.short (λ value has. c.touch.ensures.touched c.args.since value has)
 
 pub returns-clause-keeps : goal.returns-clause-keeps
 returns-clause-keeps g c = keeps_twice _ _ _ _ c.is_again.ensures.fills.keeps c.touch-2.ensures.keeps

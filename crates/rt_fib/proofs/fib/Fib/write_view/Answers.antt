@@ -7,11 +7,11 @@ pub returns-clause-shown : goal.returns-clause-shown
 returns-clause-shown g c = λ _.
     let cells = c.self.inside.cells in
     let list = c.hop_numbers.new.routers.items in
-    let hops = rw c.deref.ensures.value at c.in_ok-numbers.ensures in
-    let shown = rw (c.deref-2.ensures.value, c.deref-3.ensures.value) at c.show_entries.ensures in
-    let more = rw (c.deref-4.ensures.value, c.deref-5.ensures.value) at c.show_blocks.ensures in
-    let put = rw c.deref-6.ensures.value at c.put_entries.ensures in
+    let hops = rw c.values.ensures at c.in_ok-numbers.ensures in
+    let shown = rw (c.deref.ensures.value, c.deref-2.ensures.value) at c.show_entries.ensures in
+    let more = rw (c.deref-3.ensures.value, c.deref-4.ensures.value) at c.show_blocks.ensures in
+    let put = rw c.deref-5.ensures.value at c.put_entries.ensures in
     let size : c.len-3.result ≡ length list = omega arith in
     rw (size, ← c.self.view_is)
-    (view_shows _ _ _ _ _ list _ (places cells.pools.blocks) (places cells.pools.answers) cells.since _ c.self.invariant.all hops
+    (view_shows _ _ _ _ _ list _ (places cells.pools.blocks) cells.pools.answers.places cells.since _ c.self.invariant.all hops
     (put_extends c.args.routers.now c.put_entries.new.entries list (omega arith) put) shown more (omega arith))
