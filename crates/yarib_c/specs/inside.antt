@@ -2,5 +2,6 @@
 pub mod AttachedFib
 pub mod Parts
 pub mod Places
+pub mod Routers
 pub mod Owned
 pub mod Tables

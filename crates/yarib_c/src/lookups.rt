@@ -8,7 +8,7 @@ ghost use Rattle.yarib_c.specs.Calls.{addr, answers_in, routers_in};
 ghost use Rattle.yarib_c.specs.inside.Places.{number_at, told_at};
 
 use crate::held::Held;
-use crate::routes::{YaribRoute, router_number};
+use crate::routes::{YaribRoute, router_by, router_number};
 use rt_cidr::Addr;
 use rt_fib::Fib;
 use rt_rib::Route;
@@ -116,8 +116,15 @@ fn route_by(fib: &Fib<Global>, addresses: &[u32], no_route: u32, discard: u32, r
     ensures { routers.new ≡ routers_in no_route discard fib.now addresses.now }
 {
     for k in 0..addresses.len() {
-        routers[k] = router_number(fib.look_up(Addr(addresses[k])), no_route, discard);
+        routers[k] = router_in(fib, addresses[k], no_route, discard);
     }
+}
+
+/// Returns the router of the address's answer in a forwarding table. It reads only the next hop of the answer.
+fn router_in(fib: &Fib<Global>, address: u32, no_route: u32, discard: u32) -> u32
+    ensures { result ≡ router_as no_route discard (look_up (addr address) fib.now) }
+{
+    router_by(fib.look_up_hop(Addr(address)), no_route, discard)
 }
 
 /// Does the same, a few dozen addresses together.

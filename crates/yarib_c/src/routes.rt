@@ -1,6 +1,7 @@
 //! Routes as C has them.
 ghost use Rattle.std.specs.Prelude.{◌≡◌};
-ghost use Rattle.yarib_c.specs.Forms.{hop_number, via_number, router_as};
+ghost use Rattle.yarib_c.specs.Forms.{hop_number, via_number, router_as, router_of};
+ghost use Rattle.yarib_c.specs.inside.Routers.{router_by};
 
 use crate::lists::FormOf;
 use rt_rib::{Hop, Route};
@@ -35,10 +36,27 @@ pub(crate) fn router_number(found: Option<Route>, no_route: u32, discard: u32) -
 {
     match found {
         None => no_route,
-        Some(route) => match route.hop {
-            Hop::Via(addr) => addr.0,
-            Hop::Discard => discard,
-        },
+        Some(route) => router_of(route.hop, discard),
+    }
+}
+
+/// Returns the address of the router of a next hop, or the number for no route or for discarding.
+pub(crate) fn router_by(hop: Option<Hop>, no_route: u32, discard: u32) -> u32
+    ensures { result ≡ router_by no_route discard hop }
+{
+    match hop {
+        None => no_route,
+        Some(hop) => router_of(hop, discard),
+    }
+}
+
+/// Returns the address of the next hop's router, or the number for discarding.
+fn router_of(hop: Hop, discard: u32) -> u32
+    ensures { result ≡ router_of discard hop }
+{
+    match hop {
+        Hop::Via(addr) => addr.0,
+        Hop::Discard => discard,
     }
 }
 
