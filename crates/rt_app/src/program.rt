@@ -14,8 +14,8 @@ ghost use Rattle.rt_rib.specs.declared.limits.TheConstants.{MAX_FEEDS};
 
 use command_line::{Arguments, Refusal, ReplayRequest, Request, RequestFault, RunRequest};
 use feed_choice::FeedFiles;
-use program_error::NO_MEMORY;
 pub(crate) use program_error::ProgramError;
+use program_error::{ArgumentFault, NO_MEMORY};
 use rt_cidr::put;
 use rt_run::{AppFault, FeedChoice, MAX_FEED_FILES, Status, replay_text, run_texts};
 use std::alloc::Global;

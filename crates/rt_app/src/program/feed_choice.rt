@@ -3,7 +3,7 @@
 ghost use Rattle.std.specs.Prelude.{◌≤◌, length};
 ghost use Rattle.rt_rib.specs.declared.limits.TheConstants.{MAX_FEEDS};
 
-use super::ProgramError;
+use super::{ArgumentFault, ProgramError};
 use command_line::NamedFeeds;
 use rt_print::{NameFault, check_names, feed_name};
 use rt_run::{FeedChoice, MAX_FEED_FILES};
@@ -31,12 +31,15 @@ impl<'w> FeedFiles<'w> {
         let files = self.names;
         for file in files {
             if has_hidden_control(file_name(file)) {
-                return Err(ProgramError::InvalidFeedName(file));
+                return Err(ProgramError::Argument(ArgumentFault::FeedName, file));
             }
         }
         match check_names(files) {
             Ok(()) => Ok(()),
-            Err(NameFault::Invalid(file)) => Err(ProgramError::InvalidFeedName(files[file])),
+            Err(NameFault::Invalid(file)) => Err(ProgramError::Argument(
+                ArgumentFault::FeedName,
+                files[file],
+            )),
             Err(NameFault::Duplicate(earlier, file)) => Err(ProgramError::DuplicateFeedName(
                 files[earlier],
                 files[file],
@@ -51,12 +54,12 @@ impl<'w> FeedFiles<'w> {
             let feed = index as u32 + 1;
             if is_identified(word, feed, file) {
                 if found.is_some() {
-                    return Err(ProgramError::SeveralFeeds(word));
+                    return Err(ProgramError::Argument(ArgumentFault::SeveralFeeds, word));
                 }
                 found = Some(feed);
             }
         }
-        found.ok_or(ProgramError::NoFeed(word))
+        found.ok_or(ProgramError::Argument(ArgumentFault::NoFeed, word))
     }
 }
 
@@ -110,7 +113,7 @@ impl<'w> FeedNumbers<'w> {
         let without = numbers_of(alloc, feeds.without, files)?;
         for (word, number) in feeds.without.iter().zip(without.iter()) {
             if only.contains(number) {
-                return Err(ProgramError::SelectedAndLeftOut(word));
+                return Err(ProgramError::Argument(ArgumentFault::SelectedAndLeftOut, word));
             }
         }
         Ok(FeedNumbers {

@@ -1,17 +1,17 @@
 //! Prefixes on the command line.
 
-use super::ProgramError;
+use super::{ArgumentFault, ProgramError};
 use rt_cidr::{Addr, Prefix, TextFault, decimal_u32};
 
 /// Returns the prefix that the argument of an option is. An address without a length is the prefix of that address alone.
 pub(super) fn prefix_of(word: &str) -> Result<Prefix, ProgramError<'_>> {
     let text = word.as_bytes();
     if let Ok(Addr(address)) = Addr::parse(text) {
-        return masked(address, 32).ok_or(ProgramError::NotPrefix(word));
+        return masked(address, 32).ok_or(ProgramError::Argument(ArgumentFault::Prefix, word));
     }
     Prefix::parse(text).map_err(|fault| match (fault, without_host_bits(word)) {
         (TextFault::Bits, Some(meant)) => ProgramError::HostBits(word, meant),
-        _ => ProgramError::NotPrefix(word),
+        _ => ProgramError::Argument(ArgumentFault::Prefix, word),
     })
 }
 

@@ -6,13 +6,14 @@ use rt_cidr::Prefix;
 use rt_feed::RunFault;
 use rt_run::{AppFault, MAX_FEED_FILES, Status};
 use std::alloc::{AllocError, AllocFailed};
+use std::fmt;
 use std::io::{self, ErrorKind, Write};
 use thiserror::Error;
 use ya_core::ReplayFault;
 
 /// The reason why the program stops early. It is `Copy`, because the prover goes through a value that is dropped at each
 /// early exit.
-#[derive(Clone, Copy, Debug, Error)]
+#[derive(Clone, Copy, Error)]
 pub(crate) enum ProgramError<'a> {
     #[error("arguments are not UTF-8")]
     NotUtf8,
@@ -24,23 +25,12 @@ pub(crate) enum ProgramError<'a> {
     TooMany,
     #[error("no address given: use --address or --addresses")]
     NoAddresses,
-    #[error("not an address: {0}")]
-    NotAddress(&'a str),
-    #[error("not a prefix: {0}")]
-    NotPrefix(&'a str),
+    /// This argument isn't what it has to be.
+    #[error("{0}: {1}")]
+    Argument(ArgumentFault, &'a str),
     /// An argument isn't a prefix because of its host bits; the prefix was probably meant.
     #[error("not a prefix: {0}: host bits are set; did you mean {1}?")]
     HostBits(&'a str, Prefix),
-    #[error("no feed has this number or name: {0}")]
-    NoFeed(&'a str),
-    #[error("more than one feed has this number or name: {0}")]
-    SeveralFeeds(&'a str),
-    /// An option selects the feed, and another one leaves it out.
-    #[error("the same feed is selected and left out: {0}")]
-    SelectedAndLeftOut(&'a str),
-    /// With `--names`: the file's name isn't a valid feed name.
-    #[error("no valid feed name (rename the file, or leave out --names): {0}")]
-    InvalidFeedName(&'a str),
     /// With `--names`: the two files have the same feed name.
     #[error("two feeds with the same name (rename a file, or leave out --names): {0}, {1}")]
     DuplicateFeedName(&'a str, &'a str),
@@ -50,6 +40,32 @@ pub(crate) enum ProgramError<'a> {
     /// The work failed, or its output could not be written.
     #[error(transparent)]
     Fault(#[from] AppFault),
+}
+
+/// The reason why an argument isn't accepted.
+#[derive(Clone, Copy, Debug, Error)]
+pub(crate) enum ArgumentFault {
+    #[error("not an address")]
+    Address,
+    #[error("not a prefix")]
+    Prefix,
+    #[error("no feed has this number or name")]
+    NoFeed,
+    #[error("more than one feed has this number or name")]
+    SeveralFeeds,
+    /// An option selects the feed, and another one leaves it out.
+    #[error("the same feed is selected and left out")]
+    SelectedAndLeftOut,
+    /// With `--names`: the file's name isn't a valid feed name.
+    #[error("no valid feed name (rename the file, or leave out --names)")]
+    FeedName,
+}
+
+/// Shows the message.
+impl fmt::Debug for ProgramError<'_> {
+    fn fmt<W: fmt::Write>(&self, f: &mut fmt::Formatter<W>) -> fmt::Result {
+        fmt::Display::fmt(self, f)
+    }
 }
 
 /// Out of memory.

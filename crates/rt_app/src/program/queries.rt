@@ -8,7 +8,7 @@ use super::hints::FileKind;
 use super::prefixes::prefix_of;
 use super::styles::style_of;
 use super::warnings::{InputFile, report_each, report_rejected};
-use super::{Program, ProgramError};
+use super::{ArgumentFault, Program, ProgramError};
 use command_line::{LookupRequest, PrefixFilterArg, RunRequest, TableOutput, TableRequest};
 use rt_cidr::Addr;
 use rt_print::Style;
@@ -168,7 +168,7 @@ fn named_addresses<'a>(
     let mut named = Vec::new(alloc);
     for word in request.addresses {
         let Ok(address) = Addr::parse(word.as_bytes()) else {
-            return Err(ProgramError::NotAddress(word));
+            return Err(ProgramError::Argument(ArgumentFault::Address, word));
         };
         named.push(address)?;
     }
