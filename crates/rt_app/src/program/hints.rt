@@ -2,7 +2,6 @@
 
 use rt_feed::{LineFault, next_line};
 use std::fmt;
-use thiserror::Error;
 
 /// The first bytes of a text in UTF-8 or UTF-16 that has a byte order mark.
 const BYTE_ORDER_MARKS: [&[u8]; 3] = [b"\xef\xbb\xbf", b"\xfe\xff", b"\xff\xfe"];
@@ -10,30 +9,52 @@ const BYTE_ORDER_MARKS: [&[u8]; 3] = [b"\xef\xbb\xbf", b"\xfe\xff", b"\xff\xfe"]
 /// The first bytes of a file that gzip has compressed (RFC 1952).
 const GZIP_MAGIC: &[u8] = b"\x1f\x8b";
 
+/// The name of each command, and the number of fields that it takes after its name.
+const COMMANDS: [(&[u8], usize); 6] = [
+    (b"add", 3),
+    (b"replace", 3),
+    (b"withdraw", 1),
+    (b"lookup", 1),
+    (b"dump", 0),
+    (b"purge", 0),
+];
+
 /// The lines of a file: commands, or addresses.
-#[derive(Clone, Copy, PartialEq, Eq, Debug)]
+#[derive(Clone, Copy)]
 pub(super) enum FileKind {
     Feed,
     Addresses,
 }
 
 /// The probable reason for a fault, or what the line has instead.
-#[derive(Clone, Copy, PartialEq, Eq, Debug, Error)]
-pub(super) enum Hint {
-    #[error("the file begins with a byte order mark: save it without one")]
+#[derive(Clone, Copy)]
+enum Hint {
     ByteOrderMark,
-    #[error("the file is compressed by gzip: decompress it first")]
     Gzip,
     /// The field of the fault ends with a carriage return.
-    #[error("the CR of CRLF is part of it")]
     CarriageReturn,
-    #[error("the line ends with the CR of CRLF: end lines with LF only")]
+    /// The line ends with a carriage return.
     LineEnd,
-    #[error("IPv6 isn't supported")]
     Ipv6,
     /// The number of fields that the command takes after its name, and the number that the line has.
-    #[error("{takes} after its name, not {has}")]
     FieldCount { takes: usize, has: usize },
+}
+
+impl fmt::Display for Hint {
+    fn fmt<W: fmt::Write>(&self, f: &mut fmt::Formatter<W>) -> fmt::Result {
+        match self {
+            Hint::ByteOrderMark => {
+                f.write_str("the file begins with a byte order mark: save it without one")
+            }
+            Hint::Gzip => f.write_str("the file is compressed by gzip: decompress it first"),
+            Hint::CarriageReturn => f.write_str("the CR of CRLF is part of it"),
+            Hint::LineEnd => {
+                f.write_str("the line ends with the CR of CRLF: end lines with LF only")
+            }
+            Hint::Ipv6 => f.write_str("IPv6 isn't supported"),
+            Hint::FieldCount { takes, has } => write!(f, "{takes} after its name, not {has}"),
+        }
+    }
 }
 
 /// A fault with its message and, in parentheses, the hint if there is one.
@@ -97,12 +118,12 @@ fn hint_of_beginning(text: &[u8]) -> Option<Hint> {
 
 /// Returns what the line's bytes show about its fault.
 fn hint_of_line(fault: LineFault, kind: FileKind, line: &[u8]) -> Option<Hint> {
-    match fault {
-        LineFault::Command if line.ends_with(b"\r") => Some(Hint::LineEnd),
-        LineFault::FieldCount => field_counts(line),
-        LineFault::Text if kind == FileKind::Addresses => hint_of_field(line),
-        LineFault::Text => hint_of_field(field_of(line, 1)),
-        LineFault::Hop => hint_of_field(field_of(line, 3)),
+    match (fault, kind) {
+        (LineFault::Command, _) if line.ends_with(b"\r") => Some(Hint::LineEnd),
+        (LineFault::FieldCount, _) => field_counts(line),
+        (LineFault::Text, FileKind::Addresses) => hint_of_field(line),
+        (LineFault::Text, FileKind::Feed) => hint_of_field(field_of(line, 1)),
+        (LineFault::Hop, _) => hint_of_field(field_of(line, 3)),
         _ => None,
     }
 }
@@ -114,14 +135,19 @@ fn field_of(line: &[u8], index: usize) -> &[u8] {
 
 /// Returns how many fields the line's command takes after its name, and how many there are.
 fn field_counts(line: &[u8]) -> Option<Hint> {
-    let takes = match field_of(line, 0) {
-        b"add" | b"replace" => 3,
-        b"withdraw" | b"lookup" => 1,
-        b"dump" | b"purge" => 0,
-        _ => return None,
-    };
-    let has = line.iter().filter(|byte| **byte == b' ').count();
-    Some(Hint::FieldCount { takes, has })
+    let name = field_of(line, 0);
+    for (command, takes) in COMMANDS {
+        if name == command {
+            let has = count_of(line, b' ');
+            return Some(Hint::FieldCount { takes, has });
+        }
+    }
+    None
+}
+
+/// Returns how often the text has this byte.
+fn count_of(text: &[u8], byte: u8) -> usize {
+    text.iter().filter(|other| **other == byte).count()
 }
 
 /// Returns what a field shows that should be a prefix, an address or a next hop.
@@ -137,7 +163,10 @@ fn hint_of_field(field: &[u8]) -> Option<Hint> {
 
 /// Returns true if the field looks like an IPv6 address or prefix: it has two colons, and nothing but what such a text has.
 fn is_ipv6(field: &[u8]) -> bool {
-    let colons = field.iter().filter(|byte| **byte == b':').count();
-    let fits = |byte: &u8| byte.is_ascii_hexdigit() || matches!(byte, b':' | b'.' | b'/');
-    colons >= 2 && field.iter().all(fits)
+    for byte in field {
+        if !byte.is_ascii_hexdigit() && !matches!(byte, b':' | b'.' | b'/') {
+            return false;
+        }
+    }
+    count_of(field, b':') >= 2
 }
