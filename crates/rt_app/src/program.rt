@@ -79,7 +79,7 @@ impl<'a, R, O, E> Program<'a, R, O, E> {
 
 impl<R: Files + Threads + Wait + Sync + AllocGlobal, O: Write, E: Write> Program<'_, R, O, E> {
     /// Parses the arguments, does what they ask for, and returns the exit status, as `run_words` does.
-    pub(crate) fn run(mut self, words: &[String]) -> u8 {
+    pub(crate) fn run(&mut self, words: &[String]) -> u8 {
         let status = match Arguments::parse(self.alloc, words) {
             Ok(arguments) => self.carry_out(&arguments),
             Err(refusal) => self.refuse(&refusal),

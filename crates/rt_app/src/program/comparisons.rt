@@ -1,47 +1,88 @@
 //! `diff`: the addresses for which the tables of two sets of feed files differ, and reports of rejected input.
 
+ghost use Rattle.std.specs.Prelude.{◌≤◌, length};
+ghost use Rattle.rt_rib.specs.declared.limits.TheConstants.{MAX_FEEDS};
+
 use super::feed_choice::FeedNumbers;
 use super::queries::asked_of;
 use super::styles::{check_sides, diff_options};
-use super::warnings::report_each;
+use super::warnings::{FeedTexts, report_sides};
 use super::{Program, ProgramError};
 use command_line::{DiffRequest, DifferenceOutput};
+use rt_print::DiffOptions;
 use rt_run::{count_diff_texts, diff_texts};
+use std::alloc::Global;
 use std::io::Write;
 use std::rt::Files;
 use std::sync::Wait;
 
 impl<R: Files + Wait + AllocGlobal, O: Write, E: Write> Program<'_, R, O, E> {
-    /// Writes the ranges of addresses for which the tables of the old and the new files differ, or their numbers. Reports rejected input, and
-    /// returns the exit status.
+    /// Writes the ranges of addresses for which the tables of the old and the new files differ, or their numbers. Reports
+    /// rejected input, and returns the exit status.
     pub(super) fn compare<'w>(
         &mut self,
         request: &DiffRequest<'w>,
     ) -> Result<u8, ProgramError<'w>> {
-        check_sides(request)?;
-        let old = FeedNumbers::of(self.alloc, &request.old_feeds, request.run.files)?;
-        let new = FeedNumbers::of(self.alloc, &request.new_feeds, request.new_files)?;
-        let old_texts = self.read_feeds(old.files, old.choice())?;
-        let new_texts = self.read_feeds(new.files, new.choice())?;
-        let options = diff_options(self.alloc, request, old.files, new.files)?;
-        let old_asked = asked_of(&request.run, old_texts.as_slice(), old.choice());
-        let new_asked = asked_of(&request.run, new_texts.as_slice(), new.choice());
+        let sides = Sides::of(self.alloc, request)?;
+        let old_texts = self.read_feeds(sides.old.files, sides.old.choice())?;
+        let new_texts = self.read_feeds(sides.new.files, sides.new.choice())?;
+        self.show_differences(request, &sides, old_texts.as_slice(), new_texts.as_slice())
+    }
+
+    /// Executes the texts of both sides and writes their differences, as `compare` says.
+    fn show_differences<'w>(
+        &mut self,
+        request: &DiffRequest<'_>,
+        sides: &Sides<'_>,
+        old_texts: &[Vec<u8>],
+        new_texts: &[Vec<u8>],
+    ) -> Result<u8, ProgramError<'w>>
+        requires old { length old_texts.now ≤ MAX_FEEDS }
+        requires new { length new_texts.now ≤ MAX_FEEDS }
+    {
+        let old_asked = asked_of(&request.run, old_texts, sides.old.choice());
+        let new_asked = asked_of(&request.run, new_texts, sides.new.choice());
         let mut out = self
             .screen
             .beside(old_asked.count() + new_asked.count(), self.out);
-        let summary = match request.output {
+        let compared = match request.output {
             DifferenceOutput::Counts => {
-                count_diff_texts(self.alloc, &old_asked, &new_asked, &options, &mut out)?
+                count_diff_texts(self.alloc, &old_asked, &new_asked, &sides.options, &mut out)
             }
             DifferenceOutput::Ranges | DifferenceOutput::Prefixes => {
-                diff_texts(self.alloc, &old_asked, &new_asked, &options, &mut out)?
+                diff_texts(self.alloc, &old_asked, &new_asked, &sides.options, &mut out)
             }
         };
-        let (old_files, tallies) = (request.run.files, summary.tallies.as_slice());
-        let (old_tallies, new_tallies) = tallies.split_at(old_files.len().min(tallies.len()));
-        let (old_texts, new_texts) = (old_texts.as_slice(), new_texts.as_slice());
-        report_each(&mut self.screen, old_files, old_texts, old_tallies);
-        report_each(&mut self.screen, request.new_files, new_texts, new_tallies);
+        let summary = compared?;
+        let old = FeedTexts {
+            names: request.run.files,
+            texts: old_texts,
+        };
+        let new = FeedTexts {
+            names: request.new_files,
+            texts: new_texts,
+        };
+        report_sides(&mut self.screen, old, new, summary.tallies.as_slice());
         Ok(summary.status)
+    }
+}
+
+/// The feeds of both sides of a comparison, and what is compared and printed.
+#[derive(Drop)]
+struct Sides<'w> {
+    old: FeedNumbers<'w>,
+    new: FeedNumbers<'w>,
+    options: DiffOptions,
+}
+
+impl<'w> Sides<'w> {
+    /// Returns what the command line asks to compare. Stops as `check_sides` does, and then as `FeedNumbers::of` does for
+    /// the old feeds and for the new ones.
+    fn of(alloc: Global, request: &DiffRequest<'w>) -> Result<Sides<'w>, ProgramError<'w>> {
+        check_sides(request)?;
+        let old = FeedNumbers::of(alloc, &request.old_feeds, request.run.files)?;
+        let new = FeedNumbers::of(alloc, &request.new_feeds, request.new_files)?;
+        let options = diff_options(alloc, request, old.files, new.files)?;
+        Ok(Sides { old, new, options })
     }
 }

@@ -111,11 +111,7 @@ impl<'w> FeedNumbers<'w> {
         let files = FeedFiles::of(names)?;
         let only = numbers_of(alloc, feeds.only, files)?;
         let without = numbers_of(alloc, feeds.without, files)?;
-        for (word, number) in feeds.without.iter().zip(without.iter()) {
-            if only.contains(number) {
-                return Err(ProgramError::Argument(ArgumentFault::SelectedAndLeftOut, word));
-            }
-        }
+        check_selected(feeds.without, without.as_slice(), only.as_slice())?;
         Ok(FeedNumbers {
             files,
             only,
@@ -138,6 +134,20 @@ impl<'w> FeedNumbers<'w> {
             without: self.without.as_slice(),
         }
     }
+}
+
+/// Stops if a feed that is left out is also selected. The words are the arguments that identify the feeds that are left out.
+fn check_selected<'w>(
+    words: &[&'w str],
+    without: &[u32],
+    only: &[u32],
+) -> Result<(), ProgramError<'w>> {
+    for (word, number) in words.iter().zip(without.iter()) {
+        if only.contains(number) {
+            return Err(ProgramError::Argument(ArgumentFault::SelectedAndLeftOut, word));
+        }
+    }
+    Ok(())
 }
 
 /// Returns the number of the feed that each argument identifies, in order.

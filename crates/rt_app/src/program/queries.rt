@@ -4,12 +4,13 @@ ghost use Rattle.std.specs.Prelude.{◌≤◌, length};
 ghost use Rattle.rt_rib.specs.declared.limits.TheConstants.{MAX_FEEDS};
 
 use super::feed_choice::FeedNumbers;
-use super::hints::FileKind;
 use super::prefixes::prefix_of;
 use super::styles::style_of;
-use super::warnings::{InputFile, report_each, report_rejected};
+use super::warnings::{FeedTexts, report_query};
 use super::{ArgumentFault, Program, ProgramError};
-use command_line::{LookupRequest, PrefixFilterArg, RunRequest, TableOutput, TableRequest};
+use command_line::{
+    LookupRequest, NamedFeeds, PrefixFilterArg, RunRequest, TableOutput, TableRequest,
+};
 use rt_cidr::Addr;
 use rt_print::Style;
 use rt_rib::{PrefixFilter, Selection};
@@ -19,13 +20,6 @@ use std::io::Write;
 use std::rt::Files;
 use std::sync::Wait;
 
-/// The feed files of a query: their names, and the texts that were read from them.
-#[derive(Clone, Copy)]
-struct FeedTexts<'a, 'w> {
-    names: &'a [&'w str],
-    texts: &'a [Vec<u8>],
-}
-
 impl<R: Files + Wait + AllocGlobal, O: Write, E: Write> Program<'_, R, O, E> {
     /// Writes, for each address of the command line and then for each address of the file, all routes that cover it, or only
     /// the best one. Reports rejected input, and returns the exit status.
@@ -33,23 +27,43 @@ impl<R: Files + Wait + AllocGlobal, O: Write, E: Write> Program<'_, R, O, E> {
         &mut self,
         request: &LookupRequest<'w>,
     ) -> Result<u8, ProgramError<'w>> {
-        let RunRequest { files, .. } = request.run;
         let named = named_addresses(self.alloc, request)?;
-        let style = style_of(self.alloc, request.names, request.json, files)?;
-        let feeds = FeedNumbers::of(self.alloc, &request.feeds, files)?;
-        let texts = self.read_feeds(feeds.files, feeds.choice())?;
-        let text = match request.more {
-            Some(name) => self.read_file(name)?,
-            None => Vec::new(self.alloc),
-        };
-        let asked = asked_of(&request.run, texts.as_slice(), feeds.choice());
-        let (named, text) = (named.as_slice(), text.as_slice());
-        let question = addresses_question(request, named, text);
+        let LookupRequest { names, json, .. } = *request;
+        let query = Query::of(self.alloc, &request.run, &request.feeds, names, json)?;
+        self.look_up(request, named.as_slice(), &query)
+    }
+
+    /// Reads the files and looks up the addresses, as `show_answers` says.
+    fn look_up<'w>(
+        &mut self,
+        request: &LookupRequest<'w>,
+        named: &[Addr],
+        query: &Query<'w>,
+    ) -> Result<u8, ProgramError<'w>> {
+        let texts = self.read_feeds(query.feeds.files, query.feeds.choice())?;
+        let text = self.read_more(request.more)?;
+        let asked = asked_of(&request.run, texts.as_slice(), query.feeds.choice());
+        let question = addresses_question(request, named, text.as_slice());
         let files = FeedTexts {
-            names: files,
+            names: request.run.files,
             texts: texts.as_slice(),
         };
-        self.show(&asked, &style, &question, files, request.more, text)
+        self.show(
+            &asked,
+            &query.style,
+            &question,
+            files,
+            request.more,
+            text.as_slice(),
+        )
+    }
+
+    /// Returns the contents of the file with further addresses, or an empty text if there is none.
+    fn read_more<'w>(&self, name: Option<&'w str>) -> Result<Vec<u8>, ProgramError<'w>> {
+        match name {
+            Some(name) => self.read_file(name),
+            None => Ok(Vec::new(self.alloc)),
+        }
     }
 
     /// Writes the selected routes, their number, or both. Reports rejected input, and returns the exit status.
@@ -57,19 +71,27 @@ impl<R: Files + Wait + AllocGlobal, O: Write, E: Write> Program<'_, R, O, E> {
         &mut self,
         request: &TableRequest<'w>,
     ) -> Result<u8, ProgramError<'w>> {
-        let RunRequest { files, .. } = request.run;
         let selection = selection_of(request)?;
-        let style = style_of(self.alloc, request.names, request.json, files)?;
-        let feeds = FeedNumbers::of(self.alloc, &request.feeds, files)?;
-        let texts = self.read_feeds(feeds.files, feeds.choice_of_all())?;
-        let asked = asked_of(&request.run, texts.as_slice(), feeds.choice_of_all());
-        let only = feeds.only.as_slice();
-        let question = question_of(request.output, selection, only);
+        let TableRequest { names, json, .. } = *request;
+        let query = Query::of(self.alloc, &request.run, &request.feeds, names, json)?;
+        self.list(request, selection, &query)
+    }
+
+    /// Reads the files and writes the selected routes, as `show_routes` says.
+    fn list<'w>(
+        &mut self,
+        request: &TableRequest<'w>,
+        selection: Selection,
+        query: &Query<'w>,
+    ) -> Result<u8, ProgramError<'w>> {
+        let texts = self.read_feeds(query.feeds.files, query.feeds.choice_of_all())?;
+        let asked = asked_of(&request.run, texts.as_slice(), query.feeds.choice_of_all());
+        let question = question_of(request.output, selection, query.feeds.only.as_slice());
         let files = FeedTexts {
-            names: files,
+            names: request.run.files,
             texts: texts.as_slice(),
         };
-        self.show(&asked, &style, &question, files, None, &[])
+        self.show(&asked, &query.style, &question, files, None, &[])
     }
 
     /// Writes the answer to the question. Reports rejected input of the file with further addresses, if there is one, and of
@@ -79,20 +101,43 @@ impl<R: Files + Wait + AllocGlobal, O: Write, E: Write> Program<'_, R, O, E> {
         asked: &ChosenTexts<'_>,
         style: &Style,
         question: &Question<'_>,
-        files: FeedTexts<'_, '_>,
+        files: FeedTexts<'_>,
         more: Option<&str>,
         text: &[u8],
     ) -> Result<u8, ProgramError<'w>> {
         let mut out = self.screen.beside(asked.count(), self.out);
         let given = show(self.alloc, asked, style, question, &mut out)?;
-        if let Some((addresses, feeds)) = given.tallies.as_slice().split_last() {
-            if let Some(name) = more {
-                let file = InputFile { name, text };
-                report_rejected(&mut self.screen, file, FileKind::Addresses, addresses);
-            }
-            report_each(&mut self.screen, files.names, files.texts, feeds);
-        }
+        report_query(
+            &mut self.screen,
+            files,
+            more,
+            text,
+            given.tallies.as_slice(),
+        );
         Ok(given.status)
+    }
+}
+
+/// The feeds of a query, and the style of its output.
+#[derive(Drop)]
+struct Query<'w> {
+    feeds: FeedNumbers<'w>,
+    style: Style,
+}
+
+impl<'w> Query<'w> {
+    /// Returns the feeds that the command line names, and the style with these options. Stops as `style_of` does, and then
+    /// as `FeedNumbers::of` does.
+    fn of(
+        alloc: Global,
+        run: &RunRequest<'w>,
+        feeds: &NamedFeeds<'w>,
+        names: bool,
+        json: bool,
+    ) -> Result<Query<'w>, ProgramError<'w>> {
+        let style = style_of(alloc, names, json, run.files)?;
+        let feeds = FeedNumbers::of(alloc, feeds, run.files)?;
+        Ok(Query { feeds, style })
     }
 }
 

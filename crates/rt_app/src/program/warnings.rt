@@ -6,24 +6,62 @@ ghost use Rattle.std.specs.List.{slice_get};
 ghost use Rattle.std.specs.Option.{option_map_or};
 
 use super::hints::{FileKind, explain};
-use rt_run::RejectedInput;
+use rt_feed::FaultyLines;
+use rt_run::{RejectedInput, RejectedLines};
 use std::io::Write;
 
 /// A file of the command line, and the text that was read from it.
 #[derive(Clone, Copy)]
-pub(super) struct InputFile<'a> {
-    pub(super) name: &'a str,
-    pub(super) text: &'a [u8],
+struct InputFile<'a> {
+    name: &'a str,
+    text: &'a [u8],
+}
+
+/// Feed files of the command line: their names, and the texts that were read from them.
+#[derive(Clone, Copy)]
+pub(super) struct FeedTexts<'a> {
+    pub(super) names: &'a [&'a str],
+    pub(super) texts: &'a [Vec<u8>],
+}
+
+/// Reports the rejected input of both sides of a comparison. The tallies of the new files follow those of the old ones.
+pub(super) fn report_sides<E: Write>(
+    err: &mut E,
+    old: FeedTexts<'_>,
+    new: FeedTexts<'_>,
+    tallies: &[RejectedInput],
+) {
+    let (old_tallies, new_tallies) = tallies.split_at(old.names.len().min(tallies.len()));
+    report_each(err, old, old_tallies);
+    report_each(err, new, new_tallies);
+}
+
+/// Reports the rejected input of a query: of the file with further addresses, if there is one, whose tally is the last, and of
+/// the feed files.
+pub(super) fn report_query<E: Write>(
+    err: &mut E,
+    files: FeedTexts<'_>,
+    more: Option<&str>,
+    text: &[u8],
+    tallies: &[RejectedInput],
+) {
+    if let Some((addresses, feeds)) = tallies.split_last() {
+        if let Some(name) = more {
+            report_rejected(
+                err,
+                InputFile { name, text },
+                FileKind::Addresses,
+                addresses,
+            );
+        }
+        report_each(err, files, feeds);
+    }
 }
 
 /// Reports the rejected input of each feed file, and whether it ends within a line.
-pub(super) fn report_each<E: Write>(
-    err: &mut E,
-    names: &[&str],
-    texts: &[Vec<u8>],
-    tallies: &[RejectedInput],
-) {
-    for ((name, text), tally) in names.iter().zip(texts.iter()).zip(tallies.iter()) {
+fn report_each<E: Write>(err: &mut E, files: FeedTexts<'_>, tallies: &[RejectedInput]) {
+    let inputs = files.names.iter().zip(files.texts.iter());
+    for ((name, text), tally) in inputs.zip(tallies.iter()) {
         let file = InputFile {
             name,
             text: text.as_slice(),
@@ -54,40 +92,51 @@ fn report_line_end<E: Write>(err: &mut E, file: InputFile<'_>) {
 
 /// Reports the rejected input of a file by kind: the number of its faulty lines, of its commands without effect by reason,
 /// each with the first of them, and the number of commands that ran out of memory.
-pub(super) fn report_rejected<E: Write>(
+fn report_rejected<E: Write>(
     err: &mut E,
     file: InputFile<'_>,
     kind: FileKind,
     tally: &RejectedInput,
 ) {
-    let InputFile { name, text } = file;
-    if let Some((number, fault)) = tally.faulty.first {
-        let count = tally.faulty.count;
+    let name = file.name;
+    report_faulty(err, file, kind, tally.faulty);
+    report_lines(err, name, "adds over the limit", tally.full);
+    report_lines(err, name, "duplicate adds", tally.existing);
+    report_lines(
+        err,
+        name,
+        "replaces and withdraws without a route",
+        tally.missing,
+    );
+    if tally.refused > 0 {
+        let count = tally.refused;
+        let _ = writeln!(
+            err,
+            "yarib: {name}: commands failed, out of memory: {count}"
+        );
+    }
+}
+
+/// Reports the number of faulty lines of a file, and the fault of the first, if there is one.
+fn report_faulty<E: Write>(err: &mut E, file: InputFile<'_>, kind: FileKind, lines: FaultyLines) {
+    if let Some((number, fault)) = lines.first {
+        let InputFile { name, text } = file;
+        let count = lines.count;
         let fault = explain(fault, kind, text, number);
         let _ = writeln!(
             err,
             "yarib: {name}: faulty lines: {count}, the first is line {number}: {fault}"
         );
     }
-    let rejected = [
-        ("adds over the limit", tally.full),
-        ("duplicate adds", tally.existing),
-        ("replaces and withdraws without a route", tally.missing),
-    ];
-    for (what, lines) in rejected {
-        if let Some(first) = lines.first {
-            let count = lines.count;
-            let _ = writeln!(
-                err,
-                "yarib: {name}: {what}: {count}, the first is line {first}"
-            );
-        }
-    }
-    if tally.refused > 0 {
-        let count = tally.refused;
+}
+
+/// Reports the number of lines whose commands were rejected for one reason, and the first of them, if there is one.
+fn report_lines<E: Write>(err: &mut E, name: &str, reason: &str, lines: RejectedLines) {
+    if let Some(first) = lines.first {
+        let count = lines.count;
         let _ = writeln!(
             err,
-            "yarib: {name}: commands failed, out of memory: {count}"
+            "yarib: {name}: {reason}: {count}, the first is line {first}"
         );
     }
 }
