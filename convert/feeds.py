@@ -1107,6 +1107,16 @@ class Prefixes:
         return True
 
 
+class Texts(set):
+    """The prefixes of a table whose reader has their texts anyway."""
+
+    def add(self, prefix):
+        """Adds a prefix; returns False if it is there already."""
+        before = len(self)
+        super().add(prefix)
+        return len(self) > before
+
+
 def several_processes():
     """The number of processes that convert pieces; 0 if this one converts all."""
     number = PROCESSES or pieces.processors()
@@ -1161,7 +1171,7 @@ class Parts:
 def convert_table(arguments, given, read, reader=None):
     """Converts the table that `read(given, arguments, notes)` yields: each prefix with its offers, best first. Of a table that
     can be read in pieces, `reader` is the reader."""
-    notes, met = Notes(), Prefixes()
+    notes, met = Notes(), Prefixes() if reader else Texts()
     with FeedFiles(arguments) as files:
         given.after_block = files.flush_many
         if reader:
