@@ -17,6 +17,8 @@ from errors import Refused, naming
 
 # in the directory: for each feed its writer, its size and time, and its name
 RECORD = ".written"
+# what is needed to remove the files if memory runs out
+RESERVE = 1 << 18
 # the mode of a directory that is being written, and of files
 PRIVATE, OF_FILES = 0o700, 0o666
 OTHERS_WRITE = stat.S_IWGRP | stat.S_IWOTH
@@ -169,6 +171,7 @@ class Folder:
         self.made = [parent for parent in self.path.parents if not parent.exists()]
         # `new` when it is open, its record, and that of the directory
         self.directory = self.record = self.record_before = None
+        self.reserve = bytearray(RESERVE)
 
     def __enter__(self):
         while not self.is_locked():
@@ -192,6 +195,7 @@ class Folder:
         return self
 
     def __exit__(self, *_):
+        self.reserve = None
         try:
             self.restore()
         finally:
