@@ -732,6 +732,8 @@ CASES = (once, commands, machines, directories, archive, libraries, definitions,
 
 
 def main():
+    # ./test sets it; here each case does.
+    os.environ.pop("YARIB_KEPT", None)
     run_each(chosen(__doc__, CASES, takes=()).cases, Repository)
     end()
 
