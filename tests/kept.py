@@ -343,7 +343,8 @@ def archive(new):
     expect("an archive at first, --anew", (build("--anew"), build()), ((0, 1), (0, 0)))
 
 
-# Catches tests of libraries that count as passed for sources which were saved meanwhile, or which changed: `.. meanwhile`.
+# Catches tests of libraries that count as passed for sources which were saved meanwhile, or which changed, and one that is
+# waited for though it waits forever: `.. meanwhile`, `tests that wait forever`.
 def libraries(new):
     one = new()
     tests = lambda *words, **how: one.call("tests/libraries.py", *words, **how)[::2]
@@ -365,6 +366,9 @@ def libraries(new):
     becomes_wrong = f"echo // wrong >>'{one.top}/tests/libraries/tests_of_one/src/lib.rt.in'"
     expect("a test becomes wrong meanwhile", tests("--kept", meanwhile=becomes_wrong), (0, 2))
     expect("the wrong test", tests("--kept"), (1, 1))
+    one = new()
+    status, said, _ = one.call("tests/libraries.py", "--kept", meanwhile="sleep 1000")
+    expect("tests that wait forever", (status, said.count("a test waits forever")), (1, 2))
 
 
 # Catches changes of definitions that count as refused for definitions or examples which were saved meanwhile: `..

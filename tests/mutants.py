@@ -14,6 +14,9 @@ import shutil
 import subprocess
 import sys
 import tempfile
+import threading
+from importlib.machinery import SourceFileLoader
+from importlib.util import module_from_spec, spec_from_loader
 
 from common.checks import TOP
 from common.crates import CRATES
@@ -276,6 +279,31 @@ def during(room, proved, *names):
                           text=True).stdout
 
 
+# Catches mutants of the crate that is proved last which wait for those of all others: `the order of crates`.
+def order():
+    """The order in which a single worker tries three crates, of which two are proved while it tries the first."""
+    loader = SourceFileLoader("mutants", str(TOP / "tools/mutants"))
+    module = module_from_spec(spec_from_loader("mutants", loader))
+    loader.exec_module(module)
+    is_begun, are_proved, tried = threading.Event(), threading.Event(), []
+
+    def crates_as_proved():
+        yield "first"
+        is_begun.wait()
+        yield from ("second", "last")
+        are_proved.set()
+
+    def tried_one(crate):
+        tried.append(crate)
+        is_begun.set()
+        are_proved.wait()
+        return f"of {crate}"
+
+    os.environ["RT_JOBS"] = "1"
+    found = module.tried_each(crates_as_proved(), tried_one)
+    return tried if found == {crate: f"of {crate}" for crate in tried} else found
+
+
 def main():
     with tempfile.TemporaryDirectory(prefix="small-") as room:
         folder = pathlib.Path(room) / "small"
@@ -298,6 +326,8 @@ def main():
     wrong += wrongly_kept() + broken_by_equal_texts()
     if early.count("NOT TRIED") != len(listed_all) or not early.endswith(f"\n0 passed, {len(listed_all)} failed\n"):
         wrong.append("mutants of a crate that isn't proved")
+    if order() != ["first", "last", "second"]:
+        wrong.append("the order of crates")
     if late != f"mutant small/{LATE}: {lines[LATE]}\n1 passed, 0 failed\n":
         wrong.append("mutants of a crate that `rt ci` has proved")
     right = sum(one[3].startswith(("refused", "taken")) for one in listed_all.values())
