@@ -19,11 +19,29 @@ def processes(pid):
     return found
 
 
-def use(pid):
-    """Returns what each thread of these processes has used of the processor, or None if one of them isn't asleep."""
+def commands(pid):
+    """Returns the command lines of a process, and of all that it has started, as far as these have one."""
+    lines = [pathlib.Path(f"/proc/{one}/cmdline").read_bytes() for one in processes(pid)]
+    return [" ".join(os.fsdecode(line).split("\0")).strip() for line in lines if line]
+
+
+def polls(pid, pollers):
+    """Returns whether this is a process with one of these names, and one that it has started goes on. It looks now and
+    then whether that has ended, which says nothing of how far that is."""
+    folder = pathlib.Path("/proc", str(pid))
+    if (folder / "comm").read_text().rstrip() not in pollers:
+        return False
+    children = [child for task in (folder / "task").glob("*") for child in (task / "children").read_text().split()]
+    return any(pathlib.Path(f"/proc/{child}/stat").read_text().rpartition(")")[2].split()[0] != "Z" for child in children)
+
+
+def use(pid, pollers=()):
+    """Returns what each thread of these processes has used of the processor, or None if one of them isn't asleep; of
+    processes with the names of `pollers`, only of those that have started none which goes on."""
     used = []
     try:
-        for task in [task for one in processes(pid) for task in sorted(pathlib.Path(f"/proc/{one}/task").glob("*"))]:
+        counted = [one for one in processes(pid) if not polls(one, pollers)]
+        for task in [task for one in counted for task in sorted(pathlib.Path(f"/proc/{one}/task").glob("*"))]:
             state, *numbers = (task / "stat").read_text().rpartition(")")[2].split()
             used.append((task.name, *numbers[10:12], state))
     except (FileNotFoundError, ProcessLookupError):
@@ -31,16 +49,20 @@ def use(pid):
     return used if all(one[-1] in "SZ" for one in used) else None
 
 
-def watched(words, seconds=600, **how):
-    """Runs a command, and returns its status, or WAITS if it waits forever; None, which is no verdict, after `seconds`."""
+def watched(words, seconds=600, pollers=(), say=None, **how):
+    """Runs a command, and returns its status, or WAITS if it waits forever; None, which is no verdict, after `seconds`. It
+    waits too if only processes with the names of `pollers` look for the end of what waits. `say` is called with the
+    command lines of what waits."""
     how = {"stdin": subprocess.DEVNULL, "stdout": subprocess.DEVNULL, "stderr": subprocess.DEVNULL} | how
     with subprocess.Popen(words, start_new_session=True, **how) as process:
         begun, before, looks = time.monotonic(), None, 0
         try:
             while process.poll() is None:
-                now = use(process.pid)
+                now = use(process.pid, pollers)
                 looks, before = (looks + 1 if now is not None and now == before else 0), now
                 if looks >= LOOKS:
+                    if say:
+                        say(commands(process.pid))
                     return WAITS
                 if time.monotonic() - begun > seconds:
                     return None
