@@ -36,7 +36,7 @@ USUAL = re.compile(
     r"(\n\tBGP\.next_hop: .*+(?:\n\tBGP\.med: \d++)?+\n\tBGP\.local_pref: \d++)"
     rf"(?:\n\tBGP\.(?!origin|as_path|next_hop|med|local_pref|cluster_list|aigp).*+)*+{ANY_OTHER}"
 )
-# A route as most are in a listing without attributes: the same parts, of which two are empty.
+# A usual route in a listing without attributes: the same parts, two of them empty.
 PLAIN = re.compile(rf"{USUAL_FIRST}({USUAL_HOP})()(){ANY_OTHER}")
 # what such routes are compared by
 HIDDEN = "hidden"
@@ -57,7 +57,7 @@ AIGP = re.compile(rf"\t{BGP}aigp: (\d+)")
 SOURCE = re.compile(r"\t(?:Type|source): (\S+).*")
 # an attribute, and a further line of a long one
 ATTRIBUTE = re.compile(r"\t[A-Za-z][^:]*:.*|\tBGP\..*|\t\t.+")
-# the protocol of connected networks, and the preference that its routes have unless BIRD is configured otherwise
+# the protocol of connected networks, and the preference of its routes in BIRD's default configuration
 DIRECT, OF_DIRECT = "device", 240
 TABLE = re.compile(r"Table (\S+):")
 # of `show protocols all`: the first line of a protocol, and a line of its data
@@ -178,7 +178,7 @@ class Route:
         self.is_over_device = attributes is not None and None in attributes.hops and attributes.peer_hop is None
         self.is_stale, self.cost = bool(stale), cost
         self.preference = int(preference)
-        # of a connected network, recognized by its preference if the protocol isn't shown
+        # true for a connected network, recognized by its preference if the protocol isn't shown
         self.is_direct = attributes is not None and (attributes.source == DIRECT or not attributes.source and self.preference == OF_DIRECT)
         # the offers, once they are known, and for BGP the values it is compared by: those before MED, without the path's length,
         # and all by its peer's address
@@ -231,7 +231,7 @@ def parts_of(entry):
 
 
 class Known(dict):
-    """The routes of parts of usual entries. Those that differ only in MED, of which there may be many, share all else."""
+    """The routes of parts of usual entries. Those that differ only in MED share all else; they may be many."""
 
     def __missing__(self, parts):
         head, sender, first, lines, values = parts
@@ -252,8 +252,8 @@ KNOWN = Known()
 
 
 def listed_of(entry):
-    """The prefix of an entry, and its route with the AS path and the text of the entry, of which one is None: the text of usual
-    ones, or a path that is still to be read. None for both if it isn't a route to a prefix."""
+    """The prefix of an entry, and its route with the AS path and the text of the entry. Usual entries have None for the text, and
+    others for the path, which is still to be read. None for both if it isn't a route to a prefix."""
     prefix, head, sender, first, lines, path, values, other = entry
     if not head:
         prefix, route = route_of(other)
@@ -290,8 +290,8 @@ def route_of(entry):
 
 
 class Place:
-    """Where in a listing its reader is: the table, whether routes have all their attributes, which is None before the first
-    one, the tables so far, and those of them with IPv4 routes that may be meant."""
+    """The place of a reader in its listing: the table, whether routes have all their attributes (None before the first one),
+    the tables so far, and those of them with IPv4 routes that may be meant."""
 
     def __init__(self, table=None, in_full=None):
         self.table, self.in_full = table, in_full
@@ -313,7 +313,7 @@ class Listing(feeds.Entries):
 
 def groups(entries, place):
     """For each prefix of each table: the table, the prefix, whether it is IPv4, and its routes as `listed_of` returns them,
-    in BIRD's order. Prefix and `of_ipv4` are None for routes of another kind. A further route to a prefix has blanks
+    in BIRD's order. Routes of another kind have None for prefix and `of_ipv4`. A further route to a prefix has blanks
     instead of it."""
     prefix = of_ipv4 = None
     routes, known, boundary = [], KNOWN.get, feeds.BOUNDARY
@@ -381,7 +381,7 @@ def around(line, more, table, tables):
 
 
 def refuse_hidden_hop(prefix, entry):
-    """Refuses a BGP route over an interface only, if its attributes aren't shown, of which one is the next hop."""
+    """Refuses a BGP route over an interface only if its attributes, with the next hop, aren't shown."""
     if OF_BGP.search(entry.partition("\n")[0]):
         raise feeds.Wrong(f"a BGP route to {prefix} leads over an interface only, and its next hop isn't shown: use `show route all`")
 

@@ -53,7 +53,7 @@ LENGTH_AT, AIGP_AT, PREFERENCE_AT, AHEAD_AT, MED_BITS = 2, 32, 96, 128, 32
 # A candidate is a tuple of these: the values compared before MED and those compared after it, the number of a peer's
 # path, MED, the AS path, the source, and the route that it represents. The lowest of the first three is the best.
 BEFORE, BEHIND, NUMBER, MED, PATH, SOURCE, WHAT = range(7)
-# the values before MED of a route with the usual local preference, without AIGP, from which those of others are counted
+# the values before MED of a route with the usual local preference, without AIGP; those of others are counted from them
 USUAL = GREATEST - LOCAL_PREF << PREFERENCE_AT | NO_AIGP << AIGP_AT
 MED_OF, SOURCE_OF = operator.itemgetter(MED), operator.itemgetter(SOURCE)
 # the places of two of the values that are compared after MED

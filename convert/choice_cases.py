@@ -70,7 +70,7 @@ def systems(number):
     return " ".join(str(65000 + place % 500) for place in range(number))
 
 
-# Pairs whose first member wins, with numbers at the limits of the bits in which they are stored.
+# Pairs whose first member wins, with numbers at the limits of the bits that store them.
 BORDERS = (
     *((f"local preference {greater}", {"local_pref": greater}, {"local_pref": less})
       for greater, less in ((128, 127), (32768, 32767), (65536, 65535), (1 << 31, (1 << 31) - 1), (1 << 31, 0),

@@ -73,7 +73,7 @@ class Peer:
         self.order = self.order_of(identifier, 0)
         # a line has two of them
         self.add_part = parts.append
-        # of the lines of dumped routes, the keys of their merits: the last ones, and those before
+        # the keys of the merits of dumped routes' lines: the last ones, and those before
         self.keys, self.merits = [], Merits()
         self.add_key = self.keys.append
         # if there are updates, for each line the number of its route's merit, or 0, and these numbers by key
@@ -139,7 +139,7 @@ class Converter:
         self.peers, self.merits, self.hops = {}, {}, {}
         # values that many routes share are kept once
         self.same = {}
-        # of the dump: the prefixes so far, the text and the prefix of the last one, and its routes
+        # the dump's prefixes so far, the text and the prefix of the last one, and its routes
         self.met, self.text, self.prefix, self.group = met, None, None, []
         self.updates = self.states = False
 
@@ -151,7 +151,7 @@ class Converter:
         return self.peers[key]
 
     def hop(self, prefix, text):
-        """The next hop that is written, or None if there is none."""
+        """The next hop that is written, or None without one."""
         if text not in self.hops:
             self.hops[text] = None if text == NO_HOP else feeds.hop_of(prefix, text, self.arguments)
         return self.hops[text]
@@ -194,7 +194,7 @@ class Converter:
         self.text = text
 
     def begin_prefix(self, prefix, text):
-        """Begins the routes to another prefix, which is None if it isn't one of IPv4."""
+        """Begins the routes to another prefix, or to None if the prefix isn't one of IPv4."""
         if self.group:
             self.end_group()
         if prefix is not None and not self.met.add(prefix):
@@ -250,7 +250,7 @@ class Converter:
         self.text = self.prefix = None
 
     def state(self):
-        """What matters to a piece of the dump of what came before it: nothing, as long as there are no updates."""
+        """The state before a piece of the dump that matters to the piece: none, as long as no updates came."""
         return None if self.updates else True
 
     def gathered(self):
@@ -300,7 +300,7 @@ class Converter:
             self.compare_time(stamp, peer)
 
     def take_update(self, kind, prefix, route, number, peer):
-        """Takes an announcement, whose route is None if it can't be used, or a withdrawal."""
+        """Takes an announcement or a withdrawal; a route that can't be used is given as None."""
         # a route that can't be used replaces the peer's route (RFC 7606, section 2: treat-as-withdraw)
         if number is not None:
             route = self.best_path(peer, prefix, number, route)
@@ -342,7 +342,7 @@ class Converter:
         return choice.best_of_each(paths.values())[0] if paths else None
 
     def change(self, peer, prefix, route, unchanged):
-        """Updates the peer's route. If nothing changes, `unchanged` is counted, unless it is None."""
+        """Updates the peer's route. If nothing changes, `unchanged` is counted, if given."""
         before = peer.routes.get(prefix)
         now = route and (peer.numbers.get(peer.merit_key(*route[:2])) or self.merit_number(*route[:2], peer), route[choice.WHAT])
         if now == before:

@@ -26,8 +26,8 @@ def naming(file):
 
 
 def printable(text):
-    """Returns a message's line in which `repr` has written each character that a terminal could obey, or that it wouldn't
-    show: names of files, protocols and VRFs may be chosen by others."""
+    """Returns a message's line with each character that a terminal could obey, or that it wouldn't show, as `repr` writes
+    it: names of files, protocols and VRFs may be chosen by others."""
     return text if text.isprintable() else "".join(one if one.isprintable() else repr(one)[1:-1] for one in text)
 
 

@@ -83,8 +83,8 @@ HOST_BITS = {str(length): (1 << 32 - length) - 1 for length in range(33)}
 
 
 def level_of(length):
-    """For prefixes of that length: their level, how many bits of an address are behind those of the level's key and behind the
-    prefix, the first of their places in a tree of the level, and the masks of the bits in the tree and past the prefix."""
+    """For prefixes of that length: their level, the numbers of bits of an address after the level's key and after the prefix,
+    the first of their places in a tree of the level, and the masks of the bits in the tree and past the prefix."""
     level = (length - 1) // 8 if length else 0
     own = length - 8 * level
     return level << 32, 32 - 8 * level, 32 - length, 1 << own, (1 << own) - 1, (1 << 32 - length) - 1
@@ -344,7 +344,7 @@ class Lines(Input):
         return self.split(text)
 
     def last_cut(self, data, size):
-        """Where a piece can end, which has about that size; 0 if that isn't known of this kind of input."""
+        """The place at which a piece of about that size can end; 0 if that isn't known of this kind of input."""
         return 0
 
     def texts(self):
@@ -402,8 +402,8 @@ class Lines(Input):
 
     @contextlib.contextmanager
     def named(self):
-        """Reports an error with the number of its line. An exception's `behind` is the number of lines between the
-        first line of its entry and the line with the error."""
+        """Reports an error with the number of its line. An exception's `behind` is the number of lines between
+        the first line of its entry and the line with the error."""
         try:
             yield
         except (ValueError, LookupError) as error:
@@ -469,7 +469,7 @@ class Json(Input):
             yield decoder.decode(piece.data, piece.ends or piece.is_last)
 
     def last_cut(self, data, size):
-        """Where a member begins whose name is an IPv4 prefix, with the comma before it. In a string it would have backslashes."""
+        """The begin of a member whose name is an IPv4 prefix, with the comma before it. In a string it would have backslashes."""
         window = 1 << 16
         while True:
             begin = max(0, size - window)
@@ -601,7 +601,7 @@ class Json(Input):
 
 
 def member(record, name, kind, absent=None):
-    """The member of a JSON object; `absent` is the value of a missing one. If `absent` is None, the object is refused."""
+    """The member of a JSON object; `absent` is the value of a missing one. With None, the object is refused."""
     if type(record) is not dict:
         raise Missing(f"an object was expected: {json.dumps(record)[:100]}")
     value = record.get(name, absent)
@@ -696,8 +696,8 @@ class Addresses:
         return self.given.get(interface, self.other)
 
     def tell(self, counts, notes):
-        """Reports the numbers of routes over interfaces without an address of their own. Of several interfaces a
-        comparison of tables can't tell one from the other."""
+        """Reports the numbers of routes over interfaces without an address of their own. A comparison of tables can't
+        distinguish several such interfaces."""
         if counts and (len(counts) > 1 or not self.is_other_given):
             named = ", ".join(f"{number} over {interface}" for interface, number in counts.items())
             notes.tell(f"routes {self.what} ({named}), and the next hop {self.other} in the feeds: use {self.name} IFACE=ADDRESS",
@@ -1169,8 +1169,8 @@ class Parts:
 
 
 def convert_table(arguments, given, read, reader=None):
-    """Converts the table that `read(given, arguments, notes)` yields: each prefix with its offers, best first. Of a table that
-    can be read in pieces, `reader` is the reader."""
+    """Converts the table that `read(given, arguments, notes)` yields: each prefix with its offers, best first. A table that
+    can be read in pieces has a `reader`."""
     notes, met = Notes(), Prefixes() if reader else Texts()
     with FeedFiles(arguments) as files:
         given.after_block = files.flush_many

@@ -96,7 +96,7 @@ class Directory:
 
     @contextlib.contextmanager
     def open(self, name, mode="r"):
-        """Opens a file for a block of code, in which an error of the operating system names it."""
+        """Opens a file for a block of code; an error of the operating system names the file there."""
         with naming(self.path / name), self.opened(name, mode) as file:
             yield file
 
@@ -289,7 +289,7 @@ class Folder:
             raise
 
     def replace(self, names, record, mode):
-        """Replaces the directory by `new`, in which the files of these names are new; `record` has those of others."""
+        """Replaces the directory by `new`. The files of these names are new; `record` has those of others."""
         self.write_record(names, record)
         os.fchmod(self.directory.descriptor, stat.S_IMODE(mode))
         with contextlib.suppress(FileNotFoundError):
@@ -298,7 +298,7 @@ class Folder:
         self.restore()
 
     def write_record(self, names, record):
-        """Adds the new files to the record of what other converters wrote."""
+        """Adds the new files to the record of other converters' files."""
         for name in names:
             status = self.directory.status_of(name)
             record[name] = Written(self.writer, status.st_size, status.st_mtime_ns)
@@ -307,7 +307,7 @@ class Folder:
             self.record.flush()
 
     def restore(self):
-        """Ends a replacement: restores the old directory if there is no new one, or else removes it."""
+        """Ends a replacement: restores the old directory if the new one is missing, or else removes it."""
         if not os.path.lexists(self.old):
             return
         with trusted(hidden_directory(self.old)) as old:

@@ -47,7 +47,7 @@ class Attributes(typing.NamedTuple):
     local_pref: int = 0
     originator: int | None = None
     clusters: int = 0
-    # of a message: the prefixes of other families, or of IPv4 with such attributes
+    # a message's prefixes of other families, or of IPv4 with such attributes
     reach: bytes | None = None
     unreach: bytes | None = None
 

@@ -16,14 +16,14 @@ import signal
 import struct
 import typing
 
-# the sizes of what follows it
+# the sizes of the two parts after it
 HEADER = struct.Struct("QQ")
 STANDARD_ERROR = 2
-# how much is written or read at once, which is also what a pipe holds, where the system can be asked for it
+# how much is written or read at once; a pipe holds as much, if the system can set its size
 BLOCK = 1 << 20
-# how long this process waits for one that neither takes nor gives anything: so many times this many milliseconds
+# how long this process waits for one that neither takes nor gives anything: this number of times these milliseconds
 TIMES, WAIT = 10, 1000
-# the control group of this process, and where control groups are
+# the control group of this process, and the directory of control groups
 OWN_GROUP, GROUPS = "/proc/self/cgroup", "/sys/fs/cgroup"
 
 
@@ -39,8 +39,8 @@ class Piece(typing.NamedTuple):
 
 
 class Task:
-    """A piece that waits for its turn. `worker` has it, or has had it, with the state `state`; its result is None until the
-    worker answers, and empty if the worker couldn't convert it."""
+    """A piece that waits for its turn. `worker` has it, or has had it, with the state `state`. The worker's answer sets its result,
+    None before; the result is empty if the worker couldn't convert it."""
 
     def __init__(self, piece):
         self.piece, self.worker, self.state, self.result = piece, None, None, None
@@ -85,7 +85,7 @@ def write(descriptor, data):
 def pipe():
     """A pipe that holds a piece, so that neither end waits for the other again and again."""
     ends = os.pipe()
-    # only Linux can be asked for it, and it may refuse
+    # only Linux can set it, and it may refuse
     with contextlib.suppress(AttributeError, OSError):
         fcntl.fcntl(ends[1], fcntl.F_SETPIPE_SZ, BLOCK)
     return ends
@@ -171,7 +171,7 @@ class Worker:
 
 
 def serve(requests, results, work):
-    """Converts pieces until there are no more. Whatever goes wrong, the other process converts the piece again."""
+    """Converts pieces until no more come. Whatever goes wrong, the other process converts the piece again."""
     for number in (signal.SIGTERM, signal.SIGHUP, signal.SIGINT, signal.SIGALRM):
         if signal.getsignal(number) != signal.SIG_IGN:
             signal.signal(number, signal.SIG_DFL)
@@ -221,7 +221,7 @@ class Ahead:
                 worker.end()
 
     def read_on(self):
-        """Reads as many pieces as may wait, but none while the first has to be converted here. What ends the input counts
+        """Reads all pieces that may wait, but none while the first has to be converted here. What ends the input counts
         after all pieces before."""
         while self.end is None and len(self.waiting) < self.most and (not self.waiting or self.waiting[0].worker):
             try:

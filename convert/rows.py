@@ -1,7 +1,7 @@
 """A line of a table, as `yarib table` and `yarib run` print it."""
 import re
 
-# a route's numbers, in the order in which the line has them
+# a route's numbers, in the order of the line
 NUMBERS = ("pref",)
 # its groups are the prefix and the next hop
 ROW = re.compile("([^ ]*) feed [^ ]+" + "".join(rf" {name} \d+" for name in NUMBERS) + " via ([^ ]*)")

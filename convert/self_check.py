@@ -2,11 +2,11 @@
 
 
 class SelfCheck:
-    """Counts the prefixes whose routes were all ranked. Where the daemon's choice isn't the first, some criterion isn't shown
-    or is configured differently, and the next ranks may be wrong as well."""
+    """Counts the prefixes whose routes were all ranked. If the daemon's choice isn't the first, some criterion isn't shown or
+    is configured differently, and the next ranks may be wrong as well."""
 
     def __init__(self):
-        # the prefixes, those with another choice of the daemon, and those of which the age of routes may be the reason
+        # the prefixes, those with another choice of the daemon, and those whose reason may be the age of routes
         self.ranked = self.other = self.by_age = 0
         # what shows more criteria
         self.advice = ""

@@ -59,7 +59,7 @@ def refuse_more(given):
 
 
 def check_count(rows, count):
-    """Refuses a table that hasn't as many lines as it should have."""
+    """Refuses a table with another number of lines than it should have."""
     if count is None:
         raise feeds.Refused("the table may be truncated, since its last line isn't `total N`: use the output of `yarib table "
                             "--total`, or --partial for a part of a table")

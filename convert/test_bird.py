@@ -1,5 +1,5 @@
-"""Tests of BIRD's listings by what BIRD answers when the session of each of five peers has ended, and of listings that are
-cut (samples/make-bird)."""
+"""Tests of BIRD's listings by BIRD's answers when the session of each of five peers has ended, and of listings that are cut
+(samples/make-bird)."""
 import re
 import typing
 
@@ -7,7 +7,7 @@ from trial import SAMPLES, Failed, best_of, expect, files_of, longest, run_here,
 
 OTHERWISE = 3
 PEERS = range(21, 26)
-# the configurations of which everything that decides is shown, and those of which it isn't
+# the configurations whose deciding attributes are all shown, and the others
 SHOWN, HIDDEN = ("unreachable", "aigp"), ("identifiers", "path", "older")
 OTHER_CHOICE = re.compile(r"^in (\d+) of (\d+) prefixes the daemon's choice isn't what these rules give: the next ranks may differ", re.M)
 
@@ -57,13 +57,13 @@ def check_cuts(made):
     first, last = (re.split(r"(?m)^(?= +unicast)", route)[0].encode() for route in routes[:2])
     for cut in range(1, len(last) + 1):
         status, said = run_here("bird-to-feeds", head.encode() + first + last[:cut], made / f"cut{cut}")
-        # of the whole listing a note counts routes over an interface
+        # a note counts routes over an interface, if the listing is whole
         if (status, said.count("\n")) != ((0, 2) if cut == len(last) else (1, 1)):
             raise Failed(f"BIRD 3 cut behind {last[:cut][-60:]!r}: status {status}, and it says {said}")
 
 
 def check_banner(made):
-    """A listing of BIRD 3 is read by what it has: without the first line, which names the version, it gives the same."""
+    """A listing of BIRD 3 is recognized by its form: without the first line, which names the version, it gives the same."""
     data = Lab("debian-sid-bird3", "aigp").path("all").read_bytes()
     found = []
     for name, text in (("whole", data), ("without banner", data.partition(b"\n")[2])):

@@ -1,4 +1,4 @@
-"""Tests of what birdwatcher shows of BIRD's tables: it gives the feeds that BIRD's own listing gives.
+"""Tests of birdwatcher's listings of BIRD's tables: they give the feeds that BIRD's own listing gives.
 
 No birdwatcher was at hand. What it would show is made of BIRD's real listings here, with the names that its documentation
 has and values in the form that it takes from the listing (local preference and MED as text)."""
@@ -42,7 +42,7 @@ def feeds_of(made, name, command, data):
 
 
 def check_same(made):
-    """The same feeds, messages and status as of BIRD's own listing, but for what only that shows."""
+    """The same feeds, messages and status as those of BIRD's own listing, except for parts that only that shows."""
     document = shown(LISTING.read_text())
     if KEEP:
         (SAMPLES / SAMPLE).write_text(json.dumps(document, indent=0) + "\n")

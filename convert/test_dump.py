@@ -1,4 +1,4 @@
-"""Tests of table dumps: lines that are taken together, as most are, give what lines do that are each read by themselves."""
+"""Tests of table dumps: lines that are read together, as most are, give the same as lines that are each read by themselves."""
 import random
 
 import collected
@@ -10,7 +10,7 @@ ABSENT = "--local-as 4199999999"
 PEERS = (("192.0.2.1", "65001"), ("192.0.2.2", "65002"), ("192.0.2.2", "65003"), ("192.0.2.10", "65001"), ("192.0.2.9", "4200000001"),
          ("2001:db8::1", "65001"))
 LINE = "{kind}|{time}|B|{peer}|{prefix}|{path}|{origin}|{hop}|{local_pref}|{med}|65001:1|NAG||\n"
-# what a line may have once in a while in place of what most have
+# the unusual parts that a line may have once in a while
 SELDOM = (("kind", ("TABLE_DUMP", "TABLE_DUMP2", "TABLE_DUMP2_AP")), ("path", ("", "{65007,65008}", "(65100) 65001", "65001 {65007}")),
           ("hop", ("255.255.255.255", "192.0.2.77", "2001:db8::77")), ("origin", ("EGP", "INCOMPLETE")), ("local_pref", ("100", "200", "50")),
           ("med", ("", "4294967295", "0000000007")), ("time", ("1795441784",)))
@@ -64,7 +64,7 @@ def drawn_dump(draw):
 
 
 def check_same(made, name, options, data, piece, block):
-    """Lines that are taken together, by one process and by several, give what each by itself gives."""
+    """Lines that are read together, by one process and by several, give the same as each by itself."""
     found = []
     for kind, more, constant in (("by themselves", ABSENT, constants(1 << 20, 1, block)), ("together", "", constants(1 << 20, 1, block)),
                                  ("in pieces", "", constants(piece, 3, block))):

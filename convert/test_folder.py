@@ -147,7 +147,7 @@ def check_two(made):
 
 def check_ended(made):
     """A signal leaves nothing next to the directory; what a killed converter leaves is removed by the next one."""
-    # a second signal at once, and in the milliseconds in which the converter clears away and Python ends
+    # a second signal at once, and in the milliseconds while the converter clears away and Python ends
     seconds = [(0, signal.SIGINT), *((delay / 1000, None) for delay in (2, 5, 8, 12, 18))]
     for ending in (signal.SIGTERM, signal.SIGHUP, signal.SIGINT):
         for delay, second in seconds:
@@ -204,7 +204,7 @@ def check_disk(made):
 
 # another user, who isn't in the file of users
 OTHER = 65533
-# what may be put next to the directory `feeds`, or be it, by somebody else: the commands, and a part of the message
+# somebody else's files next to the directory `feeds`, or in its place: the commands, and a part of the message
 TRAPS = (
     ("mkdir .feeds.new && ln -s {victim}/kept .feeds.new/.written", "/.feeds.new: remove it"),
     ("mkdir -m 777 .feeds.new", "/.feeds.new: remove it"),
@@ -243,7 +243,8 @@ def state_of(directory):
 
 
 def check_trap(shared, victim, commands, user, part):
-    """Somebody else's commands make the converter refuse the directory, and it changes nothing of theirs or elsewhere."""
+    """Somebody else's commands make the converter refuse the directory, and it changes none of their files, and nothing
+    elsewhere."""
     commands = commands.format(victim=victim)
     subprocess.run(["sh", "-ec", commands], cwd=shared, user=user, check=True)
     before = state_of(shared), state_of(victim)
@@ -260,7 +261,7 @@ def check_trap(shared, victim, commands, user, part):
 
 
 def check_shared(made):
-    """Where everybody may write, nothing of another user is followed, emptied, waited for or taken over."""
+    """In a directory where everybody may write, nothing of another user is followed, emptied, waited for or taken over."""
     is_root = os.geteuid() == 0
     if not is_root:
         print("convert: not run as root: directories of another user were not tested")

@@ -69,7 +69,7 @@ def documents_of(text):
 
 
 def changed_json(text, draw):
-    """The documents, of which one has one or two of its values replaced or removed."""
+    """The documents; one of them has one or two of its values replaced or removed."""
     documents = list(documents_of(text))
     changed = draw.randrange(len(documents))
     documents[changed] = changed_document(documents[changed], draw)

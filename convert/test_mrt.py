@@ -60,7 +60,7 @@ def check_beside_bgpdump(made):
 
 
 def check_dump_behind(made):
-    """A table dump that comes after updates announces routes again, as in what bgpdump makes of it."""
+    """A table dump that comes after updates announces routes again, as in bgpdump's text of it."""
     updates, dump = FILES[1], DUMP
     status, said = run_here("mrt-to-feeds", read(f"{updates}.mrt") + without_identifiers(read(f"{dump}.mrt")), made / "behind")
     other = run_here("bgpdump-to-feeds", read(f"{updates}.txt") + read(f"{dump}.txt"), made / "behind-text")

@@ -17,7 +17,7 @@ import pieces
 from trial import SAMPLES, Failed, expect, files_of, heed_signals, run, run_here, text_of, words
 
 CONVERTERS = ("bird-to-feeds", "frr-to-feeds", "bgpdump-to-feeds")
-# samples of which pieces have to be joined, with how many such pieces there are at least
+# samples with pieces that have to be joined, and the minimum number of such pieces
 JOINED = (("bird-to-feeds", "debian-13/ranks/bird.txt", 8), ("bird-to-feeds", "debian-13/ranks/bird-aigp-all.txt", 3),
           ("frr-to-feeds", "ranks/frr.json", 8), ("frr-to-feeds", "ranks/frr-detail.json", 8),
           ("frr-to-feeds --one-hop", "frr/rib.json", 2), ("bgpdump-to-feeds", "ranks/frr-dump.txt", 2))
@@ -201,7 +201,7 @@ FOUND = """10.255.0.6/32        unicast [ospf1 08:15:03.000] * I (150/10) [10.0.
 
 
 def check_marks(made):
-    """Of which routes the next hop was looked up is known of each piece, also of one that has no such route."""
+    """The routes whose next hop was looked up are known for each piece, also for one without such a route."""
     looked_up, direct = ([form.format(f"10.{second}.{third}.0/24") for third in range(60)]
                          for second, form in ((1, LOOKED_UP), (2, DIRECT)))
     other = DIRECT.format("0.0.0.0/0").replace("[edge ", "[other ")
@@ -301,7 +301,7 @@ def check_one_processor(made):
 
 
 def check_system(made):
-    """Where the system doesn't say which processors may be used, that is no error."""
+    """If the system doesn't say which processors may be used, a converter works all the same."""
     for number, (command, sample, _) in enumerate(JOINED):
         data = (SAMPLES / sample).read_bytes()
         one = result(made, f"system{number}", command, data, constants(1 << 20, 1))

@@ -37,7 +37,7 @@ def check_frr_forms(made):
 
 
 def check_frr_header(made):
-    """The data of the prefix is known by what it has, wherever it is listed."""
+    """The data of the prefix is recognized by its members, wherever it is listed."""
     shown = json.loads(read("ranks/frr-detail.json"))
     whole = feeds_of(made, "header", "frr-to-feeds", json.dumps(shown).encode())
     for paths in shown["routes"].values():
@@ -149,7 +149,7 @@ def check_openbgpd_chain(made):
 
 
 def check_frr_interface(made):
-    """Of a link-local next hop whose interface isn't shown the address is the name of the interface."""
+    """The address of a link-local next hop whose interface isn't shown is the name of the interface."""
     shown = json.loads(read("debian-13/frr/unnumbered.json"))
     for paths in shown["routes"].values():
         for path in paths:

@@ -88,7 +88,7 @@ def sizes_of(firsts):
 
 
 def by_size(name, column, totals, size, fixed, text=str, rest=""):
-    """Colours the values with the most addresses, after those with a fixed text and colour; the others are the rest."""
+    """Colours the largest values by number of addresses, after those with a fixed text and colour; the others are the rest."""
     classes, legend = array.array("B", [0] * size), [("", "ground")]
     for value, said, colour in fixed:
         if colour == "ground":

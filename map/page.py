@@ -58,7 +58,7 @@ def for_script(value):
 
 
 def page(title, origin, kind, order, feeds, held, colourings):
-    """The page's text; `origin` says when and from what it was made."""
+    """The page's text; `origin` has its time and its source."""
     about = {
         "kind": kind,
         "order": order,
@@ -132,7 +132,7 @@ def run(documentation, read, write, empty):
 
 
 def origin_of(arguments):
-    """The line of the page that says when it was made, by which script, and from what."""
+    """The line of the page with its time, its script and its source."""
     time = time_of(os.environ.get("SOURCE_DATE_EPOCH"))
     return f"Made on {time:%Y-%m-%d at %H:%M UTC} by {NAME} from {arguments.command or arguments.file or 'standard input'}."
 
@@ -166,8 +166,8 @@ def write_out(text):
 
 
 def printable(text):
-    """Returns a message's line in which `repr` has written each character that a terminal could obey, or that it wouldn't
-    show: names of files may be chosen by others."""
+    """Returns a message's line with each character that a terminal could obey, or that it wouldn't show, as `repr` writes
+    it: names of files may be chosen by others."""
     return text if text.isprintable() else "".join(one if one.isprintable() else repr(one)[1:-1] for one in text)
 
 

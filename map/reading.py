@@ -27,7 +27,7 @@ NUMBER = struct.Struct(">I").unpack
 HOST_BITS = {str(length): (1 << 32 - length) - 1 for length in range(33)}
 PREFIXES = "this is a prefix and not a range: call yarib diff without --prefixes"
 MIXED = "some answers are next hops and some are routes: the input has more than one output"
-# a route's numbers in the order in which they are printed, and what they are if no route is printed
+# a route's numbers in their printed order, and their values if no route is printed
 NUMBERS = ("pref",)
 NO_NUMBERS = (0,) * len(NUMBERS)
 # the characters that no feed's name may have: a blank, those that a terminal obeys, and those that change the direction of
@@ -109,7 +109,7 @@ class Feeds:
 
 
 class Answers:
-    """The answers of one table: for each range the next hop, and the route's prefix length, feed and numbers."""
+    """The answers of a table: for each range the next hop, and the route's prefix length, feed and numbers."""
 
     def __init__(self, answers):
         hops, lengths, feeds, *numbers = (map(operator.itemgetter(part), answers) for part in range(3 + len(NUMBERS)))

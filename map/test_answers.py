@@ -27,7 +27,7 @@ COMPARISONS = [
 
 
 def yarib(program, *words):
-    """The program's output; faulty lines and differences are no failure."""
+    """The program's output; faulty lines and differences don't count as failures."""
     ended = subprocess.run([program, *words], capture_output=True, text=True)
     if ended.returncode not in (0, 1, 2):
         raise Failed(f"yarib {' '.join(map(str, words))} ends with status {ended.returncode}: {ended.stderr}")
@@ -141,7 +141,7 @@ def check_page(page, begin, said):
 
 def check_legend(colouring, totals):
     """A legend counts the addresses of each text. The addresses of a text that isn't in the legend are counted with
-    others, none of which has more than a text that is in it. This happens only if all colours are used."""
+    others, and none of them has more than a text that is in it. This happens only if all colours are used."""
     left = {text: count for text, count in totals.items() if text not in {text for text, *_ in colouring["legend"]}}
     own, colours = [], [colour for _, colour, _ in colouring["legend"]]
     expect(f"{colouring['name']}: different colours of {colours}", len(set(colours)), len(colours))
@@ -195,7 +195,7 @@ def random_line(draw, prefix):
 
 
 def random_feeds(made):
-    """Files of random routes with a default route, and of a table in which some of them are changed or gone."""
+    """Files of random routes with a default route, and of a table with some of them changed or removed."""
     draw = random.Random(61)
     prefixes = {random_prefix(draw) for _ in range(RANDOM_ROUTES)} | {"0.0.0.0/0", "0.0.0.0/32", "255.255.255.255/32"}
     prefixes |= {f"{text_of(DENSE + draw.randrange(256) * 256)}/24" for _ in range(DENSE_ROUTES)}

@@ -173,7 +173,7 @@ def views(page, said):
         dots.add(4**order - 1)
         if base <= DENSE < base + (1 << 32 - length):
             dots.add((DENSE - base) // size)
-        # where the dots are in the view, from where they are among all addresses
+        # the positions of the dots in the view, from their positions among all addresses
         side, whole = 2**order, length // 2 + order
         places = [[part % side for part in chart.place((base + dot * size) // size, whole)] for dot in sorted(dots)]
         yield {"base": base, "length": length, "size": size, "side": side, "dots": sorted(dots), "places": places}
@@ -208,8 +208,8 @@ def mixed(scheme, colour, share, is_table):
 
 
 def expected_colours(scheme, colouring, said, first, last, is_table):
-    """Returns the colour of the most addresses that don't have the ground's, or of several such colours the first in
-    the legend. Then the colour if only the legend's last line is shown: that one, if any address has it."""
+    """Returns the commonest colour of addresses but for the ground's, or the first in the legend of several such
+    colours. Then the colour if only the legend's last line is shown: that one, if any address has it."""
     legend = colouring["legend"]
     texts = {text: number for number, (text, *_) in enumerate(legend)}
     counts = [0] * (len(texts) + 1)

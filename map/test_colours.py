@@ -60,7 +60,7 @@ def contrast(one, other):
 
 
 def seen(colour, sight):
-    """A colour as it is perceived, in Oklab (Ottosson 2020), in which distances are perceived differences."""
+    """A colour as it is perceived, in Oklab (Ottosson 2020), whose distances are perceived differences."""
     def times(matrix, parts):
         return [sum(map(math.prod, zip(row, parts))) for row in matrix]
 

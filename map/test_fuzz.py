@@ -1,4 +1,4 @@
-"""Tests of maps with random changes of what `yarib` prints: each makes a page, or is refused in words."""
+"""Tests of maps with random changes of the output of `yarib`: each makes a page, or is refused in words."""
 import copy
 import io
 import json

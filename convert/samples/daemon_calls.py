@@ -23,7 +23,7 @@ ADDRESSES = (HERE / "addresses.txt").read_text().split()
 SECONDS = (0, 1, 2, 40, 41, 42, 43, 44, 96, 97, 98, 99)
 OTHER = [f"10.{second}.{third}.7" for second in SECONDS for third in range(0, 255, 25)]
 REFUSED_BY_KERNEL = ("Invalid argument", "Permission denied", "No route to host")
-# where another root directory is mounted, and whose changes are gone at the end
+# the directory at which another root directory is mounted; its changes are gone at the end
 MOUNTED = pathlib.Path("/mnt")
 FRR = "/usr/lib/frr/bgpd -S -Z -n -l 127.0.0.11 -f collector.conf -i frr.pid --vty_socket . --log file:frr.log"
 
@@ -34,7 +34,7 @@ def say(command, check=True):
 
 
 class Kept:
-    """Where samples are kept."""
+    """The directory in which samples are kept."""
 
     folder = HERE
 
