@@ -2,7 +2,7 @@
 """Times `yarib run` on a busy machine: with several files, with one file of the same lines, and the plain program, in
 turn.
 
-Needs rustc. It starts twice as many busy processes as there are processors, in the ordinary scheduling class, and ends
+Needs rustc. It starts two busy processes for each processor, in the ordinary scheduling class, and ends
 them by their ids. For each number of files and batch size, all three run in turn for the given number of rounds, with
 the given number of lines in all. Prints the median wall-clock time and processor time in milliseconds, the minimum and the
 maximum wall-clock time, and the ratios to one file and to the plain program. The last rows are of the quiet machine.

@@ -166,7 +166,7 @@ def processes(first):
 
 
 def memory_of(process):
-    """The bytes of a process, with its share of what it has in common with others."""
+    """The bytes of a process, with its share of those that it has in common with others."""
     with contextlib.suppress(OSError):
         for line in pathlib.Path(f"/proc/{process}/smaps_rollup").read_text().splitlines():
             if line.startswith("Pss:"):

@@ -1,5 +1,5 @@
 #!/usr/bin/env python3
-"""Times a forwarding table, the same one in plain C and Rust, and the book from which it is made, over the same
+"""Times a forwarding table, the same one in plain C and Rust, and the book that it is made of, over the same
 prefixes and addresses. DPDK's rte_lpm, py-radix and Net::Patricia are timed too if they are installed.
 
 Needs rt, gcc and rustc. The program bench/benches, bench/fib_peer.c, bench/fib_peer.rs and the others run in turn, in
@@ -36,7 +36,7 @@ def told(words):
 
 
 def rattle_rows(benches, prefixes):
-    """The rows of the forwarding table and of its book, by program and call, and the sums of what look-ups find."""
+    """The rows of the forwarding table and of its book, by program and call, and the sums of the answers of look-ups."""
     said = told([benches, "fib", str(prefixes), str(ASKED)])
     found = {("Rattle", "new"): said["new"] / prefixes, ("book", "new"): said["load"] / prefixes}
     found["Rattle", "memory"] = said["memory"] / 1e6

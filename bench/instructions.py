@@ -1,8 +1,8 @@
 #!/usr/bin/env python3
 """Counts the instructions of each part of `yarib run`, which other work on the machine doesn't change.
 
-Needs valgrind. Two texts of one file are run in batches of 256: additions and look-ups of one prefix, and a table of
-70,000 prefixes with the lengths of a real one. Prints each part's instructions for each line. A part is identified by
+Needs valgrind. Two texts, each of a single file, are run in batches of 256: additions and look-ups of a single prefix,
+and a table of 70,000 prefixes with the lengths of a real one. Prints each part's instructions for each line. A part is identified by
 the functions that the compiler kept: an inlined function counts for its caller, as reading ahead does for executing
 commands.
 """

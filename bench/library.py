@@ -7,7 +7,7 @@ the given number of prefixes (500,000) of a real table's lengths, and look up ad
 The program bench/benches draws the same, and is left out if it doesn't time a forwarding table. A row has a call, and
 for each program the minimum nanoseconds of processor time for one prefix or address. `apply_journaled` is of a table with a
 journal, `forward` makes a forwarding table, and the number at the end of a look-up's name says how many addresses one
-call looks up. `forwarding_one` is a call without arrays, `add_text` adds and `contains` asks for a prefix as text, and
+call looks up. `forwarding_one` is a call without arrays, `add_text` adds a prefix as text and `contains` tests for it, and
 `free` frees the table.
 """
 import array
