@@ -3,11 +3,11 @@
 
 tests/allocations.py [PROGRAM [CASE..]], or --list for the names of the cases. Needs gcc and glibc.
 
-A list that grows doubles its capacity. So twice as many commands of a kind that doesn't allocate may cost only a few
+A list that grows doubles its capacity. So twice the number of commands of a kind that doesn't allocate may cost only a few
 more requests, for the text, the reports and the journal; another one for each command would be noticed. A run makes no
-request between two writes, and writes as much at once as the output buffer holds. At its end, after all routes are withdrawn or purged, a run holds as much as a run with the
-same number of `dump`s. A table that has routes is left to the system. The launchers' settings change no request, only
-where the C library finds the memory; so everything is run once.
+request between two writes, and writes a full output buffer at once. At its end, after all routes are withdrawn or purged,
+a run holds as much as a run with the same number of `dump`s. A table that has routes is left to the system. The launchers'
+settings change no request, only the place of the memory; so everything is run once.
 """
 import pathlib
 import struct
@@ -20,7 +20,7 @@ from common.table_model import dotted
 # journal.
 DOUBLING = 6
 WRITES = 1000
-# The output buffer has 65,536 bytes, and is written before a line for which there is no room.
+# The output buffer has 65,536 bytes, and is written before a line that doesn't fit.
 LEAST_WRITTEN = 65_000
 BATCHES = ("1", "64", "1024")
 
@@ -65,7 +65,7 @@ KINDS = {
 
 # Catches a `run_feed` that makes a list for each line: `lookup, in batches of 1: 20003 requests more`.
 def commands(yarib, count):
-    """Twice as many lines that don't allocate cost no request each."""
+    """Twice the number of lines that don't allocate cost no request each."""
     for name, line in KINDS.items():
         for batch in BATCHES:
             few, many = (counted_text(yarib, count, OWN + line * lines, batch, "--limit", "1")[0]
@@ -83,7 +83,7 @@ def counted_text(yarib, count, text, batch, *words):
 
 # Catches a `keep_best` that allocates: `the best routes: 1 requests more than all routes`.
 def shown(yarib, count):
-    """Twice as many answers and rows cost no request each, except one for `--all`, nor any for writing them."""
+    """Twice the number of answers and rows cost no request each, except one for `--all`, nor any for writing them."""
     pathlib.Path("text.feed").write_text(ADDS)
     asked = ["--addresses", "asked.txt"]
     few, many = (counted_shown(yarib, count, ["lookup", *asked], lines) for lines in (20_000, 40_000))

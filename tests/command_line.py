@@ -6,8 +6,8 @@ tests/command_line.py [PROGRAM [CASE..]], or --list for the names of the cases. 
 The program's own outputs are compared whole, to the byte; calls that need no preparation are in common/calls.py. A
 message of the library that parses the command line only has to be an error that names the argument. The help pages are
 those of docs/CLI.md. A replay is compared with a model of the tree, written from docs/FORMATS.md. Another feed that
-takes turns with the first one observes the number of commands in a batch: its `dump`s change only where a batch of each
-feed ends. Each case's directory contains row.feed, empty.feed and faulty.feed.
+takes turns with the first one observes the number of commands in a batch: its `dump`s change only at the end of a batch of
+each feed. Each case's directory contains row.feed, empty.feed and faulty.feed.
 """
 import collections
 import contextlib
@@ -34,7 +34,7 @@ from schedules import in_turns, loaded
 from texts import ROW, ROW_OUT
 
 CANNOT_WRITE, TOO_MANY = (6, "", "yarib: cannot write\n"), (3, "", TOO_MANY_FILES)
-# The maximum number of levels of a tree: crates/rt_shared proves that it has as many places as there are feeds.
+# The maximum number of levels of a tree: crates/rt_shared proves that it has a place for each feed, and no more.
 MAX_LEVELS = MAX_FEEDS.bit_length() - 1
 
 
@@ -219,7 +219,7 @@ def batches(yarib):
 
 
 def batch_seen(yarib, words, batch):
-    """Returns the greatest number that divides the result of each dump and each position where the result changes; the feed
+    """Returns the largest number that divides the result of each dump and each position where the result changes; the feed
     of dumps takes turns with a feed that adds."""
     count = 16 * batch
     pathlib.Path("dumps.feed").write_text("dump\n" * count)
@@ -330,7 +330,7 @@ class Tree:
         return "".join(lines) + f"inside {'none' if self.inside is None else f'p{self.inside}'}\n"
 
 
-# Catches a replay without the last of 13 picks, or P3 for 1,000 picks or for the most levels: the replay.
+# Catches a replay without the last of 13 picks, or P3 for 1,000 picks or for the maximum number of levels: the replay.
 def replays(yarib):
     def compare(levels, picks, *shown):
         words = list(shown or map(str, picks))
@@ -374,9 +374,9 @@ def replays(yarib):
 # Help, version, and invalid commands
 
 
-# Catches a program that reads the path by which it was started as an argument: `started as ..`.
+# Catches a program that reads its own path as an argument: `started as ..`.
 def any_name(yarib):
-    """The name by which the program is started changes nothing."""
+    """The name under which the program is started changes nothing."""
     for name in (b"\xff", b"another name", b"yarib"):
         os.symlink(yarib.path, name)
         called = lambda *words: Program(os.fsdecode(os.path.join(os.getcwdb(), name)))(*words)
@@ -569,8 +569,8 @@ def parts_of_tables(yarib):
 # Catches a program that ignores all but the first `--without`, or all but the last: `['table'] without [2, 3]`.
 # Catches a program that ignores all but the first `--feed`, or all but the last: `of [1, 4] only`.
 def left_out(yarib):
-    """Queries without some feeds, by number or name: what they print, report and return is that of the same query in which
-    the files of these feeds are empty."""
+    """Queries without some feeds, by number or name: they print, report and return the same as the query with empty
+    files of these feeds."""
     choice = random.Random(70)
     names = [f"left{feed}.feed" for feed in range(1, 5)]
     pathlib.Path("empty").mkdir()

@@ -26,8 +26,8 @@ COUNTS = struct.Struct("q4Qq")
 
 
 class Waits(NamedTuple):
-    """The waits of a word, a place's bell: short ones at the door, longer ones in the lock, and how often it rang; and the
-    waits and wakes that are none of a place's at its own bell and of others."""
+    """The waits of a word, a place's bell: short ones at the door, longer ones in the lock, and how often it rang; and the strange
+    ones: a place waits only at its own bell, and wakes only others."""
 
     naps: int
     sleeps: int
@@ -91,7 +91,7 @@ def one_file(called):
 # Catches a place that sleeps or naps at another's bell, or while its bell has another number than 1 or 0: `waits at another
 # bell, for another number, or wakes at the own bell`.
 def own_bell(called):
-    """Files that meet one another at each entry, and a crowd: each thread waits at a single word, which is no other's."""
+    """Files that meet one another at each entry, and a crowd: each thread waits at a single word of its own."""
     write_meeting(dumps=100_000, seldom=0)
     kinds, rounds = [0, 0, 0], 0
     while min(kinds) == 0 and rounds < 30:
@@ -193,7 +193,7 @@ def outputs(called):
 # addresses, to a list of one prefix`, `1000 addresses, to a list of one prefix`.
 def few_addresses(called):
     """The time of look-ups of few addresses in few routes, with the run, divided by the time of listing a single
-    prefix. There is no forwarding table; building one takes as long as many such runs."""
+    prefix. They use no forwarding table; building one takes the time of many such runs."""
     pathlib.Path("few.feed").write_text("".join(f"add {dotted(at << 12)}/24 1 192.0.2.1\n" for at in range(1_000)))
     taken = lambda *words: min(sum(called.call(*words, "few.feed")[1:]) for _ in range(5))
     listed = taken("table", "--exact", "0.0.0.0/24")

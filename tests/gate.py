@@ -1,5 +1,5 @@
 #!/usr/bin/env python3
-"""Runs ./test in a repository of stubs, each of which can fail, and checks what it says of them.
+"""Runs ./test in a repository of stubs, each of which can fail, and checks its verdict on them.
 
 tests/gate.py [CASE..], or --list for the names of the cases. Needs git and python3, proves nothing, and takes about half a
 minute. In the repository, ./test, .ci/run, tools/verdict and what this uses are the real ones. Each other script is a
@@ -196,7 +196,7 @@ def quick(new):
     each(new, QUICK, judge)
 
 
-# Catches a gate that doesn't look at the number of mutants that were tried, or at the status of what tries them: `.. of
+# Catches a gate that doesn't look at the number of mutants that were tried, or at the status of their script: `.. of
 # tools/mutants`.
 def counts(new):
     def judge(one, row):
@@ -210,7 +210,7 @@ def counts(new):
     each(new, [(f"tools/{tool}", end) for tool in LISTED for end in ends], judge)
 
 
-# Catches a gate in which the caller's variables leave something out, or that takes an option for another: `.. in the
+# Catches a gate that leaves something out by the caller's variables, or takes an option for another: `.. in the
 # environment`, `an unknown option`.
 def environment(new):
     own = {"YARIB_UNPROVED": "1", "YARIB_KEPT": "1", "YARIB_ARCHIVE": "/none", "YARIB_LIBRARY": "/none", "YARIB_OTHER": "1"}
@@ -233,7 +233,7 @@ def environment(new):
     expect("the help", (status, "--anew" in "\n".join(lines), noted), (0, True, ""))
 
 
-# Catches a gate in which --anew leaves something out, or that tries all again without it: `.. is called with --anew`; and
+# Catches a gate that leaves something out with --anew, or tries all again without it: `.. is called with --anew`; and
 # libraries of earlier runs that count as those of this one: `what is left ..`.
 def anew(new):
     for words in ([], ["--anew"]):
@@ -324,7 +324,7 @@ def verdicts(new):
            (bare.test()[0], bare.verdict()["commit"], bare.verdict()["tree"]), (0, None, None))
 
 
-# Catches a verdict that is lost by the name of a file, by what a script prints, or by a repository that has no commit: `.. that
+# Catches a verdict that is lost by the name of a file, by a script's output, or by a repository that has no commit: `.. that
 # is no text`, `.. without a commit`.
 def lost_verdicts(new):
     one, name = new(), os.fsdecode(b"a name of byte \xff that is no text")

@@ -121,7 +121,7 @@ def refused_commands(yarib):
 
 # Catches F3 for a look-up of many addresses if the allocation of a forwarding table fails.
 def refused_forwarding(yarib):
-    """Look-ups of enough addresses that a forwarding table answers them, with refused memory requests. The last
+    """Look-ups of enough addresses for a forwarding table to answer them, with failing allocations. The last
     requests are that table's, and none of them prevents the answers from being printed."""
     refuse = refuser(pathlib.Path.cwd())
     text, asked, answers = many_routes(FORWARDED[1])

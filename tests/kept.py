@@ -181,7 +181,7 @@ class Repository:
 
 # Catches a kept verdict on files other than those that the script read: `.. is changed`, `.. meanwhile`, `a file that isn't
 # named`.
-# Catches a file that doesn't exist and is taken for nothing: `no such file`.
+# Catches a missing file that counts as an empty one: `no such file`.
 def once(new):
     one = new()
     own = lambda *names, **how: one.call("tools/once", "tests/one.sh", "word", ":", *(names or ("read.txt",)), **how)
@@ -278,8 +278,8 @@ def machines(new):
     expect("the same again", one.once(), (0, 0))
 
 
-# Catches a kept verdict on a directory of which something counts that doesn't belong to it, or doesn't count that does: `..
-# in a directory`.
+# Catches a kept verdict on a directory that counts something else too, or leaves out a part of the directory: `.. in a
+# directory`.
 def directories(new):
     one = new()
     own = lambda: one.call("tools/once", "tests/one.sh", ":", "read.txt", "read")[::2]
@@ -408,7 +408,7 @@ def definitions(new):
         expect("a change that a prover refuses before it is killed",
                (status, "\ndefinition one/two: NOT TRIED" in f"\n{said}", calls), (1, True, 1))
     expect("a change that is refused now", tried()[::2], (0, 1))
-    # Without --gate the changes are tried by `rt check`, of which the stub of rt knows nothing.
+    # Without --gate the changes are tried by `rt check`, which the stub of rt doesn't know.
     expect("without --gate nothing is taken from an earlier run", one.call("tools/definitions")[0], 1)
 
 
@@ -431,7 +431,7 @@ other_is_one = refl
 pub abbrev short : one ≡ 1
 short = refl
 """
-# Has the stub of the prover report an error so many lines before the last one of each of these files.
+# Has the stub of the prover report an error this number of lines before the last one of each of these files.
 AT = """at() {
   for file in proofs/$1; do if [ -e "$file" ]; then echo "$file:$(($(wc -l <"$file") - $2)):1: error: it isn't so"; fi; done
 }
@@ -606,8 +606,8 @@ def mutants(new):
         expect(f"{name} was saved meanwhile, and is as it was", gate()[2], whole[2])
 
 
-# Catches a kept verdict that holds for files of other names, or is lost or breaks the run by how a list is written: `.. has
-# another name`, `.. of a list`.
+# Catches a kept verdict that holds for files of other names, or is lost or ends the run if a list is written in another
+# way: `.. has another name`, `.. of a list`.
 def lists(new):
     one = new()
     one.put(one.kit / "bin/rattle", CHECK)

@@ -124,7 +124,7 @@ class Copy:
 
     def product(self, crate):
         """The path of a crate's built file: the only one named after the crate, followed by a sum. Its own checksum is
-        beside it."""
+        next to it."""
         [made] = [path for path in (self.top / "out/build").glob(f"{crate}-*") if path.suffix != ".sha256"]
         return made
 
@@ -223,7 +223,7 @@ def what_is_built_anew(copy):
     rule.write_text(rule.read_text().replace(LOGIC, other))
     expect("built where the logic is another", copy.start("run", "x", names={"LOGIC": other})[0], 0)
     expect("what is built where the logic is another", begun(copy.built()), whole)
-    # A program that is replaced may just be starting; of a library only the last is needed.
+    # A program that is replaced may just be starting; only the last library is needed.
     kept = [path.name.rpartition("-")[0] if path.suffix == ".tar" else path.name for path in (copy.top / "out/build").glob("*-*")
             if path.suffix != ".sha256"]
     numbers = {crate: sum(name.startswith(f"{crate}-") for name in kept) for crate in whole}
@@ -369,8 +369,8 @@ def beside_the_gate(copy):
 
 
 def refused_files(top):
-    """The file that no crate's check reads, by the toolchain's own check, with which `rt ci` begins; None if there is
-    no such file. It is the check of this machine's toolchain, over that tree."""
+    """The file that no crate's check reads, by the toolchain's own check, the first of `rt ci`; None without such a
+    file. It is the check of this machine's toolchain, over that tree."""
     asked = f"""
 import os
 import rtlib
@@ -507,7 +507,7 @@ def words_for_the_prover(copy):
     for line in pathlib.Path(f"{copy.notes}.words").read_text().splitlines():
         words = line.split()
         crate = words[words.index("--crate-name") + 1]
-        # A program and an archive are compiled; of a library only the statements are needed.
+        # A program and an archive are compiled; only the statements of a library are needed.
         kind = [word in words for word in ("--statements", "--backend", "--crate-type", "staticlib")]
         expect(f"how {crate} is built", kind, [False, True] + [crate == "yarib_c"] * 2 if crate in ("rt_app", "yarib_c") else
                [True, False, False, False])

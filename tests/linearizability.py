@@ -2,7 +2,7 @@
 
 It reads each text line by line, and pairs each command with the answer that the output has for that line. If the output
 has another line, or lacks one, nothing explains it. Each feed's commands are then split into batches of `batch`
-commands, the last of which may be shorter. A state of the search consists of the number of commands that each feed has
+commands; the last one may be shorter. A state of the search consists of the number of commands that each feed has
 left, and the routes in the table. From a state the search continues with the next batch of each feed: it answers the
 batch's commands from the table, one after another and with nothing between them. It abandons this path at the first
 answer that differs from the printed one. The output is explained if some path leads to the end of all feeds, and the

@@ -130,7 +130,7 @@ twice-requires c = omega (arith, c.twice-once.ensures, c.requires)
 pub returns : goal.returns
 returns c = rw c.twice-once.ensures at c.twice.ensures
 """
-# For each mutant: its old and new text, the function in which it has to be refused, and the beginning of its line in
+# For each mutant: its old and new text, the function that has to refuse it, and the beginning of its line in
 # the output.
 MUTANTS = {
     "answers-the-number": ("{⏎    n + n⏎}", "{⏎    n⏎}", "twice", "refused, as it must be: "),
@@ -269,7 +269,7 @@ def broken_by_equal_texts():
     return wrong if len(files) > 2 else ["fewer than three files"]
 
 
-# Catches a run beside `rt ci` that passes over the mutants of a crate which isn't proved, or never ends: `mutants of a crate`.
+# Catches a run during `rt ci` that passes over the mutants of a crate which isn't proved, or never ends: `mutants of a crate`.
 def during(room, proved, *names):
     """The output of tools/mutants, for all mutants or those of these names, during an `rt ci` that has ended and printed
     this of the crate."""
@@ -281,7 +281,7 @@ def during(room, proved, *names):
 
 # Catches mutants of the crate that is proved last which wait for those of all others: `the order of crates`.
 def order():
-    """The order in which a single worker tries three crates, of which two are proved while it tries the first."""
+    """The order of three crates for a single worker; two of them are proved while it tries the first."""
     loader = SourceFileLoader("mutants", str(TOP / "tools/mutants"))
     module = module_from_spec(spec_from_loader("mutants", loader))
     loader.exec_module(module)

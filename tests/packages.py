@@ -1,11 +1,11 @@
 #!/usr/bin/env python3
-"""Makes the packages of a program and of the library, and uses them where there is no toolchain.
+"""Makes the packages of a program and of the library, and uses them without a toolchain.
 
 tests/packages.py [PROGRAM [CASE..]], or --list for the names of the cases. Needs git, gcc, binutils and python3. The library
-is made of the archive that YARIB_ARCHIVE names, or else of what tools/build builds.
+is made of the archive that YARIB_ARCHIVE names, or else of that of tools/build.
 
 The packages are installed in roots of Debian. YARIB_ROOTS names directories that have one, with python3, gcc, libc6-dev and
-pkg-config; they are copied. Otherwise mmdebstrap makes a root of Debian 12 and one of 13, once for this machine, in the
+pkg-config; they are copied. Without it mmdebstrap makes a root of Debian 12 and one of 13, once for this machine, in the
 user's cache. If that can't be done, it is said what is left out."""
 import gzip
 import json
@@ -73,7 +73,7 @@ def made_twice(packages):
     expect("./release --verify of a changed file", run([TOP / "release", "--verify", again], env={"PATH": "/usr/bin:/bin"})[0], 1)
 
 
-# Stubs of a commit that is proved again: a build, and a release whose evidence says of which files it was made.
+# Stubs of a commit that is proved again: a build, and a release whose evidence names the files that it was made of.
 STUBS = {"tools/build": "#!/bin/sh\necho of \"$1\"\n", "release": """#!/bin/sh
 mkdir -p "$2"
 cp "${0%/*}/EVIDENCE" "$2/EVIDENCE.json"
@@ -81,7 +81,7 @@ cp "${0%/*}/EVIDENCE" "$2/EVIDENCE.json"
 
 
 def released(top):
-    """Makes a repository with this one's ./release, and a release of a commit of it in which stubs prove and build."""
+    """Makes a repository with this one's ./release, and a release of a commit of it; stubs prove and build."""
     shutil.copytree(TOP / "common", top / "common", ignore=shutil.ignore_patterns("__pycache__"))
     shutil.copy(TOP / "VERSION", top)
     said = {name: name for name in ("sha256", "crates", "unproved files", "tree", "logic")}
@@ -165,7 +165,7 @@ def the_wheel(packages):
     expect("the wheel", (shown[0], shown[2], shown[1].count("\n")), (0, "", 3))
 
 
-# Catches a source archive that lacks a file, or of which pip makes no package: `the sdist ..`.
+# Catches a source archive that lacks a file, or that pip makes no package of: `the sdist ..`.
 def the_sdist(packages):
     [sdist] = [file for file in packages.folder.glob("*.tar.gz") if file.name == f"yarib-{VERSION}.tar.gz"]
     with tarfile.open(sdist) as archive:
@@ -200,7 +200,7 @@ def root_of(suite):
     return root if root.exists() else None
 
 
-# Catches packages that need more than they say, or don't work where there is no toolchain: `in Debian ..`.
+# Catches packages that need more than they say, or don't work without a toolchain: `in Debian ..`.
 def in_roots(packages):
     named = os.environ.get("YARIB_ROOTS", "").split()
     roots = [pathlib.Path(name) for name in named] or [root for root in map(root_of, SUITES) if root]

@@ -1,4 +1,4 @@
-"""Runs with refused memory requests, each request in turn, and comparisons of their output."""
+"""Runs with failing allocations, each request in turn, and comparisons of their output."""
 import collections
 import itertools
 import os
@@ -16,7 +16,7 @@ def refuser(folder):
 
 
 def run_refused(words, refuse, at, rest=False):
-    """A run in which the request with this number is refused and, if `rest`, all later ones."""
+    """A run that gets no memory for the request with this number and, if `rest`, for all later ones."""
     heard, told = os.pipe()
     asked = {"LD_PRELOAD": str(refuse), "REFUSE_AT": str(at), "REFUSE_REST": str(int(rest)), "REFUSE_TELL": str(told)}
     ended = run(words, env=asked, pass_fds=[told])

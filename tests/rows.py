@@ -157,7 +157,7 @@ BEGINNINGS = [
 # Catches a reader that accepts a space at the end.
 # Catches F3 for a line of 129 bytes.
 # Catches another message for an error, such as one that says 127 bytes for E8.
-# Catches a hint that is taken from the first line, if another line is the first faulty one: `behind a line`.
+# Catches a hint about the first line, if another line is the first faulty one: `behind a line`.
 def faulty_lines(yarib):
     for faults, lines in FAULTY.items():
         for line in lines:
@@ -290,7 +290,7 @@ NAMELESS = (
     *(f"feeds/a{chr(code)}b.feed" for code in (
         0x80, 0x85, 0x9B, 0x9F, 0x61C, 0x200E, 0x200F, 0x202A, 0x202E, 0x2066, 0x2069)),
 )
-# Characters beside those that no name may have, and one of them in a directory's name.
+# Characters next to those that no name may have, and one of them in a directory's name.
 NAMED_BESIDE = [f"a{chr(code)}b.feed" for code in (
     0xA0, 0xE9, 0x61B, 0x61D, 0x200D, 0x2010, 0x2029, 0x202F, 0x2065, 0x206A)] + ["\x9b/a.feed"]
 ONE_NAME = (("east.feed", "feeds/east.feed"), ("east.feed", "east"), ("./north", "north.feed"),
@@ -503,9 +503,9 @@ COMMANDS = [
 ]
 
 
-# Catches a reader in which NUL ends a field like a space.
+# Catches a reader that ends a field at NUL, like at a space.
 # Catches a reader that ignores a carriage return at the end.
-# Catches a reader in which `:` is a digit, one past `9`.
+# Catches a reader that accepts `:` as a digit, one past `9`.
 # Catches a reader that reads the length 33 as 32.
 def every_byte_at_every_place(yarib):
     for command in COMMANDS:
@@ -768,7 +768,7 @@ def with_answers(output, answers):
 
 
 def losing_a_withdrawal(yarib, drawn):
-    """An output of the texts in which a withdrawal, if they have one, is lost: it is answered, but the route
+    """An output of the texts without the effect of a withdrawal, if they have one: it is answered, but the route
     remains."""
     lost = re.search(r"^((\d+):(\d+)) withdrawn$", drawn.run(yarib), re.M)
     if lost is None:
@@ -781,7 +781,7 @@ def losing_a_withdrawal(yarib, drawn):
 
 
 def swapping_replies(yarib, drawn):
-    """An output of the texts in which two replies to the same feed are swapped, if two of them differ. Both replies
+    """An output of the texts with two replies to the same feed swapped, if two of them differ. Both replies
     concern only the feed's own routes."""
     output = drawn.run(yarib)
     own = re.findall(r"^((\d+):\d+) (added|exists|full|replaced|withdrawn|missing)$", output, re.M)

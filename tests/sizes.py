@@ -147,7 +147,7 @@ add {feed + 10}.128.0.0/9 0 discard
 
 
 def shown(yarib, texts, names):
-    """What `lookup`, `table` and `diff` print and report for these files, the last of which is new. Each file has a line
+    """What `lookup`, `table` and `diff` print and report for these files; the last one is new. Each file has a line
     that is rejected, each time of another kind."""
     turns = ("frob", "add 10.0.0.0/8 1 192.0.2.1", "withdraw 9.0.0.0/8", "add 99.0.0.0/8 1 192.0.2.1")
     texts = [text + turns[feed % 4] + "\n" for feed, text in enumerate(texts)]
@@ -205,7 +205,7 @@ def many_offers(yarib):
 # Catches another default limit for a feed of `run`, or a rejection of `--limit 1000000`.
 # Catches a default limit of 65,535: `a run of a full feed and 1 more`.
 def at_limit(yarib):
-    """As many routes as a feed of `run` may have by default, and one more, which the other commands accept."""
+    """The maximum number of routes of a feed of `run` by default, and one more, which the other commands accept."""
     routes = [f"10.{at >> 8}.{at & 255}.0/24" for at in range(65_536)]
     listed = [row(prefix) for prefix in [*routes, "11.0.0.0/24"]]
     pathlib.Path("full.feed").write_text("".join(f"add {line.split()[0]} 1 192.0.2.1\n" for line in listed))
@@ -307,7 +307,7 @@ def options(yarib):
         pathlib.Path("rows.feed").write_text("".join(f"add {place}/32 1 192.0.2.1\n" for place in places))
         pathlib.Path("asked.txt").write_text("".join(place + "\n" for place in places))
         files = ["rows.feed", "none.feed"]
-        # The last options of each command print the most; with the most rows only they are given.
+        # The last options of each command have the largest output; with the maximum number of rows only they are given.
         tables, answers, ranges = [forms[-1:] if count == MANY else forms for forms in forms_by_options("rows")]
         for words, form in tables:
             compare(f"{words} of {count} rows", yarib("table", *words, *files), 0, printed(form, places))
@@ -388,9 +388,10 @@ def addresses(yarib):
             compare(f"{count} addresses {words}", ended, 0, answer * count)
 
 
-# Catches F3 for as many addresses as a forwarding table answers.
+# Catches F3 for a number of addresses that a forwarding table answers.
 def forwarded(yarib):
-    """Look-ups on both sides of the numbers from which on a forwarding table answers them, and far above."""
+    """Look-ups with the minimum numbers of addresses and routes for a forwarding table, with one less and one more, and with
+    far more."""
     addresses, routes, a_route = FORWARDED
     cases = [(addresses - 1, routes), (addresses, routes), (addresses + 1, routes), (addresses, routes - 1)]
     cases += [(2_500_000, routes), (addresses, 65_001)]
@@ -464,7 +465,7 @@ def three_million(yarib):
 
 # Catches P3 for a replay of over 20,000 picks: `a replay of 60001 picks`.
 def picks(yarib):
-    """A long replay of one place, which comes inside and leaves again every six steps."""
+    """A long replay of a single place, which comes inside and leaves again every six steps."""
     steps = ("C1.0.0 := 1", "T1.0 := 1", "P1.0 := 0", "C1.0.1 = 0 inside", "C1.0.0 := 0", "T1.0 = 1 out")
     for count in (20_001, 60_001, 100_000):
         lines = "".join(f"{at + 1} p0 {steps[at % 6]}\n" for at in range(count))

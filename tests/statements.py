@@ -23,7 +23,7 @@ WEAKER = {
 
 
 class Copy:
-    """A copy of what the pages are written from."""
+    """A copy of the files that the pages are written from."""
 
     def __init__(self, top):
         self.top = top
@@ -39,7 +39,7 @@ class Copy:
         file.write_text(text.replace(old, new))
 
     def expect_check(self, what, status, said=""):
-        """Expects this status of the check, and this at the end of what it says."""
+        """Expects this status of the check, and this at the end of its message."""
         ended = run([self.top / "tools/statement", "--check"])
         expect(what, (ended[0], ended[2].rstrip("\n")[-len(said):] if said else ended[2]), (status, said))
 
@@ -92,7 +92,7 @@ def another_number_of_lines(copy):
         copy.change("README.md", f"[9{lines}", f"[{lines}")
 
 
-# Catches a page that is refused because of where a definition is, not of what it says.
+# Catches a page that is refused because of a definition's place, not of its text.
 def a_definition_that_moved(copy):
     text = (copy.top / LAWS).read_text()
     (copy.top / LAWS).write_text(re.sub(r"\n\n", "\n\n\n", text, count=3))

@@ -10,7 +10,7 @@ ROW_OUT = "1:1 added\ntable 1\n" + row("10.0.0.0/8", 1, 100)
 # Lines that leave the table as it was.
 AGAIN = "add 10.0.0.0/8 100 192.0.2.1\nlookup 10.1.2.3\nwithdraw 10.0.0.0/8\ndump\n"
 
-# The numbers of addresses, of routes and of addresses for each route from which on a forwarding table answers
+# A forwarding table answers for at least these numbers of addresses, of routes and of addresses for each route
 # (MANY_ADDRESSES, MANY_ROUTES and ADDRESSES_A_ROUTE of rt_run/src/forwarding.rt).
 FORWARDED = 1 << 19, 1 << 14, 3
 
