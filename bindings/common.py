@@ -2,6 +2,6 @@
 import pathlib
 import sys
 
-# A command leaves nothing beside the sources, except what Python keeps of this file.
+# A command leaves nothing next to the sources, except what Python keeps of this file.
 sys.dont_write_bytecode = True
 __path__ = [str(pathlib.Path(__file__).resolve().parents[1] / "common")]

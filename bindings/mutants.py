@@ -1,6 +1,6 @@
 """Mutants of the bindings that each language's tests must notice. `bindings/test` applies each one to a copy.
 
-Of each language, by name: the file, the text that is there exactly once, and the wrong text; and, from the lists at the
+For each language, by name: the file, the text that is there exactly once, and the wrong text; and, from the lists at the
 end, the test that has to notice it.
 """
 TABLES, LIBRARY, FILES = "yarib/_tables.py", "yarib/_library.py", "yarib/_files.py"
@@ -352,8 +352,8 @@ RUST = {name: ("src/lib.rs", *texts) for name, texts in {
     "every table is followed": ("Ok(attached == 1)", "Ok(attached < 2)"),
 }.items()}
 
-# Of C, the name begins with what is wrong: handles keep calls on one handle apart and pass views on, readers lets readers run
-# beside a change, heap keeps blocks apart and gives memory back.
+# A name of C's begins with the part that is wrong: handles keep calls on one handle apart and pass views on, readers lets readers
+# run during a change, heap keeps blocks apart and gives memory back.
 C = {f"{file.partition('.')[0]}: {name}": (file, *texts) for file, wrong in {
     "places.c": {
         "a change asks for no barrier": ("    if (__atomic_load_n(&owned, __ATOMIC_SEQ_CST) == (this_thread.place != NULL)) return YARIB_DONE;\n",
@@ -410,7 +410,7 @@ C = {f"{file.partition('.')[0]}: {name}": (file, *texts) for file, wrong in {
                                     "CALL(view_sizes, (size_t *blocks, size_t *routers), (routers, blocks))"),
         "a reader isn't in its place": ("    __atomic_store_n(&place->reading, handle, __ATOMIC_RELEASE);\n", "    (void)handle;\n"),
         "a lent place stays lent": ("    if (place != this_thread.place) __atomic_store_n(&place->owner, NULL, __ATOMIC_RELEASE);\n", ""),
-        # The macro is the body of all reading calls: its first argument tells those of one kind apart.
+        # The macro is the body of all reading calls: its first argument distinguishes those of the same kind.
         **{f"{who} keeps its place": ("    leave_place(own.place); \\\n", f'    if (sizeof #enter != sizeof "{enter}") leave_place(own.place); \\\n')
            for who, enter in (("a reader of a table", "enter_reading"), ("a reader of a concurrent table", "enter"), ("a comparison", "try_to_enter"))},
         "a change of the parent is busy for ever": ("return (uintptr_t)word >> 48 == forks ? YARIB_BUSY : YARIB_FORKED;", "return YARIB_BUSY;"),

@@ -1,4 +1,4 @@
-"""Two feeds, look-ups one by one and many at once, and where a withdrawal changed the answers."""
+"""Two feeds, look-ups one by one and many at once, and the addresses whose answers a withdrawal changed."""
 import ipaddress
 
 import yarib

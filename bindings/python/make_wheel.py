@@ -19,7 +19,7 @@ LIBRARY = os.environ.get("YARIB_LIBRARY")
 # The time of each file: the earliest that a zip file can have, unless a build that can be repeated sets a later one.
 SECONDS = max(315532800, int(os.environ.get("SOURCE_DATE_EPOCH", 0)))
 WHEN = time.gmtime(SECONDS)[:6]
-# PyPI refuses a package with the first of these: there is no licence yet.
+# PyPI refuses a package with the first of these, as it should without a licence.
 CLASSIFIERS = ("Private :: Do Not Upload", "Operating System :: POSIX :: Linux", "Topic :: System :: Networking", "Typing :: Typed")
 
 

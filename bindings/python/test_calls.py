@@ -352,10 +352,10 @@ class Calls(Limited):
 
 
 class Borders(Limited):
-    """Lists of as many elements as a page has, and of one fewer and one more."""
+    """Lists with the number of elements of a page, and with one fewer and one more."""
 
     def filled(self, size):
-        """Returns a table with so many routes to prefixes inside 10.0.0.0/8, of several feeds, and these routes in order."""
+        """Returns a table with this number of routes to prefixes inside 10.0.0.0/8, of several feeds, and these routes in order."""
         routes = [yarib.Route((10 << 24) + 4 * (k // 2), 30, 1 + k % 3, k % 5, k) for k in range(size)]
         table = yarib.Table()
         outcomes = table.apply_each([(one.feed, "add", one[:2], one.pref, one.via) for one in routes])

@@ -1,4 +1,4 @@
-"""What Python's binding does beside the library's own calls: its types, exceptions, buffers and threads.
+"""What Python's binding does besides the library's own calls: its types, exceptions, buffers and threads.
 
     PYTHONPATH=. YARIB_LIBRARY=bindings/out/libyarib.so.0 python3 bindings/python/test_yarib.py
 """
@@ -531,7 +531,7 @@ class Views(unittest.TestCase):
         self.assertEqual((list(view.look_up_each([])), list(self.made().hops([], 0, 1))), ([], []))
 
     def test_views_during_changes(self):
-        """Each view, and all hops of a call, are of one table; a view that doesn't fit any more is made again."""
+        """Each view, and all hops of a call, are of a single table; a view that doesn't fit any more is made again."""
         for kind in (yarib.Table, yarib.ConcurrentTable):
             table, faults, ended = self.made(kind), [], threading.Event()
             table.apply_each([(2, "add", (k << 24, 8), 0, 0) for k in range(64)])

@@ -15,8 +15,8 @@ Invalid, a ValueError, and OutOfMemory is a MemoryError. An argument of the wron
 these the table is unchanged.
 
 Several threads may use a Table, a Fib or a View, also in a Python without a global lock. Calls that only read run at the
-same time; a change waits until it is alone. Long calls (look_up_each, apply_each, fib_attach, fib_new) let other threads run.
-One thread may change a ConcurrentTable while others read it without waiting.
+same time; a change waits until no other call runs. Long calls (look_up_each, apply_each, fib_attach, fib_new) let other
+threads run. One thread may change a ConcurrentTable while others read it without waiting.
 """
 from ._library import (
     FIRST_ROUTER, MAX_FEED, MAX_LENGTH, MAX_LIMIT, NUMBER_DISCARD, NUMBER_NO_ROUTE, STATUS, VERSION, Error, Invalid, OutOfMemory,

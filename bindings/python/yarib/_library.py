@@ -17,7 +17,7 @@ MAX_FEED, MAX_LIMIT, MAX_LENGTH = 64, 1_000_000, 32
 # The largest number of bytes of a line of a feed file, without its end.
 MAX_LINE = 128
 
-# Of the header: what a call returns, by its number.
+# The header's statuses: what a call returns, by its number.
 STATUS = ("done", "nothing", "bad number", "bad command", "no memory", "bad size", "none left", "bad text",
           "bad length", "bad bits", "wrong kind", "busy", "bad file", "not added", "no barrier", "forked")
 (DONE, NOTHING, BAD_NUMBER, BAD_COMMAND, NO_MEMORY, BAD_SIZE, NONE_LEFT, BAD_TEXT, BAD_LENGTH, BAD_BITS,
@@ -102,7 +102,7 @@ CALLS.update({"yarib_concurrent_" + name: CALLS["yarib_" + name] for name in CON
 
 
 def file_of_library() -> str:
-    """Returns the path of the shared library: YARIB_LIBRARY, in this package's directory, or where the system finds it."""
+    """Returns the path of the shared library: YARIB_LIBRARY, in this package's directory, or the one that the system finds."""
     if named := os.environ.get("YARIB_LIBRARY"):
         return named
     beside = pathlib.Path(__file__).with_name(NAME)
@@ -124,7 +124,7 @@ def load(kind: Callable[[str], Any]) -> Any:
 
 
 # `held` keeps Python's global lock, if there is one, and is for short calls; `freed` lets other threads run meanwhile.
-# Neither needs that lock: the library returns BUSY from a call that can't run beside another one on its handle.
+# Neither needs that lock: the library returns BUSY from a call that can't run during another one on its handle.
 held, freed = load(ctypes.PyDLL), load(ctypes.CDLL)
 
 
@@ -155,7 +155,7 @@ LISTED = 64
 
 
 class Room:
-    """Memory for what one call writes. A call takes it out of `rooms`, and puts it back when the results are read:
+    """Memory for the results of a call. A call takes it out of `rooms`, and puts it back when the results are read:
     meanwhile another thread or a signal handler may make a call, which then takes another one."""
     __slots__ = ("bytes", "at", "size_at", "list", "list_at")
 

@@ -23,7 +23,7 @@ from ._library import (
 PAGE, ENTRIES = 256, 4096
 # A call without conversions accepts only sizes below it.
 MANY = 1 << 31
-# Of the library, which a short call reads often.
+# The library's constants, which a short call reads often.
 VIA, LISTED, ROUTE_SIZE = c.VIA, c.LISTED, ROUTE.size
 SELECTION_OF, SMALL_PARTS = c.SELECTION.pack, (c.EXACT, c.COVERING)
 LAST = (1 << 32) - 1
@@ -71,8 +71,8 @@ class Route(NamedTuple):
 
 
 class Difference(NamedTuple):
-    """A range of addresses for which two tables give different answers. When next hops are compared, an answer is an
-    address, None if packets are discarded, or False if there is no route; otherwise it is a Route or None."""
+    """A range of addresses whose answers differ between two tables. When next hops are compared, an answer is an
+    address, None if packets are discarded, or False without a route; when routes are compared, it is a Route or None."""
     first: int
     last: int
     before: object
@@ -80,7 +80,7 @@ class Difference(NamedTuple):
 
 
 class Change(NamedTuple):
-    """A prefix whose best route has changed: its best Route before, and after; None if there is no route to it."""
+    """A prefix whose best route has changed: its best Route before, and after; None without a route to it."""
     base: int
     length: int
     before: Optional[Route]
@@ -189,7 +189,7 @@ def route_of(base: int, pref: int, via: int, feed: int, length: int, hop: int) -
 
 
 def routes_of(block: Union[memoryview, bytearray]) -> List[Route]:
-    """Returns the routes of a list, each of which is one."""
+    """Returns the elements of a list, which are routes."""
     return [new(Route, (base, length, feed, pref, via if hop == VIA else None))
             for base, pref, via, feed, length, hop in ROUTE.iter_unpack(block)]
 
@@ -355,7 +355,7 @@ class View:
     fork don't change it. Its look-ups are the fastest. Any number of threads may use it, and none waits."""
 
     def __init__(self, table: Handle) -> None:
-        """Makes a view of a Fib, or of a table to which a forwarding table is attached. Raises Refused for another table."""
+        """Makes a view of a Fib, or of a table with an attached forwarding table. Raises Refused for another table."""
         if not isinstance(table, Handle):
             raise TypeError(f"yarib: not a table: {table!r}")
         blocks, routers, status = ctypes.c_size_t(), ctypes.c_size_t(), c.BAD_SIZE
@@ -471,7 +471,7 @@ class Handle:
         return found
 
     def view_new(self) -> View:
-        """Returns a view of the current answers. Raises Refused for a table to which no forwarding table is attached."""
+        """Returns a view of the current answers. Raises Refused for a table without an attached forwarding table."""
         return View(self)
 
     def memory(self) -> int:
@@ -704,12 +704,12 @@ class Routes(Handle):
         return base, length, ROUTE_FROM(room.bytes)
 
     def get(self, key: Union[Address, Prefix], default: Any = None) -> Any:
-        """Returns what `table[key]` returns, or the default if there is no such route."""
+        """Returns what `table[key]` returns, or the default without such a route."""
         found = self._get(key)
         return default if found is None else found
 
     def __delitem__(self, prefix: Prefix) -> None:
-        """Removes the routes of all feeds to this prefix. Raises Missing if there is none."""
+        """Removes the routes of all feeds to this prefix. Raises Missing without such a route."""
         removed = [self.apply(route.feed, "withdraw", prefix).said for route in self.exact(prefix)]
         if "withdrawn" not in removed:
             raise Missing(f"no route to {prefix}")
@@ -748,7 +748,7 @@ class Routes(Handle):
         return loaded.routes  # type: ignore[no-any-return]
 
     def differences(self, other: Routes, by: str = "hop") -> Iterator[Difference]:
-        """Iterates over the ranges for which this table and another of its kind give different answers, by "hop" or by
+        """Iterates over the ranges whose answers differ between this table and another of its kind, by "hop" or by
         "route". Each range is that of the moment when it is found: copy a ConcurrentTable that changes before."""
         if not isinstance(other, Table if isinstance(self, Table) else ConcurrentTable):
             raise TypeError(f"yarib: not a {type(self).__name__}: {other!r}")
@@ -770,7 +770,7 @@ class Routes(Handle):
 
 
 class Table(Routes):
-    """A routing table in which each feed may have `limit` routes, 1 to 1,000,000. With `journal` it keeps every
+    """A routing table with at most `limit` routes for each feed, 1 to 1,000,000. With `journal` it keeps every
     answered command, 56 bytes each."""
 
     def __init__(self, limit: int = c.MAX_LIMIT, journal: bool = False) -> None:
