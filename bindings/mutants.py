@@ -372,16 +372,20 @@ C = {f"{file.partition('.')[0]}: {name}": (file, *texts) for file, wrong in {
         "a lent place isn't read": ("    __atomic_store_n(&place->reading, handle, __ATOMIC_SEQ_CST);\n    return place;\n",
                                     "    (void)handle;\n    return place;\n"),
         "a new place isn't counted": ("    while (before < after && !", "    while (before > after && !"),
-        "a change waits for its own thread": ("find_readers(handle, published)) == OTHER_THREADS) rest", "find_readers(handle, published)) != NOBODY) rest"),
+        "a change waits for its own thread": ("find_readers(handle, published)) == OTHER_THREADS) {", "find_readers(handle, published)) != NOBODY) {"),
         "a change waits for readers of the front": ("__atomic_load_n(&place->since, __ATOMIC_ACQUIRE) >= published)",
                                                     "__atomic_load_n(&place->since, __ATOMIC_ACQUIRE) > published)"),
-        "readers aren't waited for": ("    while ((readers = find_readers(handle, published)) == OTHER_THREADS) rest(&times);\n    return readers == NOBODY",
-                                      "    readers = find_readers(handle, published);\n    (void)times;\n    return readers != THIS_THREAD"),
+        "readers aren't waited for": ("    while ((readers = find_readers(handle, published)) == OTHER_THREADS) {\n        rest(&times, seen);\n",
+                                      "    while ((readers = find_readers(handle, published)) == OTHER_THREADS) {\n        readers = NOBODY;\n        break;\n"),
         "a wait asks for no barrier": ("    if (see_readers() != YARIB_DONE) return YARIB_NO_BARRIER;\n    while ((readers",
                                        "    while ((readers"),
-        "a change that waits is cancelled": ("        syscall(SYS_nanosleep, &nap, NULL);\n", "        nanosleep(&nap, NULL);\n"),
-        "a change that waits yields": ("        syscall(SYS_nanosleep, &nap, NULL);\n", "        sched_yield();\n"),
+        "a change that waits is cancelled": ("        syscall(SYS_futex, &naps.awaited, FUTEX_WAIT_PRIVATE, (uint32_t)seen, &nap);\n", "        nanosleep(&nap, NULL);\n"),
+        "a change that waits yields": ("        syscall(SYS_futex, &naps.awaited, FUTEX_WAIT_PRIVATE, (uint32_t)seen, &nap);\n", "        sched_yield();\n"),
         "a change that waits spins": ("    if (*times < SPINS) {", "    if (*times < 99 * SPINS) {"),
+        "a nap has no end": ("(uint32_t)seen, &nap);", "(uint32_t)seen, NULL);"),
+        "a change that naps says nothing": ("__atomic_store_n(&naps.awaited, seen = published, __ATOMIC_SEQ_CST);", "seen = 0;"),
+        "a wake reaches nobody": ("    syscall(SYS_futex, &naps.awaited, FUTEX_WAKE_PRIVATE, INT_MAX);\n", ""),
+        "a wake doesn't reach who is about to nap": ("    __atomic_store_n(&naps.awaited, 0, __ATOMIC_SEQ_CST);\n", ""),
         "a busy handle is taken twice": ("    enum yarib_status status = status_of(*found);\n    if (status != YARIB_DONE) return status;\n",
                                          "    *found = (void *)((uintptr_t)*found & CONTENTS);\n    *word = *found;\n"),
     },
@@ -411,7 +415,7 @@ C = {f"{file.partition('.')[0]}: {name}": (file, *texts) for file, wrong in {
         "a reader isn't in its place": ("    __atomic_store_n(&place->reading, handle, __ATOMIC_RELEASE);\n", "    (void)handle;\n"),
         "a lent place stays lent": ("    if (place != this_thread.place) __atomic_store_n(&place->owner, NULL, __ATOMIC_RELEASE);\n", ""),
         # The macro is the body of all reading calls: its first argument distinguishes those of the same kind.
-        **{f"{who} keeps its place": ("    leave_place(own.place); \\\n", f'    if (sizeof #enter != sizeof "{enter}") leave_place(own.place); \\\n')
+        **{f"{who} keeps its place": ("    leave(own.place); \\\n", f'    if (sizeof #enter != sizeof "{enter}") leave(own.place); \\\n')
            for who, enter in (("a reader of a table", "enter_reading"), ("a reader of a concurrent table", "enter"), ("a comparison", "try_to_enter"))},
         "a change of the parent is busy for ever": ("return (uintptr_t)word >> 48 == forks ? YARIB_BUSY : YARIB_FORKED;", "return YARIB_BUSY;"),
         "the number of routers is left out": ("view->router_count, &view->router_count))", "view->router_count, &(size_t){0}))"),
@@ -427,6 +431,8 @@ C = {f"{file.partition('.')[0]}: {name}": (file, *texts) for file, wrong in {
         "a change of a best route is that of the side that readers use": (
             "proved_yarib_apply_changed(&sides->back, command,", "proved_yarib_apply_changed(&(yarib){sides->front.inside}, command,"),
         "readers use the side that is changed": ("    sides->back.inside = front;\n", "    (void)front;\n"),
+        "a reader wakes no change": ("    if (since < __atomic_load_n(&naps.awaited, __ATOMIC_RELAXED)) wake_changes();\n", "    (void)since;\n"),
+        "each reader wakes a change": ("if (since < __atomic_load_n(&naps.awaited", "if (since <= __atomic_load_n(&naps.awaited"),
         "readers go on with the side that they use": ("    __atomic_store_n(&sides->front.inside, sides->back.inside, __ATOMIC_SEQ_CST);\n", ""),
         "a batch is made in the side that readers use": ("proved_yarib_apply_each(&sides->back,", "proved_yarib_apply_each(&(yarib){sides->front.inside},"),
         "no wait for readers before a change": ("    status = settle(table, own->inside);\n", "    (void)settle;\n"),
@@ -503,7 +509,7 @@ C = {f"{file.partition('.')[0]}: {name}": (file, *texts) for file, wrong in {
         "a replacement has no forwarding table": ("    status = renew(table, own, limit, &list, is_attached);\n", "    status = renew(table, own, limit, &list, false);\n"),
         "one side of a replacement has a forwarding table": ("make_table(limit, list, is_followed, &sides.front)", "make_table(limit, list, false, &sides.front)"),
         "a replacement loses its list": ("    free_list(&list);\n", ""),
-        "a comparison waits for its second place": ("    READ(try_to_enter, table,", "    READ(enter, table,"),
+        "a comparison waits for its second place": ("    READ(try_to_enter, leave, table,", "    READ(enter, leave, table,"),
         "old and new tables are exchanged": ("proved_yarib_first_difference(old, &own.table,", "proved_yarib_first_difference(&own.table, old,"),
         "a table is compared with itself": ("    if (table == new_table) return YARIB_BUSY;\n", ""),
     },
@@ -987,6 +993,10 @@ C = noticed_by({
     ),
     "test_daemon wait_beside_busy": (
         "places: a change that waits yields", "places: a change that waits spins",
+    ),
+    "test_daemon wake": (
+        "places: a nap has no end", "places: a change that naps says nothing", "places: a wake reaches nobody",
+        "places: a wake doesn't reach who is about to nap", "readers: a reader wakes no change", "readers: each reader wakes a change",
     ),
     "test_daemon lines": (
         "readers: sides begin in the midst of a line",

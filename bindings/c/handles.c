@@ -93,7 +93,7 @@ CHANGES(DEFINE_CHANGE)
 #define DEFINE(name, parameters, arguments) \
     enum yarib_status yarib_##name(const yarib *table, LIST parameters) \
     { \
-        READ(enter_reading, table, proved_yarib_##name(&own.table, LIST arguments)); \
+        READ(enter_reading, leave_place, table, proved_yarib_##name(&own.table, LIST arguments)); \
     }
 READING_CALLS(DEFINE)
 PLAIN_READING_CALLS(DEFINE)
@@ -102,14 +102,14 @@ VIEW_CALLS(DEFINE)
 enum yarib_status yarib_look_up_text(const yarib *table, const char *text, size_t size, yarib_route *answer)
 {
     uint32_t address;
-    READ(enter_reading, table, (status = yarib_address_parse(text, size, &address)) == YARIB_DONE
+    READ(enter_reading, leave_place, table, (status = yarib_address_parse(text, size, &address)) == YARIB_DONE
         ? (enum yarib_status)proved_yarib_look_up_one(&own.table, address, answer) : status);
 }
 
 /* Compares the contents of an old handle with a table. */
 static enum yarib_status compare(yarib *old, const yarib *table, uint32_t by, uint32_t from, yarib_difference *difference)
 {
-    READ(enter_reading, table, proved_yarib_first_difference(old, &own.table, by, from, difference));
+    READ(enter_reading, leave_place, table, proved_yarib_first_difference(old, &own.table, by, from, difference));
 }
 
 /* One handle twice is busy with itself: the proved call needs two. */
@@ -117,7 +117,7 @@ enum yarib_status yarib_first_difference(const yarib *old_table, const yarib *ne
     yarib_difference *difference)
 {
     if (old_table == new_table) return YARIB_BUSY;
-    READ(enter_reading, old_table, compare(&own.table, new_table, by, from, difference));
+    READ(enter_reading, leave_place, old_table, compare(&own.table, new_table, by, from, difference));
 }
 
 /* Fills a handle from the contents of another one by a proved call. */
@@ -128,12 +128,12 @@ static enum yarib_status fill(yarib *contents, yarib *table, uint32_t (*call)(ya
 
 enum yarib_status yarib_fib_new(const yarib *table, yarib *forwarding)
 {
-    READ(enter_reading, table, fill(&own.table, forwarding, proved_yarib_fib_new));
+    READ(enter_reading, leave_place, table, fill(&own.table, forwarding, proved_yarib_fib_new));
 }
 
 enum yarib_status yarib_fib_clone(const yarib *forwarding, yarib *other)
 {
-    READ(enter_reading, forwarding, fill(&own.table, other, proved_yarib_fib_clone));
+    READ(enter_reading, leave_place, forwarding, fill(&own.table, other, proved_yarib_fib_clone));
 }
 
 enum yarib_status yarib_forward(const yarib *table, yarib *forwarding) __attribute__((alias("yarib_fib_new")));

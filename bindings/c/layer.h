@@ -175,13 +175,13 @@ struct reading {
     struct place *place;
 };
 
-/* The body of a reading call of `handle`, which `enter` enters: a call with `own.table`. */
-#define READ(enter, handle, call) \
+/* The body of a reading call of `handle`, which `enter` enters and `leave` leaves: a call with `own.table`. */
+#define READ(enter, leave, handle, call) \
     struct reading own; \
     enum yarib_status status = enter(handle, &own); \
     if (status != YARIB_DONE) return status; \
     status = call; \
-    leave_place(own.place); \
+    leave(own.place); \
     return status
 
 /* Marks a handle's word for a change and writes what it was to `found`, or returns why not. The change ends with what it is then. */
@@ -226,8 +226,17 @@ enum readers find_readers(const void *handle, uint64_t published);
 /* Waits until no such call is left. Returns YARIB_BUSY if one is this thread's, and YARIB_NO_BARRIER if it can't know of all. */
 enum yarib_status wait_for_readers(const void *handle, uint64_t published);
 
-/* Rests before the next attempt. `times` is 0 at first. */
-void rest(unsigned *times);
+/* The publication whose change naps until the reading calls end that saw an older number, or 0. The first of these calls that ends makes it
+ * 0 and wakes the changes. If it misses that, the nap ends by itself. */
+struct naps {
+    uint64_t awaited;
+    char apart[64 - sizeof(uint64_t)];
+};
+extern struct naps naps;
+void wake_changes(void);
+
+/* Rests before the next attempt. `times` is 0 at first. It doesn't nap, or is woken, if `awaited` isn't what was seen there. */
+void rest(unsigned *times, uint64_t seen);
 
 #pragma GCC visibility pop
 

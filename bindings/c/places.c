@@ -12,6 +12,8 @@
 #define _GNU_SOURCE
 #include "layer.h"
 
+#include <limits.h>
+#include <linux/futex.h>
 #include <linux/membarrier.h>
 #include <pthread.h>
 #include <stdlib.h>
@@ -39,6 +41,8 @@ static struct place places[PLACES] __attribute__((aligned(64)));
 
 /* The number of the first places that were ever in use, and of those that are a thread's own. */
 static int used __attribute__((aligned(64))), owned;
+
+struct naps naps __attribute__((aligned(64)));
 
 uintptr_t forks;
 
@@ -168,22 +172,35 @@ enum readers find_readers(const void *handle, uint64_t published)
 
 /* Rests longer each time, and naps after some times. A yield would give away a whole time slice on a busy machine, and a nap by the
  * C library's call would be a point where the thread may be cancelled, and would leave its change for good. */
-void rest(unsigned *times)
+void rest(unsigned *times, uint64_t seen)
 {
     if (*times < SPINS) {
         for (unsigned k = 0; k < 1u << *times; k++) __builtin_ia32_pause();
     } else {
         const struct timespec nap = {.tv_nsec = 50000L << (*times - SPINS) / NAPS};
-        syscall(SYS_nanosleep, &nap, NULL);
+        syscall(SYS_futex, &naps.awaited, FUTEX_WAIT_PRIVATE, (uint32_t)seen, &nap);
     }
     if (*times < SPINS + NAPS_THAT_GROW) ++*times;
+}
+
+void wake_changes(void)
+{
+    __atomic_store_n(&naps.awaited, 0, __ATOMIC_SEQ_CST);
+    syscall(SYS_futex, &naps.awaited, FUTEX_WAKE_PRIVATE, INT_MAX);
 }
 
 enum yarib_status wait_for_readers(const void *handle, uint64_t published)
 {
     enum readers readers;
+    uint64_t seen = 0;
     unsigned times = 0;
     if (see_readers() != YARIB_DONE) return YARIB_NO_BARRIER;
-    while ((readers = find_readers(handle, published)) == OTHER_THREADS) rest(&times);
+    while ((readers = find_readers(handle, published)) == OTHER_THREADS) {
+        rest(&times, seen);
+        if (times < SPINS) continue;
+        /* It looks once more before it naps, since a call that has ended can't wake it. */
+        seen = __atomic_load_n(&naps.awaited, __ATOMIC_SEQ_CST);
+        if (seen < published) __atomic_store_n(&naps.awaited, seen = published, __ATOMIC_SEQ_CST);
+    }
     return readers == NOBODY ? YARIB_DONE : YARIB_BUSY;
 }

@@ -10,7 +10,8 @@
  * The next change must not begin while a reader is still in the back, or in sides that were replaced. A reading call writes into its
  * place (places.c) the number of publications that it saw, then the handle, and then reads the handle's word and the front. A change
  * waits for each place with this handle and a number that is older than the publication. A reader that it doesn't see reads the front
- * later, and so the new one. A reading call never waits or repeats anything. It writes no memory that another reader reads. */
+ * later, and so the new one. A reading call never waits or repeats anything. It writes no memory that another reader reads, unless it
+ * wakes a change that naps until this call ends. */
 #include "layer.h"
 
 #include <stdlib.h>
@@ -311,14 +312,22 @@ SHORT enum yarib_status try_to_enter(const yarib_concurrent *table, struct readi
 SHORT enum yarib_status enter(const yarib_concurrent *table, struct reading *own)
 {
     unsigned times = 0;
-    while (try_to_enter(table, own) != YARIB_DONE) rest(&times);
+    while (try_to_enter(table, own) != YARIB_DONE) rest(&times, __atomic_load_n(&naps.awaited, __ATOMIC_RELAXED));
     return YARIB_DONE;
+}
+
+/* Leaves a reading call, and wakes a change that may nap until then. */
+SHORT void leave(struct place *place)
+{
+    uint64_t since = place->since;
+    leave_place(place);
+    if (since < __atomic_load_n(&naps.awaited, __ATOMIC_RELAXED)) wake_changes();
 }
 
 #define DEFINE(name, parameters, arguments) \
     enum yarib_status yarib_concurrent_##name(const yarib_concurrent *table, LIST parameters) \
     { \
-        READ(enter, table, proved_yarib_##name(&own.table, LIST arguments)); \
+        READ(enter, leave, table, proved_yarib_##name(&own.table, LIST arguments)); \
     }
 READING_CALLS(DEFINE)
 VIEW_CALLS(DEFINE)
@@ -334,14 +343,14 @@ enum yarib_status yarib_concurrent_look_up_text(const yarib_concurrent *table, c
  * that do could wait for one another. */
 static enum yarib_status compare(yarib *old, const yarib_concurrent *table, uint32_t by, uint32_t from, yarib_difference *difference)
 {
-    READ(try_to_enter, table, proved_yarib_first_difference(old, &own.table, by, from, difference));
+    READ(try_to_enter, leave, table, proved_yarib_first_difference(old, &own.table, by, from, difference));
 }
 
 enum yarib_status yarib_concurrent_first_difference(const yarib_concurrent *table, const yarib_concurrent *new_table, uint32_t by,
     uint32_t from, yarib_difference *difference)
 {
     if (table == new_table) return YARIB_BUSY;
-    READ(enter, table, compare(&own.table, new_table, by, from, difference));
+    READ(enter, leave, table, compare(&own.table, new_table, by, from, difference));
 }
 
 static enum yarib_status memory_of_both(yarib *front, size_t *bytes)
@@ -353,5 +362,5 @@ static enum yarib_status memory_of_both(yarib *front, size_t *bytes)
 
 enum yarib_status yarib_concurrent_memory(const yarib_concurrent *table, size_t *bytes)
 {
-    READ(enter, table, memory_of_both(&own.table, bytes));
+    READ(enter, leave, table, memory_of_both(&own.table, bytes));
 }

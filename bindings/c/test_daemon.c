@@ -8,6 +8,7 @@
 
 #include <errno.h>
 #include <linux/filter.h>
+#include <linux/futex.h>
 #include <linux/membarrier.h>
 #include <linux/seccomp.h>
 #include <pthread.h>
@@ -57,22 +58,34 @@ void rattle_dealloc(void *block)
     free((char *)block - offset);
 }
 
-/* How many barriers the kernel executes before it refuses them, and what the library has called. */
-static atomic_int barriers_left = 1 << 30, yields, naps;
+/* How many barriers the kernel executes before it refuses them, and what the library has called. Whether a nap ends only by a wake, and
+ * whether a wake does nothing. */
+static atomic_int barriers_left = 1 << 30, yields, naps, wakes, are_naps_endless, are_wakes_lost;
+
+/* The call that is let go before the next nap begins, after its thread has looked for it, if any. */
+static _Atomic(struct held *) early;
+static void let_go_early(void);
 
 long syscall(long number, ...)
 {
     va_list words;
     va_start(words, number);
-    long result, first = va_arg(words, long), second = va_arg(words, long);
-    register long third __asm__("rdx") = va_arg(words, long);
+    long result, first = va_arg(words, long), second = va_arg(words, long), third = va_arg(words, long), fourth = va_arg(words, long);
     va_end(words);
-    if (number == SYS_nanosleep) atomic_fetch_add(&naps, 1);
+    if (number == SYS_futex && second == FUTEX_WAKE_PRIVATE) {
+        atomic_fetch_add(&wakes, 1);
+        if (atomic_load(&are_wakes_lost)) return 0;
+    } else if (number == SYS_futex && second == FUTEX_WAIT_PRIVATE) {
+        if (atomic_load(&are_naps_endless)) fourth = 0;
+        let_go_early();
+        atomic_fetch_add(&naps, 1);
+    }
     if (number == SYS_membarrier && first == MEMBARRIER_CMD_PRIVATE_EXPEDITED && atomic_fetch_sub(&barriers_left, 1) <= 0) {
         errno = EPERM;
         return -1;
     }
-    __asm__ volatile("syscall" : "=a"(result) : "0"(number), "D"(first), "S"(second), "r"(third) : "rcx", "r11", "memory");
+    register long in_r10 __asm__("r10") = fourth;
+    __asm__ volatile("syscall" : "=a"(result) : "0"(number), "D"(first), "S"(second), "d"(third), "r"(in_r10) : "rcx", "r11", "memory");
     if (result >= -4095 && result < 0) {
         errno = (int)-result;
         return -1;
@@ -155,6 +168,14 @@ static void hold(struct held *held, void (*call)(void))
 static void let_go(struct held *held)
 {
     CHECK(sem_post(&held->may_leave) == 0 && pthread_join(held->thread, NULL) == 0);
+}
+
+static void let_go_early(void)
+{
+    struct held *held = atomic_exchange(&early, NULL);
+    if (!held) return;
+    let_go(held);
+    CHECK(atomic_load(&wakes) == 1);
 }
 
 /* The calls that are held. A list that is read stays whole. */
@@ -530,6 +551,60 @@ static void wait_beside_busy(void)
     end();
 }
 
+/* A change that naps is woken by the call that it waits for, be that before the nap begins or during it, and by no other call. */
+static void be_woken(void (*call)(void), bool is_early)
+{
+    struct held reader;
+    pthread_t thread;
+    yarib_route route;
+    begin();
+    CHECK(yarib_concurrent_look_up_one(&concurrent, 1 << 24, &route) == YARIB_DONE);
+    hold(&reader, call);
+    CHECK(change_concurrent(YARIB_ADD, 99) == YARIB_DONE);
+    atomic_store(&are_naps_endless, 1);
+    atomic_store(&naps, 0);
+    atomic_store(&wakes, 0);
+    if (is_early) atomic_store(&early, &reader);
+    CHECK(pthread_create(&thread, NULL, change_late, NULL) == 0);
+    if (!is_early) {
+        while (atomic_load(&naps) == 0) continue;
+        /* This thread read before the change was published. */
+        for (int k = 0; k < 10; k++) CHECK(yarib_look_up_one(&table, 1 << 24, &route) == YARIB_DONE && route.via == 1);
+        for (int k = 0; k < 10; k++) CHECK(yarib_concurrent_look_up_one(&concurrent, 99 << 24, &route) == YARIB_DONE && route.via == 99);
+        CHECK(atomic_load(&wakes) == 0);
+        let_go(&reader);
+    }
+    CHECK(pthread_join(thread, NULL) == 0 && atomic_load(&wakes) == 1 && atomic_load(&naps) == 1);
+    atomic_store(&are_naps_endless, 0);
+    end();
+}
+
+/* A nap ends by itself too. */
+static void miss_wake(void)
+{
+    const struct timespec moment = {.tv_nsec = 50000000};
+    struct held reader;
+    pthread_t thread;
+    begin();
+    hold(&reader, read_concurrent);
+    CHECK(change_concurrent(YARIB_ADD, 99) == YARIB_DONE);
+    atomic_store(&are_wakes_lost, 1);
+    CHECK(pthread_create(&thread, NULL, change_late, NULL) == 0 && nanosleep(&moment, NULL) == 0);
+    let_go(&reader);
+    CHECK(pthread_join(thread, NULL) == 0);
+    atomic_store(&are_wakes_lost, 0);
+    end();
+}
+
+static void wake(void)
+{
+    for (int is_early = 0; is_early < 2; is_early++) {
+        be_woken(read_concurrent, is_early);
+        be_woken(read_concurrent_inside, is_early);
+    }
+    miss_wake();
+}
+
 /* What each reading call reads of a concurrent table is at the begin of a cache line, whatever the heap gives. */
 static void lines(void)
 {
@@ -546,7 +621,7 @@ static const struct {
 } tests[] = {{"fork_beside_readers", fork_beside_readers}, {"fork_beside_changes", fork_beside_changes},
     {"fork_while_reading", fork_while_reading}, {"refuse_barriers", refuse_barriers},
     {"refuse_barriers_in_midst", refuse_barriers_in_midst}, {"sandbox", sandbox}, {"cancel", cancel}, {"cancel_load", cancel_load},
-    {"wait_beside_busy", wait_beside_busy}, {"lines", lines}};
+    {"wait_beside_busy", wait_beside_busy}, {"wake", wake}, {"lines", lines}};
 
 /* With an argument, only the test with this name is run; the status is 2 if no test has it. */
 int main(int size, char **words)

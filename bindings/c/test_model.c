@@ -15,10 +15,16 @@
  *     unmark: store word RELEASE
  *     see_readers: load owned SEQ_CST, barrier, barrier
  *     find_readers: load used SEQ_CST, load place->reading ACQUIRE, load place->since ACQUIRE, load place->owner RELAXED
+ *     wake_changes: store naps.awaited SEQ_CST
+ *     wait_for_readers: load naps.awaited SEQ_CST, store naps.awaited SEQ_CST
  *     enter_reading: load handle->inside ACQUIRE
  *     publish: store sides->front.inside SEQ_CST, add_fetch publications.number SEQ_CST
  *     publish_sides: store table->inside SEQ_CST, add_fetch publications.number SEQ_CST
  *     try_to_enter: load publications.number SEQ_CST, load table->inside SEQ_CST, load sides->front.inside SEQ_CST
+ *     enter: load naps.awaited RELAXED
+ *     leave: load naps.awaited RELAXED
+ *
+ * Those on naps decide only when a thread looks again, and in the model it may do so at any time.
  *
  *     test_model         # all of it
  *     test_model NAME    # the wrong protocol of this name; the status is 1 if a wrong state is found */
