@@ -5,6 +5,7 @@ pub mod Outputs
 pub mod Comparing
 pub mod CountedLines
 pub mod InTurn
+pub mod BothSides
 pub mod KeptTexts
 pub mod SeveralFeeds
 pub mod SameTables

@@ -7,9 +7,9 @@ ghost use Rattle.rt_run.specs.DiffText.{differ_status, IsDiffText, IsCountText};
 use crate::chosen::ChosenTexts;
 use crate::faults::AppFault;
 use crate::output::{differences_of, write_differences, write_numbers, write_through};
+use crate::sides::run_both;
 use crate::status::Status;
 use crate::tallies::{RejectedInput, RunSummary, tallies_status};
-use crate::turns::run_in_turn;
 use rt_cidr::Addr;
 use rt_diff::Difference;
 use rt_feed::RunFault;
@@ -18,14 +18,17 @@ use rt_rib::Table;
 use std::alloc::Global;
 use std::io::Write;
 use std::mem;
+use std::thread::Threads;
 
-/// Executes the old texts and then the new ones, one after another, each side over its own table. Then writes to `w` each
-/// range of addresses for which the two tables give different answers, in ascending order and with the given options: a line
-/// `FIRST-LAST OLD -> NEW`, a line `PREFIX OLD -> NEW` for each prefix of the range, or a JSON object instead of a line
-/// (`write_difference`). Writes nothing else; hence if nothing is written, both tables give the same answer for every
-/// address. Returns the summary if everything was written. Its errors are those of `run_texts`: F1 if there is no old text or
-/// no new text; F3 also if there is no memory for the tallies. Leaks the tables, as `run_texts` does.
-pub fn diff_texts<W: Write>(
+/// Executes the old texts and the new ones at the same time, each side over its own table: two threads are at work if a
+/// second one can be created, or else one. Then writes to `w` each range of addresses for which the two tables give different
+/// answers, in ascending order and with the given options: a line `FIRST-LAST OLD -> NEW`, a line `PREFIX OLD -> NEW` for each
+/// prefix of the range, or a JSON object instead of a line (`write_difference`). Writes nothing else; hence if nothing is
+/// written, both tables give the same answer for every address. Returns the summary if everything was written. Its errors are
+/// those of `run_texts`: F1 if there is no old text or no new text; F3 also if there is no memory for the tallies. Leaks the
+/// tables, as `run_texts` does.
+pub fn diff_texts<R: Threads + Sync, W: Write>(
+    rt: &R,
     alloc: Global,
     old_asked: &ChosenTexts<'_>,
     new_asked: &ChosenTexts<'_>,
@@ -35,12 +38,7 @@ pub fn diff_texts<W: Write>(
     ensures text { WritesOrFails (IsDiffText options.now old_asked.now new_asked.now) (W.contents w.old) (W.contents w.new) result }
     ensures no_text { (result ≡ Err (AppFault.Run RunFault.NoText)) ↔ ((old_asked.now.texts ≡ []) ⊎ (new_asked.now.texts ≡ [])) }
 {
-    if new_asked.count() == 0 {
-        return Err(AppFault::Run(RunFault::NoText));
-    }
-    let (old_table, mut tallies) = run_in_turn(alloc, old_asked)?;
-    let (new_table, mut new_tallies) = run_in_turn(alloc, new_asked)?;
-    tallies.append(&mut new_tallies)?;
+    let (old_table, new_table, tallies) = run_both(rt, alloc, old_asked, new_asked)?;
     let first = options
         .comparison(&old_table, &new_table)
         .first_difference(Addr(0));
@@ -57,7 +55,8 @@ pub fn diff_texts<W: Write>(
 /// Does the same as `diff_texts`, but instead of the ranges it writes their number and that of their addresses: of all, of each
 /// kind of change, and of each pair of next hops (`write_change_counts`). Its errors are those of `diff_texts`; F3 also if there
 /// is no memory for the ranges and the counts.
-pub fn count_diff_texts<W: Write>(
+pub fn count_diff_texts<R: Threads + Sync, W: Write>(
+    rt: &R,
     alloc: Global,
     old_asked: &ChosenTexts<'_>,
     new_asked: &ChosenTexts<'_>,
@@ -67,12 +66,7 @@ pub fn count_diff_texts<W: Write>(
     ensures text { WritesOrFails (IsCountText options.now old_asked.now new_asked.now) (W.contents w.old) (W.contents w.new) result }
     ensures no_text { (result ≡ Err (AppFault.Run RunFault.NoText)) ↔ ((old_asked.now.texts ≡ []) ⊎ (new_asked.now.texts ≡ [])) }
 {
-    if new_asked.count() == 0 {
-        return Err(AppFault::Run(RunFault::NoText));
-    }
-    let (old_table, mut tallies) = run_in_turn(alloc, old_asked)?;
-    let (new_table, mut new_tallies) = run_in_turn(alloc, new_asked)?;
-    tallies.append(&mut new_tallies)?;
+    let (old_table, new_table, tallies) = run_both(rt, alloc, old_asked, new_asked)?;
     let differences = differences_of(alloc, options, &old_table, &new_table)?;
     mem::forget((old_table, new_table));
     let list = differences.as_slice();

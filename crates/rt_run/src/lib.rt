@@ -7,7 +7,8 @@
 //! - [`show`] executes the texts one after another and stores neither journal nor reports. It writes the answer to a
 //!   [`Question`] about the final table: the best route of each address, all routes that cover it, the selected routes, or
 //!   their number. It returns a tally of the rejected input of each text.
-//! - [`diff_texts`] executes two sets of texts this way. It writes the addresses for which their final tables differ.
+//! - [`diff_texts`] executes two sets of texts this way, both at the same time if a thread can be created. It writes the
+//!   addresses for which their final tables differ.
 //! - [`count_diff_texts`] writes the number of these ranges and of their addresses instead.
 //! - A [`ChosenTexts`] leaves some feeds out of a query or of a side of a comparison.
 //! - [`replay_text`] writes the atomic steps of a schedule of the lock. Each step has one line.
@@ -33,6 +34,7 @@ mod queries;
 mod question;
 mod replays;
 mod runs;
+mod sides;
 mod status;
 mod tallies;
 mod turns;

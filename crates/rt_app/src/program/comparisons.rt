@@ -15,8 +15,9 @@ use std::alloc::Global;
 use std::io::Write;
 use std::rt::Files;
 use std::sync::Wait;
+use std::thread::Threads;
 
-impl<R: Files + Wait + AllocGlobal, O: Write, E: Write> Program<'_, R, O, E> {
+impl<R: Files + Threads + Wait + Sync + AllocGlobal, O: Write, E: Write> Program<'_, R, O, E> {
     /// Writes the ranges of addresses for which the tables of the old and the new files differ, or their numbers. Reports
     /// rejected input, and returns the exit status.
     pub(super) fn compare<'w>(
@@ -47,10 +48,24 @@ impl<R: Files + Wait + AllocGlobal, O: Write, E: Write> Program<'_, R, O, E> {
             .beside(old_asked.count() + new_asked.count(), self.out);
         let compared = match request.output {
             DifferenceOutput::Counts => {
-                count_diff_texts(self.alloc, &old_asked, &new_asked, &sides.options, &mut out)
+                count_diff_texts(
+                    self.rt,
+                    self.alloc,
+                    &old_asked,
+                    &new_asked,
+                    &sides.options,
+                    &mut out,
+                )
             }
             DifferenceOutput::Ranges | DifferenceOutput::Prefixes => {
-                diff_texts(self.alloc, &old_asked, &new_asked, &sides.options, &mut out)
+                diff_texts(
+                    self.rt,
+                    self.alloc,
+                    &old_asked,
+                    &new_asked,
+                    &sides.options,
+                    &mut out,
+                )
             }
         };
         let summary = compared?;

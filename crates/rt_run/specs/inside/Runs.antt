@@ -1,7 +1,10 @@
 -- The result of a run of feeds before its text is written; and texts that are executed one after another: the effect of a
 -- line, a text and the texts so far.
-use Rattle.std.specs.Prelude.{◌≡◌, ℕ, List, length, ◌+◌, ◌<◌, ◌≤◌, [], ◌++◌, Option}
-use Rattle.rt_rib.specs.Book.{BookContents, TableState}
+use Rattle.std.specs.Prelude.{◌≡◌, ◌≢◌, ◌↔◌, ◌==◌, if◌then◌else◌, ℕ, List, length, ◌+◌, ◌<◌, ◌≤◌, [], ◌++◌, Option, Result, Err, IfOk}
+use Rattle.std.specs.declared.vec.Vec.{Vec}
+use Rattle.std.specs.declared.alloc.Global.{Global}
+use Rattle.rt_rib.specs.declared.routes.Route.{Route}
+use Rattle.rt_rib.specs.Book.{BookContents, TableContents, TableState}
 use Rattle.rt_feed.specs.declared.report.Line.{Line}
 use Rattle.rt_feed.specs.Lines.{LineOutcome, TextYields, LinesYield, reading, line_answer, report_lines, command_of, commands_of}
 use Rattle.rt_run.specs.RunText.{RunContents, IsJournalOfRun, reports_of}
@@ -14,7 +17,9 @@ use Rattle.rt_feed.specs.declared.report.Answer.{Answer}
 use Rattle.rt_feed.specs.declared.versions.Version.{Version}
 use Rattle.rt_feed.specs.Grammar.{AnswersLine}
 use Rattle.rt_run.specs.declared.tallies.RejectedInput.{RejectedInput}
-use Rattle.rt_run.specs.TableText.{tally_of}
+use Rattle.rt_feed.specs.declared.faults.RunFault.{RunFault}
+use Rattle.rt_feed.specs.declared.faults.RunFault.TheVariants.{NoText, FeedCount}
+use Rattle.rt_run.specs.TableText.{tally_of, LeavesTable}
 
 -- the texts were run to their ends, and these are the reports and the book
 pub record RunOverBook (asked : RunContents) (reports : List (List Line)) (book : BookContents) : Type 0 where
@@ -62,3 +67,27 @@ pub record IsBelow (number : ℕ) (tally : RejectedInput) : Type 0 where
   pub existing : tally.existing.count < number
   pub missing : tally.missing.count < number
   pub refused : tally.refused < number
+
+-- the table that texts left and the tally of each, or the reason why there is none
+abbrev pub SideRun : Type 0
+SideRun = Result (TableContents × Vec RejectedInput Global) RunFault
+
+-- the texts were executed one after another: some run of them left this table with these tallies, or there is no text, or
+-- memory ran out
+pub record EndsInTurn (asked : RunContents) (run : SideRun) : Type 0 where
+  pub ran : IfOk run (λ left. LeavesTable asked left.0.routes left.1.items)
+  pub refused : run ≢ Err FeedCount
+  pub no_text : (run ≡ Err NoText) ↔ (asked.texts ≡ [])
+
+-- this side of a comparison was executed: the old one is side 0
+abbrev pub EndsSide : RunContents → RunContents → ℕ → SideRun → Type 0
+EndsSide old new side run = EndsInTurn (if side == 0 then old else new) run
+
+-- some run of the old texts left the old table, and some run of the new ones the new table; the tallies are those of the old
+-- run and then of the new one
+pub record LeavesBoth (old new : RunContents) (old_table new_table : List Route) (tallies : List RejectedInput) : Type 0 where
+  pub old_tallies : List RejectedInput
+  pub new_tallies : List RejectedInput
+  pub old_left : LeavesTable old old_table old_tallies
+  pub new_left : LeavesTable new new_table new_tallies
+  pub tallied : tallies ≡ old_tallies ++ new_tallies

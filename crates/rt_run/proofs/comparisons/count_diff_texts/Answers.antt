@@ -30,8 +30,8 @@ write_through-requires-clause-called g c =
 pub returns-clause-text : goal.returns-clause-text
 returns-clause-text g c =
     let list : c.as_slice-list.result.now ≡ c.in_ok-differences.differences.items = c.as_slice-list.ensures.value in
-    let is = is_count c.args.options.now c.args.old_asked.now c.args.new_asked.now _ _ _ _ _ c.as_slice-list.result.now _ c.in_ok-old_table.ensures.ran
-    c.in_ok-new_table.ensures.ran ((c.in_ok-append.ensures {u = tt}).items) (list ∙ c.in_ok-differences.ensures)
+    let both = c.in_ok-old_table.ensures.ran in
+    let is = is_count c.args.options.now c.args.old_asked.now c.args.new_asked.now _ _ _ _ _ c.as_slice-list.result.now _ both.old_left both.new_left both.tallied (list ∙ c.in_ok-differences.ensures)
     (subst (AreChangeCounts c.as_slice-list.result.now) (sym c.as_slice-numbers.ensures.value) c.in_ok-counts.ensures)
     (rw (c.as_slice.ensures.value) at c.status_with-status.ensures) in
     writes_or_fails (IsCountText c.args.options.now c.args.old_asked.now c.args.new_asked.now) _ _ _ _ c.write_through.result is
