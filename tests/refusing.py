@@ -6,8 +6,8 @@ import re
 
 from common.checks import compiled, run
 
-# The end of a run, and whether one of its requests was refused.
-Ending = collections.namedtuple("Ending", "status out err refused")
+# The end of a run, whether one of its requests was refused, and the number of threads that it wasn't given.
+Ending = collections.namedtuple("Ending", "status out err refused threads")
 
 
 def refuser(folder):
@@ -15,15 +15,17 @@ def refuser(folder):
     return compiled(folder, "tests/refuse.c", "-shared", "-fPIC")
 
 
-def run_refused(words, refuse, at, rest=False):
-    """A run that gets no memory for the request with this number and, if `rest`, for all later ones."""
+def run_refused(words, refuse, at, rest=False, threads=True):
+    """A run that gets no memory for the request with this number and, if `rest`, for all later ones. Without `threads` it
+    gets no thread either."""
     heard, told = os.pipe()
-    asked = {"LD_PRELOAD": str(refuse), "REFUSE_AT": str(at), "REFUSE_REST": str(int(rest)), "REFUSE_TELL": str(told)}
+    asked = {"LD_PRELOAD": str(refuse), "REFUSE_AT": str(at), "REFUSE_REST": str(int(rest)), "REFUSE_TELL": str(told),
+             "REFUSE_THREADS": str(int(not threads))}
     ended = run(words, env=asked, pass_fds=[told])
     os.close(told)
-    refused = os.read(heard, 1) != b""
-    os.close(heard)
-    return Ending(*ended, refused)
+    with open(heard, "rb") as pipe:
+        said = pipe.read()
+    return Ending(*ended, b"r" in said, said.count(b"t"))
 
 
 class Wrong(Exception):
