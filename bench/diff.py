@@ -4,7 +4,8 @@
 Needs rustc. The old table has the given number of prefixes, with lengths as in a full table of the Internet. The new
 one differs by the given number of changes: prefixes that are missing, new prefixes, and prefixes with another next hop.
 The loading time is that of two runs that look up one address, in the old files' table and in the new ones'. It prints
-the time that `diff` takes beyond these two runs, as a part of their time: wall-clock and processor time, the minimum of five.
+the time of `diff`, which loads both tables at the same time, as a part of the time of these two runs. It prints the
+processor time that `diff` takes beyond these two runs, also as a part of theirs. All times are the minimum of five.
 In turn with these runs a program in plain Rust does the same (bench/diff_peer.rs). If the system's python3 has py-radix
 (Debian's python3-radix), it is loaded with both tables and looks up each boundary.
 """
@@ -122,10 +123,10 @@ def main():
                 best = least.setdefault(name, [clock, processor])
                 least[name] = [min(best[0], clock), min(best[1], processor)]
         checks.expect("a table and itself", timed([yarib, "diff", *limit, new, "--", new])[2], (0, "", ""))
-        for place, measure in enumerate(("clock", "processor")):
-            loading = least[old][place] + least[new][place]
-            beyond = least["diff"][place] - loading
-            print(f"{measure:9} loading {loading:.3f} s, comparing {beyond:.3f} s: {beyond / loading:.2f}")
+        clock, processor = (least[old][place] + least[new][place] for place in range(2))
+        whole, beyond = least["diff"][0], least["diff"][1] - processor
+        print(f"clock     loading {clock:.3f} s, diff {whole:.3f} s: {whole / clock:.2f}")
+        print(f"processor loading {processor:.3f} s, comparing {beyond:.3f} s: {beyond / processor:.2f}")
         loading, beyond = min(pair[0] for pair in of_plain), min(pair[1] for pair in of_plain)
         print(f"plain     loading {loading:.3f} s, comparing {beyond:.3f} s: {beyond / loading:.2f}")
         tell_radix(old, new)
