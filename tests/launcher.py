@@ -68,6 +68,7 @@ cp "$STARTED" "$2"
 """
 # The settings that the launcher makes for glibc's memory.
 TUNABLES = "glibc.malloc.arena_max=1:glibc.malloc.hugetlb=1"
+TUNABLES_OF = {"diff": f"{TUNABLES}:glibc.malloc.arena_max=2"}
 
 
 class Copy:
@@ -538,7 +539,7 @@ def one_at_a_time(copy):
     with concurrent.futures.ThreadPoolExecutor(3) as pool:
         ended = list(pool.map(lambda name: copy.start(name, "x"), ("run", "table", "diff")))
     expect("three calls at once start the program", [one[:2] for one in ended],
-           [(0, told([word, "x"], copy.top)) for word in ("run", "table", "diff")])
+           [(0, told([word, "x"], copy.top, TUNABLES_OF.get(word, TUNABLES))) for word in ("run", "table", "diff")])
     expect("three calls at once build once", copy.built().count("begin rt_app"), 1)
     copy.change("crates/rt_cidr/src/lib.rt")
     with concurrent.futures.ThreadPoolExecutor(2) as pool:
