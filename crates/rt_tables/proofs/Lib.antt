@@ -1,0 +1,11 @@
+pub mod Promised
+pub mod Lists
+pub mod Unions
+pub mod Pairs
+pub mod Merging
+pub mod Selecting
+pub mod Answering
+pub mod Improving
+pub mod Halves
+pub mod Lengths
+pub mod Filtering

@@ -1,0 +1,82 @@
+use Rattle.std.proofs.Common.{◌≡◌, ◌/◌, List, length, take, drop, ap, ◌∙◌, sym, subst, arith}
+use Rattle.std.specs.Prelude.{IfOk}
+use Rattle.std.proofs.lemmas.List.{nil_from_length}
+use Rattle.rt_rib.specs.Book.{TableContents}
+use Rattle.rt_rib.specs.declared.routes.Route.{Route}
+use Rattle.rt_rib.specs.LookUp.{best_routes}
+use Rattle.rt_rib.specs.Selection.{selected}
+use Rattle.rt_rib.specs.Table.{precedes, IsTable}
+use Rattle.rt_tables.specs.Unions.{union_of}
+use Rattle.rt_tables.specs.inside.Merging.{merged}
+use Rattle.rt_tables.specs.inside.Tables.{AreTables}
+use Rattle.rt_tables.proofs.Halves.{routes_of_each, none_selected, union_of_only, front_half, back_half, selected_table, selected_halves, best_halves}
+use Rattle.rt_tables.proofs.selection.+select_from.Goals as goal
+use Rattle.rt_tables.proofs.selection.+select_from.Goals.{then-asked, else-asked}
+
+pub select_from-requires : goal.select_from-requires
+select_from-requires g t c = λ κs within.
+    let tables : List TableContents = c.args.tables.now in (
+      omega (arith, c.decreases, c.split_at.ensures.front_len, c.in_default.len_at_least),
+      (
+        within,
+        (
+          subst (λ l. AreTables (routes_of_each l)) (sym c.split_at.ensures.front) (front_half tables (length tables / 2) c.requires.tables),
+          c.requires.asked,
+        ),
+      ),
+    )
+
+pub select_from-requires-in_default : goal.select_from-requires-in_default
+select_from-requires-in_default g t c = λ κs within.
+    let tables : List TableContents = c.args.tables.now in (
+      omega (arith, c.decreases, c.split_at.ensures.back_len, c.in_default.len_at_least),
+      (
+        within,
+        (
+          subst (λ l. AreTables (routes_of_each l)) (sym c.split_at.ensures.back) (back_half tables (length tables / 2) c.requires.tables),
+          c.requires.asked,
+        ),
+      ),
+    )
+
+pub returns-in-empty : goal.returns-in-empty
+returns-in-empty g t c =
+    let tables : List TableContents = c.args.tables.now in
+    c.new.ensures.items ∙ none_selected c.args.asked.now
+    ∙ ap (λ l. selected c.args.asked.now (union_of (routes_of_each l))) (sym (nil_from_length tables (omega (arith, c.in-empty.len_below))))
+
+pub returns-in-len1 : goal.returns-in-len1
+returns-in-len1 g t c =
+    subst (λ l. IfOk c.select.result (λ routes. routes.items ≡ selected c.args.asked.now l))
+    (union_of_only c.args.tables.now c.table-item.result c.requires.tables (omega (arith, c.in-len1.len_at_least, c.in-len1.len_below)) c.table-item.is)
+    c.select.ensures
+
+pub keep_best-requires : goal.keep_best-requires
+keep_best-requires g t c =
+    let tables : List TableContents = c.args.tables.now in
+    let mid = length tables / 2 in
+    let asked = c.args.asked.now in
+    let found : List TableContents → List Route = λ l. selected asked (union_of (routes_of_each l)) in
+    let first = c.in_ok-first-in_default.ensures ∙ ap found c.split_at.ensures.front in
+    let second = c.in_ok-second-in_default.ensures ∙ ap found c.split_at.ensures.back in
+    subst IsTable
+    (sym (c.in_ok-routes-in_default.ensures ∙ ap (λ l. merged precedes l c.in_ok-second-in_default.second.items) first
+    ∙ ap (merged precedes (found (take mid tables))) second))
+    (selected_table tables mid c.requires.tables asked)
+
+pub returns-after-asked : goal.returns-after-asked
+returns-after-asked g t c =
+    let tables : List TableContents = c.args.tables.now in
+    let mid = length tables / 2 in
+    let asked = c.args.asked.now in
+    let found : List TableContents → List Route = λ l. selected asked (union_of (routes_of_each l)) in
+    let first = c.in_ok-first-in_default.ensures ∙ ap found c.split_at.ensures.front in
+    let second = c.in_ok-second-in_default.ensures ∙ ap found c.split_at.ensures.back in
+    let both : c.in_ok-routes-in_default.routes.items ≡ merged precedes (found (take mid tables)) (found (drop mid tables)) =
+    c.in_ok-routes-in_default.ensures ∙ ap (λ l. merged precedes l c.in_ok-second-in_default.second.items) first
+    ∙ ap (merged precedes (found (take mid tables))) second in
+    elim c.if-asked.branch [
+      | then-asked w ↦ rw w.routes-is
+          (w.keep_best.ensures ∙ ap best_routes both ∙ best_halves tables mid c.requires.tables asked c.requires.asked w.if-asked.true)
+      | else-asked w ↦ rw w.routes-is (both ∙ selected_halves tables mid c.requires.tables asked w.if-asked.false)
+    ]

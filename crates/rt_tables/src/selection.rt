@@ -1,0 +1,54 @@
+//! Selecting routes of several tables: each table selects its own, and the lists are merged.
+ghost use Rattle.std.specs.Prelude.{◌≡◌, length, filter, map, IfOk};
+ghost use Rattle.rt_rib.specs.Selection.{is_by, is_via, selected};
+ghost use Rattle.rt_tables.specs.Unions.{union_of};
+ghost use Rattle.rt_tables.specs.inside.Tables.{AreTables, IsBeforeFilters};
+
+use crate::merge::{ListOrder, merge};
+use rt_rib::{Hop, Refused, Route, Selection, Table, keep_best};
+use std::alloc::Allocator;
+
+/// Returns the selected routes of all tables. The selection must not filter the best routes by feed or next hop: a
+/// table's best route to a prefix may be worse than another table's, whichever of them the filters would keep.
+pub(crate) fn select_from<A: Allocator + Copy>(
+    tables: &[Table<A>],
+    alloc: A,
+    asked: &Selection,
+) -> Result<Vec<Route, A>, Refused>
+    requires tables { AreTables (map (λ t. t.routes) tables.now) }
+    requires asked { IsBeforeFilters asked.now }
+    ensures { IfOk result (λ routes. routes.items ≡ selected asked.now (union_of (map (λ t. t.routes) tables.now))) }
+{
+    match tables {
+        [] => Ok(Vec::new(alloc)),
+        [table] => table.select(alloc, asked),
+        _ => {
+            let (some, others) = tables.split_at(tables.len() / 2);
+            let first = select_from(some, alloc, asked)?;
+            let second = select_from(others, alloc, asked)?;
+            let mut routes = merge(ListOrder::Dump, alloc, first, second)?;
+            if asked.only_best {
+                keep_best(&mut routes);
+            }
+            Ok(routes)
+        }
+    }
+}
+
+/// Keeps the routes of the feed, or all of them.
+pub(crate) fn keep_feed<A: Allocator>(routes: &mut Vec<Route, A>, feed: Option<u32>)
+    ensures { routes.new.items ≡ filter (is_by feed) routes.old.items }
+{
+    if let Some(feed) = feed {
+        routes.retain(|route| route.feed == feed);
+    }
+}
+
+/// Keeps the routes with the next hop, or all of them.
+pub(crate) fn keep_hop<A: Allocator>(routes: &mut Vec<Route, A>, hop: Option<Hop>)
+    ensures { routes.new.items ≡ filter (is_via hop) routes.old.items }
+{
+    if let Some(hop) = hop {
+        routes.retain(|route| route.hop == hop);
+    }
+}
