@@ -67,6 +67,7 @@ use Rattle.rt_run.specs.SameTable.{table_alone, LeavesAlone, IsUnion, IsAnswered
 use Rattle.rt_run.specs.ChosenFeeds.{is_selected, is_left_out, texts_kept, routes_of_selected}
 use Rattle.rt_run.specs.ChosenFeeds.{AreWithout}
 use Rattle.rt_run.specs.SameTable.{LosesLeftOut}
+use Rattle.rt_run.specs.Shares.{share_with, is_of_other, share_of, AreTalliesOfShares}
 use Rattle.rt_run.proofs.KeptTexts.{are_without}
 use Rattle.rt_rib.specs.declared.selection.PrefixFilter.TheVariants as part
 
@@ -133,6 +134,26 @@ without_two = (1 ∷ []) ∷ [] ∷ (3 ∷ []) ∷ []
 
 abbrev only_two : ℕ → Bool
 only_two = is_left_out [] (2 ∷ [])
+
+-- is_of_other
+the_second_is_of_another_run : is_of_other (0 ∷ 1 ∷ 0 ∷ []) 0 2 ≡ true
+the_second_is_of_another_run = refl
+
+the_third_is_of_this_run : is_of_other (0 ∷ 1 ∷ 0 ∷ []) 0 3 ≡ false
+the_third_is_of_this_run = refl
+
+-- share_with
+the_first_run_has_what_is_not_dealt : share_with (1 ∷ []) 3 ≡ 0
+the_first_run_has_what_is_not_dealt = refl
+
+-- share_of
+the_second_run_has_the_second_text : (share_of (record { texts = three_texts; limit = 9; batch = 1 }) (0 ∷ 1 ∷ 0 ∷ []) 1).texts ≡ [] ∷ (2 ∷ []) ∷ [] ∷ []
+the_second_run_has_the_second_text = refl
+
+-- AreTalliesOfShares
+not_the_tally_that_another_run_has : (input : RunContents) (here there : RejectedInput) → length input.texts ≡ 1
+    → AreTalliesOfShares input (1 ∷ []) ((here ∷ []) ∷ (there ∷ []) ∷ []) (here ∷ []) → here ≡ there
+not_the_tally_that_another_run_has input here there one is = is.each 0 here (omega (arith, one))
 
 -- AreWithout
 the_others_stay : (k : ℕ) → only_two (k + 1) ≡ false → get_or without_two k [] ≡ get_or three_texts k []

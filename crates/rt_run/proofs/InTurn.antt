@@ -39,7 +39,7 @@ visit_of-append (asked ∷ one) two = rw (visit_of-append one two, append_assoc)
 pub entries-append : (feed : ℕ) (one two : List (Cmd × Outcome)) → entries feed (visit_of (one ++ two)) ≡ entries feed (visit_of one) ++ entries feed (visit_of two)
 entries-append feed one two = ap (entries feed) (visit_of-append one two) ∙ map-append (entry_by feed) (visit_of one) (visit_of two)
 
-entries_by : (feed : ℕ) (visit : AnsweredBatch) → AllBy feed (entries feed visit)
+pub entries_by : (feed : ℕ) (visit : AnsweredBatch) → AllBy feed (entries feed visit)
 entries_by feed [] = All-nil (λ (e : Entry). e.feed ≡ feed)
 entries_by feed (p ∷ visit) = All-cons (λ (e : Entry). e.feed ≡ feed) (entry_by feed p) (entries feed visit) refl (entries_by feed visit)
 

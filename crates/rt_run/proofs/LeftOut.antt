@@ -33,7 +33,7 @@ same_commands [] = refl
 same_commands (one ∷ all) = ap (λ cmds. one.0 ∷ cmds) (same_commands all)
 
 -- a feed's entries are all its own
-own_entries : (feed : ℕ) (visit : AnsweredBatch) → feed_entries feed (entries feed visit) ≡ entries feed visit
+pub own_entries : (feed : ℕ) (visit : AnsweredBatch) → feed_entries feed (entries feed visit) ≡ entries feed visit
 own_entries feed [] = refl
 own_entries feed (p ∷ visit) = rw (eq-eqb feed feed refl, own_entries feed visit)
 
@@ -54,7 +54,7 @@ no_lines One lines [] body become = refl
 no_lines One lines (one ∷ others) body become = absurd (omega (arith, length-cut lines become.0 become.1 become.2, ap length body.1))
 no_lines Two lines read body become = absurd (omega (arith, length-cut [] (codes "version 2") lines body))
 
-none_asked : (lines : List LineOutcome) → TextYields [] lines [] → commands_of lines ≡ []
+pub none_asked : (lines : List LineOutcome) → TextYields [] lines [] → commands_of lines ≡ []
 none_asked lines is = ap commands_of (is.joined ∙ no_lines is.version is.lines is.read is.body is.become)
 
 -- lists of texts that agree at a position have the same text there, which leaves the same routes

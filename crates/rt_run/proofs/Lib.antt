@@ -10,5 +10,7 @@ pub mod KeptTexts
 pub mod SeveralFeeds
 pub mod SameTables
 pub mod LeftOut
+pub mod Alone
+pub mod Shares
 pub mod SameTallies
 pub mod SameOutputs

@@ -69,7 +69,7 @@ alone-commands limit feed all others same =
     let by_commands = fold-map step (λ (one : Cmd × Outcome). one.0) [] in sym (by_commands all) ∙ (ap (fold step []) same ∙ by_commands others)
 
 -- the entries of all pieces are the entries of all commands, one after another
-entries-pieces : (feed : ℕ) (pieces : List (List (Cmd × Outcome)))
+pub entries-pieces : (feed : ℕ) (pieces : List (List (Cmd × Outcome)))
     → flat_map (λ visit. visit) (map (entries feed) (map visit_of pieces)) ≡ entries feed (visit_of (concatenated pieces))
 entries-pieces feed [] = refl
 entries-pieces feed (piece ∷ pieces) =
@@ -185,7 +185,7 @@ none_refused : (outcomes : List (List LineOutcome)) (tallies : List RejectedInpu
 none_refused outcomes tallies tallied none = refused-tallies (reports_of outcomes) ∙ (ap (list_any has_refused) (sym tallied) ∙ none)
 
 -- a feed that has an entry has a text
-has_text : (journal : List Entry) (n feed : ℕ) → All (λ e. (1 ≤ e.feed) × (e.feed ≤ n)) journal → (own : List Entry) → feed_entries feed journal ≡ own
+pub has_text : (journal : List Entry) (n feed : ℕ) → All (λ e. (1 ≤ e.feed) × (e.feed ≤ n)) journal → (own : List Entry) → feed_entries feed journal ≡ own
     → (own ≡ []) ⊎ ((1 ≤ feed) × (feed ≤ n))
 has_text journal n feed all [] is = inl refl
 has_text journal n feed all (e ∷ own) is =

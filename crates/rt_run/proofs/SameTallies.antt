@@ -28,7 +28,7 @@ use Rattle.rt_run.proofs.CountedLines.{with_fault, with_rejected, faults-line, r
 use Rattle.rt_run.proofs.SameTables.{commands, alone-commands, IsAnsweredFrom, AreAnsweredFrom, answered_from, by_status}
 
 -- a tally with one line more in front
-abbrev with_line : ℕ → Answer → RejectedInput → RejectedInput
+abbrev pub with_line : ℕ → Answer → RejectedInput → RejectedInput
 with_line number answer tally = record {
   faulty = with_fault (fault_at number answer) tally.faulty;
   full = with_rejected (was_full answer) number tally.full;
@@ -37,7 +37,7 @@ with_line number answer tally = record {
   refused = cond (is_refusal answer) 1 0 + tally.refused;
 }
 
-tally-line : (number : ℕ) (answer : Answer) (report : List Line)
+pub tally-line : (number : ℕ) (answer : Answer) (report : List Line)
     → tally_of (record { number = number; answer = answer } ∷ report) ≡ with_line number answer (tally_of report)
 tally-line number answer report =
     let refused = sum_by-cons (λ (line : Line). cond (is_refusal line.answer) 1 0) (record { number = number; answer = answer }) report in
@@ -45,7 +45,7 @@ tally-line number answer report =
     rw (faults-line number answer report, rejected was_full, rejected was_existing, rejected was_missing, refused) refl
 
 -- the results of `lookup` and `dump` aren't counted
-uncounted : (limit feed number : ℕ) (tally : RejectedInput) (table : List Route) (cmd : Cmd) → is_own cmd ≡ false
+pub uncounted : (limit feed number : ℕ) (tally : RejectedInput) (table : List Route) (cmd : Cmd) → is_own cmd ≡ false
     → with_line number (Did (reply_of limit table feed cmd)) tally ≡ with_line number (Did NoRoute) tally
 unfolding reply_of
 uncounted limit feed number tally table cmd other = grind arith

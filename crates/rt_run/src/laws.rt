@@ -1,8 +1,9 @@
 //! Laws that hold for every run of feeds and every interleaving of its threads. Each function is a theorem: a call makes
-//! its clauses known and does nothing. Each law but `one` of [`union`] and `loses` of [`left_out`] holds if no command was
+//! its clauses known and does nothing. Each law but `one` of [`union`], `loses` of [`left_out`] and those of [`shares`] holds if no command was
 //! refused, that is, if memory ran out for none. Two runs may have different batches.
 ghost use Rattle.rt_run.specs.SameTable.{LeavesUnion, AnswersAlone, HaveSameTallies, HaveOneUnion, EndsInUnion, EndInOneTable, HaveSameLines};
 ghost use Rattle.rt_run.specs.SameTable.{ShowsUnion, ShowOneTable, AnswerOnce, LosesLeftOut, ShowsRest, DiffsUnions, CountsUnions, DiffOnce, CountOnce};
+ghost use Rattle.rt_run.specs.Shares.{SharesAreApart, SharesAreOneRun};
 
 use rt_diff::laws::one_list;
 use rt_feed::laws::{one_address_text, one_reading};
@@ -71,6 +72,21 @@ pub fn left_out()
     query_output();
     feeds_are_independent();
     one_table_of_set();
+}
+
+/// Runs that share the feeds of a run: each executes the texts of some feeds over a table of its own.
+///
+/// - `apart`: no feed has routes in two of their tables;
+/// - `one`: some run of all texts leaves the table of all their routes, with the tally that each text has in its own run, also
+///   if commands ran out of memory.
+pub fn shares()
+    ensures apart { SharesAreApart }
+    ensures one { SharesAreOneRun }
+{
+    feeds_are_independent();
+    table_by_entry();
+    one_table_of_set();
+    visits();
 }
 
 /// - `differs`: `diff_texts` writes the differences between the union of the old texts and the union of the new texts;
