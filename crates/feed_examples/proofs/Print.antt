@@ -16,12 +16,13 @@ use Rattle.rt_diff.specs.declared.table_answers.TableAnswer.TheVariants as answe
 use Rattle.rt_diff.specs.declared.comparison.Difference.{Difference}
 use Rattle.rt_print.specs.declared.format.Format.{Format}
 use Rattle.rt_print.specs.declared.format.Format.TheVariants.{Numbers, Names, Json, JsonWithNames}
+use Rattle.rt_print.specs.declared.format.Syntax.TheVariants as syntax
 use Rattle.rt_print.specs.Buffer.{buffered}
 use Rattle.rt_print.specs.Routes.{hop_text, route_text, row_text, count_text, table_text}
 use Rattle.rt_print.specs.Routes.{escaped, json_string, hop_members, route_object}
 use Rattle.rt_print.specs.declared.names.NameFault.TheVariants.{Invalid, Duplicate}
 use Rattle.rt_print.specs.FeedNames.{is_name, name_at, HasOwnName, ChecksNames}
-use Rattle.rt_print.specs.Labels.{is_json, has_names, without_feed, feed_name, label_by, index_of_name, paired_number, labels_by}
+use Rattle.rt_print.specs.Labels.{syntax_of, has_names, without_feed, feed_name, label_by, index_of_name, paired_number, labels_by}
 use Rattle.rt_print.specs.Styles.{StyleContents, label_of, row_as, address_head, found_as, reason_text, also_line, all_found_as}
 use Rattle.rt_print.specs.declared.diff_options.DiffOutput.{DiffOutput}
 use Rattle.rt_print.specs.declared.diff_options.DiffOutput.TheVariants.{Ranges, Prefixes}
@@ -101,8 +102,8 @@ discard_as_way = refl
 
 -- answered_as
 an_answer_of_each_kind :
-    (answered_as false (λ feed. decimal feed) answered.NoRoute ≡ codes "no route") × (answered_as false (λ feed. decimal feed) (answered.Hop Discard) ≡ codes "discard")
-    × (answered_as false (λ feed. decimal feed) (answered.Route route_10) ≡ codes "10.0.0.0/8 feed 1 pref 100 via 192.0.2.1")
+    (answered_as syntax.Line (λ feed. decimal feed) answered.NoRoute ≡ codes "no route") × (answered_as syntax.Line (λ feed. decimal feed) (answered.Hop Discard) ≡ codes "discard")
+    × (answered_as syntax.Line (λ feed. decimal feed) (answered.Route route_10) ≡ codes "10.0.0.0/8 feed 1 pref 100 via 192.0.2.1")
 unfolding digits address_text prefix_text answered_as
 an_answer_of_each_kind = (refl, refl, refl)
 
@@ -221,23 +222,23 @@ those_of_the_length_alone = (refl, refl, refl)
 
 -- totals_as
 the_totals_in_each_style :
-    (totals_as false 3 2 ≡ codes "routes 3 prefixes 2\n") × (totals_as true 3 2 ≡ codes "{\"routes\":3,\"prefixes\":2}\n")
+    (totals_as syntax.Line 3 2 ≡ codes "routes 3 prefixes 2\n") × (totals_as syntax.Json 3 2 ≡ codes "{\"routes\":3,\"prefixes\":2}\n")
 unfolding totals_as digits
 the_totals_in_each_style = (refl, refl)
 
 -- counts_as
-all_counts : counts_as (record { json = false; labels = [] }) counted_routes
+all_counts : counts_as (record { syntax = syntax.Line; labels = [] }) counted_routes
     ≡ codes "routes 3 prefixes 2\nfeed 1 routes 2\nfeed 2 routes 1\nlength 8 routes 2\nlength 16 routes 1\n"
 unfolding counts_as totals_as count_as digits
 all_counts = refl
 
 -- total_as
-the_total_in_each_style : (total_as false 2 ≡ codes "total 2\n") × (total_as true 0 ≡ codes "{\"total\":0}\n")
+the_total_in_each_style : (total_as syntax.Line 2 ≡ codes "total 2\n") × (total_as syntax.Json 0 ≡ codes "{\"total\":0}\n")
 unfolding total_as digits
 the_total_in_each_style = (refl, refl)
 
 -- rows_and_total_as
-each_route_and_not_each_prefix : rows_and_total_as (record { json = false; labels = [] }) counted_routes
+each_route_and_not_each_prefix : rows_and_total_as (record { syntax = syntax.Line; labels = [] }) counted_routes
     ≡ codes "10.0.0.0/8 feed 1 pref 5 via discard\n10.0.0.0/8 feed 2 pref 5 via discard\n10.1.0.0/16 feed 1 pref 5 via discard\ntotal 3\n"
 unfolding digits address_text prefix_text row_as total_as
 each_route_and_not_each_prefix = refl
@@ -278,8 +279,9 @@ a_feed_by_its_file :
 unfolding feed_name
 a_feed_by_its_file = (refl, refl, refl, refl, refl)
 
--- is_json
-objects_in_two_formats : (is_json Numbers ≡ false) × (is_json Names ≡ false) × (is_json Json ≡ true) × (is_json JsonWithNames ≡ true)
+-- syntax_of
+objects_in_two_formats :
+    (syntax_of Numbers ≡ syntax.Line) × (syntax_of Names ≡ syntax.Line) × (syntax_of Json ≡ syntax.Json) × (syntax_of JsonWithNames ≡ syntax.Json)
 objects_in_two_formats = (refl, refl, refl, refl)
 
 -- has_names
@@ -327,10 +329,10 @@ a_feed_without_one_by_its_number one = refl
 
 -- objects with the numbers of two feeds
 abbrev objects_of_two : StyleContents
-objects_of_two = record { json = true; labels = (1, codes "1") ∷ (2, codes "2") ∷ [] }
+objects_of_two = record { syntax = syntax.Json; labels = (1, codes "1") ∷ (2, codes "2") ∷ [] }
 
 -- StyleContents
-what_a_style_has : (objects_of_two.json ≡ true) × (label_of objects_of_two.labels 1 ≡ codes "1") × (label_of objects_of_two.labels 2 ≡ codes "2")
+what_a_style_has : (objects_of_two.syntax ≡ syntax.Json) × (label_of objects_of_two.labels 1 ≡ codes "1") × (label_of objects_of_two.labels 2 ≡ codes "2")
 what_a_style_has = (refl, refl, refl)
 
 -- the label of each feed that the examples have
@@ -339,8 +341,8 @@ east_and_west = label_of ((1, codes "east") ∷ (2, codes "west") ∷ [])
 
 -- row_as
 a_row_in_each_form :
-    (row_as false east_and_west (route_via ten_8 2 30 Discard) ≡ codes "10.0.0.0/8 feed west pref 30 via discard\n")
-    × (row_as true (λ feed. decimal feed) (route_via ten_8 2 30 Discard) ≡ codes "{\"prefix\":\"10.0.0.0/8\",\"feed\":2,\"pref\":30,\"via\":null,\"discard\":true}\n")
+    (row_as syntax.Line east_and_west (route_via ten_8 2 30 Discard) ≡ codes "10.0.0.0/8 feed west pref 30 via discard\n")
+    × (row_as syntax.Json (λ feed. decimal feed) (route_via ten_8 2 30 Discard) ≡ codes "{\"prefix\":\"10.0.0.0/8\",\"feed\":2,\"pref\":30,\"via\":null,\"discard\":true}\n")
 unfolding digits address_text prefix_text route_object row_as
 a_row_in_each_form = (refl, refl)
 
@@ -351,31 +353,31 @@ an_address_that_was_asked = refl
 
 -- found_as
 what_was_found_in_each_form :
-    (found_as false east_and_west at_10_1_2_3 (Some (route_via ten_8 1 30 Discard)) ≡ codes "10.1.2.3 route 10.0.0.0/8 feed east pref 30 via discard\n")
-    × (found_as true (λ feed. decimal feed) at_10_1_2_3 (Some (route_via ten_8 1 30 (via_192_0_2 2)))
+    (found_as syntax.Line east_and_west at_10_1_2_3 (Some (route_via ten_8 1 30 Discard)) ≡ codes "10.1.2.3 route 10.0.0.0/8 feed east pref 30 via discard\n")
+    × (found_as syntax.Json (λ feed. decimal feed) at_10_1_2_3 (Some (route_via ten_8 1 30 (via_192_0_2 2)))
     ≡ codes "{\"address\":\"10.1.2.3\",\"route\":{\"prefix\":\"10.0.0.0/8\",\"feed\":1,\"pref\":30,\"via\":\"192.0.2.2\"}}\n")
-    × (found_as true (λ feed. decimal feed) at_10_1_2_3 None ≡ codes "{\"address\":\"10.1.2.3\",\"route\":null}\n")
+    × (found_as syntax.Json (λ feed. decimal feed) at_10_1_2_3 None ≡ codes "{\"address\":\"10.1.2.3\",\"route\":null}\n")
 unfolding digits address_text prefix_text route_object address_head found_as
 what_was_found_in_each_form = (refl, refl, refl)
 
-no_route_was_found : found_as false (λ feed. decimal feed) at_192_0_2_1 None ≡ codes "192.0.2.1 no route\n"
+no_route_was_found : found_as syntax.Line (λ feed. decimal feed) at_192_0_2_1 None ≡ codes "192.0.2.1 no route\n"
 unfolding digits address_text found_as
 no_route_was_found = refl
 
 -- all_found_as
-nothing_covers_it : all_found_as false (λ feed. decimal feed) at_192_0_2_1 [] ≡ codes "192.0.2.1 no route\n"
+nothing_covers_it : all_found_as syntax.Line (λ feed. decimal feed) at_192_0_2_1 [] ≡ codes "192.0.2.1 no route\n"
 unfolding digits address_text found_as all_found_as
 nothing_covers_it = refl
 
 three_cover_it :
-    all_found_as false (λ feed. decimal feed) at_10_1_2_3 (route_via ten_1_16 1 10 (via_192_0_2 1) ∷ route_via ten_8 2 30 (via_192_0_2 2) ∷ route_via ten_8 1 50 Discard ∷ [])
+    all_found_as syntax.Line (λ feed. decimal feed) at_10_1_2_3 (route_via ten_1_16 1 10 (via_192_0_2 1) ∷ route_via ten_8 2 30 (via_192_0_2 2) ∷ route_via ten_8 1 50 Discard ∷ [])
     ≡ codes "10.1.2.3 route 10.1.0.0/16 feed 1 pref 10 via 192.0.2.1\n"
     ++ codes "10.1.2.3 also 10.0.0.0/8 feed 2 pref 30 via 192.0.2.2 shorter\n10.1.2.3 also 10.0.0.0/8 feed 1 pref 50 via discard shorter\n"
 unfolding digits address_text prefix_text found_as all_found_as reason_text
 three_cover_it = refl
 
 all_that_was_found_as_an_object :
-    all_found_as true (λ feed. decimal feed) at_10_1_2_3 (route_via ten_1_16 1 10 Discard ∷ route_via ten_8 2 30 Discard ∷ route_via ten_8 1 50 Discard ∷ [])
+    all_found_as syntax.Json (λ feed. decimal feed) at_10_1_2_3 (route_via ten_1_16 1 10 Discard ∷ route_via ten_8 2 30 Discard ∷ route_via ten_8 1 50 Discard ∷ [])
     ≡ codes "{\"address\":\"10.1.2.3\",\"route\":{\"prefix\":\"10.1.0.0/16\",\"feed\":1,\"pref\":10,\"via\":null,\"discard\":true},\"also\":["
     ++ codes "{\"prefix\":\"10.0.0.0/8\",\"feed\":2,\"pref\":30,\"via\":null,\"discard\":true,\"reason\":\"shorter\"},"
     ++ codes "{\"prefix\":\"10.0.0.0/8\",\"feed\":1,\"pref\":50,\"via\":null,\"discard\":true,\"reason\":\"shorter\"}]}\n"

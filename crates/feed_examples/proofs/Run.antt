@@ -31,6 +31,7 @@ use Rattle.rt_feed.specs.Lines.{HasVersion2Header, CutsLine, skipped, faulty, as
 use Rattle.rt_feed.specs.Reports.{has_refusal, has_fault}
 use Rattle.rt_feed.specs.Visits.{IsSplitInto, concatenated}
 use Rattle.rt_feed.specs.Printed.{reply_text, answer_text, line_text}
+use Rattle.rt_print.specs.declared.format.Syntax.TheVariants as syntax
 use Rattle.rt_print.specs.Routes.{route_text, row_text, count_text, table_text}
 use Rattle.rt_feed.specs.declared.faults.RunFault.TheVariants as run
 use Rattle.feed_examples.proofs.Feed.{at_192_0_2_1, asked_text, asked_rows, two_are_asked_and_a_line_is_faulty}
@@ -259,7 +260,7 @@ two_to_ten_8 = route_via ten_8 2 30 Discard ∷ route_via ten_8 1 50 Discard ∷
 
 -- routes as lines with their feeds' numbers
 abbrev plain : StyleContents
-plain = record { json = false; labels = [] }
+plain = record { syntax = syntax.Line; labels = [] }
 
 -- the selected routes, and their number, of these feeds
 abbrev routes_text : StyleContents → Selection → List ℕ → List Route → List ℕ
@@ -308,7 +309,7 @@ only_the_best_in_numbers = refl
 
 -- routes as objects
 abbrev as_objects : StyleContents
-as_objects = record { json = true; labels = [] }
+as_objects = record { syntax = syntax.Json; labels = [] }
 
 -- line_answer_text
 invalid_lines_if_they_are_kept :

@@ -1,12 +1,14 @@
 -- The differences of two tables in numbers: for each pair of next hops the number of ranges, and of their addresses, that
 -- change from the one to the other.
-use Rattle.std.specs.Prelude.{◌≡◌, ◌⊎◌, ℕ, ◌+◌, ◌-◌, ◌==◌, ◌<◌, Bool, true, false, if◌then◌else◌, List, [], ◌∷◌, ◌++◌, All, AllPairs, sum_by, count_by, get_or, codes, decimal, Option, None, Some}
+use Rattle.std.specs.Prelude.{◌≡◌, ◌⊎◌, ℕ, ◌+◌, ◌-◌, ◌==◌, ◌<◌, Bool, true, if◌then◌else◌, List, [], ◌∷◌, ◌++◌, All, AllPairs, sum_by, count_by, get_or, codes, decimal, Option, None, Some}
 use Rattle.std.specs.List.{flat_map, range_with_len}
 use Rattle.rt_rib.specs.declared.routes.Hop.{Hop}
 use Rattle.rt_rib.specs.declared.routes.Hop.TheVariants.{Via, Discard}
 use Rattle.rt_diff.specs.declared.table_answers.TableAnswer.{TableAnswer}
 use Rattle.rt_diff.specs.declared.table_answers.TableAnswer.TheVariants as answered
 use Rattle.rt_diff.specs.declared.comparison.Difference.{Difference}
+use Rattle.rt_print.specs.declared.format.Syntax.{Syntax}
+use Rattle.rt_print.specs.declared.format.Syntax.TheVariants.{Line, Json}
 use Rattle.rt_print.specs.declared.change_counts.ChangeCount.{ChangeCount}
 use Rattle.rt_print.specs.declared.change_counts.TheConstants.{KINDS}
 use Rattle.rt_print.specs.DifferenceText.{DiffContents, answer_as}
@@ -91,41 +93,41 @@ kind_words =
     ∷ codes "the same next hop by another route" ∷ []
 
 -- a number of ranges and of their addresses, after this text of what they have in common
-unfoldable pub number_as : Bool → List ℕ → ℕ → ℕ → List ℕ
-number_as false front ranges addresses =
+unfoldable pub number_as : Syntax → List ℕ → ℕ → ℕ → List ℕ
+number_as Line front ranges addresses =
     front ++ (codes "ranges " ++ (decimal ranges ++ (codes " addresses " ++ (decimal addresses ++ codes "\n"))))
-number_as true front ranges addresses =
+number_as Json front ranges addresses =
     codes "{" ++ (front ++ (codes "\"ranges\":" ++ (decimal ranges ++ (codes ",\"addresses\":" ++ (decimal addresses ++ codes "}\n")))))
 
 -- the numbers of the counts that pass the test
-abbrev pub sums_as : Bool → List ℕ → HopTest → List ChangeCount → List ℕ
-sums_as json front test counts = number_as json front (ranges_by test counts) (addresses_by test counts)
+abbrev pub sums_as : Syntax → List ℕ → HopTest → List ChangeCount → List ℕ
+sums_as syntax front test counts = number_as syntax front (ranges_by test counts) (addresses_by test counts)
 
 -- the kind, before its numbers
-unfoldable pub kind_front : Bool → ℕ → List ℕ
-kind_front false kind = codes "change " ++ (get_or kind_words kind [] ++ codes " ")
-kind_front true kind = codes "\"change\":\"" ++ (get_or kind_words kind [] ++ codes "\",")
+unfoldable pub kind_front : Syntax → ℕ → List ℕ
+kind_front Line kind = codes "change " ++ (get_or kind_words kind [] ++ codes " ")
+kind_front Json kind = codes "\"change\":\"" ++ (get_or kind_words kind [] ++ codes "\",")
 
 -- the change is of this kind
 abbrev pub is_of : ℕ → HopTest
 is_of kind old new = kind_of old new == kind
 
 -- the numbers of a kind, empty if no range is of this kind
-unfoldable pub kind_as : Bool → List ChangeCount → ℕ → List ℕ
-kind_as json counts kind = if ranges_by (is_of kind) counts == 0 then [] else sums_as json (kind_front json kind) (is_of kind) counts
+unfoldable pub kind_as : Syntax → List ChangeCount → ℕ → List ℕ
+kind_as syntax counts kind = if ranges_by (is_of kind) counts == 0 then [] else sums_as syntax (kind_front syntax kind) (is_of kind) counts
 
 -- the next hops, before their numbers
-unfoldable pub hops_front : Bool → List ℕ → List ℕ → List ℕ
-hops_front false old new = codes "hops " ++ (old ++ (codes " -> " ++ (new ++ codes " ")))
-hops_front true old new = codes "\"old\":" ++ (old ++ (codes ",\"new\":" ++ (new ++ codes ",")))
+unfoldable pub hops_front : Syntax → List ℕ → List ℕ → List ℕ
+hops_front Line old new = codes "hops " ++ (old ++ (codes " -> " ++ (new ++ codes " ")))
+hops_front Json old new = codes "\"old\":" ++ (old ++ (codes ",\"new\":" ++ (new ++ codes ",")))
 
 -- a count; next hops are printed as answers of the tables
 abbrev pub count_line : DiffContents → ChangeCount → List ℕ
 count_line asked c =
-    number_as asked.old.json (hops_front asked.old.json (answer_as asked.old (answer_with c.old)) (answer_as asked.new (answer_with c.new))) c.ranges c.addresses
+    number_as asked.old.syntax (hops_front asked.old.syntax (answer_as asked.old (answer_with c.old)) (answer_as asked.new (answer_with c.new))) c.ranges c.addresses
 
 -- all ranges in numbers, then each kind, then each pair of next hops
 unfoldable pub change_counts_as : DiffContents → List ChangeCount → List ℕ
 change_counts_as asked counts =
-    sums_as asked.old.json [] (λ old new. true) counts
-    ++ (flat_map (kind_as asked.old.json counts) (range_with_len 0 KINDS) ++ flat_map (count_line asked) counts)
+    sums_as asked.old.syntax [] (λ old new. true) counts
+    ++ (flat_map (kind_as asked.old.syntax counts) (range_with_len 0 KINDS) ++ flat_map (count_line asked) counts)

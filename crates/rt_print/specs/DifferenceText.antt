@@ -1,5 +1,5 @@
 -- The text of the differences of two tables.
-use Rattle.std.specs.Prelude.{ℕ, Bool, true, false, if◌then◌else◌, List, [], ◌++◌, map, codes}
+use Rattle.std.specs.Prelude.{ℕ, if◌then◌else◌, List, [], ◌++◌, map, codes}
 use Rattle.std.specs.List.{flat_map, enumerate_from}
 use Rattle.rt_cidr.specs.Text.{address_text, prefix_text}
 use Rattle.rt_rib.specs.declared.routes.Hop.{Hop}
@@ -8,6 +8,8 @@ use Rattle.rt_diff.specs.declared.table_answers.CompareBy.{CompareBy}
 use Rattle.rt_diff.specs.declared.table_answers.TableAnswer.{TableAnswer}
 use Rattle.rt_diff.specs.declared.table_answers.TableAnswer.TheVariants as answered
 use Rattle.rt_diff.specs.declared.comparison.Difference.{Difference}
+use Rattle.rt_print.specs.declared.format.Syntax.{Syntax}
+use Rattle.rt_print.specs.declared.format.Syntax.TheVariants.{Line, Json}
 use Rattle.rt_print.specs.declared.diff_options.DiffOutput.{DiffOutput}
 use Rattle.rt_print.specs.declared.diff_options.DiffOutput.TheVariants.{Ranges, Prefixes}
 use Rattle.rt_print.specs.declared.format.Format.{Format}
@@ -43,40 +45,40 @@ diff_of by output format old new =
     }
 
 -- the answer for an address; `label` gives the label of each feed of its table
-unfoldable pub answered_as : Bool → (ℕ → List ℕ) → TableAnswer → List ℕ
-answered_as false label answered.NoRoute = codes "no route"
-answered_as false label (answered.Hop hop) = way_text hop
-answered_as false label (answered.Route r) = route_line (label r.feed) r
-answered_as true label answered.NoRoute = codes "null"
-answered_as true label (answered.Hop hop) = codes "{" ++ (hop_members hop ++ codes "}")
-answered_as true label (answered.Route r) = route_object (label r.feed) r []
+unfoldable pub answered_as : Syntax → (ℕ → List ℕ) → TableAnswer → List ℕ
+answered_as Line label answered.NoRoute = codes "no route"
+answered_as Line label (answered.Hop hop) = way_text hop
+answered_as Line label (answered.Route r) = route_line (label r.feed) r
+answered_as Json label answered.NoRoute = codes "null"
+answered_as Json label (answered.Hop hop) = codes "{" ++ (hop_members hop ++ codes "}")
+answered_as Json label (answered.Route r) = route_object (label r.feed) r []
 
 -- a range, and these texts of its two answers: `FIRST-LAST OLD -> NEW`, or an object
-unfoldable pub range_as : Bool → Difference → List ℕ → List ℕ → List ℕ
-range_as false d old new =
+unfoldable pub range_as : Syntax → Difference → List ℕ → List ℕ → List ℕ
+range_as Line d old new =
     address_text d.first.0 ++ (codes "-" ++ (address_text d.last.0 ++ (codes " " ++ (old ++ (codes " -> " ++ (new ++ codes "\n"))))))
-range_as true d old new =
+range_as Json d old new =
     codes "{\"first\":\"" ++ (address_text d.first.0 ++ (codes "\",\"last\":\"" ++ (address_text d.last.0 ++ (codes "\",\"old\":"
     ++ (old ++ (codes ",\"new\":" ++ (new ++ codes "}\n")))))))
 
 -- a prefix, as its base and its length, and these texts of the answers for its addresses: `PREFIX OLD -> NEW`, or an object
-unfoldable pub prefix_as : Bool → List ℕ → List ℕ → ℕ × ℕ → List ℕ
-prefix_as false old new p = prefix_text p.0 p.1 ++ (codes " " ++ (old ++ (codes " -> " ++ (new ++ codes "\n"))))
-prefix_as true old new p =
+unfoldable pub prefix_as : Syntax → List ℕ → List ℕ → ℕ × ℕ → List ℕ
+prefix_as Line old new p = prefix_text p.0 p.1 ++ (codes " " ++ (old ++ (codes " -> " ++ (new ++ codes "\n"))))
+prefix_as Json old new p =
     codes "{\"prefix\":\"" ++ (prefix_text p.0 p.1 ++ (codes "\",\"old\":" ++ (old ++ (codes ",\"new\":" ++ (new ++ codes "}\n")))))
 
 -- the lines of a difference with these texts of its two answers: one for its range, or one for each prefix of its range
-abbrev pub lines_as : DiffOutput → Bool → Difference → List ℕ → List ℕ → List ℕ
-lines_as Ranges json d old new = range_as json d old new
-lines_as Prefixes json d old new = flat_map (prefix_as json old new) (prefixes_of d.first.0 d.last.0)
+abbrev pub lines_as : DiffOutput → Syntax → Difference → List ℕ → List ℕ → List ℕ
+lines_as Ranges syntax d old new = range_as syntax d old new
+lines_as Prefixes syntax d old new = flat_map (prefix_as syntax old new) (prefixes_of d.first.0 d.last.0)
 
 -- the answer for an address of a table in its style
 abbrev pub answer_as : StyleContents → TableAnswer → List ℕ
-answer_as style answer = answered_as style.json (label_of style.labels) answer
+answer_as style answer = answered_as style.syntax (label_of style.labels) answer
 
 -- the lines of a difference
 abbrev pub difference_as : DiffContents → Difference → List ℕ
-difference_as asked d = lines_as asked.output asked.old.json d (answer_as asked.old d.old) (answer_as asked.new d.new)
+difference_as asked d = lines_as asked.output asked.old.syntax d (answer_as asked.old d.old) (answer_as asked.new d.new)
 
 -- the lines of all differences, in order
 abbrev pub differences_as : DiffContents → List Difference → List ℕ

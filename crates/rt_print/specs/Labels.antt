@@ -5,6 +5,8 @@ use Rattle.std.specs.Option.{option_map_or}
 use Rattle.rt_cidr.specs.Text.{slash}
 use Rattle.rt_print.specs.declared.format.Format.{Format}
 use Rattle.rt_print.specs.declared.format.Format.TheVariants.{Numbers, Names, Json, JsonWithNames}
+use Rattle.rt_print.specs.declared.format.Syntax.{Syntax}
+use Rattle.rt_print.specs.declared.format.Syntax.TheVariants as syntax
 use Rattle.rt_print.specs.Routes.{json_string}
 
 -- a name without `.feed` at its end
@@ -15,11 +17,12 @@ without_feed name = if bytes_eq (drop (length name - 5) name) (codes ".feed") th
 unfoldable pub feed_name : List ℕ → List ℕ
 feed_name path = without_feed (after_last (λ byte. byte == slash) path)
 
--- routes are printed as JSON objects
-abbrev pub is_json : Format → Bool
-is_json Json = true
-is_json JsonWithNames = true
-is_json _ = false
+-- the syntax of the format's output
+abbrev pub syntax_of : Format → Syntax
+syntax_of Numbers = syntax.Line
+syntax_of Names = syntax.Line
+syntax_of Json = syntax.Json
+syntax_of JsonWithNames = syntax.Json
 
 -- feeds are printed by their names
 abbrev pub has_names : Format → Bool

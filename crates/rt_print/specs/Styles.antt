@@ -1,5 +1,5 @@
 -- Routes and look-up results in a style: as lines, or as JSON objects, one a line. Each feed has a label.
-use Rattle.std.specs.Prelude.{ℕ, ◌==◌, Bool, true, false, if◌then◌else◌, List, [], ◌∷◌, ◌++◌, codes, decimal, Option, Some, None}
+use Rattle.std.specs.Prelude.{ℕ, ◌==◌, if◌then◌else◌, List, [], ◌∷◌, ◌++◌, codes, decimal, Option, Some, None}
 use Rattle.std.specs.List.{flat_map, join_by}
 use Rattle.rt_cidr.specs.declared.address.Addr.{Addr}
 use Rattle.rt_cidr.specs.Text.{address_text}
@@ -7,19 +7,20 @@ use Rattle.rt_rib.specs.declared.routes.Route.{Route}
 use Rattle.rt_rib.specs.declared.routes.Reason.{Reason}
 use Rattle.rt_rib.specs.declared.routes.Reason.TheVariants.{Shorter, Preference, Feed}
 use Rattle.rt_rib.specs.LookUp.{reason}
+use Rattle.rt_print.specs.declared.format.Syntax.{Syntax}
+use Rattle.rt_print.specs.declared.format.Syntax.TheVariants.{Line, Json}
 use Rattle.rt_print.specs.declared.format.Format.{Format}
-use Rattle.rt_print.specs.Labels.{is_json, labels_by}
+use Rattle.rt_print.specs.Labels.{syntax_of, labels_by}
 use Rattle.rt_print.specs.Routes.{route_line, route_object}
 
--- routes are printed as JSON objects, else as lines; and the labels of feeds, each with the number that identifies the
--- feed
+-- the syntax in which routes are printed; and the labels of feeds, each with the number that identifies the feed
 pub record StyleContents : Type 0 where
-  pub json : Bool
+  pub syntax : Syntax
   pub labels : List (ℕ × List ℕ)
 
 -- the style of this format for the feeds of these paths, in relation to the feeds of the first paths
 abbrev pub style_of : Format → List (List ℕ) → List (List ℕ) → StyleContents
-style_of format first paths = record { json = is_json format; labels = labels_by format first paths }
+style_of format first paths = record { syntax = syntax_of format; labels = labels_by format first paths }
 
 -- the label of the feed with this number: the first one for this number, or else the number itself
 abbrev pub label_of : List (ℕ × List ℕ) → ℕ → List ℕ
@@ -27,24 +28,24 @@ label_of [] feed = decimal feed
 label_of (one ∷ labels) feed = if one.0 == feed then one.1 else label_of labels feed
 
 -- a route of the table; here and below `label` gives the label of each feed
-unfoldable pub row_as : Bool → (ℕ → List ℕ) → Route → List ℕ
-row_as false label r = route_line (label r.feed) r ++ codes "\n"
-row_as true label r = route_object (label r.feed) r [] ++ codes "\n"
+unfoldable pub row_as : Syntax → (ℕ → List ℕ) → Route → List ℕ
+row_as Line label r = route_line (label r.feed) r ++ codes "\n"
+row_as Json label r = route_object (label r.feed) r [] ++ codes "\n"
 
 -- the table's routes in order
 abbrev pub rows_as : StyleContents → List Route → List ℕ
-rows_as style routes = flat_map (row_as style.json (label_of style.labels)) routes
+rows_as style routes = flat_map (row_as style.syntax (label_of style.labels)) routes
 
 -- the address, as the beginning of an object
 unfoldable pub address_head : Addr → List ℕ
 address_head addr = codes "{\"address\":\"" ++ (address_text addr.0 ++ codes "\",\"route\":")
 
 -- the result of a look-up of the address
-unfoldable pub found_as : Bool → (ℕ → List ℕ) → Addr → Option Route → List ℕ
-found_as false label addr None = address_text addr.0 ++ codes " no route\n"
-found_as false label addr (Some r) = address_text addr.0 ++ (codes " route " ++ (route_line (label r.feed) r ++ codes "\n"))
-found_as true label addr None = address_head addr ++ codes "null}\n"
-found_as true label addr (Some r) = address_head addr ++ (route_object (label r.feed) r [] ++ codes "}\n")
+unfoldable pub found_as : Syntax → (ℕ → List ℕ) → Addr → Option Route → List ℕ
+found_as Line label addr None = address_text addr.0 ++ codes " no route\n"
+found_as Line label addr (Some r) = address_text addr.0 ++ (codes " route " ++ (route_line (label r.feed) r ++ codes "\n"))
+found_as Json label addr None = address_head addr ++ codes "null}\n"
+found_as Json label addr (Some r) = address_head addr ++ (route_object (label r.feed) r [] ++ codes "}\n")
 
 -- the reason why a route lost to the first one
 unfoldable pub reason_text : Reason → List ℕ
@@ -63,15 +64,15 @@ also_object label first r =
     route_object (label r.feed) r (codes ",\"reason\":\"" ++ (reason_text (reason first r) ++ codes "\""))
 
 -- all routes found, the best first; in JSON one object with the others in a list
-unfoldable pub all_found_as : Bool → (ℕ → List ℕ) → Addr → List Route → List ℕ
-all_found_as false label addr [] = found_as false label addr None
-all_found_as false label addr (first ∷ others) = found_as false label addr (Some first) ++ flat_map (also_line label addr first) others
-all_found_as true label addr [] = address_head addr ++ codes "null,\"also\":[]}\n"
-all_found_as true label addr (first ∷ others) =
+unfoldable pub all_found_as : Syntax → (ℕ → List ℕ) → Addr → List Route → List ℕ
+all_found_as Line label addr [] = found_as Line label addr None
+all_found_as Line label addr (first ∷ others) = found_as Line label addr (Some first) ++ flat_map (also_line label addr first) others
+all_found_as Json label addr [] = address_head addr ++ codes "null,\"also\":[]}\n"
+all_found_as Json label addr (first ∷ others) =
     address_head addr ++ (route_object (label first.feed) first []
     ++ (codes ",\"also\":[" ++ (join_by (also_object label first) (codes ",") others ++ codes "]}\n")))
 
 -- an invalid line of a text of addresses, by its number
-unfoldable pub invalid_as : Bool → ℕ → List ℕ
-invalid_as false number = decimal number ++ codes " invalid\n"
-invalid_as true number = codes "{\"line\":" ++ (decimal number ++ codes ",\"invalid\":true}\n")
+unfoldable pub invalid_as : Syntax → ℕ → List ℕ
+invalid_as Line number = decimal number ++ codes " invalid\n"
+invalid_as Json number = codes "{\"line\":" ++ (decimal number ++ codes ",\"invalid\":true}\n")

@@ -10,6 +10,7 @@ ghost use Rattle.rt_print.specs.inside.ChangeMaps.{AreKeyed, total_ranges, total
 
 use crate::diff_options::DiffOptions;
 use crate::differences::StyledAnswer;
+use crate::format::Syntax;
 use crate::text::Text;
 use rt_diff::{Difference, TableAnswer};
 use rt_rib::Hop;
@@ -125,44 +126,48 @@ pub fn write_change_counts<W: Write>(
     requires addresses { sum_by (λ (c : ChangeCount). c.addresses) counts.now < 2 ^ 64 }
     ensures { WritesText (W.contents w.old) (W.contents w.new) (change_counts_as options.now counts.now) result }
 {
-    let json = options.is_json();
+    let syntax = options.syntax();
     let (ranges, addresses) = sums_of(counts, None);
-    put_number(w, json, "", ranges, addresses)?;
-    put_kinds(w, json, counts)?;
+    put_number(w, syntax, "", ranges, addresses)?;
+    put_kinds(w, syntax, counts)?;
     put_counts(w, options, counts)
 }
 
 /// Writes the numbers of each kind of change that occurs.
-fn put_kinds<W: Write>(w: &mut W, json: bool, counts: &[ChangeCount]) -> io::Result<()>
+fn put_kinds<W: Write>(w: &mut W, syntax: Syntax, counts: &[ChangeCount]) -> io::Result<()>
     requires ranges { sum_by (λ (c : ChangeCount). c.ranges) counts.now < 2 ^ 64 }
     requires addresses { sum_by (λ (c : ChangeCount). c.addresses) counts.now < 2 ^ 64 }
-    ensures { WritesText (W.contents w.old) (W.contents w.new) (flat_map (kind_as json counts.now) (range_with_len 0 KINDS)) result }
+    ensures { WritesText (W.contents w.old) (W.contents w.new) (flat_map (kind_as syntax counts.now) (range_with_len 0 KINDS)) result }
 {
     for kind in 0..KINDS {
-        put_kind(w, json, counts, kind)?;
+        put_kind(w, syntax, counts, kind)?;
     }
     Ok(())
 }
 
 /// Writes the numbers of this kind of change, unless no range is of this kind.
 #[tactic(auto, unfolding(crate::specs::ChangeCounts::kind_as, crate::specs::ChangeCounts::kind_front))]
-fn put_kind<W: Write>(w: &mut W, json: bool, counts: &[ChangeCount], kind: usize) -> io::Result<()>
+fn put_kind<W: Write>(
+    w: &mut W,
+    syntax: Syntax,
+    counts: &[ChangeCount],
+    kind: usize,
+) -> io::Result<()>
     requires kind { kind < KINDS }
     requires ranges { sum_by (λ (c : ChangeCount). c.ranges) counts.now < 2 ^ 64 }
     requires addresses { sum_by (λ (c : ChangeCount). c.addresses) counts.now < 2 ^ 64 }
-    ensures { WritesText (W.contents w.old) (W.contents w.new) (kind_as json counts.now kind) result }
+    ensures { WritesText (W.contents w.old) (W.contents w.new) (kind_as syntax counts.now kind) result }
 {
     let (ranges, addresses) = sums_of(counts, Some(kind));
     if ranges == 0 {
         return Ok(());
     }
     let words = kind_words(kind);
-    let front = if json {
-        ("\"change\":\"", (words, "\","))
-    } else {
-        ("change ", (words, " "))
+    let front = match syntax {
+        Syntax::Line => ("change ", (words, " ")),
+        Syntax::Json => ("\"change\":\"", (words, "\",")),
     };
-    put_number(w, json, front, ranges, addresses)
+    put_number(w, syntax, front, ranges, addresses)
 }
 
 /// Writes each count.
@@ -180,7 +185,7 @@ fn put_counts<W: Write>(w: &mut W, options: &DiffOptions, counts: &[ChangeCount]
 fn put_count<W: Write>(w: &mut W, options: &DiffOptions, count: &ChangeCount) -> io::Result<()>
     ensures { WritesText (W.contents w.old) (W.contents w.new) (count_line options.now count.now) result }
 {
-    let json = options.old.is_json();
+    let syntax = options.old.syntax();
     let (old, new) = (answer_with(count.old), answer_with(count.new));
     let old = StyledAnswer {
         style: &options.old,
@@ -190,31 +195,33 @@ fn put_count<W: Write>(w: &mut W, options: &DiffOptions, count: &ChangeCount) ->
         style: &options.new,
         answer: &new,
     };
-    let front = if json {
-        ("\"old\":", (old, (",\"new\":", (new, ","))))
-    } else {
-        ("hops ", (old, (" -> ", (new, " "))))
+    let front = match syntax {
+        Syntax::Line => ("hops ", (old, (" -> ", (new, " ")))),
+        Syntax::Json => ("\"old\":", (old, (",\"new\":", (new, ",")))),
     };
-    put_number(w, json, front, count.ranges, count.addresses)
+    put_number(w, syntax, front, count.ranges, count.addresses)
 }
 
 /// Writes a number of ranges and of their addresses, after this text of what they have in common.
 #[tactic(auto, unfolding(crate::specs::ChangeCounts::number_as))]
 fn put_number<W: Write, T: Text + Copy>(
     w: &mut W,
-    json: bool,
+    syntax: Syntax,
     front: T,
     ranges: u64,
     addresses: u64,
 ) -> io::Result<()>
-    ensures { WritesText (W.contents w.old) (W.contents w.new) (number_as json (T.text front) ranges addresses) result }
+    ensures { WritesText (W.contents w.old) (W.contents w.new) (number_as syntax (T.text front) ranges addresses) result }
 {
-    if json {
-        let numbers = (ranges, (",\"addresses\":", (addresses, "}\n")));
-        ("{", (front, ("\"ranges\":", numbers))).put_to(w)
-    } else {
-        let numbers = (ranges, (" addresses ", (addresses, "\n")));
-        (front, ("ranges ", numbers)).put_to(w)
+    match syntax {
+        Syntax::Line => {
+            let numbers = (ranges, (" addresses ", (addresses, "\n")));
+            (front, ("ranges ", numbers)).put_to(w)
+        }
+        Syntax::Json => {
+            let numbers = (ranges, (",\"addresses\":", (addresses, "}\n")));
+            ("{", (front, ("\"ranges\":", numbers))).put_to(w)
+        }
     }
 }
 

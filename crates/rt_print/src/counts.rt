@@ -9,6 +9,7 @@ ghost use Rattle.rt_print.specs.Counts.{prefix_count, length_count, totals_as, c
 ghost use Rattle.rt_print.specs.Styles.{label_of};
 ghost use Rattle.rt_print.specs.inside.Parts.{label_pairs};
 
+use crate::format::Syntax;
 use crate::labels::{FeedLabel, label_in};
 use crate::routes::write_routes;
 use crate::style::Style;
@@ -35,15 +36,15 @@ struct Counts {
 pub fn write_counts<W: Write>(w: &mut W, style: &Style, routes: &[Route]) -> io::Result<()>
     ensures { WritesText (W.contents w.old) (W.contents w.new) (counts_as style.now routes.now) result }
 {
-    let json = style.is_json();
+    let syntax = style.syntax();
     let Counts {
         prefixes,
         feeds,
         lengths,
     } = counts_of(routes);
-    put_totals(w, json, routes.len() as u64, prefixes as u64)?;
-    put_numbers(w, json, "feed", style.labels(), &feeds)?;
-    put_numbers(w, json, "length", &[], &lengths)
+    put_totals(w, syntax, routes.len() as u64, prefixes as u64)?;
+    put_numbers(w, syntax, "feed", style.labels(), &feeds)?;
+    put_numbers(w, syntax, "length", &[], &lengths)
 }
 
 /// Writes the routes as `write_routes` does and then, on a last line, their number: `total N`, or an object. A reader that
@@ -56,18 +57,17 @@ pub fn write_routes_and_total<W: Write>(
     ensures { WritesText (W.contents w.old) (W.contents w.new) (rows_and_total_as style.now routes.now) result }
 {
     write_routes(w, style, routes)?;
-    put_total(w, style.is_json(), routes.len() as u64)
+    put_total(w, style.syntax(), routes.len() as u64)
 }
 
 /// Writes the number of the routes before it.
 #[tactic(auto, unfolding(crate::specs::Counts::total_as))]
-fn put_total<W: Write>(w: &mut W, json: bool, count: u64) -> io::Result<()>
-    ensures { WritesText (W.contents w.old) (W.contents w.new) (total_as json count) result }
+fn put_total<W: Write>(w: &mut W, syntax: Syntax, count: u64) -> io::Result<()>
+    ensures { WritesText (W.contents w.old) (W.contents w.new) (total_as syntax count) result }
 {
-    if json {
-        ("{\"total\":", (count, "}\n")).put_to(w)
-    } else {
-        ("total ", (count, "\n")).put_to(w)
+    match syntax {
+        Syntax::Line => ("total ", (count, "\n")).put_to(w),
+        Syntax::Json => ("{\"total\":", (count, "}\n")).put_to(w),
     }
 }
 
@@ -101,14 +101,15 @@ fn counts_of(routes: &[Route]) -> Counts
 
 /// Writes the number of routes, and of their prefixes.
 #[tactic(auto, unfolding(crate::specs::Counts::totals_as))]
-fn put_totals<W: Write>(w: &mut W, json: bool, routes: u64, prefixes: u64) -> io::Result<()>
-    ensures { WritesText (W.contents w.old) (W.contents w.new) (totals_as json routes prefixes) result }
+fn put_totals<W: Write>(w: &mut W, syntax: Syntax, routes: u64, prefixes: u64) -> io::Result<()>
+    ensures { WritesText (W.contents w.old) (W.contents w.new) (totals_as syntax routes prefixes) result }
 {
-    if json {
-        let prefixes = (",\"prefixes\":", (prefixes, "}\n"));
-        ("{\"routes\":", (routes, prefixes)).put_to(w)
-    } else {
-        ("routes ", (routes, (" prefixes ", (prefixes, "\n")))).put_to(w)
+    match syntax {
+        Syntax::Line => ("routes ", (routes, (" prefixes ", (prefixes, "\n")))).put_to(w),
+        Syntax::Json => {
+            let prefixes = (",\"prefixes\":", (prefixes, "}\n"));
+            ("{\"routes\":", (routes, prefixes)).put_to(w)
+        }
     }
 }
 
@@ -116,20 +117,20 @@ fn put_totals<W: Write>(w: &mut W, json: bool, routes: u64, prefixes: u64) -> io
 #[tactic(auto, using(crate::proofs::LineParts::fits))]
 fn put_numbers<W: Write>(
     w: &mut W,
-    json: bool,
+    syntax: Syntax,
     kind: &str,
     labels: &[FeedLabel],
     counts: &[usize],
 ) -> io::Result<()>
     requires few { length counts.now ≤ MAX_FEEDS + 1 }
     ensures { WritesText (W.contents w.old) (W.contents w.new)
-        (flat_map (λ k. count_as json kind.now (label_of (label_pairs labels.now) k) (get_or counts.now k 0)) (range_with_len 0 (length counts.now))) result }
+        (flat_map (λ k. count_as syntax kind.now (label_of (label_pairs labels.now) k) (get_or counts.now k 0)) (range_with_len 0 (length counts.now))) result }
 {
     for (number, count) in counts.iter().enumerate() {
         let mut digits = ShortText::new();
         digits.prepend_decimal(number as u64);
         let label = label_in(labels, number as u32).unwrap_or(digits.as_bytes());
-        put_number(w, json, kind, label, *count as u64)?;
+        put_number(w, syntax, kind, label, *count as u64)?;
     }
     Ok(())
 }
@@ -138,20 +139,21 @@ fn put_numbers<W: Write>(
 #[tactic(auto, unfolding(crate::specs::Counts::count_as))]
 fn put_number<W: Write>(
     w: &mut W,
-    json: bool,
+    syntax: Syntax,
     kind: &str,
     name: &[u8],
     count: u64,
 ) -> io::Result<()>
-    ensures { WritesText (W.contents w.old) (W.contents w.new) (count_as json kind.now name.now count) result }
+    ensures { WritesText (W.contents w.old) (W.contents w.new) (count_as syntax kind.now name.now count) result }
 {
     if count == 0 {
         return Ok(());
     }
-    if json {
-        let routes = (name, (",\"routes\":", (count, "}\n")));
-        ("{\"", (kind, ("\":", routes))).put_to(w)
-    } else {
-        (kind, (" ", (name, (" routes ", (count, "\n"))))).put_to(w)
+    match syntax {
+        Syntax::Line => (kind, (" ", (name, (" routes ", (count, "\n"))))).put_to(w),
+        Syntax::Json => {
+            let routes = (name, (",\"routes\":", (count, "}\n")));
+            ("{\"", (kind, ("\":", routes))).put_to(w)
+        }
     }
 }

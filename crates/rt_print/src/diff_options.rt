@@ -4,7 +4,7 @@ ghost use Rattle.rt_rib.specs.declared.limits.TheConstants.{MAX_FEEDS};
 ghost use Rattle.rt_diff.specs.Answers.{own_numbers};
 ghost use Rattle.rt_print.specs.DifferenceText.{diff_of};
 
-use crate::format::Format;
+use crate::format::{Format, Syntax};
 use crate::labels::pair_feeds_by_name;
 use crate::style::Style;
 use rt_diff::{CompareBy, Comparison};
@@ -67,11 +67,11 @@ impl DiffOptions {
         })
     }
 
-    /// Returns true if differences are printed as JSON objects.
-    pub(crate) fn is_json(&self) -> bool
-        ensures { result ≡ self.now.old.json }
+    /// Returns the syntax in which differences are printed.
+    pub(crate) fn syntax(&self) -> Syntax
+        ensures { result ≡ self.now.old.syntax }
     {
-        self.old.is_json()
+        self.old.syntax()
     }
 
     /// Returns the comparison of these two tables.

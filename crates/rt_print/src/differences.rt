@@ -3,13 +3,16 @@
 ghost use Rattle.std.specs.Prelude.{◌≡◌, ◌+◌, ◌^◌, ◌≤◌};
 ghost use Rattle.std.specs.List.{flat_map};
 ghost use Rattle.rt_cidr.specs.Output.{WritesText};
-ghost use Rattle.rt_print.specs.DifferenceText.{answer_as, range_as, prefix_as, difference_as};
+ghost use Rattle.rt_print.specs.DifferenceText.{answered_as, answer_as, range_as, prefix_as, difference_as};
+ghost use Rattle.rt_print.specs.Styles.{label_of};
 ghost use Rattle.rt_print.specs.RangePrefixes.{is_inside, is_outside, prefixes_in};
-ghost use Rattle.rt_print.specs.inside.Parts.{change_end};
+ghost use Rattle.rt_print.specs.inside.Parts.{label_pairs, change_end};
 
 use crate::diff_options::{DiffOptions, DiffOutput};
+use crate::format::Syntax;
+use crate::labels::FeedLabel;
 use crate::routes::put_route;
-use crate::style::{Style, either};
+use crate::style::Style;
 use crate::text::Text;
 use rt_cidr::{Addr, ShortText};
 use rt_diff::{Difference, TableAnswer};
@@ -30,7 +33,7 @@ pub fn write_difference<W: Write>(
     ensures { WritesText (W.contents w.old) (W.contents w.new) (difference_as options.now difference.now) result }
 {
     let change = Change {
-        json: options.old.is_json(),
+        syntax: options.old.syntax(),
         old: StyledAnswer {
             style: &options.old,
             answer: &difference.old,
@@ -50,13 +53,12 @@ pub fn write_difference<W: Write>(
 #[tactic(auto, unfolding(crate::specs::DifferenceText::range_as, crate::specs::inside::Parts::change_end))]
 fn put_range<W: Write>(w: &mut W, difference: &Difference, change: Change<'_>) -> io::Result<()>
     ensures { WritesText (W.contents w.old) (W.contents w.new)
-        (range_as change.entry.json difference.now (answer_as change.entry.old.style.now change.entry.old.answer.now) (answer_as change.entry.new.style.now change.entry.new.answer.now)) result }
+        (range_as change.entry.syntax difference.now (answer_as change.entry.old.style.now change.entry.old.answer.now) (answer_as change.entry.new.style.now change.entry.new.answer.now)) result }
 {
     let Difference { first, last, .. } = *difference;
-    if change.json {
-        ("{\"first\":\"", (first, ("\",\"last\":\"", (last, change)))).put_to(w)
-    } else {
-        (first, ("-", (last, change))).put_to(w)
+    match change.syntax {
+        Syntax::Line => (first, ("-", (last, change))).put_to(w),
+        Syntax::Json => ("{\"first\":\"", (first, ("\",\"last\":\"", (last, change)))).put_to(w),
     }
 }
 
@@ -71,7 +73,7 @@ fn put_prefixes<W: Write>(
     requires few { bits ≤ 32 }
     requires fits { base + 2 ^ bits ≤ 2 ^ 32 }
     ensures { WritesText (W.contents w.old) (W.contents w.new)
-        (flat_map (prefix_as change.entry.json (answer_as change.entry.old.style.now change.entry.old.answer.now) (answer_as change.entry.new.style.now change.entry.new.answer.now))
+        (flat_map (prefix_as change.entry.syntax (answer_as change.entry.old.style.now change.entry.old.answer.now) (answer_as change.entry.new.style.now change.entry.new.answer.now))
         (prefixes_in difference.now.first.0 difference.now.last.0 bits base)) result }
 {
     let (first, last, size) = (difference.first.0, difference.last.0, 1u64 << bits);
@@ -106,34 +108,32 @@ fn is_outside(first: u32, last: u32, base: u32, size: u64) -> bool
 #[tactic(auto, using(crate::proofs::LineParts::prefix_line, crate::proofs::LineParts::prefix_object))]
 fn put_prefix<W: Write>(w: &mut W, base: Addr, len: u32, change: Change<'_>) -> io::Result<()>
     ensures { WritesText (W.contents w.old) (W.contents w.new)
-        (prefix_as change.entry.json (answer_as change.entry.old.style.now change.entry.old.answer.now) (answer_as change.entry.new.style.now change.entry.new.answer.now) (base.0, len)) result }
+        (prefix_as change.entry.syntax (answer_as change.entry.old.style.now change.entry.old.answer.now) (answer_as change.entry.new.style.now change.entry.new.answer.now) (base.0, len)) result }
 {
     let prefix = (base, ("/", (u64::from(len), change)));
-    if change.json {
-        ("{\"prefix\":\"", prefix).put_to(w)
-    } else {
-        prefix.put_to(w)
+    match change.syntax {
+        Syntax::Line => prefix.put_to(w),
+        Syntax::Json => ("{\"prefix\":\"", prefix).put_to(w),
     }
 }
 
 /// The two answers of a difference, each in the style of its table: the end of a line or of an object.
 #[derive(Clone, Copy)]
 struct Change<'a> {
-    json: bool,
+    syntax: Syntax,
     old: StyledAnswer<'a>,
     new: StyledAnswer<'a>,
 }
 
 impl Text for Change<'_> {
-    ghost text = { λ c. change_end c.json (answer_as c.old.style.now c.old.answer.now) (answer_as c.new.style.now c.new.answer.now) };
+    ghost text = { λ c. change_end c.syntax (answer_as c.old.style.now c.old.answer.now) (answer_as c.new.style.now c.new.answer.now) };
 
     #[tactic(auto, unfolding(crate::specs::inside::Parts::change_end))]
     fn put_to<W: Write>(&self, w: &mut W) -> io::Result<()> {
-        let Change { json, old, new } = *self;
-        if json {
-            ("\",\"old\":", (old, (",\"new\":", (new, "}\n")))).put_to(w)
-        } else {
-            (" ", (old, (" -> ", (new, "\n")))).put_to(w)
+        let Change { syntax, old, new } = *self;
+        match syntax {
+            Syntax::Line => (" ", (old, (" -> ", (new, "\n")))).put_to(w),
+            Syntax::Json => ("\",\"old\":", (old, (",\"new\":", (new, "}\n")))).put_to(w),
         }
     }
 }
@@ -148,23 +148,55 @@ pub(crate) struct StyledAnswer<'a> {
 impl Text for StyledAnswer<'_> {
     ghost text = { λ a. answer_as a.style.now a.answer.now };
 
-    #[tactic(auto, using(crate::proofs::LineParts::answer_parts), unfolding(crate::specs::DifferenceText::answered_as))]
     fn put_to<W: Write>(&self, w: &mut W) -> io::Result<()> {
-        let StyledAnswer { style, answer } = *self;
-        let json = style.is_json();
-        match answer {
-            TableAnswer::NoRoute if json => "null".put_to(w),
-            TableAnswer::NoRoute => "no route".put_to(w),
-            TableAnswer::Hop(hop) => match *hop {
-                Hop::Via(address) if json => ("{\"via\":\"", (address, "\"}")).put_to(w),
-                Hop::Via(address) => ("via ", address).put_to(w),
-                Hop::Discard if json => "{\"via\":null,\"discard\":true}".put_to(w),
-                Hop::Discard => "discard".put_to(w),
-            },
-            TableAnswer::Route(route) => {
-                let (mut text, end) = (ShortText::new(), either(json, b"", b"}"));
-                put_route(w, &mut text, json, style.labels(), b"", route, end)
-            }
+        let labels = self.style.labels();
+        match self.style.syntax() {
+            Syntax::Line => put_answer_line(w, labels, self.answer),
+            Syntax::Json => put_answer_object(w, labels, self.answer),
+        }
+    }
+}
+
+/// Writes an answer as a line has it: `no route`, `via ADDR`, `discard`, or the route.
+#[tactic(auto, using(crate::proofs::LineParts::answer_line_parts), unfolding(crate::specs::DifferenceText::answered_as))]
+fn put_answer_line<W: Write>(
+    w: &mut W,
+    labels: &[FeedLabel],
+    answer: &TableAnswer,
+) -> io::Result<()>
+    ensures { WritesText (W.contents w.old) (W.contents w.new) (answered_as Syntax.Line (label_of (label_pairs labels.now)) answer.now) result }
+{
+    match answer {
+        TableAnswer::NoRoute => "no route".put_to(w),
+        TableAnswer::Hop(hop) => match *hop {
+            Hop::Via(address) => ("via ", address).put_to(w),
+            Hop::Discard => "discard".put_to(w),
+        },
+        TableAnswer::Route(route) => {
+            let mut text = ShortText::new();
+            put_route(w, &mut text, Syntax::Line, labels, b"", route, b"")
+        }
+    }
+}
+
+/// Writes an answer as an object has it: `null`, or an object with the next hop or the route.
+#[tactic(auto, using(crate::proofs::LineParts::answer_object_parts), unfolding(crate::specs::DifferenceText::answered_as))]
+fn put_answer_object<W: Write>(
+    w: &mut W,
+    labels: &[FeedLabel],
+    answer: &TableAnswer,
+) -> io::Result<()>
+    ensures { WritesText (W.contents w.old) (W.contents w.new) (answered_as Syntax.Json (label_of (label_pairs labels.now)) answer.now) result }
+{
+    match answer {
+        TableAnswer::NoRoute => "null".put_to(w),
+        TableAnswer::Hop(hop) => match *hop {
+            Hop::Via(address) => ("{\"via\":\"", (address, "\"}")).put_to(w),
+            Hop::Discard => "{\"via\":null,\"discard\":true}".put_to(w),
+        },
+        TableAnswer::Route(route) => {
+            let mut text = ShortText::new();
+            put_route(w, &mut text, Syntax::Json, labels, b"", route, b"}")
         }
     }
 }

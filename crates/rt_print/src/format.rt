@@ -1,6 +1,15 @@
-//! The format of printed routes.
+//! The format of printed routes, and the syntax that it determines.
 ghost use Rattle.std.specs.Prelude.{◌≡◌};
-ghost use Rattle.rt_print.specs.Labels.{has_names};
+ghost use Rattle.rt_print.specs.Labels.{syntax_of, has_names};
+
+/// The syntax of printed output.
+#[derive(Clone, Copy, PartialEq, Eq, Debug)]
+pub enum Syntax {
+    /// Lines of words.
+    Line,
+    /// JSON objects (RFC 8259), one a line.
+    Json,
+}
 
 /// The format of printed routes: lines or JSON objects, one a line, and what identifies a feed in them.
 #[derive(Clone, Copy, PartialEq, Eq, Debug)]
@@ -16,6 +25,16 @@ pub enum Format {
 }
 
 impl Format {
+    /// Returns the syntax of this format's output.
+    pub fn syntax(self) -> Syntax
+        ensures { result ≡ syntax_of self }
+    {
+        match self {
+            Format::Numbers | Format::Names => Syntax::Line,
+            Format::Json | Format::JsonWithNames => Syntax::Json,
+        }
+    }
+
     /// Returns true if feeds are printed by their names.
     pub fn has_names(self) -> bool
         ensures { result ≡ has_names self }

@@ -43,7 +43,7 @@ pub use change_counts::{ChangeCount, count_changes, write_change_counts};
 pub use counts::{write_counts, write_routes_and_total};
 pub use diff_options::{DiffOptions, DiffOutput};
 pub use differences::write_difference;
-pub use format::Format;
+pub use format::{Format, Syntax};
 pub use labels::feed_name;
 pub use lookups::{write_all_matches, write_invalid_line, write_lookup};
 pub use names::{NameFault, check_names};

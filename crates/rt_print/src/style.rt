@@ -2,18 +2,17 @@
 ghost use Rattle.std.specs.Prelude.{◌≡◌, ◌≤◌, ℕ, List, [], length, map, IfOk};
 ghost use Rattle.rt_rib.specs.declared.limits.TheConstants.{MAX_FEEDS};
 ghost use Rattle.rt_print.specs.Styles.{style_of};
-ghost use Rattle.rt_print.specs.inside.Parts.{either, label_pairs};
+ghost use Rattle.rt_print.specs.inside.Parts.{label_pairs};
 
-use crate::format::Format;
+use crate::format::{Format, Syntax};
 use crate::labels::{FeedLabel, labels_by};
 use std::alloc::{AllocError, Global};
 use std::marker::Model;
 
-/// The style of printed routes. Contracts see whether routes are printed as JSON objects, and each label with the number
-/// that identifies its feed.
+/// The style of printed routes. Contracts see its syntax, and each label with the number that identifies its feed.
 #[derive(Debug, Drop)]
 pub struct Style {
-    json: bool,
+    syntax: Syntax,
     labels: Vec<FeedLabel>,
 }
 
@@ -23,7 +22,7 @@ impl Model for Style {
 
     ghost Value = { StyleContents };
 
-    ghost view = { λ s. record { json = s.json; labels = label_pairs s.labels.items } };
+    ghost view = { λ s. record { syntax = s.syntax; labels = label_pairs s.labels.items } };
 }
 
 impl Style {
@@ -48,16 +47,16 @@ impl Style {
     {
         let labels = labels_by(alloc, format, first, paths)?;
         Ok(Style {
-            json: matches!(format, Format::Json | Format::JsonWithNames),
+            syntax: format.syntax(),
             labels,
         })
     }
 
-    /// Returns true if routes are printed as JSON objects.
-    pub(crate) fn is_json(&self) -> bool
-        ensures { result ≡ self.now.json }
+    /// Returns the syntax in which routes are printed.
+    pub(crate) fn syntax(&self) -> Syntax
+        ensures { result ≡ self.now.syntax }
     {
-        self.json
+        self.syntax
     }
 
     /// Returns the label of each feed that has one. A feed without one is printed by its number.
@@ -66,11 +65,4 @@ impl Style {
     {
         self.labels.as_slice()
     }
-}
-
-/// Returns the first text for lines, the second for JSON objects.
-pub(crate) fn either<'t>(json: bool, line: &'t [u8], object: &'t [u8]) -> &'t [u8]
-    ensures { result.now ≡ either json line.now object.now }
-{
-    if json { object } else { line }
 }

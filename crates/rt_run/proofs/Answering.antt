@@ -22,7 +22,7 @@ module _ (style : StyleContents) (table : List Route) (all rest piece behind : L
   -- the answers of a piece follow the text so far
   pub answers_grow : (text ++ found_text style piece table) ++ found_text style behind table ≡ found_text style all table
   answers_grow =
-      rw (append_assoc, ← (flat_map-append (λ addr. found_as style.json (label_of style.labels) addr (look_up addr table)) piece behind), ← cut) whole
+      rw (append_assoc, ← (flat_map-append (λ addr. found_as style.syntax (label_of style.labels) addr (look_up addr table)) piece behind), ← cut) whole
 
   -- a fault within them leaves a beginning of all answers
   pub answers_begin : (a b c : Option (List ℕ)) → Appends a b text
@@ -39,12 +39,12 @@ module _ (style : StyleContents) (table : List Route) (piece : List Addr) (answe
 
   -- a fault within its text leaves a beginning of the piece's answers
   pub answers_stop : {T E : Type 0} (a b c : Option (List ℕ)) (result : Result T E) → Appends a b (found_text style (take k piece) table) → IsErr result
-      → AppendsBeginning b c (found_as style.json (label_of style.labels) (get_or piece k none) found) → WritesText a c (found_text style piece table) result
+      → AppendsBeginning b c (found_as style.syntax (label_of style.labels) (get_or piece k none) found) → WritesText a c (found_text style piece table) result
   answers_stop a b c result written failed begun =
-      let one : Addr → List ℕ = λ addr. found_as style.json (label_of style.labels) addr (look_up addr table) in
+      let one : Addr → List ℕ = λ addr. found_as style.syntax (label_of style.labels) addr (look_up addr table) in
       let addr = get_or piece k none in
       stops_all (λ n. one) (λ n. flat_map one) (λ n. refl) (λ n x xs. refl) piece k addr here (get_or_default piece k none addr here) a b c written result failed
-      (subst (λ (f : Option Route). AppendsBeginning b c (found_as style.json (label_of style.labels) addr f)) found_at begun)
+      (subst (λ (f : Option Route). AppendsBeginning b c (found_as style.syntax (label_of style.labels) addr f)) found_at begun)
 
 -- all covering routes of one more address
 pub matches_more :

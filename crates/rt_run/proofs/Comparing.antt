@@ -1,5 +1,5 @@
 -- The output of a comparison: the lines of the differences so far, and then the lines of the rest.
-use Rattle.rt_run.proofs.Outputs.{has_byte}
+use Rattle.rt_run.proofs.Outputs.{has_byte, first-some}
 use Rattle.std.proofs.Common.{◌++◌, suc, ◌≡◌, ◌==◌, if◌then◌else◌, Bool, true, false, not, is_some, ℕ, ◌+◌, ◌^◌, ◌<◌, ◌≤◌, max}
 use Rattle.std.proofs.Common.{List, [], ◌∷◌, ◌++◌, Option, Some, None, length, append_assoc, append-nil, refl, sym, ap, subst, ◌∙◌, arith}
 use Rattle.std.specs.List.{All, AllPairs, sum_by, count_by}
@@ -13,6 +13,8 @@ use Rattle.rt_rib.specs.declared.routes.Route.{Route}
 use Rattle.rt_diff.specs.declared.comparison.Difference.{Difference}
 use Rattle.rt_diff.specs.Answers.{own_numbers}
 use Rattle.rt_diff.proofs.Promised.{at, rest_none, rest_next, rest_there, whole, differences_of, differences_are, is_differences_of}
+use Rattle.rt_print.specs.declared.format.Syntax.{Syntax}
+use Rattle.rt_print.specs.declared.format.Syntax.TheVariants.{Line, Json}
 use Rattle.rt_print.specs.DifferenceText.{DiffContents, difference_as, differences_as}
 use Rattle.rt_print.proofs.Promised.{difference-some}
 use Rattle.rt_run.specs.declared.tallies.RejectedInput.{RejectedInput}
@@ -20,7 +22,7 @@ use Rattle.rt_run.specs.declared.tallies.RunSummary.{RunSummary}
 use Rattle.rt_run.specs.RunText.{RunContents}
 use Rattle.rt_run.specs.TableText.{tallies_status, LeavesTable}
 use Rattle.rt_print.specs.declared.change_counts.ChangeCount.{ChangeCount}
-use Rattle.rt_print.specs.ChangeCounts.{passes, range_size, number_as, AreChangeCounts, change_counts_as}
+use Rattle.rt_print.specs.ChangeCounts.{passes, range_size, ranges_by, addresses_by, number_as, sums_as, AreChangeCounts, change_counts_as}
 use Rattle.rt_run.specs.DiffText.{renumbered_new, differ_status, IsDiffText, IsCountText}
 use Rattle.rt_run.specs.inside.Outputs.{IsFirstFrom, list_of, lines_of, addresses_from, IsSoFar, IsListedSoFar}
 
@@ -161,9 +163,16 @@ addresses_fit list counts are fits =
     omega (arith, all, fits)
 
 -- the counts have a first line
+number-some : (syntax : Syntax) (ranges addresses : ℕ) → 0 < length (number_as syntax [] ranges addresses)
+unfolding number_as
+number-some Line ranges addresses = grind (arith, common_steps)
+number-some Json ranges addresses = grind (arith, common_steps)
+
 pub changes-some : (asked : DiffContents) (counts : List ChangeCount) → 0 < length (change_counts_as asked counts)
-unfolding change_counts_as number_as
-changes-some asked counts = grind (arith, common_steps)
+unfolding change_counts_as
+changes-some asked counts =
+    first-some (sums_as asked.old.syntax [] (λ old new. true) counts) _
+    (number-some asked.old.syntax (ranges_by (λ old new. true) counts) (addresses_by (λ old new. true) counts))
 
 -- the output for two runs is the counts of their tables' differences
 pub is_count : (asked : DiffContents) (old_asked new_asked : RunContents) (old new : List Route) (old_tallies new_tallies : List RejectedInput) (given : RunSummary)

@@ -1,5 +1,5 @@
 -- The effect of a call on its writer, from its output, and which output is empty.
-use Rattle.std.proofs.Common.{◌≡◌, ◌==◌, ℕ, ◌<◌, Bool, false, List, [], ◌∷◌, ◌++◌, length, map, Option, Result, Ok, Err, IfErr, refl, sym, subst, ◌∙◌, arith, length-append}
+use Rattle.std.proofs.Common.{◌≡◌, ◌==◌, ℕ, ◌<◌, Bool, false, List, [], ◌∷◌, ◌++◌, length, map, Option, None, Some, Result, Ok, Err, IfErr, refl, sym, subst, ◌∙◌, arith, length-append}
 use Rattle.std.proofs.Common.{◌≤◌}
 use Rattle.std.specs.List.{flat_map}
 use Rattle.std.proofs.lemmas.Bool.Decides.{nat_tests}
@@ -9,8 +9,10 @@ use Rattle.rt_rib.specs.declared.routes.Route.{Route}
 use Rattle.rt_rib.specs.LookUp.{look_up}
 use Rattle.rt_feed.specs.declared.faulty.FaultyLines.{FaultyLines}
 use Rattle.rt_feed.specs.declared.faults.RunFault.TheVariants as refusal
+use Rattle.rt_print.specs.declared.format.Syntax.{Syntax}
+use Rattle.rt_print.specs.declared.format.Syntax.TheVariants.{Line, Json}
 use Rattle.rt_print.specs.Routes.{table_text, count_text}
-use Rattle.rt_print.specs.Counts.{totals_as, counts_as, total_as, rows_and_total_as}
+use Rattle.rt_print.specs.Counts.{prefix_count, totals_as, counts_as, total_as, rows_and_total_as}
 use Rattle.rt_print.specs.Styles.{StyleContents, label_of, row_as, rows_as, address_head, found_as, all_found_as}
 use Rattle.rt_run.specs.declared.faults.AppFault.{AppFault}
 use Rattle.rt_run.specs.declared.faults.AppFault.TheVariants.{Run, Replay, Write}
@@ -78,44 +80,62 @@ texts-empty text some empty [] is = is
 texts-empty text some empty (x ∷ xs) is = grind (arith, nat_tests, some x, length-append (text x) (flat_map text xs))
 
 -- nor is the text of a look-up, in any style
-row_as-some : (json : Bool) (label : ℕ → List ℕ) (route : Route) → 0 < length (row_as json label route)
+row_as-some : (syntax : Syntax) (label : ℕ → List ℕ) (route : Route) → 0 < length (row_as syntax label route)
 unfolding row_as
-row_as-some json label route = grind (arith, common_steps)
+row_as-some Line label route = grind (arith, common_steps)
+row_as-some Json label route = grind (arith, common_steps)
 
-found_as-some : (json : Bool) (label : ℕ → List ℕ) (addr : Addr) (found : Option Route) → 0 < length (found_as json label addr found)
+found_as-some : (syntax : Syntax) (label : ℕ → List ℕ) (addr : Addr) (found : Option Route) → 0 < length (found_as syntax label addr found)
 unfolding found_as address_head
-found_as-some json label addr found = grind (arith, common_steps)
+found_as-some Line label addr None = grind (arith, common_steps)
+found_as-some Line label addr (Some r) = grind (arith, common_steps)
+found_as-some Json label addr None = grind (arith, common_steps)
+found_as-some Json label addr (Some r) = grind (arith, common_steps)
 
-all_found_as-some : (json : Bool) (label : ℕ → List ℕ) (addr : Addr) (found : List Route) → 0 < length (all_found_as json label addr found)
+all_found_as-some : (syntax : Syntax) (label : ℕ → List ℕ) (addr : Addr) (found : List Route) → 0 < length (all_found_as syntax label addr found)
 unfolding all_found_as address_head
-all_found_as-some json label addr found = grind (arith, common_steps, found_as-some)
+all_found_as-some Line label addr [] = grind (arith, common_steps, found_as-some)
+all_found_as-some Line label addr (first ∷ others) = grind (arith, common_steps, found_as-some)
+all_found_as-some Json label addr [] = grind (arith, common_steps, found_as-some)
+all_found_as-some Json label addr (first ∷ others) = grind (arith, common_steps, found_as-some)
 
 module _ (style : StyleContents) (empty : Bool) where
   pub rows-empty : (routes : List Route) → empty ≡ (length routes == 0) → empty ≡ (length (rows_as style routes) == 0)
-  rows-empty = texts-empty (row_as style.json (label_of style.labels)) (row_as-some style.json (label_of style.labels)) empty
+  rows-empty = texts-empty (row_as style.syntax (label_of style.labels)) (row_as-some style.syntax (label_of style.labels)) empty
 
   pub answers-empty : (table : List Route) (addresses : List Addr) → empty ≡ (length addresses == 0) → empty ≡ (length (found_text style addresses table) == 0)
   answers-empty table =
-      texts-empty (λ addr. found_as style.json (label_of style.labels) addr (look_up addr table))
-      (λ addr. found_as-some style.json (label_of style.labels) addr (look_up addr table)) empty
+      texts-empty (λ addr. found_as style.syntax (label_of style.labels) addr (look_up addr table))
+      (λ addr. found_as-some style.syntax (label_of style.labels) addr (look_up addr table)) empty
 
   pub matches-empty : (all : List (Addr × Vec Route Global)) → empty ≡ (length all == 0) → empty ≡ (length (matches_text style all) == 0)
   matches-empty =
-      texts-empty (λ one. all_found_as style.json (label_of style.labels) one.0 one.1.items)
-      (λ one. all_found_as-some style.json (label_of style.labels) one.0 one.1.items) empty
+      texts-empty (λ one. all_found_as style.syntax (label_of style.labels) one.0 one.1.items)
+      (λ one. all_found_as-some style.syntax (label_of style.labels) one.0 one.1.items) empty
 
--- nor is the text of the counts
+-- a text isn't empty if its beginning isn't
+pub first-some : (front rest : List ℕ) → 0 < length front → 0 < length (front ++ rest)
+first-some front rest some = omega (arith, some, length-append front rest)
+
+-- the text of the counts isn't empty
+totals-some : (syntax : Syntax) (routes prefixes : ℕ) → 0 < length (totals_as syntax routes prefixes)
+unfolding totals_as
+totals-some Line routes prefixes = grind (arith, common_steps)
+totals-some Json routes prefixes = grind (arith, common_steps)
+
 pub counts-some : (style : StyleContents) (routes : List Route) → 0 < length (counts_as style routes)
-unfolding counts_as totals_as
-counts-some style routes = grind (arith, common_steps)
+unfolding counts_as
+counts-some style routes =
+    first-some (totals_as style.syntax (length routes) (prefix_count routes)) _ (totals-some style.syntax (length routes) (prefix_count routes))
 
 -- nor is a text that ends with a total
-total-some : (json : Bool) (count : ℕ) → 0 < length (total_as json count)
+total-some : (syntax : Syntax) (count : ℕ) → 0 < length (total_as syntax count)
 unfolding total_as
-total-some json count = grind (arith, common_steps)
+total-some Line count = grind (arith, common_steps)
+total-some Json count = grind (arith, common_steps)
 
 pub rows_and_total-some : (style : StyleContents) (routes : List Route) → 0 < length (rows_and_total_as style routes)
-rows_and_total-some style routes = omega (arith, length-append (rows_as style routes) (total_as style.json (length routes)), total-some style.json (length routes))
+rows_and_total-some style routes = omega (arith, length-append (rows_as style routes) (total_as style.syntax (length routes)), total-some style.syntax (length routes))
 
 -- the text of the steps of a run from the start, and of the place that is inside after them, is its replay text
 pub is_replay_text : (levels : ℕ) (picks : List ℕ) (steps : List Step) (inside : Option ℕ) → ((HasShape levels → ⊥) → ⊥) → Replays levels opening picks steps

@@ -29,16 +29,16 @@ use Rattle.rt_run.specs.ChosenFeeds.{routes_of_selected}
 -- what is printed for a row: the answer for its address; for an invalid line its number, if such lines are kept, or else nothing
 abbrev pub line_answer_text : StyleContents → Bool → (Addr → List ℕ) → AddressRow → List ℕ
 line_answer_text style keeps answer (address_row addr) = answer addr
-line_answer_text style keeps answer (invalid_row number) = if keeps then invalid_as style.json number else []
+line_answer_text style keeps answer (invalid_row number) = if keeps then invalid_as style.syntax number else []
 
 -- for each row, in order, the result of looking its address up in the table, in the style
 abbrev pub answers_text : StyleContents → Bool → List AddressRow → List Route → List ℕ
-answers_text style keeps rows table = flat_map (line_answer_text style keeps (λ addr. found_as style.json (label_of style.labels) addr (look_up addr table))) rows
+answers_text style keeps rows table = flat_map (line_answer_text style keeps (λ addr. found_as style.syntax (label_of style.labels) addr (look_up addr table))) rows
 
 -- for each row, in order, all routes of the table that cover its address, the best first
 abbrev pub all_answers_text : StyleContents → Bool → List AddressRow → List Route → List ℕ
 all_answers_text style keeps rows table =
-    flat_map (line_answer_text style keeps (λ addr. all_found_as style.json (label_of style.labels) addr (look_up_all addr table))) rows
+    flat_map (line_answer_text style keeps (λ addr. all_found_as style.syntax (label_of style.labels) addr (look_up_all addr table))) rows
 
 -- the text that answers a question about a table, in the style; the rows have the addresses to look up. If there are feeds,
 -- only their routes among the selected ones are printed or counted

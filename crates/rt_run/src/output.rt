@@ -102,7 +102,7 @@ pub(crate) fn write_lookups<W: Write>(
 ) -> Result<(), io::Error>
     requires fib { IfSome fib.now (λ fib. fib ≡ table.now.routes) }
     ensures { WritesText (W.contents w.old) (W.contents w.new)
-        (with_invalid style.now.json (λ these. found_text style.now these table.now.routes) 0 addresses.now invalid.now) result }
+        (with_invalid style.now.syntax (λ these. found_text style.now these table.now.routes) 0 addresses.now invalid.now) result }
 {
     let (mut rest, mut lines, mut done) = (addresses, invalid, 0);
     while let Some((line, later)) = lines.split_first() {
@@ -123,7 +123,7 @@ pub(crate) fn write_all_lookups<W: Write>(
     all: &[(Addr, Vec<Route>)],
     invalid: &[InvalidLine],
 ) -> Result<(), io::Error>
-    ensures { WritesText (W.contents w.old) (W.contents w.new) (with_invalid style.now.json (matches_text style.now) 0 all.now invalid.now) result }
+    ensures { WritesText (W.contents w.old) (W.contents w.new) (with_invalid style.now.syntax (matches_text style.now) 0 all.now invalid.now) result }
 {
     let (mut rest, mut lines, mut done) = (all, invalid, 0);
     while let Some((line, later)) = lines.split_first() {

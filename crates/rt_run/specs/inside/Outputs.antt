@@ -1,11 +1,12 @@
 -- The effect of an output on its writer, the answers for addresses with invalid lines between them, and the output of a
 -- comparison of two tables.
-use Rattle.std.specs.Prelude.{◌≡◌, ℕ, Bool, List, [], ◌∷◌, Option, Result, Ok, Err, ◌++◌, ◌-◌, ◌^◌, ◌≤◌, Some, None, map, take, drop}
+use Rattle.std.specs.Prelude.{◌≡◌, ℕ, List, [], ◌∷◌, Option, Result, Ok, Err, ◌++◌, ◌-◌, ◌^◌, ◌≤◌, Some, None, map, take, drop}
 use Rattle.std.specs.List.{flat_map, All, sum_by}
 use Rattle.std.specs.Io.KnownBytes.{Appends}
 use Rattle.rt_cidr.specs.Output.{AppendsBeginning}
 use Rattle.rt_feed.specs.declared.addresses.InvalidLine.{InvalidLine}
 use Rattle.rt_feed.specs.declared.faults.RunFault.TheVariants as fault
+use Rattle.rt_print.specs.declared.format.Syntax.{Syntax}
 use Rattle.rt_print.specs.Styles.{StyleContents, label_of, found_as, all_found_as, invalid_as}
 use Rattle.rt_run.specs.declared.faults.AppFault.{AppFault}
 use Rattle.rt_run.specs.declared.faults.AppFault.TheVariants.{Run, Replay, Write}
@@ -26,11 +27,11 @@ use Rattle.rt_run.specs.DiffText.{renumbered_new}
 
 -- for each address, in order, the result of looking it up in the table, in the style
 abbrev pub found_text : StyleContents → List Addr → List Route → List ℕ
-found_text style addresses table = flat_map (λ addr. found_as style.json (label_of style.labels) addr (look_up addr table)) addresses
+found_text style addresses table = flat_map (λ addr. found_as style.syntax (label_of style.labels) addr (look_up addr table)) addresses
 
 -- for each address, in order, the routes that cover it, the best first
 abbrev pub matches_text : StyleContents → List (Addr × Vec Route Global) → List ℕ
-matches_text style all = flat_map (λ one. all_found_as style.json (label_of style.labels) one.0 one.1.items) all
+matches_text style all = flat_map (λ one. all_found_as style.syntax (label_of style.labels) one.0 one.1.items) all
 
 -- each address with the routes that were found for it; and with those of the table that cover it, the best first
 abbrev pub matches_found : List (Addr × Vec Route Global) → List (Addr × List Route)
@@ -40,11 +41,11 @@ abbrev pub matches_in : List Route → List Addr → List (Addr × List Route)
 matches_in table addresses = map (λ (addr : Addr). (addr, look_up_all addr table)) addresses
 
 -- the texts of these items, of which the first has this index, with the invalid lines in their places
-abbrev pub with_invalid : {X : Type 0} → Bool → (List X → List ℕ) → ℕ → List X → List InvalidLine → List ℕ
-with_invalid json text_of done items [] = text_of items
-with_invalid json text_of done items (line ∷ lines) =
+abbrev pub with_invalid : {X : Type 0} → Syntax → (List X → List ℕ) → ℕ → List X → List InvalidLine → List ℕ
+with_invalid syntax text_of done items [] = text_of items
+with_invalid syntax text_of done items (line ∷ lines) =
     text_of (take (line.before - done) items)
-    ++ (invalid_as json line.number ++ with_invalid json text_of line.before (drop (line.before - done) items) lines)
+    ++ (invalid_as syntax line.number ++ with_invalid syntax text_of line.before (drop (line.before - done) items) lines)
 
 -- the text was appended to the writer's contents, and this was returned; or nothing was written, if memory ran out; or a
 -- beginning of the text

@@ -9,7 +9,7 @@ use Rattle.rt_print.proofs.change_counts.put_kinds.Goals as goal
 
 pub returns-in_err-put_kind : goal.returns-in_err-put_kind
 returns-in_err-put_kind g c =
-    let told = kind_as c.args.json c.args.counts.now in
+    let told = kind_as c.args.syntax c.args.counts.now in
     let kind = c.loop-kind.kind in
     stops_all (λ n. told) (λ n. flat_map told) (λ n. refl) (λ n x xs. refl) (range_with_len 0 KINDS) kind kind
     (omega (arith, length-range_with_len 0 KINDS, c.loop-kind-test.true)) (omega (arith, get_or-range_with_len 0 KINDS kind kind c.loop-kind-test.true))
@@ -17,7 +17,7 @@ returns-in_err-put_kind g c =
 
 pub loop-kind-preserved : goal.loop-kind-preserved
 loop-kind-preserved g c =
-    let told = kind_as c.args.json c.args.counts.now in
+    let told = kind_as c.args.syntax c.args.counts.now in
     let kind = c.loop-kind.kind in
     appends_next (λ n. told) (λ n. flat_map told) (λ n. refl) (λ n x xs. refl) (range_with_len 0 KINDS) kind kind
     (omega (arith, length-range_with_len 0 KINDS, c.loop-kind-test.true)) (omega (arith, get_or-range_with_len 0 KINDS kind kind c.loop-kind-test.true))

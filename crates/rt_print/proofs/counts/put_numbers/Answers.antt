@@ -10,7 +10,7 @@ use Rattle.rt_print.proofs.counts.put_numbers.Goals as goal
 
 pub returns-in_err-put_number : goal.returns-in_err-put_number
 returns-in_err-put_number g c =
-    let told = λ (k : ℕ). count_as c.args.json c.args.kind.now (label_of (label_pairs c.args.labels.now) k) (get_or c.args.counts.now k 0) in
+    let told = λ (k : ℕ). count_as c.args.syntax c.args.kind.now (label_of (label_pairs c.args.labels.now) k) (get_or c.args.counts.now k 0) in
     let all = length c.args.counts.now in
     let number = c.loop-number.number in
     stops_all (λ n. told) (λ n. flat_map told) (λ n. refl) (λ n x xs. refl) (range_with_len 0 all) number number
@@ -19,7 +19,7 @@ returns-in_err-put_number g c =
 
 pub loop-number-preserved : goal.loop-number-preserved
 loop-number-preserved g c =
-    let told = λ (k : ℕ). count_as c.args.json c.args.kind.now (label_of (label_pairs c.args.labels.now) k) (get_or c.args.counts.now k 0) in
+    let told = λ (k : ℕ). count_as c.args.syntax c.args.kind.now (label_of (label_pairs c.args.labels.now) k) (get_or c.args.counts.now k 0) in
     let all = length c.args.counts.now in
     let number = c.loop-number.number in
     appends_next (λ n. told) (λ n. flat_map told) (λ n. refl) (λ n x xs. refl) (range_with_len 0 all) number number

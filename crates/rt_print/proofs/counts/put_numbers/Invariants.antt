@@ -10,4 +10,4 @@ use Rattle.rt_print.proofs.counts.put_numbers.Given as goal
 abbrev pub invariant-loop-number : goal.invariant-loop-number
 invariant-loop-number g l =
     Appends (g.W.Write.contents l.initial.w) (g.W.Write.contents l.w)
-    (flat_map (λ k. count_as l.json l.kind (label_of (label_pairs l.labels) k) (get_or l.counts k 0)) (take l.number (range_with_len 0 (length l.counts))))
+    (flat_map (λ k. count_as l.syntax l.kind (label_of (label_pairs l.labels) k) (get_or l.counts k 0)) (take l.number (range_with_len 0 (length l.counts))))

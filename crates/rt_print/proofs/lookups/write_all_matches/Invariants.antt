@@ -9,5 +9,5 @@ abbrev pub invariant-loop-route : goal.invariant-loop-route
 invariant-loop-route g l = record {
   comma : l.comma ≡ (if l.route-index + 1 == 1 then [] else codes ",");
   written : Appends (g.W.Write.contents l.initial.w) (g.W.Write.contents l.w)
-      (others_as l.style.json (label_of l.style.labels) l.addr l.best 1 (take l.route-index l.others));
+      (others_as l.style.syntax (label_of l.style.labels) l.addr l.best 1 (take l.route-index l.others));
 }

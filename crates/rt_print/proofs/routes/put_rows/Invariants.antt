@@ -8,4 +8,4 @@ use Rattle.rt_print.proofs.routes.put_rows.Given as goal
 abbrev pub invariant-loop-route : goal.invariant-loop-route
 invariant-loop-route g l =
     Appends (g.W.Write.contents l.fn.w) (g.W.Write.contents l.w)
-    (flat_map (row_as l.json (label_of (label_pairs l.labels))) (take l.route-index l.routes))
+    (flat_map (row_as l.syntax (label_of (label_pairs l.labels))) (take l.route-index l.routes))

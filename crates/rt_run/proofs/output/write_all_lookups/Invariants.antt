@@ -8,8 +8,8 @@ abbrev pub invariant-loop-line : goal.invariant-loop-line
 invariant-loop-line g l = record {
   text : List ℕ;
   written : Appends (g.W.Write.contents l.initial.w) (g.W.Write.contents l.w) text;
-  whole : text ++ with_invalid l.style.json (matches_text l.style) l.done l.rest l.lines
-      ≡ with_invalid l.style.json (matches_text l.style) 0 l.fn.all l.fn.invalid;
+  whole : text ++ with_invalid l.style.syntax (matches_text l.style) l.done l.rest l.lines
+      ≡ with_invalid l.style.syntax (matches_text l.style) 0 l.fn.all l.fn.invalid;
 }
 
 abbrev pub decreases-loop-line : goal.decreases-loop-line

@@ -10,7 +10,7 @@ use Rattle.rt_run.proofs.output.write_matches.Goals as goal
 
 pub returns-in_err-write_all_matches : goal.returns-in_err-write_all_matches
 returns-in_err-write_all_matches g c =
-    let text : (Addr × Vec Route Global) → List ℕ = λ one. all_found_as c.args.style.now.json (label_of c.args.style.now.labels) one.0 one.1.items in
+    let text : (Addr × Vec Route Global) → List ℕ = λ one. all_found_as c.args.style.now.syntax (label_of c.args.style.now.labels) one.0 one.1.items in
     stops_all (λ n. text) (λ n. matches_text c.args.style.now) (λ n. refl)
     (λ n x xs. refl) c.args.all.now c.loop-one.one-index c.one-item.result c.loop-one-test.true c.one-item.is _ _ _
     c.loop-one.invariant _ c.from_residual.ensures.0 (rw (← c.as_slice.ensures.value) c.in_err-write_all_matches.ensures.err)

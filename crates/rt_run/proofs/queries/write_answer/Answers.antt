@@ -18,10 +18,10 @@ returns-in-Best g c rows is =
     let invalid = c.as_slice-invalid.result.now in
     let these : AreOfRows (keeps_invalid c.args.question.now) rows addresses invalid =
     record { addressed = c.as_slice-addresses.ensures.value ∙ is.addressed; kept = c.as_slice-invalid.ensures.value ∙ is.kept } in
-    let one : Addr → List ℕ = λ addr. found_as style.json (label_of style.labels) addr (look_up addr table) in
-    let empty = c.are_empty-is_empty.ensures ∙ with_invalid-empty style.json (flat_map one) addresses invalid (answers-empty style (length addresses == 0) table addresses refl) in
+    let one : Addr → List ℕ = λ addr. found_as style.syntax (label_of style.labels) addr (look_up addr table) in
+    let empty = c.are_empty-is_empty.ensures ∙ with_invalid-empty style.syntax (flat_map one) addresses invalid (answers-empty style (length addresses == 0) table addresses refl) in
     rw (c.in-Best.is, ← (rows_text style one _ rows addresses invalid (rw c.in-Best.is at these)))
-    (c.write_through.ensures.text (with_invalid style.json (flat_map one) 0 addresses invalid) empty (λ old written new called. search rules))
+    (c.write_through.ensures.text (with_invalid style.syntax (flat_map one) 0 addresses invalid) empty (λ old written new called. search rules))
 
 pub returns-in_ok-all-in-All : goal.returns-in_ok-all-in-All
 returns-in_ok-all-in-All g c rows is =
@@ -31,13 +31,13 @@ returns-in_ok-all-in-All g c rows is =
     let invalid = c.as_slice-invalid.result.now in
     let these : AreOfRows (keeps_invalid c.args.question.now) rows addresses invalid =
     record { addressed = c.as_slice-addresses.ensures.value ∙ is.addressed; kept = c.as_slice-invalid.ensures.value ∙ is.kept } in
-    let one : Addr → List ℕ = λ addr. all_found_as style.json (label_of style.labels) addr (look_up_all addr table) in
+    let one : Addr → List ℕ = λ addr. all_found_as style.syntax (label_of style.labels) addr (look_up_all addr table) in
     let all = c.in_ok-all-in-All.all.items in
     let found : matches_found all ≡ matches_in table addresses = c.in_ok-all-in-All.ensures {u = tt} in
     let empty = c.are_empty-is_empty.ensures ∙ (ap (λ n. (n == 0) && (length invalid == 0)) (found-count table addresses all found)
-    ∙ with_invalid-empty style.json (matches_text style) all invalid (matches-empty style (length all == 0) all refl)) in
+    ∙ with_invalid-empty style.syntax (matches_text style) all invalid (matches-empty style (length all == 0) all refl)) in
     rw (c.in-All.is, ← (rows_text style one _ rows addresses invalid (rw c.in-All.is at these)), ← (matches_rows style table addresses invalid all found))
-    (c.write_through-in-All.ensures.text (with_invalid style.json (matches_text style) 0 all invalid) empty (λ old written new called. search rules))
+    (c.write_through-in-All.ensures.text (with_invalid style.syntax (matches_text style) 0 all invalid) empty (λ old written new called. search rules))
 
 pub returns-in_ok-routes-in-Routes : goal.returns-in_ok-routes-in-Routes
 returns-in_ok-routes-in-Routes g c rows is =

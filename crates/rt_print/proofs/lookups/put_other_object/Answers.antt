@@ -1,0 +1,12 @@
+use Rattle.std.proofs.Common.{append-nil}
+use Rattle.rt_print.specs.Styles.{label_of}
+use Rattle.rt_print.specs.inside.Parts.{label_pairs}
+use Rattle.rt_print.proofs.LineParts.{other_object_parts}
+use Rattle.rt_print.proofs.lookups.put_other_object.Goals as goal
+
+pub returns : goal.returns
+returns g c =
+    let label = label_of (label_pairs c.args.labels.now) in
+    let end = rw (c.new-end.ensures, append-nil) at c.prepend_object_reason.ensures in
+    rw (← other_object_parts label c.args.best.now c.args.comma.now c.args.route.now)
+    (rw (c.as_bytes.ensures, end) at c.put_route.ensures)
