@@ -282,8 +282,7 @@ enum yarib_status yarib_free(yarib *table);
 YARIB_STATUS yarib_apply(yarib *table, const yarib_command *command, yarib_reply *reply);
 
 /* Executes an add, a replace or a withdraw as yarib_apply does, and writes what it has changed: the best routes to its prefix before and
- * after, if they differ. The best routes to all other prefixes are the same. It takes the time of yarib_apply and of two look-ups of the
- * prefix.
+ * after, if they differ. The best routes to all other prefixes are the same. It takes little more time than yarib_apply.
  * Errors: YARIB_NOTHING, YARIB_BAD_NUMBER (the feed), YARIB_BAD_COMMAND (also for any other command), YARIB_WRONG_KIND, YARIB_NO_MEMORY. */
 YARIB_STATUS yarib_apply_changed(yarib *table, const yarib_command *command, yarib_reply *reply, yarib_change *change);
 

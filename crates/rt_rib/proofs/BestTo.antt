@@ -1,7 +1,7 @@
 -- The best route to a prefix, in terms of a map: that of the first offer there. A command other than a purge changes no
 -- best route to another prefix.
 use Rattle.std.proofs.Common.{◌≡◌, ◌≢◌, ℕ, ◌<◌, Bool, true, false, not, eqb, leb, ◌↔◌, inl, inr, List, [], ◌∷◌, length, get_or, Option, Some, None, refl, ap, ◌∙◌, sym, subst, arith, map}
-use Rattle.std.specs.Prelude.{if◌then◌else◌, slice_get, option_to_list}
+use Rattle.std.specs.Prelude.{if◌then◌else◌, slice_get}
 use Rattle.std.specs.Option.{option_map}
 use Rattle.std.specs.List.{Contains, filter, list_all}
 use Rattle.std.proofs.lemmas.Bool.{cond-true, both_ways, false_from_ne_true, and_parts, not_from_false, eqb-true}
@@ -26,7 +26,6 @@ use Rattle.rt_rib.proofs.CommandCases.{each_command}
 use Rattle.rt_rib.proofs.Journals.{IsTable-after}
 use Rattle.rt_rib.proofs.MapLookUps.{first_best}
 use Rattle.rt_rib.proofs.MapRoutes.{Contains-from_map, one_or_other, same_prefix-itself}
-use Rattle.rt_rib.proofs.Order.{is_of-parts}
 use Rattle.rt_rib.proofs.Selections.{routes_at}
 use Rattle.rt_rib.proofs.Sets.{Contains-head, Contains-cases, Contains-none, filter-keeps, filter-from, put_in_adds, take_out_leaves_others, one_table_of_set}
 
@@ -151,6 +150,13 @@ same_best p q t u of_t of_u keeps other =
       (λ c. let from = filter-from to_q t x c in filter-keeps to_q u x ((keeps x (apart x from.1)).0 from.0) from.1),
       (λ c. let from = filter-from to_q u x c in filter-keeps to_q t x ((keeps x (apart x from.1)).1 from.0) from.1),
     )))
+
+-- no best route differs between a table and itself
+pub nothing_changed : (t : List Route) → AreBestChanges t t []
+nothing_changed t = record {
+  exactly = λ c. ((λ there. absurd (Contains-none c there)), (λ h. absurd (h.differ (h.before ∙ sym h.after))));
+  ordered = λ i j d l m. absurd (omega arith);
+}
 
 -- what a command changes is the best route to its prefix, unless that is the same before and after
 module _ (limit feed : ℕ) (cmd : Cmd) (t : List Route) (of_t : IsTable t) (p : Prefix) (is : changed_prefix cmd ≡ Some p) (before after : Option Route)

@@ -25,4 +25,5 @@ pub mod BestRoutes
 pub mod Selections
 pub mod FromPlaces
 pub mod BestTo
+pub mod BestAfter
 pub mod ChangesOfPurges

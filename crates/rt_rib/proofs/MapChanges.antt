@@ -79,7 +79,7 @@ module _ (m : Map) (h : IsMap m) (p : Prefix) where
 
 module _ (m n : Map) (p : Prefix) (offers : List Offer) (at : IsWith m n p offers) where
   -- the offers of the new map at the prefix
-  at_it : (q : Prefix) → p ≡ q → offers_at n q ≡ offers
+  pub at_it : (q : Prefix) → p ≡ q → offers_at n q ≡ offers
   at_it q here =
       let one : same_prefix p q ≡ true = subst (λ x. same_prefix p x ≡ true) here (same_prefix-itself p) in
       at q ∙ cond-true (same_prefix p q) offers (offers_at m q) one

@@ -1,8 +1,11 @@
 //! The book: a table with the journal of everything it answered, and nothing but what keeps the two consistent.
-ghost use Rattle.std.specs.Prelude.{◌≡◌, ◌<◌, [], length, IfOk, OnOk, OnErr};
+ghost use Rattle.std.specs.Prelude.{◌≡◌, ◌<◌, [], length, IfOk, OnOk, OnErr, IsSome, option_to_list};
 ghost use Rattle.std.specs.List.{All};
 ghost use Rattle.rt_rib.specs.Book.{IsLimit, IsFeed};
+ghost use Rattle.rt_rib.specs.Sequential.{changed_prefix};
+ghost use Rattle.rt_rib.specs.Changes.{AreBestChanges};
 
+use crate::changes::BestChange;
 use crate::commands::{Cmd, Entry, Reply};
 use crate::refused::Refused;
 use crate::routes::Route;
@@ -106,6 +109,28 @@ impl<A: Allocator + Copy> Book<A> {
         self.table.holds();
         self.journal.push_reserved(Entry { feed, cmd, reply });
         Ok(reply)
+    }
+
+    /// Executes an `Add`, a `Replace` or a `Withdraw` as [`Book::apply`] does, and returns also what it changes, as
+    /// [`Table::apply_changed`] does.
+    pub fn apply_changed(
+        &mut self,
+        feed: u32,
+        cmd: Cmd,
+    ) -> Result<(Reply, Option<BestChange>), Refused>
+        requires feed { IsFeed feed }
+        requires prefix { IsSome (changed_prefix cmd) }
+        ensures ok { IfOk result (λ done. Applies self.old self.new feed cmd done.0) }
+        ensures changes { IfOk result (λ done. AreBestChanges (table_of self.old) (table_of self.new) (option_to_list done.1)) }
+        ensures err { OnErr result (Refuses self.old self.new feed cmd) }
+        ensures holds { HoldsTable self.new }
+    {
+        self.table.holds();
+        self.journal.try_reserve(1)?;
+        let (reply, change) = self.table.apply_changed(feed, cmd)?;
+        self.table.holds();
+        self.journal.push_reserved(Entry { feed, cmd, reply });
+        Ok((reply, change))
     }
 
     /// Makes known to a proof that the trie is lawful and holds exactly the routes that the journal leaves, none of

@@ -6,12 +6,11 @@ ghost use Rattle.rt_rib.specs.declared.commands.Cmd.{Cmd as Command};
 ghost use Rattle.rt_rib.specs.declared.commands.Reply.TheVariants.{Added};
 ghost use Rattle.rt_rib.specs.Table.{purge, IsTable};
 ghost use Rattle.rt_rib.specs.Sequential.{reply_of, table_after, changed_prefix};
-ghost use Rattle.rt_rib.specs.Book.{IsFeed, table_state, table_of, Serves, Applies, Refuses, HoldsTable};
+ghost use Rattle.rt_rib.specs.Book.{IsFeed, table_state, Serves};
 ghost use Rattle.rt_rib.specs.Maps.{routes_of, IsOffers};
 ghost use Rattle.rt_rib.specs.Changes.{best_to, AreBestChanges};
 ghost use Rattle.rt_rib.specs.inside.Changes.{purge_change};
 
-use crate::book::Book;
 use crate::commands::{Cmd, Reply};
 use crate::map::OfferMap;
 use crate::offers::{Offer, Offers, route_by};
@@ -96,36 +95,11 @@ impl<A: Allocator + Copy> Table<A> {
         let Some(prefix) = cmd.changed_prefix() else {
             unreachable!()
         };
-        let before = self.best_to(prefix);
-        let reply = self.apply(feed, cmd)?;
-        let after = self.best_to(prefix);
-        Ok((reply, BestChange::of(prefix, before, after)))
-    }
-}
-
-impl<A: Allocator + Copy> Book<A> {
-    /// Executes an `Add`, a `Replace` or a `Withdraw` as [`Book::apply`] does, and returns also what it changes, as
-    /// [`Table::apply_changed`] does.
-    pub fn apply_changed(
-        &mut self,
-        feed: u32,
-        cmd: Cmd,
-    ) -> Result<(Reply, Option<BestChange>), Refused>
-        requires feed { IsFeed feed }
-        requires prefix { IsSome (changed_prefix cmd) }
-        ensures ok { IfOk result (λ done. Applies self.old self.new feed cmd done.0) }
-        ensures changes { IfOk result (λ done. AreBestChanges (table_of self.old) (table_of self.new) (option_to_list done.1)) }
-        ensures err { OnErr result (Refuses self.old self.new feed cmd) }
-        ensures holds { HoldsTable self.new }
-    {
-        self.holds();
-        let Some(prefix) = cmd.changed_prefix() else {
-            unreachable!()
+        let (reply, best) = self.change(feed, cmd)?;
+        let Some(best) = best else {
+            return Ok((reply, None));
         };
-        let before = self.table().best_to(prefix);
-        let reply = self.apply(feed, cmd)?;
-        let after = self.table().best_to(prefix);
-        Ok((reply, BestChange::of(prefix, before, after)))
+        Ok((reply, BestChange::of(prefix, best.before, best.after)))
     }
 }
 

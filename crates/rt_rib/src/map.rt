@@ -1,8 +1,9 @@
 //! The map from prefixes to their offers: the routes that it represents, and how they change.
-ghost use Rattle.std.specs.Prelude.{◌≡◌, ◌-◌, ◌*◌, ◌≤◌, ◌++◌, false, [], IsTrue, IfOk, OnOk, OnErr, length, map};
+ghost use Rattle.std.specs.Prelude.{◌≡◌, ◌-◌, ◌*◌, ◌≤◌, ◌++◌, false, [], IfOk, OnOk, OnErr, IfSome, IsSome, IsNone, is_some, is_none, length, map};
 ghost use Rattle.rt_trie.specs.Lawful.{IsLawful};
 ghost use Rattle.rt_rib.specs.Table.{has, put_in, take_out};
 ghost use Rattle.rt_rib.specs.Maps.{routes_of, route_by, IsMap};
+ghost use Rattle.rt_rib.specs.inside.Changes.{AreBestRoutes};
 
 use crate::offers::{Offer, Offers, Removal, offer_of, route_by};
 use crate::refused::Refused;
@@ -11,6 +12,14 @@ use rt_cidr::Prefix;
 use rt_trie::{Trie, Walk};
 use std::alloc::Allocator;
 use std::marker::Model;
+
+/// The best routes to a prefix before and after a change, each `None` if there was no route to it. What makes them is
+/// always inlined, because `Table::apply` doesn't need them: LLVM then leaves them out there.
+#[derive(Clone, Copy)]
+pub(crate) struct BestRoutes {
+    pub before: Option<Route>,
+    pub after: Option<Route>,
+}
 
 /// A map from prefixes to their offers: each prefix once, with at least one offer, its offers in order. Contracts see
 /// the trie that stores it.
@@ -86,70 +95,98 @@ impl<A: Allocator + Copy> OfferMap<A> {
         }
     }
 
-    /// Inserts the route unless its feed has one to its prefix; returns true if the feed already had one. Fails if
-    /// memory runs out; the feed then has no route to the prefix, and the map is unchanged.
-    pub(crate) fn put_in(&mut self, alloc: A, route: Route) -> Result<bool, Refused>
-        ensures had { IfOk result (λ had. had ≡ has route.feed route.prefix (routes_of self.old.pairs)) }
-        ensures kept { IfOk result (λ had. IsTrue had → self.new.pairs ≡ self.old.pairs) }
-        ensures more { IfOk result (λ had. had ≡ false → routes_of self.new.pairs ≡ put_in route (routes_of self.old.pairs)) }
+    /// Inserts the route unless its feed has one to its prefix; returns the best routes to the prefix before and after, or
+    /// `None` if the feed already had one. Fails if memory runs out; the feed then has no route to the prefix, and the map
+    /// is unchanged.
+    #[inline(always)]
+    pub(crate) fn put_in(&mut self, alloc: A, route: Route) -> Result<Option<BestRoutes>, Refused>
+        ensures had { IfOk result (λ best. is_none best ≡ has route.feed route.prefix (routes_of self.old.pairs)) }
+        ensures kept { IfOk result (λ best. IsNone best → self.new.pairs ≡ self.old.pairs) }
+        ensures more { IfOk result (λ best. IsSome best → routes_of self.new.pairs ≡ put_in route (routes_of self.old.pairs)) }
+        ensures best { IfOk result (λ best. IfSome best (AreBestRoutes route.prefix (routes_of self.old.pairs) (routes_of self.new.pairs))) }
         ensures refused { OnErr result (self.new ≡ self.old) }
         ensures wanted { OnErr result (has route.feed route.prefix (routes_of self.old.pairs) ≡ false) }
     {
         let offer = offer_of(&route);
         if let Some(offers) = self.trie.get_mut(route.prefix) {
             if offers.has(route.feed) {
-                return Ok(true);
+                return Ok(None);
             }
-            let before = offers.bytes();
+            let before = offers.best(route.prefix);
+            let bytes = offers.bytes();
             offers.put(alloc, offer)?;
-            let after = offers.bytes();
-            self.offer_bytes = self.offer_bytes.wrapping_add(after).wrapping_sub(before);
-            return Ok(false);
+            let after = offers.best(route.prefix);
+            let more = offers.bytes();
+            self.offer_bytes = self.offer_bytes.wrapping_add(more).wrapping_sub(bytes);
+            return Ok(Some(BestRoutes {
+                before: Some(before),
+                after: Some(after),
+            }));
         }
         match self.trie.insert(route.prefix, Offers::one(offer)) {
-            Ok(_) => Ok(false),
+            Ok(_) => Ok(Some(BestRoutes {
+                before: None,
+                after: Some(route),
+            })),
             Err(_) => Err(Refused),
         }
     }
 
-    /// Replaces the feed's route to the prefix by this one, if there is one; returns true if there is one. Doesn't
-    /// allocate.
-    pub(crate) fn replace(&mut self, route: Route) -> bool
-        ensures had { result ≡ has route.feed route.prefix (routes_of self.old.pairs) }
-        ensures replaced { IsTrue result → routes_of self.new.pairs
+    /// Replaces the feed's route to the prefix by this one; returns the best routes to the prefix before and after, or
+    /// `None` if the feed has no route to it. Doesn't allocate.
+    #[inline(always)]
+    pub(crate) fn replace(&mut self, route: Route) -> Option<BestRoutes>
+        ensures had { is_some result ≡ has route.feed route.prefix (routes_of self.old.pairs) }
+        ensures replaced { IsSome result → routes_of self.new.pairs
             ≡ put_in route (take_out route.feed route.prefix (routes_of self.old.pairs)) }
-        ensures kept { result ≡ false → self.new.pairs ≡ self.old.pairs }
+        ensures kept { IsNone result → self.new.pairs ≡ self.old.pairs }
+        ensures best { IfSome result (AreBestRoutes route.prefix (routes_of self.old.pairs) (routes_of self.new.pairs)) }
     {
         let offer = offer_of(&route);
         let Some(offers) = self.trie.get_mut(route.prefix) else {
-            return false;
+            return None;
         };
-        offers.replace(offer)
+        let before = offers.best(route.prefix);
+        if !offers.replace(offer) {
+            return None;
+        }
+        let after = offers.best(route.prefix);
+        Some(BestRoutes {
+            before: Some(before),
+            after: Some(after),
+        })
     }
 
-    /// Removes the feed's route to the prefix, if there is one; returns true if there was one. A prefix whose last offer
-    /// is removed is removed too. Doesn't allocate.
-    pub(crate) fn take_out(&mut self, feed: u32, prefix: Prefix) -> bool
-        ensures had { result ≡ has feed prefix (routes_of self.old.pairs) }
-        ensures gone { IsTrue result → routes_of self.new.pairs ≡ take_out feed prefix (routes_of self.old.pairs) }
-        ensures kept { result ≡ false → self.new.pairs ≡ self.old.pairs }
+    /// Removes the feed's route to the prefix; returns the best routes to the prefix before and after, or `None` if the
+    /// feed had no route to it. A prefix whose last offer is removed is removed too. Doesn't allocate.
+    #[inline(always)]
+    pub(crate) fn take_out(&mut self, feed: u32, prefix: Prefix) -> Option<BestRoutes>
+        ensures had { is_some result ≡ has feed prefix (routes_of self.old.pairs) }
+        ensures gone { IsSome result → routes_of self.new.pairs ≡ take_out feed prefix (routes_of self.old.pairs) }
+        ensures kept { IsNone result → self.new.pairs ≡ self.old.pairs }
+        ensures best { IfSome result (AreBestRoutes prefix (routes_of self.old.pairs) (routes_of self.new.pairs)) }
     {
-        let removal = match self.trie.get_mut(prefix) {
-            None => return false,
-            Some(offers) => {
-                let before = offers.bytes();
-                let removal = offers.take_out(feed);
-                let after = offers.bytes();
-                self.offer_bytes = self.offer_bytes.wrapping_add(after).wrapping_sub(before);
-                removal
-            }
+        let Some(offers) = self.trie.get_mut(prefix) else {
+            return None;
         };
+        let before = offers.best(prefix);
+        let bytes = offers.bytes();
+        let removal = offers.take_out(feed);
+        let after = offers.best(prefix);
+        let fewer = offers.bytes();
+        self.offer_bytes = self.offer_bytes.wrapping_add(fewer).wrapping_sub(bytes);
         match removal {
-            Removal::Missing => false,
-            Removal::Gone => true,
+            Removal::Missing => None,
+            Removal::Gone => Some(BestRoutes {
+                before: Some(before),
+                after: Some(after),
+            }),
             Removal::Last => {
                 self.trie.remove(prefix);
-                true
+                Some(BestRoutes {
+                    before: Some(before),
+                    after: None,
+                })
             }
         }
     }

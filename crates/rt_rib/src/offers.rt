@@ -1,5 +1,6 @@
 //! The offers of the feeds for a prefix, the best first. A single offer is the common case, and allocates nothing.
-ghost use Rattle.std.specs.Prelude.{◌≡◌, ◌<◌, ◌+◌, false, [], ◌∷◌, length, IsTrue, IsOk, IfOk, OnOk, OnErr, position, vec_len, vec_capacity};
+ghost use Rattle.std.specs.Prelude.{◌≡◌, ◌<◌, ◌+◌, false, [], ◌∷◌, length, IsTrue, IsOk, IfOk, OnOk, OnErr, Some, position, slice_get, vec_len, vec_capacity};
+ghost use Rattle.std.specs.Option.{option_map};
 ghost use Rattle.std.specs.List.{All, list_any};
 ghost use Rattle.rt_rib.specs.Maps.{outranks, route_by, offer_of, is_from, IsRanked, IsOffers};
 ghost use Rattle.rt_rib.specs.inside.Offers.{IsInsertionIndex, HasGained, HasSwapped, TakesOut, without};
@@ -103,6 +104,14 @@ impl<A: Allocator + Copy> Offers<A> {
             OneOrMany::One(offer) => std::slice::from_ref(offer),
             OneOrMany::Many(offers) => offers.as_slice(),
         }
+    }
+
+    /// Returns the route of the first offer for the prefix, which is the best.
+    #[inline(always)]
+    pub(crate) fn best(&self, prefix: Prefix) -> Route
+        ensures { Some result ≡ option_map (route_by prefix) (slice_get self.now 0) }
+    {
+        route_by(prefix, &self.as_slice()[0])
     }
 
     /// Returns the number of bytes that are allocated for them, also for those that a list only has room for. No clause

@@ -1,20 +1,21 @@
 //! The sequential table: its routes as offers in a map, the number of each feed's routes, and the replies to commands.
-ghost use Rattle.std.specs.Prelude.{◌≡◌, ◌-◌, ◌*◌, ◌^◌, ◌<◌, ◌≤◌, ◌↔◌, IsTrue, [], length, map, sum, IfOk, OnErr};
+ghost use Rattle.std.specs.Prelude.{◌≡◌, ◌-◌, ◌*◌, ◌^◌, ◌<◌, ◌≤◌, ◌↔◌, IsTrue, [], length, map, sum, IfOk, IfSome, OnErr, IsSome};
 ghost use Rattle.rt_rib.specs.declared.commands.Cmd.TheVariants.{Withdraw, Purge};
 ghost use Rattle.rt_rib.specs.declared.commands.Reply.TheVariants.{Added};
-ghost use Rattle.rt_rib.specs.Sequential.{reply_of, add_of, replace_of};
+ghost use Rattle.rt_rib.specs.Sequential.{reply_of, add_of, replace_of, changed_prefix};
 ghost use Rattle.rt_rib.specs.Places.{from_place};
 ghost use Rattle.rt_rib.specs.Table.{count_of, purge, IsTable};
 ghost use Rattle.rt_rib.specs.LookUp.{look_up, look_up_all};
 ghost use Rattle.rt_rib.specs.Book.{IsLimit, IsFeed, table_state, Serves, HoldsRoutes};
 ghost use Rattle.rt_rib.specs.Selection.{selected};
 ghost use Rattle.rt_rib.specs.Changes.{best_to, AreBestChanges};
+ghost use Rattle.rt_rib.specs.inside.Changes.{ReturnsBest};
 
 use crate::answers::LookupCursor;
 use crate::changes::{self, PurgeChanges};
 use crate::commands::{Cmd, Reply};
 use crate::limits::MAX_FEEDS;
-use crate::map::OfferMap;
+use crate::map::{BestRoutes, OfferMap};
 use crate::marks::FeedMarks;
 use crate::places::RoutesFrom;
 use crate::refused::Refused;
@@ -263,6 +264,35 @@ impl<A: Allocator + Copy> Table<A> {
         ensures wanted { OnErr result (reply_of self.old.limit self.old.routes feed cmd ≡ Added) }
     {
         match cmd {
+            Cmd::Add { .. } | Cmd::Replace { .. } | Cmd::Withdraw { .. } => {
+                let (reply, _) = self.change(feed, cmd)?;
+                Ok(reply)
+            }
+            Cmd::Lookup { addr } => Ok(match lookups::best_of(&self.map, addr) {
+                Some(route) => Reply::Found(route),
+                None => Reply::NoRoute,
+            }),
+            Cmd::Dump => Ok(Reply::Dumped(self.len())),
+            Cmd::Purge => Ok(self.purge(feed)),
+        }
+    }
+
+    /// Executes an `Add`, a `Replace` or a `Withdraw`. Returns the reply and, if a route has changed, the best routes to
+    /// its prefix before and after.
+    #[inline(always)]
+    pub(crate) fn change(
+        &mut self,
+        feed: u32,
+        cmd: Cmd,
+    ) -> Result<(Reply, Option<BestRoutes>), Refused>
+        requires feed { IsFeed feed }
+        requires prefix { IsSome (changed_prefix cmd) }
+        ensures ok { IfOk result (λ done. Serves (table_state self.old) (table_state self.new) feed cmd done.0) }
+        ensures best { IfSome (changed_prefix cmd) (λ p. IfOk result (λ done. ReturnsBest p self.old.routes self.new.routes done.1)) }
+        ensures err { OnErr result (self.new ≡ self.old) }
+        ensures wanted { OnErr result (reply_of self.old.limit self.old.routes feed cmd ≡ Added) }
+    {
+        match cmd {
             Cmd::Add { prefix, pref, hop } => self.add(Route {
                 prefix,
                 feed,
@@ -276,61 +306,63 @@ impl<A: Allocator + Copy> Table<A> {
                 hop,
             })),
             Cmd::Withdraw { prefix } => Ok(self.withdraw(feed, prefix)),
-            Cmd::Lookup { addr } => Ok(match lookups::best_of(&self.map, addr) {
-                Some(route) => Reply::Found(route),
-                None => Reply::NoRoute,
-            }),
-            Cmd::Dump => Ok(Reply::Dumped(self.len())),
-            Cmd::Purge => Ok(self.purge(feed)),
+            Cmd::Lookup { .. } | Cmd::Dump | Cmd::Purge => unreachable!(),
         }
     }
 
     /// Inserts the route, unless the feed has one to its prefix or as many as the limit allows.
-    fn add(&mut self, route: Route) -> Result<Reply, Refused>
+    #[inline(always)]
+    fn add(&mut self, route: Route) -> Result<(Reply, Option<BestRoutes>), Refused>
         requires { IsFeed route.feed }
-        ensures ok { IfOk result (λ reply. Serves (table_state self.old) (table_state self.new) route.feed (add_of route) reply) }
+        ensures ok { IfOk result (λ done. Serves (table_state self.old) (table_state self.new) route.feed (add_of route) done.0) }
+        ensures best { IfOk result (λ done. ReturnsBest route.prefix self.old.routes self.new.routes done.1) }
         ensures err { OnErr result (self.new ≡ self.old) }
         ensures wanted { OnErr result (reply_of self.old.limit self.old.routes route.feed (add_of route) ≡ Added) }
     {
         let own = (route.feed - 1) as usize;
         if self.counts[own] >= self.limit {
             if self.map.has(route.feed, route.prefix) {
-                return Ok(Reply::Exists);
+                return Ok((Reply::Exists, None));
             }
-            return Ok(Reply::Full);
+            return Ok((Reply::Full, None));
         }
         // Before the descent, so that the waits for memory overlap.
         self.marks.mark(route.feed, route.prefix);
-        if self.map.put_in(self.alloc, route)? {
-            return Ok(Reply::Exists);
-        }
+        let inserted = self.map.put_in(self.alloc, route)?;
+        let Some(best) = inserted else {
+            return Ok((Reply::Exists, None));
+        };
         self.counts[own] += 1;
         self.marks.make_if_large(self.alloc, &self.map);
-        Ok(Reply::Added)
+        Ok((Reply::Added, Some(best)))
     }
 
     /// Replaces the feed's route to this prefix, if it has one.
-    fn replace(&mut self, route: Route) -> Reply
+    #[inline(always)]
+    fn replace(&mut self, route: Route) -> (Reply, Option<BestRoutes>)
         requires { IsFeed route.feed }
-        ensures { Serves (table_state self.old) (table_state self.new) route.feed (replace_of route) result }
+        ensures served { Serves (table_state self.old) (table_state self.new) route.feed (replace_of route) result.0 }
+        ensures best { ReturnsBest route.prefix self.old.routes self.new.routes result.1 }
     {
-        if !self.map.replace(route) {
-            return Reply::Missing;
-        }
-        Reply::Replaced
+        let Some(best) = self.map.replace(route) else {
+            return (Reply::Missing, None);
+        };
+        (Reply::Replaced, Some(best))
     }
 
     /// Removes the feed's route to this prefix, if it has one.
-    fn withdraw(&mut self, feed: u32, prefix: Prefix) -> Reply
+    #[inline(always)]
+    fn withdraw(&mut self, feed: u32, prefix: Prefix) -> (Reply, Option<BestRoutes>)
         requires { IsFeed feed }
-        ensures { Serves (table_state self.old) (table_state self.new) feed (Withdraw prefix) result }
+        ensures served { Serves (table_state self.old) (table_state self.new) feed (Withdraw prefix) result.0 }
+        ensures best { ReturnsBest prefix self.old.routes self.new.routes result.1 }
     {
-        if !self.map.take_out(feed, prefix) {
-            return Reply::Missing;
-        }
+        let Some(best) = self.map.take_out(feed, prefix) else {
+            return (Reply::Missing, None);
+        };
         self.counts[(feed - 1) as usize] -= 1;
         self.marks.free_if_small(self.alloc, &self.map);
-        Reply::Withdrawn
+        (Reply::Withdrawn, Some(best))
     }
 
     /// Executes the feed's purge: removes all of its routes. If they are few, visits only the parts of the table where the

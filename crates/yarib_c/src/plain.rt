@@ -101,7 +101,7 @@ impl PlainTable {
             return Ok(reply);
         }
         commands_preserve_other_routes();
-        self.beside = followed(self.beside.take(), &self.table, &cmd);
+        follow(&mut self.beside, &self.table, &cmd);
         Ok(reply)
     }
 
@@ -121,13 +121,13 @@ impl PlainTable {
         ensures followed { IfOk result (λ done. self.old.is_followed ≡ true → SaysChange done.0 ⊎ (self.new.is_followed ≡ true)) }
     {
         self.table.holds();
-        let Some(prefix) = cmd.changed_prefix() else {
-            unreachable!()
-        };
-        let before = self.table.best_to(prefix);
-        let reply = self.apply(feed, cmd)?;
-        let after = self.table.best_to(prefix);
-        Ok((reply, BestChange::of(prefix, before, after)))
+        let (reply, change) = self.table.apply_changed(feed, cmd)?;
+        if !is_change(&reply) {
+            return Ok((reply, change));
+        }
+        commands_preserve_other_routes();
+        follow(&mut self.beside, &self.table, &cmd);
+        Ok((reply, change))
     }
 
     /// Executes a purge of the feed.
@@ -190,16 +190,16 @@ fn is_change(reply: &Reply) -> bool
     }
 }
 
-/// Returns the forwarding table after it has followed the command that the table has answered. Returns nothing if there was no
-/// forwarding table, or if memory ran out.
-fn followed(beside: Option<Fib<Global>>, table: &Table<Global>, cmd: &Cmd) -> Option<Fib<Global>>
-    requires { FibMayFollow cmd.now beside table.now.routes }
-    ensures { FibHasRoutes result table.now.routes }
+/// Makes the forwarding table, if there is one, follow the command that the table has answered. Drops it if memory ran out.
+fn follow(beside: &mut Option<Fib<Global>>, table: &Table<Global>, cmd: &Cmd)
+    requires { FibMayFollow cmd.now beside.old table.now.routes }
+    ensures { FibHasRoutes beside.new table.now.routes }
 {
-    let mut fib = beside?;
-    match fib.follow(table, cmd) {
-        Ok(()) => Some(fib),
-        Err(_) => None,
+    let Some(fib) = beside else {
+        return;
+    };
+    if fib.follow(table, cmd).is_err() {
+        *beside = None;
     }
 }
 

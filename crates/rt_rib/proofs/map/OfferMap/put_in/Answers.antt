@@ -2,6 +2,8 @@ use Rattle.std.proofs.Common.{sym, ap, ◌∙◌, refl}
 use Rattle.rt_rib.specs.Maps.{is_from, Map, offer_of}
 use Rattle.rt_rib.proofs.Lists.{list_any-none}
 use Rattle.rt_rib.proofs.MapChanges.{none_had, is_had, more, unchanged, first_added, IsMap-put, IsOffers-one, err_from}
+use Rattle.rt_rib.proofs.BestAfter.{best_there, best_put}
+use Rattle.rt_rib.proofs.BestTo.{best_none}
 use Rattle.rt_rib.proofs.map.OfferMap.put_in.Goals as goal
 
 pub put-requires : goal.put-requires
@@ -19,7 +21,7 @@ returns-then-has-clause-had g c =
     (sym (is_had c.self.invariant c.args.route.prefix c.in-Some.ensures.value c.args.route.feed ∙ sym c.has.ensures ∙ c.if-has.true))
 
 pub returns-then-has-clause-kept : goal.returns-then-has-clause-kept
-returns-then-has-clause-kept g c = λ yes. rw (← c.self.view_is) (unchanged c.self.invariant c.args.route.prefix c.in-Some.ensures.value refl)
+returns-then-has-clause-kept g c = λ none. rw (← c.self.view_is) (unchanged c.self.invariant c.args.route.prefix c.in-Some.ensures.value refl)
 
 pub returns-then-has-clause-refused : goal.returns-then-has-clause-refused
 returns-then-has-clause-refused g c = tt
@@ -62,6 +64,13 @@ returns-in-Some-clause-more g c =
     (is_had c.self.invariant c.args.route.prefix c.in-Some.ensures.value c.args.route.feed ∙ sym c.has.ensures ∙ c.if-has.false)
     (rw c.offer_of-offer.ensures at c.in_ok-put.ensures.ok))
 
+pub returns-in-Some-clause-best : goal.returns-in-Some-clause-best
+returns-in-Some-clause-best g c =
+    rw (← c.self.view_is) (record {
+      before = best_there c.self.invariant c.args.route.prefix c.in-Some.ensures.value c.best-before.result c.best-before.ensures;
+      after = best_put c.self.invariant c.args.route.prefix c.put.ensures.lawful c.best-after.result c.best-after.ensures;
+    })
+
 -- the first offer for the prefix
 pub invariant_of-self-in-Ok : goal.invariant_of-self-in-Ok
 invariant_of-self-in-Ok g c =
@@ -78,6 +87,13 @@ returns-in-Ok-clause-more g c =
     λ fresh.
     rw (← c.self.view_is, c.in-Ok.ensures.put, c.one.ensures, c.offer_of-offer.ensures)
     (first_added c.self.inside.trie.pairs c.self.invariant c.args.route.prefix (offer_of c.args.route) c.in_default.ensures.value)
+
+pub returns-in-Ok-clause-best : goal.returns-in-Ok-clause-best
+returns-in-Ok-clause-best g c =
+    rw (← c.self.view_is, c.in-Ok.ensures.put, c.one.ensures, c.offer_of-offer.ensures) (record {
+      before = best_none c.self.inside.trie.pairs c.self.invariant c.args.route.prefix c.in_default.ensures.value;
+      after = best_put c.self.invariant c.args.route.prefix (IsOffers-one (offer_of c.args.route)) c.args.route refl;
+    })
 
 pub returns-clause-wanted : goal.returns-clause-wanted
 returns-clause-wanted g c =

@@ -15,6 +15,3 @@ returns-after-best_of-clause-ok g c =
 
 pub returns-in-Dump-clause-ok : goal.returns-in-Dump-clause-ok
 returns-in-Dump-clause-ok g c = rw (c.in-Dump.is, c.len.ensures) (dumped c.args.self.now.limit c.args.self.now.routes c.args.feed)
-
-pub returns-in-Withdraw-clause-wanted : goal.returns-in-Withdraw-clause-wanted
-returns-in-Withdraw-clause-wanted g c = tt

@@ -1,4 +1,4 @@
-use Rattle.std.proofs.Common.{refl, sym}
+use Rattle.std.proofs.Common.{refl, sym, ap}
 use Rattle.rt_rib.specs.Maps.{routes_of}
 use Rattle.rt_rib.proofs.TableChanges.{kept_counted, kept_serves, replaced_counted}
 use Rattle.rt_rib.proofs.CommandCases.{unreplaced, replaced}
@@ -6,20 +6,26 @@ use Rattle.rt_rib.proofs.table.Table.replace.Goals as goal
 
 pub invariant_of-self : goal.invariant_of-self
 invariant_of-self g c =
-    kept_counted c.self.inside.limit c.self.inside.counts c.self.inside.map.pairs c.replace.new.self.pairs c.self.invariant (c.if-not-replace.ensures.kept refl)
+    kept_counted c.self.inside.limit c.self.inside.counts c.self.inside.map.pairs c.replace.new.self.pairs c.self.invariant (c.in_default.ensures.kept refl)
 
-pub returns-then-not-replace : goal.returns-then-not-replace
-returns-then-not-replace g c = rw (← c.self.view_is)
-    (kept_serves c.self.inside.limit c.self.inside.map.pairs c.replace.new.self.pairs _ _ _ (c.if-not-replace.ensures.kept refl)
-    (unreplaced c.self.inside.limit (routes_of c.self.inside.map.pairs) c.args.route (sym c.if-not-replace.ensures.had)))
+pub returns-in_default-clause-served : goal.returns-in_default-clause-served
+returns-in_default-clause-served g c = rw (← c.self.view_is)
+    (kept_serves c.self.inside.limit c.self.inside.map.pairs c.replace.new.self.pairs _ _ _ (c.in_default.ensures.kept refl)
+    (unreplaced c.self.inside.limit (routes_of c.self.inside.map.pairs) c.args.route (sym c.in_default.ensures.had)))
+
+pub returns-in_default-clause-best : goal.returns-in_default-clause-best
+returns-in_default-clause-best g c = rw (← c.self.view_is) (ap routes_of (c.in_default.ensures.kept refl))
 
 pub invariant_of-self-2 : goal.invariant_of-self-2
 invariant_of-self-2 g c =
     replaced_counted c.self.inside.limit c.self.inside.counts c.self.inside.map.pairs c.self.invariant c.self.told
-    c.args.route (sym c.if-not-replace.ensures.had) c.replace.new.self.pairs (c.if-not-replace.ensures.replaced refl)
+    c.args.route (sym c.in-Some.ensures.had) c.replace.new.self.pairs (c.in-Some.ensures.replaced refl)
 
-pub returns : goal.returns
-returns g c =
+pub returns-clause-served : goal.returns-clause-served
+returns-clause-served g c =
     rw (← c.self.view_is)
-    (replaced c.self.inside.limit (routes_of c.self.inside.map.pairs) c.args.route (sym c.if-not-replace.ensures.had) (routes_of c.replace.new.self.pairs)
-    (c.if-not-replace.ensures.replaced refl))
+    (replaced c.self.inside.limit (routes_of c.self.inside.map.pairs) c.args.route (sym c.in-Some.ensures.had) (routes_of c.replace.new.self.pairs)
+    (c.in-Some.ensures.replaced refl))
+
+pub returns-clause-best : goal.returns-clause-best
+returns-clause-best g c = rw (← c.self.view_is) c.in-Some.ensures.best

@@ -7,6 +7,6 @@ pub each-preserved : goal.each-preserved
 each-preserved g c =
     let v = c.each.invariant in
     record {
-      limit = ap (λ (s : TableState). s.limit) c.withdraw.ensures.changed ∙ v.limit;
-      rest = withdrawn_rest (table_state c.each.self) (table_state c.withdraw.new.self) c.args.feed c.in-Some.prefix _ c.withdraw.ensures ∙ v.rest;
+      limit = ap (λ (s : TableState). s.limit) c.withdraw.ensures.served.changed ∙ v.limit;
+      rest = withdrawn_rest (table_state c.each.self) (table_state c.withdraw.new.self) c.args.feed c.in-Some.prefix _ c.withdraw.ensures.served ∙ v.rest;
     }

@@ -9,12 +9,12 @@ use Rattle.yarib_c.proofs.AnsweredCommands.{no_change}
 use Rattle.yarib_c.proofs.AttachedFib.{may_follow}
 use Rattle.yarib_c.proofs.plain.PlainTable.change.Goals as goal
 
-pub followed-requires : goal.followed-requires
-followed-requires c =
+pub follow-requires : goal.follow-requires
+follow-requires c =
     let old = c.self.inside.table in
     let new = c.apply.new.self in
     let keeps = c.commands_preserve_other_routes.ensures (table_state old) (table_state new) c.args.feed c.args.cmd c.in_ok-reply.reply c.in_ok-reply.ensures.ok in
-    rw c.take.ensures.value (may_follow c.args.cmd c.self.inside.beside old.routes new.routes c.holds.ensures.once c.self.invariant keeps)
+    may_follow c.args.cmd c.self.inside.beside old.routes new.routes c.holds.ensures.once c.self.invariant keeps
 
 pub invariant_of-self-then-not-is_change : goal.invariant_of-self-then-not-is_change
 invariant_of-self-then-not-is_change c =
