@@ -307,7 +307,7 @@ class Place:
 class Listing(feeds.Entries):
     """A listing. An entry is read as the parts of `USUAL` or `PLAIN`."""
 
-    def read(self, text):
+    def read(self, text, _number):
         return (USUAL if PATH_OF_BIRD_2 in text else PLAIN).findall(f"{text}\n")
 
 

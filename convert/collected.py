@@ -21,6 +21,8 @@ UNCHANGED = {
 UNSET = " 0 "
 # the bits of an address with its version, of an AS, and of a number
 PLACE_BITS = 136 + 64 + 32
+# the number of a peer's keys of merits that wait: few of them take less memory as they are than together
+MOST_KEYS = 1024
 # the next hop of a route without one, as bgpdump prints it
 NO_HOP = "255.255.255.255"
 
@@ -72,7 +74,7 @@ class Peer:
         self.internal, self.identifier = internal, identifier
         self.order = self.order_of(identifier, 0)
         # a line has two of them
-        self.add_part = parts.append
+        self.parts, self.add_part = parts, parts.append
         # the keys of the merits of dumped routes' lines: the last ones, and those before
         self.keys, self.merits = [], Merits()
         self.add_key = self.keys.append
@@ -201,13 +203,13 @@ class Converter:
             raise twice(text)
         self.prefix = prefix
 
-    def begin_at(self, place, text):
-        """The same for a prefix whose place is known."""
+    def begin_each(self, places, texts):
+        """The same for several prefixes whose places are known."""
         if self.group:
             self.end_group()
-        if not self.met.add_at(*place):
-            raise twice(text)
-        self.text = self.prefix = text
+        if (number := self.met.first_met(places)) is not None:
+            raise twice(texts[number])
+        self.text = self.prefix = texts[-1]
 
     def begins(self, text):
         """Begins the routes to a prefix, if they weren't begun; returns False if it isn't one of IPv4."""
@@ -241,7 +243,8 @@ class Converter:
     def after_block(self):
         """Keeps and writes what waits, if that is much."""
         for peer in self.peers.values():
-            peer.settle()
+            if len(peer.keys) >= MOST_KEYS:
+                peer.settle()
         self.files.flush_many()
 
     def end_piece(self):
@@ -270,6 +273,8 @@ class Converter:
         for key, announced, merits in peers:
             peer = self.peers.get(key) or self.peer(key)
             peer.announced = peer.announced or announced
+            # its lines before these
+            peer.settle()
             peer.merits.join(merits)
         self.files.join(texts)
         self.notes.join(counted)
@@ -415,17 +420,18 @@ def convert(arguments, given, take, is_in_pieces=False):
         converter = Converter(arguments, notes, files, feeds.Prefixes())
         given.after_block = converter.after_block
         if is_in_pieces:
-            work = functools.partial(of_piece, arguments, given.read, take)
+            work = functools.partial(of_piece, arguments, given, take)
             feeds.read_ahead(given, converter.state, work, converter.join, files)
         with given.named():
             take(given.by_block() if is_in_pieces else given, converter)
         return converter.finish()
 
 
-def of_piece(arguments, read, take, data, _state):
+def of_piece(arguments, given, take, data, _state):
     """What is in a piece of a dump."""
-    converter, text = Converter(arguments, feeds.Notes(), feeds.Gathered(arguments), feeds.Prefixes()), feeds.text_of(data)
-    take([feeds.Block(text, read(text), ends=True)], converter)
+    converter = Converter(arguments, feeds.Notes(), feeds.Gathered(arguments), feeds.Prefixes())
+    parts = given.parts(data, ends=True)
+    take((feeds.Block(text, given.read(text, text.count("\n") + 1), ends) for text, ends in parts), converter)
     return converter.gathered()
 
 

@@ -13,6 +13,7 @@ import re
 import shlex
 import signal
 import stat
+import struct
 import sys
 import typing
 from socket import AF_INET, inet_pton
@@ -41,7 +42,9 @@ FURTHER_HOPS = "further next hops of multipath routes"
 MULTIPATH = ("prefixes have a route with several next hops, and the feeds have the heaviest, which is the first of equal ones: "
              "use --all-hops for a feed of each further one, or accept this with --one-hop")
 BLOCK = 1 << 20
-# how much of the input a process converts at once, how many such pieces are read ahead for each process, and the number of
+# lines are converted in parts of this size, which a processor's cache holds with what is made of them
+PART = 1 << 17
+# how much of the input a process is given at once, how many such pieces are read ahead for each process, and the number of
 # processes, 0 for as many as there are processors
 PIECE, AHEAD, PROCESSES = 1 << 20, 2, 0
 # is read between two entries if the second one doesn't depend on what came before
@@ -339,8 +342,8 @@ class Lines(Input):
         """The texts of the entries."""
         return text.split("\n")
 
-    def read(self, text):
-        """The entries as the converter takes them, as many as there are texts."""
+    def read(self, text, number):
+        """The entries of this number of lines as the converter takes them, as many as there are texts."""
         return self.split(text)
 
     def last_cut(self, data, size):
@@ -357,7 +360,11 @@ class Lines(Input):
             if piece.is_last:
                 yield from self.texts_of([piece.data])
             else:
-                yield text_of(piece.data), piece.ends
+                yield from self.parts(piece.data, piece.ends)
+
+    def parts(self, data, ends):
+        """The texts of whole entries, in parts if this kind of input is faster so. The second value is True if a boundary follows."""
+        yield text_of(data), ends
 
     def texts_of(self, blocks):
         rest = b""
@@ -366,8 +373,8 @@ class Lines(Input):
             rest += data
             end = self.last_end(rest, begin)
             if end >= 0:
-                yield text_of(rest[: end + 1]), False
-                rest = rest[end + 1 :]
+                whole, rest = rest[: end + 1], rest[end + 1 :]
+                yield from self.parts(whole, False)
             self.refuse_long(rest, self.lines)
         if rest:
             self.refuse_cut(rest)
@@ -390,7 +397,7 @@ class Lines(Input):
         for text, ends in self.texts():
             self.before = self.lines
             self.lines += text.count("\n") + 1
-            self.block = Block(text, self.read(text), ends)
+            self.block = Block(text, self.read(text, self.lines - self.before), ends)
             yield self.block
             self.after_block()
 
@@ -940,7 +947,9 @@ class FeedFiles(Gathered):
         self.counts += [0] * (len(self.waiting) - len(self.counts))
         places = {source: place for place, source in enumerate(self.waiting)}
         for source, number, text in texts:
-            self.texts.setdefault(source, []).append(text)
+            # a source without lines has no file
+            if text:
+                self.texts.setdefault(source, []).append(text)
             self.counts[places[source]] += number
             self.taken += number
         self.sought |= sought
@@ -1061,6 +1070,18 @@ def place_of(text):
     return None if number & past else (level | number >> behind_key, BITS[first | number >> behind & mask])
 
 
+def places_of(texts):
+    """The places of texts, which are found faster together."""
+    try:
+        parts = [text.split("/") for text in texts]
+        numbers = struct.unpack(f">{len(texts)}I", b"".join([inet_pton(AF_INET, address) for address, _ in parts]))
+        levels = [LEVELS[length] for _, length in parts]
+    except (OSError, ValueError, KeyError):
+        return list(map(place_of, texts))
+    return [None if number & past else (level | number >> behind_key, BITS[first | number >> behind & mask])
+            for number, (level, behind_key, behind, first, mask, past) in zip(numbers, levels)]
+
+
 class Prefixes:
     """The prefixes of a table, in little memory: those that share the bits before their last eight are one number, with a bit
     for each. Prefixes that aren't IPv4 are kept as they are."""
@@ -1090,6 +1111,16 @@ class Prefixes:
         before = self.bits.get(key, 0)
         self.bits[key] = before | bit
         return before & bit == 0
+
+    def first_met(self, places):
+        """Adds prefixes at these places, up to the first one that is there already; returns its number, or None."""
+        bits = self.bits
+        for number, (key, bit) in enumerate(places):
+            before = bits.get(key, 0)
+            if before & bit:
+                return number
+            bits[key] = before | bit
+        return None
 
     def kept(self):
         """The prefixes, for `join`."""

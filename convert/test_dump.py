@@ -99,6 +99,16 @@ def check_names(made):
     check_same(made, "names", "", "".join(lines).encode(), 1500, 1 << 20)
 
 
+def check_no_lines(made):
+    """Peers whose routes are all omitted leave no file, whoever converts them."""
+    form = "TABLE_DUMP2|0|B|192.0.2.{0}|6500{0}|10.0.{1}.0/24|6500{0}|IGP|192.0.2.{0}|0|0||NAG||\n"
+    data = "".join(form.format(peer, number) for number in range(100) for peer in (1, 2)).encode()
+    for kind, constant in (("one process", constants(1 << 20, 1, 1 << 20)), ("several", constants(1500, 3, 1 << 20))):
+        folder = made / f"no lines of {kind}"
+        expect(kind, run_here("bgpdump-to-feeds --local-as 65001", data, folder, constants=constant)[0], 0)
+        expect(f"the files of {kind}", sorted(file.name for file in folder.iterdir()), [".written", "192.0.2.2.feed"])
+
+
 def check_merits(_):
     """The keys of merits are kept as they are, whatever they are."""
     draw = random.Random(942)
@@ -121,4 +131,5 @@ def check(made):
     check_drawn(folder)
     check_many(folder)
     check_names(folder)
+    check_no_lines(folder)
     check_merits(folder)
