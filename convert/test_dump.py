@@ -21,6 +21,7 @@ WRONG = ("none of bgpdump's\n", "TABLE_DUMP2|0|B|192.0.2.1|65001|10.0.0.0/33|650
          "TABLE_DUMP2|0|B|192.0.2.1|65001|10.0.0.0/8|65001|IGP|none|0|0||NAG||\n",
          "TABLE_DUMP2|0|B|192.0.2.1|65001|10.0.0.0/8|65001|IGP|192.0.2.1|0|x||NAG||\n",
          "TABLE_DUMP2|0|B|192.0.2.1|65001|10.0.0.0/8|65001|IGP|192.0.2.1|0|4294967296||NAG||\n", "TABLE_DUMP2|0|B|192.0.2.1|65001\n")
+SETS = (*[""] * 99, " {65007,65008}")
 UPDATES = ("BGP4MP|1795441790|W|192.0.2.1|65001|{prefix}\n", "BGP4MP|1795441790|STATE|192.0.2.1|65001|6|1\n",
            "BGP4MP|1795441791|A|192.0.2.2|65002|{prefix}|65002 65009|IGP|192.0.2.2|0|0||NAG||\n")
 
@@ -91,6 +92,17 @@ def check_many(made):
     check_same(made, "peers", "--merge 8", peers.encode(), 40000, 1 << 20)
 
 
+def check_values(made):
+    """More different merits in a part of the input than there are bytes, greater ones, and both; with sets in some paths."""
+    draw = random.Random(943)
+    for name, preferences, longest in (("preferences", 200, 1), ("paths", 1, 30), ("long paths", 1, 62), ("longest paths", 1, 90), ("both", 9, 90)):
+        lines = [LINE.format(kind="TABLE_DUMP2", time=0, peer=f"{address}|{system}", prefix=f"10.{number // 256}.{number % 256}.0/24",
+                             path=" ".join([system] * draw.randrange(1, longest + 1)) + draw.choice(SETS), origin="IGP", hop="192.0.2.1",
+                             local_pref=draw.randrange(100, 100 + preferences), med=draw.randrange(3))
+                 for number in range(200) for address, system in PEERS if draw.random() < 0.98]
+        check_same(made, name, "", "".join(lines).encode(), 40000, 1 << 20)
+
+
 def check_names(made):
     """A peer without routes of IPv4 makes no difference to the name of another with its address."""
     form = "TABLE_DUMP2|0|B|192.0.2.1|{}|{}|65001|IGP|192.0.2.1|0|0||NAG||\n"
@@ -130,6 +142,7 @@ def check(made):
     folder.mkdir()
     check_drawn(folder)
     check_many(folder)
+    check_values(folder)
     check_names(folder)
     check_no_lines(folder)
     check_merits(folder)
