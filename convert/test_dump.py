@@ -103,6 +103,13 @@ def check_values(made):
         check_same(made, name, "", "".join(lines).encode(), 40000, 1 << 20)
 
 
+def check_again(made):
+    """The same lines once more, right after a prefix's and later."""
+    form = "TABLE_DUMP2|0|B|192.0.2.{0}|6500{0}|10.0.{1}.0/24|6500{0}|IGP|192.0.2.{0}|0|0||NAG||\n"
+    for name, numbers in (("at once", (0, 1, 1, 2)), ("later", (0, 1, 2, 1))):
+        check_same(made, name, "", "".join(form.format(peer, number) for number in numbers for peer in (1, 2)).encode(), 40000, 1 << 20)
+
+
 def check_names(made):
     """A peer without routes of IPv4 makes no difference to the name of another with its address."""
     form = "TABLE_DUMP2|0|B|192.0.2.1|{}|{}|65001|IGP|192.0.2.1|0|0||NAG||\n"
@@ -143,6 +150,7 @@ def check(made):
     check_drawn(folder)
     check_many(folder)
     check_values(folder)
+    check_again(folder)
     check_names(folder)
     check_no_lines(folder)
     check_merits(folder)
