@@ -21,6 +21,8 @@ HEADER = struct.Struct("QQ")
 STANDARD_ERROR = 2
 # how much is written or read at once; a pipe holds as much, if the system can set its size
 BLOCK = 1 << 20
+# the signals that a process would report, which only the first one does
+REPORTED = (signal.SIGTERM, signal.SIGHUP, signal.SIGINT, signal.SIGALRM)
 # how long this process waits for one that neither takes nor gives anything: this number of times these milliseconds
 TIMES, WAIT = 10, 1000
 # the control group of this process, and the directory of control groups
@@ -107,7 +109,7 @@ class Worker:
             if min(ends) <= STANDARD_ERROR:
                 raise OSError("standard descriptors are closed")
             os.set_blocking(self.requests, False)
-            self.process = os.fork()
+            self.process = fork()
         except OSError:
             self.close(*ends)
             raise
@@ -170,11 +172,21 @@ class Worker:
             self.answer(b"")
 
 
+def fork():
+    """Makes a process that signals end without a message, from its first instruction on."""
+    before = signal.pthread_sigmask(signal.SIG_BLOCK, REPORTED)
+    try:
+        process = os.fork()
+        for number in () if process else REPORTED:
+            if signal.getsignal(number) != signal.SIG_IGN:
+                signal.signal(number, signal.SIG_DFL)
+    finally:
+        signal.pthread_sigmask(signal.SIG_SETMASK, before)
+    return process
+
+
 def serve(requests, results, work):
     """Converts pieces until no more come. Whatever goes wrong, the other process converts the piece again."""
-    for number in (signal.SIGTERM, signal.SIGHUP, signal.SIGINT, signal.SIGALRM):
-        if signal.getsignal(number) != signal.SIG_IGN:
-            signal.signal(number, signal.SIG_DFL)
     # only the other process reads the input, and reports
     with contextlib.suppress(OSError):
         nothing = os.open(os.devnull, os.O_RDWR)
