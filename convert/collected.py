@@ -431,7 +431,7 @@ def of_piece(arguments, given, take, data, _state):
     """What is in a piece of a dump."""
     converter = Converter(arguments, feeds.Notes(), feeds.Gathered(arguments), feeds.Prefixes())
     parts = given.parts(data, ends=True)
-    take((feeds.Block(text, given.read(text, text.count("\n") + 1), ends) for text, ends in parts), converter)
+    take((feeds.Block(text, given.read(text, feeds.line_ends(text.encode()) + 1), ends) for text, ends in parts), converter)
     return converter.gathered()
 
 

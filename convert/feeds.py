@@ -62,10 +62,8 @@ MEMBER = re.compile(rb',\s*"\d+\.\d+\.\d+\.\d+/\d+"\s*:\s*[\[{]')
 MOST_KNOWN = 16384
 # why FRR doesn't use a path that is valid
 SET_ASIDE = frozenset(("damped", "history", "removed"))
-# the number of lines that are kept before they are written
-MOST_WAITING = 200000
-# the number of texts that other processes made and that are kept before they are written, each of some 40,000 bytes
-MOST_TEXTS = 300
+# the number of lines that wait before they become a text of each source, and the size of these before they are written
+MOST_WAITING, MOST_TEXT = 20000, 1 << 23
 # how a text begins whose encoding is marked
 MARKED = {b"\xef\xbb\xbf": "UTF-8", b"\xff\xfe": "UTF-16", b"\xfe\xff": "UTF-16"}
 # how a compressed file begins, and what reads it
@@ -289,7 +287,7 @@ class Input:
                 if cut <= 0:
                     self.refuse_long(rest, lines)
                     break
-                piece = pieces.Piece(rest[:cut], rest.count(b"\n", 0, cut), begins, ends)
+                piece = pieces.Piece(rest[:cut], line_ends(rest[:cut]), begins, ends)
                 yield piece
                 rest, lines, begins = rest[cut:], lines + piece.lines, ends
         yield pieces.Piece(rest, rest.count(b"\n"), begins, False, is_last=True)
@@ -396,7 +394,7 @@ class Lines(Input):
         """The entries in blocks."""
         for text, ends in self.texts():
             self.before = self.lines
-            self.lines += text.count("\n") + 1
+            self.lines += line_ends(text.encode()) + 1
             self.block = Block(text, self.read(text, self.lines - self.before), ends)
             yield self.block
             self.after_block()
@@ -446,6 +444,11 @@ class Entries(Lines):
 
 def decoded(data):
     return data.decode("utf-8", errors="replace")
+
+
+def line_ends(data):
+    """The number of line ends. Leaving them out takes a third of the time that counting them does."""
+    return len(data) - len(data.replace(b"\n", b""))
 
 
 def text_of(data):
@@ -898,8 +901,8 @@ class FeedFiles(Gathered):
         if self.has_all_hops and arguments.by != "rank":
             raise Refused("--all-hops ranks the next hops of a route: leave out --by")
         self.arguments, self.folder = arguments, Folder(arguments.folder, NAME)
-        # the texts of each source that aren't written yet
-        self.texts = {}
+        # the texts of each source that aren't written yet, and their size
+        self.texts, self.size = {}, 0
         self.taken = 0
         PROGRESS.files = self
 
@@ -911,8 +914,10 @@ class FeedFiles(Gathered):
         self.folder.__exit__()
 
     def flush_many(self):
-        """Writes what waits, if that is much."""
-        if sum(map(len, self.waiting.values())) > 2 * MOST_WAITING or sum(map(len, self.texts.values())) > MOST_TEXTS:
+        """Makes texts of what waits, and writes them, if that is much."""
+        if sum(map(len, self.waiting.values())) > 2 * MOST_WAITING:
+            self.settle()
+        if self.size > MOST_TEXT:
             self.flush()
 
     def settle(self):
@@ -920,10 +925,15 @@ class FeedFiles(Gathered):
         self.counts += [0] * (len(self.waiting) - len(self.counts))
         for number, (source, parts) in enumerate(self.waiting.items()):
             if parts:
-                self.texts.setdefault(source, []).append("".join(parts))
+                self.keep(source, "".join(parts))
                 self.taken += len(parts) // 2
                 self.counts[number] += len(parts) // 2
                 parts.clear()
+
+    def keep(self, source, text):
+        """Keeps a text of a source until it is written."""
+        self.texts.setdefault(source, []).append(text)
+        self.size += len(text)
 
     def flush(self):
         """Writes what waits."""
@@ -933,6 +943,7 @@ class FeedFiles(Gathered):
             with self.folder.directory.open(numbers[source], "a") as file:
                 file.writelines(texts)
         self.texts.clear()
+        self.size = 0
 
     def join(self, gathered):
         """Adds the lines of a later part of the input."""
@@ -949,7 +960,7 @@ class FeedFiles(Gathered):
         for source, number, text in texts:
             # a source without lines has no file
             if text:
-                self.texts.setdefault(source, []).append(text)
+                self.keep(source, text)
             self.counts[places[source]] += number
             self.taken += number
         self.sought |= sought

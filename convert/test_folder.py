@@ -113,7 +113,7 @@ def check_root(made):
 
 def started(folder):
     """A converter that has written some lines and waits for more."""
-    command = [*words("bgpdump-to-feeds", "BLOCK, MOST_WAITING = 64, 0"), folder]
+    command = [*words("bgpdump-to-feeds", "BLOCK, MOST_WAITING, MOST_TEXT = 64, 0, 0"), folder]
     process = subprocess.Popen(command, stdin=subprocess.PIPE, stderr=subprocess.PIPE, preexec_fn=heed_signals)
     process.stdin.write(DUMP + DUMP.replace(b"10.0.0.0/8", b"10.1.0.0/16"))
     process.stdin.flush()

@@ -150,9 +150,9 @@ def check_names(made):
 
 def check_many(made):
     """No line is lost if there are many, or many peers: neither between two blocks nor between two writes."""
-    few = "BLOCK, MOST_WAITING = 4096, 50"
+    few = "BLOCK, MOST_WAITING, MOST_TEXT = 4096, 50, 1000"
     for name, peers, each, constants in (
-        ("lines", 1, 310000, "MOST_WAITING = 20000"), ("blocks", 3, 700, few), ("peers", 2100, 1, few),
+        ("lines", 1, 310000, "MOST_WAITING, MOST_TEXT = 2000, 100000"), ("blocks", 3, 700, few), ("peers", 2100, 1, few),
         ("more peers than files", MAX_FEED_FILES + 6, 30, few),
     ):
         folder = made / f"many-{name}"
