@@ -24,7 +24,7 @@ OF_BGP = re.compile(r"\) \[(?:AS\d+)?[ie?]\]$")
 UNUSED = re.compile(rf"\n\t(?:{BGP}(?!next_hop: |origin: |local_pref: |originator_id: |cluster_list: |aigp: ).*|Internal .*|\t.+)")
 # The first line of a route as most are: the prefix, kind and source, the peer if it isn't the next hop, and what follows the time,
 # which has 12 or 10 characters. The AS of a path's origin isn't used, and may be the only difference between two routes.
-USUAL_FIRST = r"(\S*+) ++(unicast \[\S++) (?:.{12}|.{10})( from [^]\n]++)?+(\][^)\n]*+\))(?: \[[^]\n]*+\])?+"
+USUAL_FIRST = r"(\S*+) ++(unicast \[\S++) (?:.{12}|.{10})( from [^]\n]++)?+(\][^)\n]*+\))(?: \[.*+)?+"
 # its next hop
 USUAL_HOP = r"\n\tvia .*+"
 # any other entry

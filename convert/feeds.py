@@ -178,15 +178,15 @@ class Notes:
         """What was counted, for `join`."""
         return self.left_out, self.told, self.differs, self.choices.counted()
 
-    def join(self, counted):
-        """Adds what was counted in a later part of the input."""
+    def join(self, counted, times=1):
+        """Adds what was counted in a later part of the input, so many times."""
         left_out, told, differs, choices = counted
         for name, number in left_out.items():
-            self.leave_out(name, number, differs)
+            self.leave_out(name, times * number, differs)
         for name, number in told.items():
-            self.tell(name, number, differs)
+            self.tell(name, times * number, differs)
         self.differs = self.differs or differs
-        self.choices.join(choices)
+        self.choices.join(choices, times)
 
     def may_differ(self):
         """Returns True if some addresses may get another answer than from the daemon."""
@@ -422,6 +422,14 @@ class Lines(Input):
 
 class Entries(Lines):
     """The lines of standard input that don't begin with a tab, each with the following lines that do."""
+
+    def parts(self, data, ends):
+        """Parts that fit into a processor's cache with what is made of them."""
+        begin = 0
+        while len(data) - begin > PART and (end := self.last_end(data[begin : begin + PART], 0) + 1):
+            yield text_of(data[begin : begin + end]), False
+            begin += end
+        yield text_of(data[begin:]), ends
 
     def last_end(self, data, begin):
         end = len(data)

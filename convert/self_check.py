@@ -22,12 +22,12 @@ class SelfCheck:
         """The numbers, for `join`."""
         return self.ranked, self.other, self.by_age
 
-    def join(self, counted):
-        """Adds the numbers of a later part of the input."""
+    def join(self, counted, times=1):
+        """Adds the numbers of a later part of the input, so many times."""
         ranked, other, by_age = counted
-        self.ranked += ranked
-        self.other += other
-        self.by_age += by_age
+        self.ranked += times * ranked
+        self.other += times * other
+        self.by_age += times * by_age
 
     def differs(self):
         """Returns True if age can't be the reason for some prefix."""
