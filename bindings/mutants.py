@@ -148,6 +148,10 @@ PYTHON = {
     "the routes of a change are exchanged": (TABLES, "route_of(*routes[:6]), route_of(*routes[6:]))\n\n\ndef outcome",
                                              "route_of(*routes[6:]), route_of(*routes[:6]))\n\n\ndef outcome"),
     "no change is a change": (TABLES, "found if found.before or found.after else None", "found"),
+    "a count of discarded routes is a router's": (TABLES, "{router if hop == VIA else None: count", "{router: count"),
+    "counts of next hops are cut at 64": (TABLES, "self._pages(c.HOP_COUNT.size, 64, lambda *place: self._freed.yarib_hop_counts(self._at, *place))",
+                                          "self._pages(c.HOP_COUNT.size, 64, lambda *place: self._freed.yarib_hop_counts(self._at, *place))[:64 * c.HOP_COUNT.size]"),
+    "counts of next hops keep the global lock": (TABLES, "self._freed.yarib_hop_counts", "self._held.yarib_hop_counts"),
     "a purge's changes are the first feed's": (TABLES, "yarib_purge_changes(self._at, chosen,", "yarib_purge_changes(self._at, 1,"),
     "an invalid text of an address is overlooked": (TABLES,
         "                check(status_of(self._held.yarib_look_up_text, self._at, text, size, room.at), address)\n",
@@ -166,6 +170,9 @@ GO = {name: ("yarib.go", *texts) for name, texts in {
     "only best is forgotten": ("if asked.OnlyBest {", "if asked.OnlyBest && asked.Feed > 64 {"),
     "a selection's feed is forgotten": ("feed: C.uint32_t(asked.Feed)}", "feed: 0}"),
     "a selection's hop is forgotten": ("table.held.chosen(&raw, C.uint32_t(hop), via, room, total)", "table.held.chosen(&raw, C.uint32_t(hop)*0, via, room, total)"),
+    "a count of discarded routes is a router's": ("if room[k].hop == C.YARIB_VIA {", "if room[k].hop != 0 {"),
+    "counts of next hops are cut at 64": ("\tfor int(total) > len(room) {\n\t\troom = make([]C.yarib_hop_count, total)",
+                                          "\tfor int(total) > len(room) && len(room) == 0 {\n\t\troom = make([]C.yarib_hop_count, total)"),
     "a selection's router of IPv6 is accepted": ("hop, via, isRight = asked.Hop.numbers()\n", "hop, via, _ = asked.Hop.numbers()\n"),
     "by route as by hop": ("C.uint32_t(by), C.uint32_t(from)", "C.uint32_t(ByHop), C.uint32_t(from)"),
     "by hop as by route": ("C.uint32_t(by), C.uint32_t(from)", "C.uint32_t(ByRoute), C.uint32_t(from)"),
@@ -285,6 +292,8 @@ RUST = {name: ("src/lib.rs", *texts) for name, texts in {
     "an entry's preference": ("1 => Command::Add(prefix, raw.pref, hop)", "1 => Command::Add(prefix, 0, hop)"),
     "an entry's length": ("let prefix = Prefix::of(raw.base, raw.len);\n        let hop", "let prefix = Prefix::of(raw.base, 32);\n        let hop"),
     "only best is forgotten": ("only_best: u8::from(self.only_best),", "only_best: 0,"),
+    "a count of discarded routes is a router's": ("            1 => Hop::Via(Ipv4Addr::from(raw.via)),\n            _ => Hop::Discard,\n        };\n        HopCount",
+                                                 "            _ => Hop::Via(Ipv4Addr::from(raw.via)),\n        };\n        HopCount"),
     "a selection's hop is forgotten": ("asked.hop.map_or((0, 0), Hop::numbers)", "asked.hop.map_or((0, 0), |_| (0, 0))"),
     "a selection's feed is forgotten": (".map_or(0, |feed| if feed == 0 { u32::MAX } else { feed })", ".map_or(0, |feed| feed / 65)"),
     "within and covering are exchanged": ("Part::Within(prefix) => (1, prefix),\n            Part::Covering(prefix) => (2, prefix)",
@@ -649,7 +658,7 @@ PYTHON = noticed_by({
     "test_yarib.Daemons.test_calls_that_keep_the_global_lock_are_short": (
         "a purge keeps the global lock", "a followed table keeps the global lock", "an end keeps the global lock",
         "a wide selection keeps the global lock", "hops keeps the global lock", "save keeps the global lock", "load keeps the global lock",
-        "a view keeps the global lock", "look-ups in a view keep the global lock",
+        "a view keeps the global lock", "look-ups in a view keep the global lock", "counts of next hops keep the global lock",
     ),
     "test_yarib.Daemons.test_a_refusal_of_the_system_is_an_error": (
         "a refused barrier is an invalid value",
@@ -661,12 +670,13 @@ PYTHON = noticed_by({
         "a full feed is overlooked", "a copy without the limit", "a copy without the journal",
     ),
     "test_yarib.Tables.test_routes_by_prefix": (
-        "best is forgotten in exact", "feed is forgotten in exact", "best is forgotten in routes",
+        "best is forgotten in exact", "feed is forgotten in exact", "best is forgotten in routes", "counts of next hops are cut at 64",
     ),
     "test_calls.Calls.test_each_call_answers_as_the_model": (
         "best is forgotten in within", "numpy's fields are exchanged", "numpy's length and hop are exchanged",
         "put keeps an old route", "put overlooks a full feed", "a replace is an add", "the text of an address is cut",
         "via is forgotten in exact", "via is forgotten in within", "via is forgotten in covering", "via is forgotten in routes",
+        "a count of discarded routes is a router's",
         "the only route of a list never discards", "routes(via=None) gives all", "routes that discard are selected via 0.0.0.0",
         "no route and a discard are exchanged", "a view's routers are cut", "a view's routers may be written", "an address in a view is another",
     ),
@@ -750,9 +760,13 @@ GO = noticed_by({
     "TestAPurgeOfManyPrefixes": (
         "a purge's changes are cut at 64",
     ),
+    "TestCountsOfManyNextHops": (
+        "counts of next hops are cut at 64",
+    ),
     "TestEveryCallAnswersAsTheModel": (
         "an entry's feed", "an entry's prefix", "an entry's preference", "an entry's hop", "an entry's address",
         "an entry's reply", "only best is forgotten", "a selection's hop is forgotten", "the best of a prefix is the shortest",
+        "a count of discarded routes is a router's",
         "all matches are cut to the best", "lists of hops may differ in length", "an address in a view is another",
         "save writes another feed", "load adds to another feed", "a text is read up to its last byte",
     ),
@@ -849,7 +863,7 @@ RUST = noticed_by({
     ),
     "model replies_and_routes_are_the_models": (
         "an entry's discard is a router", "addresses are read backwards", "a selection's feed is forgotten",
-        "a selection's hop is forgotten", "no route and a discard are exchanged", "an address in a view is another",
+        "a count of discarded routes is a router's", "a selection's hop is forgotten", "no route and a discard are exchanged", "an address in a view is another",
         "a purge and a dump are exchanged", "save writes another feed", "load adds to another feed", "a text is read up to its last byte",
         "a saved text is cut",
     ),

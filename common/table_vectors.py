@@ -14,7 +14,8 @@ A route is one word, `PREFIX,FEED,PREF,HOP`, and `-` is no route. A hop is an ad
 `any`; the feed 0 of a selection is any feed. A command is written as in a feed's file. Its reply is `added`, `replaced`,
 `withdrawn`, `exists`, `full`, `missing`, `found ROUTE`, `none`, `dumped N` or `purged N`, and `range` if its feed is none.
 `put` has the replies of its commands: an `add` and, if the route exists, a `replace`. A change or a difference is several
-words: the routes before and after; the first and last address, and both answers. A text is `x` and its bytes as hexadecimal
+words: the routes before and after; the first and last address, and both answers. A count of best routes is two words: a hop
+and their number. A text is `x` and its bytes as hexadecimal
 digits; the answer is the number of its routes that are loaded, the number of its first faulty line, from 1, and the fault:
 `line`, `bits`, `length`, `exists` or `full`. If no line is faulty they are `0` and `-`.
 """
@@ -108,6 +109,12 @@ def selection(table, draw):
     return ["select", part, prefix, feed, hop, is_best], words(selected(table, part, prefix, feed, hop, is_best))
 
 
+def hop_counts(table, draw):
+    hops = [route[3] for route in best_of_each(table.routes())]
+    ordered = sorted(set(hops), key=lambda hop: [] if hop == "discard" else [int(part) for part in hop.split(".")])
+    return ["hop_counts"], " ".join(f"{hop} {hops.count(hop)}" for hop in ordered)
+
+
 def page(table, draw):
     prefix, pref, feed = draw.prefix(), draw.choice((0, 1, 2, LARGEST)), draw.choice((0, 1, 2, 3, MAX_FEEDS, MAX_FEEDS + 1))
     place = *block(prefix), pref, feed
@@ -130,7 +137,7 @@ def look_up_prefix(table, draw):
     return ["look_up_prefix", prefix], word((selected(table, "covering", prefix, is_best=True) or [None])[-1])
 
 
-READS = {look_up: 4, look_up_all: 1, look_up_prefix: 2, selection: 4, page: 1,
+READS = {look_up: 4, look_up_all: 1, look_up_prefix: 2, selection: 4, page: 1, hop_counts: 1,
          lambda table, draw: (["routes"], words(table.routes())): 0.5,
          lambda table, draw: (["count"], len(table.routes())): 0.5}
 

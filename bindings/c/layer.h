@@ -58,6 +58,7 @@ enum yarib_status free_contents(yarib *table);
         (asked, skip, routes, room, total)) \
     CALL(select_by_hop, (const yarib_selection *asked, uint32_t hop, uint32_t via, size_t skip, yarib_route *routes, size_t room, \
         size_t *total), (asked, hop, via, skip, routes, room, total)) \
+    CALL(hop_counts, (size_t skip, yarib_hop_count *counts, size_t room, size_t *total), (skip, counts, room, total)) \
     CALL(purge_changes, (uint32_t feed, size_t skip, yarib_change *changes, size_t room, size_t *total), \
         (feed, skip, changes, room, total)) \
     CALL(count, (size_t *total), (total)) \

@@ -52,6 +52,7 @@ static enum yarib_status reading(void)
     yarib_route route;
     yarib_entry entry;
     yarib_change one;
+    yarib_hop_count hop_count;
     yarib_difference range;
     uint32_t hop, attached;
     size_t total, other_total;
@@ -64,6 +65,7 @@ static enum yarib_status reading(void)
     CHECK(yarib_routes_from(&table, &start, &route, 1, &total) == status);
     CHECK(yarib_select(&table, &all, 0, &route, 1, &total) == status);
     CHECK(yarib_select_by_hop(&table, &all, YARIB_VIA, 1, 0, &route, 1, &total) == status);
+    CHECK(yarib_hop_counts(&table, 0, &hop_count, 1, &total) == status);
     CHECK(yarib_purge_changes(&table, 1, 0, &one, 1, &total) == status);
     CHECK(yarib_count(&table, &total) == status);
     CHECK(yarib_memory(&table, &total) == status);

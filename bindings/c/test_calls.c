@@ -33,10 +33,12 @@ static void nothing(yarib *empty)
     uint32_t address = 1, hop = 9;
     yarib other = YARIB_EMPTY;
     yarib_route route;
+    yarib_hop_count count;
     yarib_entry entry;
     yarib_difference range;
     yarib_reply reply;
     size_t total;
+    memset(&count, MARK, sizeof count);
     memset(&route, MARK, sizeof route);
     memset(&reply, MARK, sizeof reply);
     memset(&total, MARK, sizeof total);
@@ -54,6 +56,7 @@ static void nothing(yarib *empty)
     CHECK(yarib_select(empty, &all, 0, &route, 1, &total) == YARIB_NOTHING && is_marked(&route, sizeof route));
     CHECK(yarib_select_by_hop(empty, &all, YARIB_VIA, 1, 0, &route, 1, &total) == YARIB_NOTHING && is_marked(&route, sizeof route));
     CHECK(yarib_select_by_hop(empty, &all, YARIB_DISCARD + 1, 1, 0, &route, 1, &total) == YARIB_NOTHING);
+    CHECK(yarib_hop_counts(empty, 0, &count, 1, &total) == YARIB_NOTHING && is_marked(&count, sizeof count));
     CHECK(yarib_count(empty, &total) == YARIB_NOTHING && yarib_follow(empty) == YARIB_NOTHING);
     CHECK(yarib_journal(empty, 0, &entry, 1, &total) == YARIB_NOTHING);
     CHECK(yarib_first_difference(empty, &other, 0, 0, &range) == YARIB_NOTHING);
@@ -107,6 +110,7 @@ static void kinds(void)
     yarib table = YARIB_EMPTY, forwarding = YARIB_EMPTY, other = YARIB_EMPTY;
     yarib_reply reply;
     yarib_route route, routes[2];
+    yarib_hop_count count;
     yarib_entry entry;
     yarib_difference range;
     uint32_t address = add_eight.base, hops[2] = {9, 9};
@@ -128,6 +132,7 @@ static void kinds(void)
     CHECK(yarib_routes_from(&forwarding, &start, &route, 1, &total) == YARIB_WRONG_KIND);
     CHECK(yarib_select(&forwarding, &all, 0, &route, 1, &total) == YARIB_WRONG_KIND);
     CHECK(yarib_select_by_hop(&forwarding, &all, YARIB_VIA, 1, 0, &route, 1, &total) == YARIB_WRONG_KIND);
+    CHECK(yarib_hop_counts(&forwarding, 0, &count, 1, &total) == YARIB_WRONG_KIND);
     CHECK(yarib_look_up_all(&forwarding, address, 0, &route, 1, &total) == YARIB_WRONG_KIND);
     CHECK(yarib_journal(&forwarding, 0, &entry, 1, &total) == YARIB_WRONG_KIND);
     CHECK(yarib_forward(&forwarding, &other) == YARIB_WRONG_KIND);

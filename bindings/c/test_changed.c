@@ -141,6 +141,39 @@ static void compare_hop(uint32_t hop, uint32_t via)
     CHECK(next == total && select_by_hop(hop, via, 0, &one, 0, &seen) == YARIB_DONE && seen == total);
 }
 
+static enum yarib_status hop_counts(size_t skip, yarib_hop_count *counts, size_t room, size_t *total)
+{
+    if (way == CONCURRENT) return yarib_concurrent_hop_counts(&concurrent, skip, counts, room, total);
+    return yarib_hop_counts(&table, skip, counts, room, total);
+}
+
+/* The count of a next hop is that of the forwarding plane, and it comes after the counts before it; no count if the plane doesn't use it. */
+static size_t compare_count(const yarib_hop_count *counts, size_t next, uint32_t hop, uint32_t via)
+{
+    uint32_t uses = 0;
+    for (int k = 0; k < PREFIXES; k++) uses += plane[k].hop == hop && plane[k].via == via;
+    if (uses == 0) return next;
+    CHECK(counts[next].hop == hop && counts[next].via == via && counts[next].routes == uses);
+    return next + 1;
+}
+
+/* The counts are those of the forwarding plane: discarded packets, and then the routers in order; in one piece and in pieces. */
+static void compare_counts(void)
+{
+    yarib_hop_count counts[PREFIXES + 1] = {{0}}, one;
+    size_t total, seen, next;
+    CHECK(hop_counts(0, counts, PREFIXES + 1, &total) == YARIB_DONE && total <= PREFIXES && counts[total].hop == 0);
+    next = compare_count(counts, 0, YARIB_DISCARD, 0);
+    for (uint32_t via = 0; via < 3; via++) next = compare_count(counts, next, YARIB_VIA, via);
+    CHECK(next == total);
+    for (size_t k = 0; k < total; k++) {
+        CHECK(hop_counts(k, &one, 1, &seen) == YARIB_DONE && seen == total && memcmp(&one, &counts[k], sizeof one) == 0);
+    }
+    memset(&one, 99, sizeof one);
+    CHECK(hop_counts(total, &one, 1, &seen) == YARIB_DONE && seen == total && one.hop == 0x63636363);
+    CHECK(hop_counts(0, &one, 0, &seen) == YARIB_DONE && seen == total && one.hop == 0x63636363);
+}
+
 /* The forwarding plane has the table's best routes, and those of each next hop. Only a router has an address. */
 static void compare(void)
 {
@@ -154,6 +187,7 @@ static void compare(void)
     compare_hop(0, 1);
     for (uint32_t via = 0; via < 3; via++) compare_hop(YARIB_VIA, via);
     compare_hop(YARIB_DISCARD, 1);
+    compare_counts();
 }
 
 /* What the calls don't do: they write nothing, and change nothing. */

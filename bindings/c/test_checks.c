@@ -29,6 +29,7 @@ static yarib_view no_routers = {numbers, 1, numbers, 1, NULL, 1};
 static size_t size, other;
 static yarib_loaded loaded;
 static yarib_change change;
+static yarib_hop_count hop_count;
 static char text[20];
 static union {
     yarib_command commands[2];
@@ -58,6 +59,9 @@ static int fault(int number)
     FAULT(yarib_apply_changed(&t, both.commands, both.replies, &change));
     FAULT(yarib_apply_changed(&t, both.commands, &reply, both.changes));
     FAULT(yarib_apply_changed(&t, &command, both.replies, both.changes));
+    FAULT(yarib_hop_counts(NULL, 0, &hop_count, 1, &size));
+    FAULT(yarib_hop_counts(&t, 0, NULL, 1, &size));
+    FAULT(yarib_hop_counts(&t, 0, &hop_count, 1, NULL));
     FAULT(yarib_purge_changes(NULL, 1, 0, &change, 1, &size));
     FAULT(yarib_purge_changes(&t, 1, 0, NULL, 1, &size));
     FAULT(yarib_purge_changes(&t, 1, 0, &change, 1, NULL));
@@ -157,6 +161,9 @@ static int fault(int number)
     FAULT(yarib_concurrent_apply_changed(&k, both.commands, both.replies, &change));
     FAULT(yarib_concurrent_apply_changed(&k, both.commands, &reply, both.changes));
     FAULT(yarib_concurrent_apply_changed(&k, &command, both.replies, both.changes));
+    FAULT(yarib_concurrent_hop_counts(NULL, 0, &hop_count, 1, &size));
+    FAULT(yarib_concurrent_hop_counts(&k, 0, NULL, 1, &size));
+    FAULT(yarib_concurrent_hop_counts(&k, 0, &hop_count, 1, NULL));
     FAULT(yarib_concurrent_purge_changes(NULL, 1, 0, &change, 1, &size));
     FAULT(yarib_concurrent_purge_changes(&k, 1, 0, NULL, 1, &size));
     FAULT(yarib_concurrent_purge_changes(&k, 1, 0, &change, 1, NULL));

@@ -655,6 +655,7 @@ static void statuses(void)
     yarib_command fault = one;
     yarib_reply reply = {.code = 99};
     yarib_route route = {.via = 99};
+    yarib_hop_count count = {.via = 99};
     uint32_t address = 1, hop = 99;
     yarib_view view = {&address, 1, &address, 1, &hop, 1};
     size_t total = 99, other_total = 99;
@@ -676,6 +677,7 @@ static void statuses(void)
     CHECK(yarib_concurrent_routes_from(&empty, &start, &route, 1, &total) == YARIB_NOTHING);
     CHECK(yarib_concurrent_select(&empty, &all, 0, &route, 1, &total) == YARIB_NOTHING && route.via == 99);
     CHECK(yarib_concurrent_select_by_hop(&empty, &all, YARIB_VIA, 1, 0, &route, 1, &total) == YARIB_NOTHING && route.via == 99);
+    CHECK(yarib_concurrent_hop_counts(&empty, 0, &count, 1, &total) == YARIB_NOTHING && count.via == 99);
     CHECK(yarib_concurrent_count(&empty, &total) == YARIB_NOTHING && yarib_concurrent_memory(&empty, &total) == YARIB_NOTHING);
     CHECK(total == 99 && yarib_concurrent_free(&empty) == YARIB_DONE);
     CHECK(yarib_concurrent_new(&empty, 0) == YARIB_BAD_NUMBER && yarib_concurrent_new(&empty, 1000001) == YARIB_BAD_NUMBER);

@@ -119,6 +119,8 @@ static void ask(const yarib *table, const yarib *other, bool is_journaled)
             CHECK(yarib_select(table, &asked, 0, routes, ROOM, &total) == YARIB_DONE);
         }
     }
+    yarib_hop_count counts[ROOM];
+    CHECK(yarib_hop_counts(table, 0, counts, ROOM, &total) == YARIB_DONE && total > 0);
     for (int k = 0; k < ASKED; k++) CHECK(yarib_look_up_all(table, draw(), 0, routes, ROOM, &total) == YARIB_DONE);
     CHECK(yarib_journal(table, 3, entries, ROOM, &total) == (is_journaled ? YARIB_DONE : YARIB_WRONG_KIND));
     for (uint32_t by = 0; by < 2; by++) {

@@ -65,6 +65,12 @@ static void ask(yarib *table)
         refused++;
     }
     CHECK(total == 3 && is_put_by(&all[0], &sixth));
+    yarib_hop_count counts[ROUTES] = {{0}};
+    while ((status = yarib_hop_counts(table, 0, counts, ROUTES, &total)) != YARIB_DONE) {
+        CHECK(status == YARIB_NO_MEMORY && total == 3 && counts[0].hop == 0);
+        refused++;
+    }
+    CHECK(total == 20 && counts[19].hop == YARIB_VIA && counts[19].via == 19 && counts[19].routes == 1);
     const yarib_route first = {0};
     long left = refused_call;
     refused_call = 1;

@@ -59,6 +59,7 @@
  *     yarib_look_up_one, yarib_look_up_text          1              no           no                yes
  *     yarib_look_up_all                              k              yes          no                no
  *     yarib_select, yarib_select_by_hop              n in the part  yes          no                no
+ *     yarib_hop_counts                               n log(k)       yes          no                no
  *     yarib_routes                                   n              yes          no                no
  *     yarib_routes_from, yarib_journal               k              no           no                yes
  *     yarib_purge_changes                            n              no           no                yes
@@ -267,6 +268,14 @@ typedef struct yarib_change {
     uint8_t len;
 } yarib_change;
 
+/* The number of best routes that use a next hop. `hop` is YARIB_VIA for the router with the address `via`, or YARIB_DISCARD for routes that
+ * discard packets; then `via` is 0. */
+typedef struct yarib_hop_count {
+    uint32_t hop;
+    uint32_t via;
+    uint32_t routes;
+} yarib_hop_count;
+
 /* Creates an empty table that allows each feed up to `limit` routes. `limit` is 1 to YARIB_MAX_LIMIT, `kind` an enum yarib_kind.
  * If it succeeds, the handle's previous contents are freed.
  * Errors: YARIB_BAD_NUMBER, YARIB_NO_MEMORY. */
@@ -349,6 +358,13 @@ YARIB_STATUS yarib_select(const yarib *table, const yarib_selection *asked, size
  * Errors: those of yarib_select, with YARIB_BAD_NUMBER for the hop too. */
 YARIB_STATUS yarib_select_by_hop(const yarib *table, const yarib_selection *asked, uint32_t hop, uint32_t via, size_t skip,
     yarib_route *routes, size_t room, size_t *total);
+
+/* Writes how many best routes use each next hop: first YARIB_DISCARD, if a best route discards packets, and then the routers by their
+ * addresses. Writes the counts from the index `skip` on, up to `room` of them, and the number of these next hops, skipped ones included, to
+ * `total`; it is at most the number of routes. A next hop that no best route uses has no count. All counts add up to the number of
+ * prefixes. Visits each prefix once, and allocates memory for each next hop, not for each route.
+ * Errors: YARIB_NOTHING, YARIB_WRONG_KIND, YARIB_NO_MEMORY. */
+YARIB_STATUS yarib_hop_counts(const yarib *table, size_t skip, yarib_hop_count *counts, size_t room, size_t *total);
 
 /* Writes which best routes a purge of the feed would change, sorted by base and length: the changes from the index `skip` on, up to
  * `room` of them. Writes their number, skipped ones included, to `total`; it is at most the number of the feed's routes. Call this before
@@ -578,6 +594,7 @@ YARIB_STATUS yarib_concurrent_select(const yarib_concurrent *table, const yarib_
     size_t room, size_t *total);
 YARIB_STATUS yarib_concurrent_select_by_hop(const yarib_concurrent *table, const yarib_selection *asked, uint32_t hop, uint32_t via,
     size_t skip, yarib_route *routes, size_t room, size_t *total);
+YARIB_STATUS yarib_concurrent_hop_counts(const yarib_concurrent *table, size_t skip, yarib_hop_count *counts, size_t room, size_t *total);
 YARIB_STATUS yarib_concurrent_purge_changes(const yarib_concurrent *table, uint32_t feed, size_t skip, yarib_change *changes, size_t room,
     size_t *total);
 YARIB_STATUS yarib_concurrent_count(const yarib_concurrent *table, size_t *total);

@@ -137,6 +137,13 @@ static inline YARIB_STATUS yarib_select_by_hop_checked(const yarib *table, const
 }
 #define yarib_select_by_hop yarib_select_by_hop_checked
 
+static inline YARIB_STATUS yarib_hop_counts_checked(const yarib *table, size_t skip, yarib_hop_count *counts, size_t room, size_t *total)
+{
+    assert(table != NULL && counts != NULL && total != NULL);
+    return yarib_hop_counts(table, skip, counts, room, total);
+}
+#define yarib_hop_counts yarib_hop_counts_checked
+
 static inline YARIB_STATUS yarib_purge_changes_checked(const yarib *table, uint32_t feed, size_t skip, yarib_change *changes,
     size_t room, size_t *total)
 {
@@ -364,6 +371,14 @@ static inline YARIB_STATUS yarib_concurrent_select_by_hop_checked(const yarib_co
     return yarib_concurrent_select_by_hop(table, asked, hop, via, skip, routes, room, total);
 }
 #define yarib_concurrent_select_by_hop yarib_concurrent_select_by_hop_checked
+
+static inline YARIB_STATUS yarib_concurrent_hop_counts_checked(const yarib_concurrent *table, size_t skip, yarib_hop_count *counts,
+    size_t room, size_t *total)
+{
+    assert(table != NULL && counts != NULL && total != NULL);
+    return yarib_concurrent_hop_counts(table, skip, counts, room, total);
+}
+#define yarib_concurrent_hop_counts yarib_concurrent_hop_counts_checked
 
 static inline YARIB_STATUS yarib_concurrent_purge_changes_checked(const yarib_concurrent *table, uint32_t feed, size_t skip,
     yarib_change *changes, size_t room, size_t *total)

@@ -55,3 +55,16 @@ func TestAPurgeOfManyPrefixes(t *testing.T) {
 		same(t, "the number of changes", len(changes), wanted)
 	}
 }
+
+// A list of counts that is longer than the first room for it.
+func TestCountsOfManyNextHops(t *testing.T) {
+	one, wanted := table(t, 1000, false), []HopCount{}
+	for k := uint32(0); k < 200; k++ {
+		_, err := one.Add(1, netip.PrefixFrom(addressOf(k<<16), 16), 1, Via(addressOf(k)))
+		must(t, err)
+		wanted = append(wanted, HopCount{Via(addressOf(k)), 1})
+	}
+	found, err := one.HopCounts()
+	must(t, err)
+	same(t, "the counts", found, wanted)
+}

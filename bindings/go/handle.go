@@ -162,6 +162,13 @@ func (one *handle) chosen(asked *C.yarib_selection, hop, via C.uint32_t, room []
 	return uint32(C.yarib_select_by_hop(&one.inside, asked, hop, via, 0, &room[0], C.size_t(len(room)), total))
 }
 
+func (one *handle) hopCounts(room []C.yarib_hop_count, total *C.size_t) uint32 {
+	if one.isConcurrent {
+		return uint32(C.yarib_concurrent_hop_counts(one.concurrent(), 0, &room[0], C.size_t(len(room)), total))
+	}
+	return uint32(C.yarib_hop_counts(&one.inside, 0, &room[0], C.size_t(len(room)), total))
+}
+
 // The room has space for one element more than its length, so that there is a first one.
 func (one *handle) routesFrom(from *C.yarib_route, room []C.yarib_route, used *C.size_t) uint32 {
 	first := &room[:1][0]

@@ -289,6 +289,14 @@ func compareRead(t *testing.T, one *common, call, answer []string) {
 		same(t, what, []any{route, found}, []any{wanted, isThere})
 	case "look_up_each":
 		compareLookUps(t, one, call[1:], answer)
+	case "hop_counts":
+		found, err := one.HopCounts()
+		must(t, err)
+		wanted := []HopCount{}
+		for k := 0; k < len(answer); k += 2 {
+			wanted = append(wanted, HopCount{hopIn(answer[k]), numberIn(answer[k+1])})
+		}
+		same(t, what, found, wanted)
 	case "save":
 		compareFile(t, one, numberIn(call[1]), routesIn(answer))
 	default:

@@ -651,6 +651,32 @@ func (table *common) Routes() ([]Route, error) {
 	return table.Select(Selection{Part: All})
 }
 
+// HopCount is the number of best routes that use a next hop.
+type HopCount struct {
+	Hop    Hop
+	Routes uint32
+}
+
+// HopCounts returns how many best routes use each next hop: first Discard, then the routers by their addresses. A next hop that no best
+// route uses is left out.
+func (table *common) HopCounts() ([]HopCount, error) {
+	total, room := C.size_t(64), []C.yarib_hop_count{}
+	for int(total) > len(room) {
+		room = make([]C.yarib_hop_count, total)
+		if err := table.held.read(func() uint32 { return table.held.hopCounts(room, &total) }); err != nil {
+			return nil, err
+		}
+	}
+	counts := make([]HopCount, total)
+	for k := range counts {
+		counts[k] = HopCount{Discard, uint32(room[k].routes)}
+		if room[k].hop == C.YARIB_VIA {
+			counts[k].Hop = Via(address(room[k].via))
+		}
+	}
+	return counts, nil
+}
+
 // Place is a position in the order of a table's routes; there need not be such a route. Preference and feed 0 are before all
 // routes to the prefix. The zero Place is before all routes.
 type Place struct {

@@ -164,6 +164,10 @@ class Limited(unittest.TestCase):
             self.assert_same(draw.prefix(prefix) in table, bool(routes))
             self.assert_same(table.get(draw.prefix(prefix), 7), routes[0] if routes else 7)
 
+    def compare_hop_counts(self, table, draw, answer):
+        counts = {via_in(hop): int(count) for hop, count in zip(answer[::2], answer[1::2])}
+        self.assert_same(table.hop_counts(), counts)
+
     def compare_routes_from(self, table, draw, answer, word, pref, feed):
         self.assert_same(list(table.routes_from(draw.prefix(prefix_in(word)), int(pref), int(feed))), routes_in(answer))
 

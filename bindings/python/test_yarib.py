@@ -174,6 +174,7 @@ class Daemons(unittest.TestCase):
         table, other = yarib.Table(journal=True), yarib.Table()
         other.fib_attach()
         wide = {"yarib_routes": lambda: table.routes(), "yarib_select": lambda: table.routes(feed=1),
+                "yarib_hop_counts": lambda: table.hop_counts(),
                 "yarib_reserve": lambda: table.reserve(5), "yarib_journal": lambda: table.journal(),
                 "yarib_first_difference": lambda: list(table.differences(other)), "yarib_free": yarib.Table,
                 "yarib_hops": lambda: table.hops([1], 0, 1), "yarib_view_write": lambda: other.view_new(),
@@ -252,6 +253,7 @@ class Tables(unittest.TestCase):
         self.assertEqual(table.routes(via="0.0.0.1"), [one, *last])
         self.assertEqual(table.routes(best=True, via="0.0.0.1"), last)
         self.assertEqual(table.routes(via=None), [])
+        self.assertEqual(list(table.hop_counts().items()), [(k, 2 if 2 <= k <= 4 else 1) for k in range(100)])
         for wrong in ("0.0.0", "any other", -1):
             self.assertRaises(yarib.Invalid, table.exact, "10.0.0.0/8", via=wrong)
         for feed in (0, yarib.MAX_FEED + 1, -1):

@@ -48,6 +48,8 @@ VIEW_ENTRIES, NUMBER_NO_ROUTE, NUMBER_DISCARD, FIRST_ROUTER = 1 << 24, 0, 1, 2
 ROUTE, COMMAND, REPLY = struct.Struct("=IIIIBBxx"), struct.Struct("=IIIIIBBxx"), struct.Struct("=IIIIIIBBxx")
 ENTRY, PREFIX, ADDRESS = struct.Struct("=IIIIIBBxxIIIIIIBBxx"), struct.Struct("=IBxxx"), struct.Struct("=I")
 DIFFERENCE, SELECTION, COUNT = struct.Struct("=IIIIIIBBxxIIIIBBxx"), struct.Struct("=IIIBBxx"), struct.Struct("@N")
+# Kind, router and number of a count of a next hop.
+HOP_COUNT = struct.Struct("=III")
 # Two routes, and base and length of a change.
 CHANGE = struct.Struct("=IIIIBBxxIIIIBBxxIBxxx")
 
@@ -67,6 +69,7 @@ CALLS: Dict[str, Tuple[Any, ...]] = {
     "yarib_routes_from": (POINTER, POINTER, POINTER, SIZE, POINTER),
     "yarib_select": (POINTER, POINTER, SIZE, POINTER, SIZE, POINTER),
     "yarib_select_by_hop": (POINTER, POINTER, NUMBER, NUMBER, SIZE, POINTER, SIZE, POINTER),
+    "yarib_hop_counts": (POINTER, SIZE, POINTER, SIZE, POINTER),
     "yarib_purge_changes": (POINTER, NUMBER, SIZE, POINTER, SIZE, POINTER),
     "yarib_count": (POINTER, POINTER),
     "yarib_journal": (POINTER, SIZE, POINTER, SIZE, POINTER),
@@ -96,8 +99,8 @@ PLAIN = ("yarib_apply", "yarib_look_up_one", "yarib_look_up_text", "yarib_routes
          "yarib_view_look_up", "yarib_select", "yarib_look_up_all")
 # The calls for a concurrent table that are declared as those for a table.
 CONCURRENT = ("free", "apply", "apply_changed", "purge_changes", "apply_each", "look_up", "look_up_one", "look_up_text", "look_up_all",
-              "hops", "routes", "routes_from", "select", "select_by_hop", "count", "fib_attach", "fib_is_attached", "memory",
-              "view_sizes", "view_write", "save", "load", "first_difference")
+              "hops", "routes", "routes_from", "select", "select_by_hop", "hop_counts", "count", "fib_attach", "fib_is_attached",
+              "memory", "view_sizes", "view_write", "save", "load", "first_difference")
 CALLS.update({"yarib_concurrent_" + name: CALLS["yarib_" + name] for name in CONCURRENT})
 
 

@@ -635,6 +635,12 @@ class Routes(Handle):
         hop, router = (c.DISCARD, 0) if via is None else (VIA, address_of(via))
         return self._listed(room, calls.yarib_select_by_hop, asked, hop, router)
 
+    def hop_counts(self) -> Dict[Optional[int], int]:
+        """Returns how many best routes use each next hop: None first, for routes that discard packets, then the routers in
+        ascending order. A next hop that no best route uses is left out."""
+        found = self._pages(c.HOP_COUNT.size, 64, lambda *place: self._freed.yarib_hop_counts(self._at, *place))
+        return {router if hop == VIA else None: count for hop, router, count in c.HOP_COUNT.iter_unpack(found)}
+
     def routes_from(self, prefix: Prefix, pref: int = 0, feed: int = 0) -> Iterator[Route]:
         """Iterates over the routes, in the order of `routes`, from the position of this prefix, preference and feed on.
         Preference and feed 0 are before all routes to the prefix. Allocates memory for one page of routes. The table

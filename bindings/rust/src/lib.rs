@@ -592,6 +592,28 @@ impl Selection {
     }
 }
 
+/// The number of best routes that use a next hop.
+#[derive(Clone, Copy, Debug, PartialEq, Eq, Hash)]
+pub struct HopCount {
+    /// The next hop.
+    pub hop: Hop,
+    /// The number of the best routes that use it.
+    pub routes: u32,
+}
+
+impl HopCount {
+    fn of(raw: &raw::HopCount) -> HopCount {
+        let hop = match raw.hop {
+            1 => Hop::Via(Ipv4Addr::from(raw.via)),
+            _ => Hop::Discard,
+        };
+        HopCount {
+            hop,
+            routes: raw.routes,
+        }
+    }
+}
+
 /// A routing table.
 #[derive(Debug)]
 pub struct Table(raw::Handle);
@@ -976,6 +998,16 @@ macro_rules! reading_calls {
                 let asked = asked.numbers();
                 let found = whole(64, |part| self.0.select(&asked, hop, part))?;
                 Ok(found.iter().filter_map(Route::of).collect())
+            }
+
+            /// Returns how many best routes use each next hop: first [`Hop::Discard`], then the routers by their addresses. A next
+            /// hop that no best route uses is left out.
+            ///
+            /// # Errors
+            /// [`Error::Memory`], [`Error::Busy`].
+            pub fn hop_counts(&self) -> Result<Vec<HopCount>> {
+                let found = whole(64, |part| self.0.hop_counts(part))?;
+                Ok(found.iter().map(HopCount::of).collect())
             }
 
             /// Returns an estimate of its size in bytes, including what is attached. A concurrent table is two tables.

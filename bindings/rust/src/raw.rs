@@ -89,6 +89,14 @@ pub struct Difference {
 
 #[repr(C)]
 #[derive(Clone, Copy, Debug, Default, PartialEq, Eq)]
+pub struct HopCount {
+    pub hop: u32,
+    pub via: u32,
+    pub routes: u32,
+}
+
+#[repr(C)]
+#[derive(Clone, Copy, Debug, Default, PartialEq, Eq)]
 pub struct Change {
     pub before: Route,
     pub after: Route,
@@ -208,6 +216,13 @@ extern "C" {
         room: usize,
         total: *mut usize,
     ) -> u32;
+    fn yarib_hop_counts(
+        table: *const Handle,
+        skip: usize,
+        counts: *mut HopCount,
+        room: usize,
+        total: *mut usize,
+    ) -> u32;
     fn yarib_count(table: *const Handle, total: *mut usize) -> u32;
     fn yarib_journal(
         table: *const Handle,
@@ -299,6 +314,13 @@ extern "C" {
         via: u32,
         skip: usize,
         routes: *mut Route,
+        room: usize,
+        total: *mut usize,
+    ) -> u32;
+    fn yarib_concurrent_hop_counts(
+        table: *const Concurrent,
+        skip: usize,
+        counts: *mut HopCount,
         room: usize,
         total: *mut usize,
     ) -> u32;
@@ -480,6 +502,7 @@ pub trait Read: Debug + Sync {
     fn routes_from(&self, from: &Route, routes: &mut [Route]) -> Result<usize, u32>;
     fn select(&self, asked: &Selection, hop: (u8, u32), routes: &mut [Route])
         -> Result<usize, u32>;
+    fn hop_counts(&self, counts: &mut [HopCount]) -> Result<usize, u32>;
     fn count(&self) -> Result<usize, u32>;
     fn memory(&self) -> Result<usize, u32>;
     fn fib_is_attached(&self) -> Result<bool, u32>;
@@ -490,7 +513,7 @@ pub trait Read: Debug + Sync {
 
 macro_rules! read_by {
     ($handle:ty: $is_attached:ident, $look_up:ident, $look_up_one:ident, $look_up_all:ident, $routes:ident, $routes_from:ident, $select:ident,
-        $count:ident, $memory:ident, $hops:ident, $view_sizes:ident, $view_write:ident, $save:ident) => {
+        $hop_counts:ident, $count:ident, $memory:ident, $hops:ident, $view_sizes:ident, $view_write:ident, $save:ident) => {
         impl Read for $handle {
             fn look_up(&self, addresses: &[u32], answers: &mut [Route]) -> Result<(), u32> {
                 let (size, room) = (addresses.len(), answers.len());
@@ -534,6 +557,12 @@ macro_rules! read_by {
                 let (mut total, room, (hop, via)) = (0, routes.len(), hop);
                 let at = routes.as_mut_ptr();
                 told(unsafe { $select(self, asked, hop.into(), via, 0, at, room, &mut total) })?;
+                Ok(total)
+            }
+
+            fn hop_counts(&self, counts: &mut [HopCount]) -> Result<usize, u32> {
+                let (mut total, room) = (0, counts.len());
+                told(unsafe { $hop_counts(self, 0, counts.as_mut_ptr(), room, &mut total) })?;
                 Ok(total)
             }
 
@@ -585,10 +614,10 @@ macro_rules! read_by {
 }
 
 read_by!(Handle: yarib_fib_is_attached, yarib_look_up, yarib_look_up_one, yarib_look_up_all, yarib_routes, yarib_routes_from,
-    yarib_select_by_hop, yarib_count, yarib_memory, yarib_hops, yarib_view_sizes, yarib_view_write, yarib_save);
+    yarib_select_by_hop, yarib_hop_counts, yarib_count, yarib_memory, yarib_hops, yarib_view_sizes, yarib_view_write, yarib_save);
 read_by!(Concurrent: yarib_concurrent_fib_is_attached, yarib_concurrent_look_up, yarib_concurrent_look_up_one,
     yarib_concurrent_look_up_all, yarib_concurrent_routes,
-    yarib_concurrent_routes_from, yarib_concurrent_select_by_hop, yarib_concurrent_count, yarib_concurrent_memory,
+    yarib_concurrent_routes_from, yarib_concurrent_select_by_hop, yarib_concurrent_hop_counts, yarib_concurrent_count, yarib_concurrent_memory,
     yarib_concurrent_hops, yarib_concurrent_view_sizes, yarib_concurrent_view_write, yarib_concurrent_save);
 
 /// The arrays of a view. Look-ups only read them.

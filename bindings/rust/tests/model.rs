@@ -13,8 +13,9 @@ use std::sync::atomic::{AtomicBool, Ordering};
 use std::sync::RwLock;
 use std::thread;
 use yarib::{
-    Answer, By, Command, ConcurrentTable, Error, Fib, FileError, Hop, Part, Prefix, Reply, Route,
-    Selection, Source, Table, View, FIRST_ROUTER, MAX_FEED, NUMBER_DISCARD, NUMBER_NO_ROUTE,
+    Answer, By, Command, ConcurrentTable, Error, Fib, FileError, Hop, HopCount, Part, Prefix,
+    Reply, Route, Selection, Source, Table, View, FIRST_ROUTER, MAX_FEED, NUMBER_DISCARD,
+    NUMBER_NO_ROUTE,
 };
 
 /// The commands of `put`: a journal has the second one if the first finds a route.
@@ -148,6 +149,14 @@ macro_rules! compare_reads {
                 ["select", part, to, feed, via, only_best] => {
                     let asked = selection(part, to, feed, via, only_best);
                     assert_eq!(table.select(asked), Ok(routes()), "{asked:?}");
+                }
+                ["hop_counts"] => {
+                    let count = |pair: &[&str]| HopCount {
+                        hop: hop(pair[0]),
+                        routes: number(pair[1]),
+                    };
+                    let wanted: Vec<HopCount> = answer.chunks(2).map(count).collect();
+                    assert_eq!(table.hop_counts(), Ok(wanted));
                 }
                 ["routes_from", from, pref, feed] => {
                     let pages = table.routes_from(prefix(from), number(pref), number(feed));
@@ -570,6 +579,12 @@ fn lists_at_page_boundaries() {
         assert_eq!(walked, routes);
         let within = Selection::of(Part::Within("10.0.0.0/8".parse().unwrap()));
         assert_eq!(table.select(within).unwrap(), routes);
+        let once = |one: &Route| HopCount {
+            hop: one.hop,
+            routes: 1,
+        };
+        let counts: Vec<HopCount> = routes.iter().map(once).collect();
+        assert_eq!(table.hop_counts().unwrap(), counts);
         let asked: Vec<u32> = routes
             .iter()
             .map(|one| u32::from(one.prefix.base()) + 3)

@@ -27,3 +27,5 @@ pub mod FromPlaces
 pub mod BestTo
 pub mod BestAfter
 pub mod ChangesOfPurges
+pub mod FirstRoutes
+pub mod HopMaps

@@ -187,13 +187,17 @@ routes_many ((p, offers) ∷ rest) each =
     omega (arith, more, some, length-append (map (route_by p) offers) (routes_of rest), length-map offers (route_by p))
 
 module _ (m : Map) (h : IsMap m) where
+  -- each pair of a map has offers
+  pub each_offers : (p : Prefix) (offers : List Offer) → Contains m (p, offers) → IsOffers offers
+  each_offers p offers c = h.each p offers ((pairs-found m p offers h.ordered).0 c)
+
   -- a map has at most as many prefixes as routes
   pub pairs_few : length m ≤ length (routes_of m)
-  pairs_few = routes_many m (λ p offers c. h.each p offers ((pairs-found m p offers h.ordered).0 c))
+  pairs_few = routes_many m each_offers
 
   -- the routes of a map are a table
   pub IsTable-map : IsTable (routes_of m)
-  IsTable-map = IsTable-routes m h.ordered (λ p offers c. h.each p offers ((pairs-found m p offers h.ordered).0 c))
+  IsTable-map = IsTable-routes m h.ordered each_offers
 
   -- a table of exactly the routes that the map holds is the table of the map
   pub table_is : (t : List Route) → IsTable t → ((x : Route) → HasRoute m x ↔ Contains t x) → routes_of m ≡ t

@@ -91,7 +91,7 @@ module _ (t : Prefix → Bool) where
       ]
 
 -- a prefix that comes after another differs from it
-another : (p q : Prefix) → before p q ≡ true → same_prefix q p ≡ false
+pub another : (p q : Prefix) → before p q ≡ true → same_prefix q p ≡ false
 another p q e =
     false_from_ne_true (same_prefix q p) (λ one.
     let parts = and_parts (eqb q.base p.base) (eqb q.len p.len) one in

@@ -6,5 +6,6 @@ pub mod Maps
 pub mod Places
 pub mod Selection
 pub mod Changes
+pub mod HopCounts
 pub mod Laws
 pub mod inside

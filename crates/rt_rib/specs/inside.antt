@@ -6,3 +6,4 @@ pub mod Offers
 pub mod OneProof
 pub mod Purges
 pub mod Changes
+pub mod HopMaps

@@ -32,6 +32,7 @@
 //! - [`Table::look_up`] answers one address, [`Table::look_up_each`] many addresses at once.
 //! - [`Table::look_up_all`] returns every route whose prefix covers an address, the best first.
 //! - [`Table::lookup_cursor`] answers successive addresses, each with how far its answer holds.
+//! - [`Table::hop_counts`] returns how many best routes use each next hop.
 //! - [`Table::purge_changes`] returns which best routes a purge would change. [`Table::apply_changed`] executes any other
 //!   change, and returns which best route it has changed.
 //!
@@ -48,6 +49,7 @@ mod answers;
 mod book;
 mod changes;
 mod commands;
+mod hop_counts;
 pub mod laws;
 mod limits;
 mod lookups;
@@ -66,6 +68,7 @@ pub use answers::LookupCursor;
 pub use book::Book;
 pub use changes::{BestChange, PurgeChanges};
 pub use commands::{Cmd, Entry, Reply};
+pub use hop_counts::HopCount;
 pub use limits::{MAX_FEEDS, MAX_ROUTES_PER_FEED, feed_ok, limit_ok};
 pub use places::RoutesFrom;
 pub use refused::Refused;

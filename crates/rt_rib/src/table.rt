@@ -1,5 +1,5 @@
 //! The sequential table: its routes as offers in a map, the number of each feed's routes, and the replies to commands.
-ghost use Rattle.std.specs.Prelude.{◌≡◌, ◌-◌, ◌*◌, ◌^◌, ◌<◌, ◌≤◌, ◌↔◌, IsTrue, [], length, map, sum, IfOk, IfSome, OnErr, IsSome};
+ghost use Rattle.std.specs.Prelude.{◌≡◌, ◌-◌, ◌*◌, ◌^◌, ◌<◌, ◌≤◌, ◌↔◌, IsTrue, [], length, map, sum, sum_by, IfOk, IfSome, OnErr, IsSome};
 ghost use Rattle.rt_rib.specs.declared.commands.Cmd.TheVariants.{Withdraw, Purge};
 ghost use Rattle.rt_rib.specs.declared.commands.Reply.TheVariants.{Added};
 ghost use Rattle.rt_rib.specs.Sequential.{reply_of, add_of, replace_of, changed_prefix};
@@ -9,11 +9,14 @@ ghost use Rattle.rt_rib.specs.LookUp.{look_up, look_up_all};
 ghost use Rattle.rt_rib.specs.Book.{IsLimit, IsFeed, table_state, Serves, HoldsRoutes};
 ghost use Rattle.rt_rib.specs.Selection.{selected};
 ghost use Rattle.rt_rib.specs.Changes.{best_to, AreBestChanges};
+ghost use Rattle.rt_rib.specs.HopCounts.{AreHopCounts};
+ghost use Rattle.rt_rib.specs.declared.hop_counts.HopCount.{HopCount as Count};
 ghost use Rattle.rt_rib.specs.inside.Changes.{ReturnsBest};
 
 use crate::answers::LookupCursor;
 use crate::changes::{self, PurgeChanges};
 use crate::commands::{Cmd, Reply};
+use crate::hop_counts::{self, HopCount};
 use crate::limits::MAX_FEEDS;
 use crate::map::{BestRoutes, OfferMap};
 use crate::marks::FeedMarks;
@@ -218,6 +221,20 @@ impl<A: Allocator + Copy> Table<A> {
         let mut routes = routes_in(&self.map, alloc, count as usize, asked.part)?;
         keep_selected(&mut routes, asked);
         Ok(routes)
+    }
+
+    /// Returns how many best routes use each next hop that a best route has, in ascending order: first `Hop::Discard`, then
+    /// the routers by their addresses. The counts add up to the number of prefixes. Visits each prefix once, and finds its
+    /// next hop among those before in logarithmic time. Allocates the list with the given allocator, and for each next hop
+    /// a node that it frees. Error M1 (`Refused`) if memory runs out.
+    pub fn hop_counts(&self, alloc: A) -> Result<Vec<HopCount, A>, Refused>
+        ensures counts { IfOk result (λ counts. AreHopCounts self.now.routes counts.items) }
+        ensures all { IfOk result (λ counts. sum_by (λ (c : Count). c.routes) counts.items ≡ length self.now.trie.pairs) }
+    {
+        // There are at most as many prefixes as routes.
+        self.holds();
+        let _routes = self.len();
+        hop_counts::hop_counts(&self.map, alloc)
     }
 
     /// Returns the routes in dump order from the position of the given route on, whether or not it is in the table; its

@@ -6,6 +6,7 @@ pub mod Places
 pub mod LookUp
 pub mod Selection
 pub mod Changes
+pub mod HopCounts
 pub mod Sequential
 pub mod Laws
 pub mod Maps

@@ -15,6 +15,7 @@ use Rattle.yarib_c.specs.Lists.{PutsRoutes}
 use Rattle.yarib_c.specs.Sizes.{bytes_of, trie_bytes}
 use Rattle.yarib_c.specs.Selections.{best_number}
 use Rattle.yarib_c.specs.Differences.{by_number}
+use Rattle.yarib_c.specs.HopCounts.{hop_count_as}
 
 -- 10.0.0.0/8, and a route to it through 192.0.2.1
 abbrev ten_8 : Prefix
@@ -82,3 +83,8 @@ one_route_where_there_is_room_for_two = record { counted = refl; put = refl }
 -- by_number
 ways_to_tell_apart : (by_number by.Hop ≡ 0) × (by_number by.Route ≡ 1)
 ways_to_tell_apart = (refl, refl)
+
+-- hop_count_as
+counts_in_numbers : (hop_count_as (record { hop = router; routes = 3 }) ≡ record { hop = 1; via = 3221225985; routes = 3 })
+    × (hop_count_as (record { hop = Discard; routes = 1 }) ≡ record { hop = 2; via = 0; routes = 1 })
+counts_in_numbers = (refl, refl)

@@ -10,4 +10,5 @@ pub mod Selections
 pub mod Sizes
 pub mod Differences
 pub mod Changes
+pub mod HopCounts
 pub mod inside
