@@ -6,8 +6,8 @@ from .crates import CRATES
 from .rust_sources import Source
 
 FORM = re.compile(r"([\w-]+)\n\n```\nfile: (src/\S+\.rt)\n((?:old: .+\nnew:.*\n)+)"
-                  r"(?:refused|taken) in: ([\w:]+?)(?:: ([\w-]+))?\n(searched: all goals\n)?```\n+")
-NAMED = re.compile(r"^(refused in: [\w:]+?): [\w-]+$", re.M)
+                  r"(?:refused|taken) in: ([\w:+]+?)(?:: ([\w-]+))?\n(searched: all goals\n)?```\n+")
+NAMED = re.compile(r"^(refused in: [\w:+]+?): [\w-]+$", re.M)
 
 
 class BadMutant(Exception):
@@ -106,7 +106,7 @@ def name_goals(crate, goals, crates=CRATES):
     head, *sections = re.split(r"^(?=## )", file.read_text(), flags=re.M)
     for at, section in enumerate(sections):
         if goal := goals.get(section.partition("\n")[0].removeprefix("## ")):
-            sections[at], more = re.subn(r"^(refused in: [\w:]+)$", rf"\1: {goal}", section, flags=re.M)
+            sections[at], more = re.subn(r"^(refused in: [\w:+]+)$", rf"\1: {goal}", section, flags=re.M)
             found += more
     file.write_text(head + "".join(sections))
     return found

@@ -90,11 +90,12 @@ class Item:
         return (re.match(r"(?:\w+::)*(\w+)", trait.strip())[1] if parted else None), owner
 
     def impl_name(self):
-        """Returns the name of an impl as the prover writes it: `T` for the methods of a type, or of `Drop` for it; `TTrA` for
-        those of the trait `Tr<A>` for `T`, or `TTr` if `A` is `T` or missing."""
+        """Returns the name of an impl as the prover writes it: `T` for the methods of a type, or of `Drop` for it; `T+A` for
+        those of only the type `T<A>`; `TTrA` for those of the trait `Tr<A>` for `T`, or `TTr` if `A` is `T` or missing."""
         trait, owner = self.of_impl()
         if trait in (None, "Drop"):
-            return owner
+            only = re.match(rf"impl {owner}<(\w+)>", self.lines[0].strip())
+            return f"{owner}+{only[1]}" if only else owner
         given = re.search(rf"\b{trait}<(?:\w+::)*(\w+)>", " ".join(self.lines))
         return f"{owner}{trait}{given[1] if given and given[1] != owner else ''}"
 

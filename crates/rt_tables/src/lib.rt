@@ -3,7 +3,7 @@
 //! ```
 //! // Two tables: no feed has routes in both.
 //! let tables = TableUnion::new(tables);
-//! let routes = tables.select(alloc, &asked)?; // The routes that one table of all routes would return.
+//! let routes = tables.select(&rt, alloc, &asked)?; // The routes that one table of all routes would return.
 //! ```
 //!
 //! A program that executes its feeds on several threads, each with a table of its own, asks these tables as one. Their

@@ -1,20 +1,25 @@
-//! Selecting routes of several tables: each table selects its own, and the lists are merged.
+//! Selecting routes of several tables: each table selects its own, and the lists are merged. Both halves of the tables do so
+//! at the same time, if a thread can be created.
 ghost use Rattle.std.specs.Prelude.{◌≡◌, length, filter, map, IfOk};
+ghost use Rattle.std.specs.Thread.{IsSync};
 ghost use Rattle.rt_rib.specs.Selection.{is_by, is_via, selected};
 ghost use Rattle.rt_tables.specs.Unions.{union_of};
 ghost use Rattle.rt_tables.specs.inside.Tables.{AreTables, IsBeforeFilters};
 
 use crate::merge::{ListOrder, merge};
 use rt_rib::{Hop, Refused, Route, Selection, Table, keep_best};
-use std::alloc::Allocator;
+use std::alloc::{Allocator, Global};
+use std::thread::{self, Threads};
 
 /// Returns the selected routes of all tables. The selection must not filter the best routes by feed or next hop: a
 /// table's best route to a prefix may be worse than another table's, whichever of them the filters would keep.
-pub(crate) fn select_from<A: Allocator + Copy>(
-    tables: &[Table<A>],
-    alloc: A,
+#[cycle(select_from)]
+pub(crate) fn select_from<R: Threads + Sync>(
+    rt: &R,
+    tables: &[Table<Global>],
+    alloc: Global,
     asked: &Selection,
-) -> Result<Vec<Route, A>, Refused>
+) -> Result<Vec<Route>, Refused>
     requires tables { AreTables (map (λ t. t.routes) tables.now) }
     requires asked { IsBeforeFilters asked.now }
     ensures { IfOk result (λ routes. routes.items ≡ selected asked.now (union_of (map (λ t. t.routes) tables.now))) }
@@ -24,9 +29,18 @@ pub(crate) fn select_from<A: Allocator + Copy>(
         [table] => table.select(alloc, asked),
         _ => {
             let (some, others) = tables.split_at(tables.len() / 2);
-            let first = select_from(some, alloc, asked)?;
-            let second = select_from(others, alloc, asked)?;
-            let mut routes = merge(ListOrder::Dump, alloc, first, second)?;
+            let (first, second) = thread::join(
+                rt,
+                || -> Result<Vec<Route>, Refused>
+                    requires { IsSync R.row × AreTables (map (λ t. t.routes) some.now) × IsBeforeFilters asked.now }
+                    ensures { IfOk result (λ routes. routes.items ≡ selected asked.entry.now (union_of (map (λ t. t.routes) some.entry.now))) }
+                { select_from(rt, some, alloc, asked) },
+                || -> Result<Vec<Route>, Refused>
+                    requires { IsSync R.row × AreTables (map (λ t. t.routes) others.now) × IsBeforeFilters asked.now }
+                    ensures { IfOk result (λ routes. routes.items ≡ selected asked.entry.now (union_of (map (λ t. t.routes) others.entry.now))) }
+                { select_from(rt, others, alloc, asked) },
+            );
+            let mut routes = merge(ListOrder::Dump, alloc, first?, second?)?;
             if asked.only_best {
                 keep_best(&mut routes);
             }

@@ -11,9 +11,10 @@ use crate::lookups::{best_of_each, matches_in};
 use crate::selection::{keep_feed, keep_hop, select_from};
 use rt_cidr::Addr;
 use rt_rib::{Refused, Route, Selection, Table};
-use std::alloc::Allocator;
+use std::alloc::{Allocator, Global};
 use std::fmt;
 use std::marker::Model;
+use std::thread::Threads;
 
 /// Several tables of different feeds. Contracts see the table of all their routes, in dump order.
 #[derive(Drop)]
@@ -79,26 +80,6 @@ impl<A: Allocator + Copy> TableUnion<A> {
         self.len() == 0
     }
 
-    /// Returns the selected routes, in dump order. `only_best` first restricts the union to the best route of each
-    /// prefix; then the routes are selected whose prefix is in the part, and which are of the feed and have the next
-    /// hop. Each table selects its routes; the lists are merged two at a time. Error M1 (`Refused`) if memory runs out.
-    pub fn select(&self, alloc: A, asked: &Selection) -> Result<Vec<Route, A>, Refused>
-        ensures { IfOk result (λ routes. routes.items ≡ selected asked.now self.now) }
-    {
-        if !asked.only_best {
-            return select_from(&self.tables, alloc, asked);
-        }
-        let best = Selection {
-            feed: None,
-            hop: None,
-            ..*asked
-        };
-        let mut routes = select_from(&self.tables, alloc, &best)?;
-        keep_feed(&mut routes, asked.feed);
-        keep_hop(&mut routes, asked.hop);
-        Ok(routes)
-    }
-
     /// Replaces each answer by the look-up of the address with the same index. The two lists must be equally long. Each
     /// table answers 256 addresses at a time. Doesn't allocate.
     pub fn look_up_each(&self, addresses: &[Addr], answers: &mut [Option<Route>])
@@ -115,6 +96,34 @@ impl<A: Allocator + Copy> TableUnion<A> {
         ensures { IfOk result (λ routes. routes.items ≡ look_up_all addr self.now) }
     {
         matches_in(&self.tables, alloc, addr)
+    }
+}
+
+impl TableUnion<Global> {
+    /// Returns the selected routes, in dump order. `only_best` first restricts the union to the best route of each
+    /// prefix; then the routes are selected whose prefix is in the part, and which are of the feed and have the next
+    /// hop. Each table selects its routes, on its own thread if one can be created; the lists are merged two at a time.
+    /// Error M1 (`Refused`) if memory runs out.
+    pub fn select<R: Threads + Sync>(
+        &self,
+        rt: &R,
+        alloc: Global,
+        asked: &Selection,
+    ) -> Result<Vec<Route>, Refused>
+        ensures { IfOk result (λ routes. routes.items ≡ selected asked.now self.now) }
+    {
+        if !asked.only_best {
+            return select_from(rt, &self.tables, alloc, asked);
+        }
+        let best = Selection {
+            feed: None,
+            hop: None,
+            ..*asked
+        };
+        let mut routes = select_from(rt, &self.tables, alloc, &best)?;
+        keep_feed(&mut routes, asked.feed);
+        keep_hop(&mut routes, asked.hop);
+        Ok(routes)
     }
 }
 

@@ -1,4 +1,4 @@
-use Rattle.std.proofs.Common.{◌≡◌, ◌/◌, List, length, take, drop, ap, ◌∙◌, sym, subst, arith}
+use Rattle.std.proofs.Common.{◌≡◌, ◌/◌, List, length, take, drop, ap, ◌∙◌, sym, subst, arith, rules}
 use Rattle.std.specs.Prelude.{IfOk}
 use Rattle.std.proofs.lemmas.List.{nil_from_length}
 use Rattle.rt_rib.specs.Book.{TableContents}
@@ -13,29 +13,20 @@ use Rattle.rt_tables.proofs.Halves.{routes_of_each, none_selected, union_of_only
 use Rattle.rt_tables.proofs.selection.+select_from.Goals as goal
 use Rattle.rt_tables.proofs.selection.+select_from.Goals.{then-asked, else-asked}
 
-pub select_from-requires : goal.select_from-requires
-select_from-requires g t c = λ κs within.
-    let tables : List TableContents = c.args.tables.now in (
-      omega (arith, c.decreases, c.split_at.ensures.front_len, c.in_default.len_at_least),
+pub join-first-requires-after_bounds : goal.join-first-requires-after_bounds
+join-first-requires-after_bounds g t c κs within =
+    let tables : List TableContents = c.args.tables.now in
+    let some : AreTables (routes_of_each c.split_at.result.0.now) =
+    subst (λ l. AreTables (routes_of_each l)) (sym c.split_at.ensures.front) (front_half tables (length tables / 2) c.requires.tables) in
+    let others : AreTables (routes_of_each c.split_at.result.1.now) =
+    subst (λ l. AreTables (routes_of_each l)) (sym c.split_at.ensures.back) (back_half tables (length tables / 2) c.requires.tables) in (
       (
-        within,
-        (
-          subst (λ l. AreTables (routes_of_each l)) (sym c.split_at.ensures.front) (front_half tables (length tables / 2) c.requires.tables),
-          c.requires.asked,
-        ),
+        omega (arith, c.decreases, c.split_at.ensures.front_len, c.in_default.len_at_least),
+        ((λ a in_it. in_it), (((search rules), some, c.requires.asked), (search rules))),
       ),
-    )
-
-pub select_from-requires-in_default : goal.select_from-requires-in_default
-select_from-requires-in_default g t c = λ κs within.
-    let tables : List TableContents = c.args.tables.now in (
-      omega (arith, c.decreases, c.split_at.ensures.back_len, c.in_default.len_at_least),
       (
-        within,
-        (
-          subst (λ l. AreTables (routes_of_each l)) (sym c.split_at.ensures.back) (back_half tables (length tables / 2) c.requires.tables),
-          c.requires.asked,
-        ),
+        omega (arith, c.decreases, c.split_at.ensures.back_len, c.in_default.len_at_least),
+        ((λ a in_it. in_it), (((search rules), others, c.requires.asked), (search rules))),
       ),
     )
 
@@ -57,10 +48,12 @@ keep_best-requires g t c =
     let mid = length tables / 2 in
     let asked = c.args.asked.now in
     let found : List TableContents → List Route = λ l. selected asked (union_of (routes_of_each l)) in
-    let first = c.in_ok-first-in_default.ensures ∙ ap found c.split_at.ensures.front in
-    let second = c.in_ok-second-in_default.ensures ∙ ap found c.split_at.ensures.back in
+    let first-found : c.in_ok-first-in_default.field-0.items ≡ found c.split_at.result.0.now = search rules in
+    let second-found : c.in_ok-second-in_default.field-0.items ≡ found c.split_at.result.1.now = search rules in
+    let first = first-found ∙ ap found c.split_at.ensures.front in
+    let second = second-found ∙ ap found c.split_at.ensures.back in
     subst IsTable
-    (sym (c.in_ok-routes-in_default.ensures ∙ ap (λ l. merged precedes l c.in_ok-second-in_default.second.items) first
+    (sym (c.in_ok-routes-in_default.ensures ∙ ap (λ l. merged precedes l c.in_ok-second-in_default.field-0.items) first
     ∙ ap (merged precedes (found (take mid tables))) second))
     (selected_table tables mid c.requires.tables asked)
 
@@ -70,10 +63,12 @@ returns-after-asked g t c =
     let mid = length tables / 2 in
     let asked = c.args.asked.now in
     let found : List TableContents → List Route = λ l. selected asked (union_of (routes_of_each l)) in
-    let first = c.in_ok-first-in_default.ensures ∙ ap found c.split_at.ensures.front in
-    let second = c.in_ok-second-in_default.ensures ∙ ap found c.split_at.ensures.back in
+    let first-found : c.in_ok-first-in_default.field-0.items ≡ found c.split_at.result.0.now = search rules in
+    let second-found : c.in_ok-second-in_default.field-0.items ≡ found c.split_at.result.1.now = search rules in
+    let first = first-found ∙ ap found c.split_at.ensures.front in
+    let second = second-found ∙ ap found c.split_at.ensures.back in
     let both : c.in_ok-routes-in_default.routes.items ≡ merged precedes (found (take mid tables)) (found (drop mid tables)) =
-    c.in_ok-routes-in_default.ensures ∙ ap (λ l. merged precedes l c.in_ok-second-in_default.second.items) first
+    c.in_ok-routes-in_default.ensures ∙ ap (λ l. merged precedes l c.in_ok-second-in_default.field-0.items) first
     ∙ ap (merged precedes (found (take mid tables))) second in
     elim c.if-asked.branch [
       | then-asked w ↦ rw w.routes-is

@@ -4,7 +4,7 @@ use Rattle.rt_rib.specs.Selection.{is_by, is_via, selected}
 use Rattle.rt_tables.specs.Unions.{union_of}
 use Rattle.rt_tables.proofs.Filtering.{selected_by_filters}
 use Rattle.rt_tables.proofs.Halves.{routes_of_each}
-use Rattle.rt_tables.proofs.tables.TableUnion.select.Goals as goal
+use Rattle.rt_tables.proofs.tables.TableUnion+Global.select.Goals as goal
 
 pub returns : goal.returns
 returns g c =
