@@ -12,5 +12,6 @@ pub mod SameTables
 pub mod LeftOut
 pub mod Alone
 pub mod Shares
+pub mod Dealt
 pub mod SameTallies
 pub mod SameOutputs

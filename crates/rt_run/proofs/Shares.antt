@@ -2,7 +2,7 @@
 use Rattle.std.proofs.Common.{◌≡◌, ◌≢◌, ℕ, zero, suc, ◌+◌, ◌-◌, ◌<◌, ◌≤◌, false, not, inl, inr, List, [], ◌∷◌, ◌++◌, length, take, get_or, refl, sym, ap, subst, ◌∙◌, arith, eqb-true}
 use Rattle.std.proofs.Common.{append-nil, length-append}
 use Rattle.std.specs.Bool.{◌==◌}
-use Rattle.std.specs.List.{AllPairs, Contains}
+use Rattle.std.specs.List.{Contains}
 use Rattle.std.proofs.lemmas.Bool.{cases_Bool, cases_lt, cond-true, cond-false, eq-eqb}
 use Rattle.std.proofs.lemmas.List.{get_or_default, take_more, take_all, length-take-le}
 use Rattle.std.proofs.lemmas.List.Elements.{All-weaker, filter-append}
@@ -13,6 +13,7 @@ use Rattle.rt_rib.specs.Table.{IsTable}
 use Rattle.rt_rib.specs.Sequential.{table_of_journal, IsLawfulJournal}
 use Rattle.rt_rib.specs.Laws.{FeedsStandAlone, TableByEntry, OneTableOfSet, feed_entries, feed_routes}
 use Rattle.rt_rib.proofs.Sets.{Contains-none, filter-keeps, filter-from}
+use Rattle.rt_tables.specs.Unions.{AreOfDifferentFeeds}
 use Rattle.rt_shared.specs.JournalVisits.{AllBy, NoneBy, visit_of, entries}
 use Rattle.rt_shared.specs.Laws.{EntriesOfVisits}
 use Rattle.rt_feed.specs.Lines.{report_lines, commands_of}
@@ -20,7 +21,8 @@ use Rattle.rt_run.specs.declared.tallies.RejectedInput.{RejectedInput}
 use Rattle.rt_run.specs.RunText.{RunContents}
 use Rattle.rt_run.specs.TableText.{tally_of, LeavesTable}
 use Rattle.rt_run.specs.inside.Runs.{ExecutesText}
-use Rattle.rt_run.specs.Shares.{share_with, is_of_other, share_of, AreShares, AreTalliesOfShares, HaveNoFeedInCommon, IsTableOfAll, SharesAreApart, SharesAreOneRun}
+use Rattle.rt_run.specs.Shares.{share_with, is_of_other, share_of, AreShares, AreTalliesOfShares, IsTableOfAll, SharesAreApart, SharesAreOneRun}
+use Rattle.rt_run.specs.ChosenFeeds.{texts_kept}
 use Rattle.rt_run.proofs.InTurn.{entries_by, leaves_nothing, leaves_more}
 use Rattle.rt_run.proofs.SameTables.{has_text}
 use Rattle.rt_run.proofs.LeftOut.{own_entries}
@@ -30,6 +32,10 @@ use Rattle.rt_run.proofs.Alone.{state, replied_in, text_again, replied_again, sa
 -- the feed at a place is another thread's or not
 pub other_at : (dealt : List ℕ) (thread k : ℕ) → is_of_other dealt thread (k + 1) ≡ not (share_with dealt k == thread)
 other_at dealt thread k = let place : (k + 1) - 1 ≡ k = omega arith in ap (λ i. not (share_with dealt i == thread)) place
+
+all_kept : (feed : ℕ) (texts : List (List ℕ)) → texts_kept (is_of_other [] 0) feed texts ≡ texts
+all_kept feed [] = refl
+all_kept feed (text ∷ texts) = ap (λ ts. text ∷ ts) (all_kept (feed + 1) texts)
 
 -- a thread has the texts of its feeds, and no other
 pub has_text_at : (asked : RunContents) (dealt : List ℕ) (thread k : ℕ) → share_with dealt k ≡ thread
@@ -42,6 +48,10 @@ pub has_none_at : (asked : RunContents) (dealt : List ℕ) (thread k : ℕ) → 
 has_none_at asked dealt thread k other =
     kept_at (is_of_other dealt thread) 1 asked.texts k
     ∙ cond-true (is_of_other dealt thread (k + 1)) [] (get_or asked.texts k []) (other_at dealt thread k ∙ ap not other)
+
+-- the only share has all texts
+pub one_share : (asked : RunContents) → share_of asked [] 0 ≡ asked
+one_share asked = ap (λ texts. record asked { texts = texts }) (all_kept 1 asked.texts)
 
 -- texts were executed one after another, and left each feed these routes
 pub record HasExecuted (asked : RunContents) (own : ℕ → List Route) (tallies : List RejectedInput) : Type 0 where
@@ -163,7 +173,7 @@ module _ (alone : FeedsStandAlone) (law : EntriesOfVisits) (by_entry : TableByEn
             absurd (Contains-none r (subst (λ l. Contains l r) none own))
       ]
 
-  are_apart : AllPairs HaveNoFeedInCommon tables
+  are_apart : AreOfDifferentFeeds tables
   are_apart i j d before within r s in_one in_other same =
       let here : i < length tables = omega (arith, before, within) in
       let one = of_share i here r (subst (λ t. Contains t r) (get_or_default tables i d [] here) in_one) in

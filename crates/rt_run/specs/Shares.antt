@@ -1,8 +1,9 @@
 -- Runs that share the feeds of a run: each executes the texts of some feeds over a table of its own.
-use Rattle.std.specs.Prelude.{◌≡◌, ◌≢◌, ◌↔◌, ℕ, ◌-◌, ◌<◌, ◌≤◌, ◌==◌, Bool, not, List, [], length, get_or}
-use Rattle.std.specs.List.{AllPairs, Contains}
+use Rattle.std.specs.Prelude.{◌≡◌, ◌↔◌, ℕ, ◌-◌, ◌<◌, ◌≤◌, ◌==◌, Bool, not, List, [], length, get_or}
+use Rattle.std.specs.List.{Contains}
 use Rattle.rt_rib.specs.declared.routes.Route.{Route}
 use Rattle.rt_rib.specs.Table.{IsTable}
+use Rattle.rt_tables.specs.Unions.{AreOfDifferentFeeds}
 use Rattle.rt_run.specs.declared.tallies.RejectedInput.{RejectedInput}
 use Rattle.rt_run.specs.RunText.{RunContents}
 use Rattle.rt_run.specs.TableText.{LeavesTable}
@@ -30,10 +31,6 @@ pub record AreTalliesOfShares (asked : RunContents) (dealt : List ℕ) (tallies 
   pub as_many : length all ≡ length asked.texts
   pub each : (k : ℕ) (none : RejectedInput) → k < length asked.texts → get_or all k none ≡ get_or (get_or tallies (share_with dealt k) []) k none
 
--- no feed has routes in both tables
-abbrev pub HaveNoFeedInCommon : List Route → List Route → Type 0
-HaveNoFeedInCommon t u = (r s : Route) → Contains t r → Contains u s → r.feed ≢ s.feed
-
 -- this is the table of all routes of these tables
 pub record IsTableOfAll (tables : List (List Route)) (whole : List Route) : Type 0 where
   pub table : IsTable whole
@@ -43,7 +40,7 @@ pub record IsTableOfAll (tables : List (List Route)) (whole : List Route) : Type
 abbrev pub SharesAreApart : Type 0
 SharesAreApart =
     (asked : RunContents) (dealt : List ℕ) (tables : List (List Route)) (tallies : List (List RejectedInput)) → AreShares asked dealt tables tallies
-    → AllPairs HaveNoFeedInCommon tables
+    → AreOfDifferentFeeds tables
 
 -- some run of all texts leaves the table of all their routes, with the tally that each text has in its own run: also if
 -- commands ran out of memory

@@ -94,6 +94,13 @@ impl<'a> ChosenTexts<'a> {
         self.texts.len()
     }
 
+    /// Makes known that up to some number of commands may be executed together, and does nothing.
+    pub(crate) fn know_batch(&self)
+        ensures { 1 ≤ self.now.batch }
+    {
+        let _batch = self.batch;
+    }
+
     /// Returns the text of the feed at this place, or an empty one if there is none or the feed is left out.
     pub(crate) fn text(&self, index: usize) -> &'a [u8]
         ensures { result.now ≡ get_or self.now.texts index [] }

@@ -26,10 +26,12 @@
 mod ahead;
 mod chosen;
 mod comparisons;
+mod dealing;
 mod faults;
 mod forwarding;
 pub mod laws;
 mod output;
+mod parallel;
 mod queries;
 mod question;
 mod replays;

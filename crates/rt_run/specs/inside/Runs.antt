@@ -1,8 +1,9 @@
 -- The result of a run of feeds before its text is written; and texts that are executed one after another: the effect of a
 -- line, a text and the texts so far.
-use Rattle.std.specs.Prelude.{◌≡◌, ◌≢◌, ◌↔◌, ◌==◌, if◌then◌else◌, ℕ, List, length, ◌+◌, ◌<◌, ◌≤◌, [], ◌++◌, Option, Result, Err, IfOk}
+use Rattle.std.specs.Prelude.{◌≡◌, ◌≢◌, ◌↔◌, ◌==◌, if◌then◌else◌, ℕ, List, length, ◌+◌, ◌<◌, ◌≤◌, [], ◌++◌, get_or, map, All, Option, Result, Ok, Err, IsOk, IfOk}
 use Rattle.std.specs.declared.vec.Vec.{Vec}
 use Rattle.std.specs.declared.alloc.Global.{Global}
+use Rattle.std.specs.declared.alloc.AllocError.{AllocError}
 use Rattle.rt_rib.specs.declared.routes.Route.{Route}
 use Rattle.rt_rib.specs.Book.{BookContents, TableContents, TableState}
 use Rattle.rt_feed.specs.declared.report.Line.{Line}
@@ -20,6 +21,7 @@ use Rattle.rt_run.specs.declared.tallies.RejectedInput.{RejectedInput}
 use Rattle.rt_feed.specs.declared.faults.RunFault.{RunFault}
 use Rattle.rt_feed.specs.declared.faults.RunFault.TheVariants.{NoText, FeedCount}
 use Rattle.rt_run.specs.TableText.{tally_of, LeavesTable}
+use Rattle.rt_run.specs.Shares.{share_with, share_of}
 
 -- the texts were run to their ends, and these are the reports and the book
 pub record RunOverBook (asked : RunContents) (reports : List (List Line)) (book : BookContents) : Type 0 where
@@ -91,3 +93,36 @@ pub record LeavesBoth (old new : RunContents) (old_table new_table : List Route)
   pub old_left : LeavesTable old old_table old_tallies
   pub new_left : LeavesTable new new_table new_tallies
   pub tallied : tallies ≡ old_tallies ++ new_tallies
+
+-- the table that a share of the texts left and a tally for each text, or memory ran out
+abbrev pub ShareRun : Type 0
+ShareRun = Result (TableContents × Vec RejectedInput Global) AllocError
+
+-- some run of this share of the texts left the table with these tallies, or memory ran out
+abbrev pub EndsShare : RunContents → List ℕ → ℕ → ShareRun → Type 0
+EndsShare asked dealt share run = IfOk run (λ left. LeavesTable (share_of asked dealt share) left.0.routes left.1.items)
+
+-- each of these shares was executed
+abbrev pub EndEach : RunContents → List ℕ → List ShareRun → Type 0
+EndEach asked dealt runs = (share : ℕ) (none : ShareRun) → share < length runs → EndsShare asked dealt share (get_or runs share none)
+
+-- the routes of its table
+abbrev pub routes_left : ShareRun → List Route
+routes_left (Ok left) = left.0.routes
+routes_left (Err _) = []
+
+-- its tallies
+abbrev pub tallies_left : ShareRun → List RejectedInput
+tallies_left (Ok left) = left.1.items
+tallies_left (Err _) = []
+
+-- the tables of these runs, and their tallies: memory ran out in none
+pub record AreOfRuns (runs : List ShareRun) (tables : List (List Route)) (tallies : List (List RejectedInput)) : Type 0 where
+  pub ran : All IsOk runs
+  pub tables_left : tables ≡ map routes_left runs
+  pub told : tallies ≡ map tallies_left runs
+
+-- each text is in one of these shares, and each share has a tally for every text
+pub record AreTalliesOfEach (asked : RunContents) (dealt : List ℕ) (tallies : List (List RejectedInput)) : Type 0 where
+  pub dealt_to_some : (k : ℕ) → k < length asked.texts → share_with dealt k < length tallies
+  pub as_many : (share : ℕ) → share < length tallies → length (get_or tallies share []) ≡ length asked.texts

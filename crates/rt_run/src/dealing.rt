@@ -1,0 +1,65 @@
+//! Dealing the texts of a run to shares of about the same length.
+ghost use Rattle.std.specs.Prelude.{◌≡◌, ◌<◌, ◌≤◌, length, All, IfOk};
+
+use crate::chosen::ChosenTexts;
+use std::alloc::{AllocError, Global};
+use std::cmp::Reverse;
+
+/// Returns the number of texts that aren't empty. A text of a feed that is left out is empty.
+pub(crate) fn used_texts(asked: &ChosenTexts<'_>) -> usize
+    ensures { result ≤ length asked.now.texts }
+{
+    let mut used = 0;
+    for index in 0..asked.count() {
+        if !asked.text(index).is_empty() {
+            used += 1;
+        }
+    }
+    used
+}
+
+/// Returns the share of each text, in order: the longest text first, each text for the share that has the fewest bytes so
+/// far. Its error: memory ran out.
+pub(crate) fn deal(
+    alloc: Global,
+    asked: &ChosenTexts<'_>,
+    shares: usize,
+) -> Result<Vec<usize>, AllocError>
+    requires { 1 ≤ shares }
+    ensures { IfOk result (λ dealt. All (λ share. share < shares) dealt.items) }
+{
+    let mut dealt = vec![in alloc; 0; asked.count()]?;
+    let mut lengths = vec![in alloc; 0; shares]?;
+    for index in longest_first(alloc, asked)? {
+        let share = shortest(&lengths);
+        lengths[share] = asked.text(index).len().saturating_add(lengths[share]);
+        dealt[index] = share;
+    }
+    Ok(dealt)
+}
+
+/// Returns the places of the texts, the longest text first. Its error: memory ran out.
+fn longest_first(alloc: Global, asked: &ChosenTexts<'_>) -> Result<Vec<usize>, AllocError>
+    ensures { IfOk result (λ places. All (λ index. index < length asked.now.texts) places.items) }
+{
+    let mut places = Vec::with_capacity(alloc, asked.count())?;
+    for index in 0..asked.count() {
+        places.push_reserved(index);
+    }
+    places.sort_by_key(|&index| Reverse(asked.text(index).len()))?;
+    Ok(places)
+}
+
+/// Returns the place of the least of these lengths, the first of several.
+fn shortest(lengths: &[usize]) -> usize
+    requires { 1 ≤ length lengths.now }
+    ensures { result < length lengths.now }
+{
+    let mut place = 0;
+    for other in 1..lengths.len() {
+        if lengths[other] < lengths[place] {
+            place = other;
+        }
+    }
+    place
+}
