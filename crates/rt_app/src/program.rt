@@ -7,6 +7,7 @@ mod prefixes;
 mod program_error;
 mod queries;
 mod styles;
+mod threads;
 mod warnings;
 
 ghost use Rattle.std.specs.Prelude.{◌≡◌, ◌≤◌, length, vec_len, IfOk};

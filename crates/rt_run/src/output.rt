@@ -21,6 +21,7 @@ use rt_print::{
     write_change_counts, write_difference, write_invalid_line, write_lookup, write_table,
 };
 use rt_rib::{Route, Table};
+use rt_tables::TableUnion;
 use std::alloc::{AllocError, Global};
 use std::io::{self, Write};
 
@@ -90,30 +91,30 @@ pub(crate) fn write_run<W: Write>(
     write_table(w, routes)
 }
 
-/// Writes the result of looking up each address in the table, with its forwarding table if there is one, and the invalid
+/// Writes the result of looking up each address in the tables, with their forwarding table if there is one, and the invalid
 /// lines in their places.
 pub(crate) fn write_lookups<W: Write>(
     w: &mut W,
     style: &Style,
-    table: &Table<Global>,
+    tables: &TableUnion<Global>,
     fib: &Option<Fib<Global>>,
     addresses: &[Addr],
     invalid: &[InvalidLine],
 ) -> Result<(), io::Error>
-    requires fib { IfSome fib.now (λ fib. fib ≡ table.now.routes) }
+    requires fib { IfSome fib.now (λ fib. fib ≡ tables.now) }
     ensures { WritesText (W.contents w.old) (W.contents w.new)
-        (with_invalid style.now.syntax (λ these. found_text style.now these table.now.routes) 0 addresses.now invalid.now) result }
+        (with_invalid style.now.syntax (λ these. found_text style.now these tables.now) 0 addresses.now invalid.now) result }
 {
     let (mut rest, mut lines, mut done) = (addresses, invalid, 0);
     while let Some((line, later)) = lines.split_first() {
         let (piece, behind) = rest.split_at(line.before.saturating_sub(done).min(rest.len()));
-        write_answers(w, style, table, fib, piece)?;
+        write_answers(w, style, tables, fib, piece)?;
         write_invalid_line(w, style, line.number)?;
         rest = behind;
         lines = later;
         done = line.before;
     }
-    write_answers(w, style, table, fib, rest)
+    write_answers(w, style, tables, fib, rest)
 }
 
 /// Writes all routes that cover each address, the best first, and the invalid lines in their places.
@@ -137,41 +138,41 @@ pub(crate) fn write_all_lookups<W: Write>(
     write_matches(w, style, rest)
 }
 
-/// Writes the result of looking up each address in the table, with its forwarding table if there is one.
+/// Writes the result of looking up each address in the tables, with their forwarding table if there is one.
 fn write_answers<W: Write>(
     w: &mut W,
     style: &Style,
-    table: &Table<Global>,
+    tables: &TableUnion<Global>,
     fib: &Option<Fib<Global>>,
     addresses: &[Addr],
 ) -> Result<(), io::Error>
-    requires { IfSome fib.now (λ fib. fib ≡ table.now.routes) }
-    ensures { WritesText (W.contents w.old) (W.contents w.new) (found_text style.now addresses.now table.now.routes) result }
+    requires { IfSome fib.now (λ fib. fib ≡ tables.now) }
+    ensures { WritesText (W.contents w.old) (W.contents w.new) (found_text style.now addresses.now tables.now) result }
 {
     let mut rest = addresses;
     while !rest.is_empty() {
         let (piece, behind) = rest.split_at(rest.len().min(PIECE));
-        write_piece(w, style, table, fib, piece)?;
+        write_piece(w, style, tables, fib, piece)?;
         rest = behind;
     }
     Ok(())
 }
 
-/// Writes the result of looking up each of at most [`PIECE`] addresses in the table.
+/// Writes the result of looking up each of at most [`PIECE`] addresses in the tables.
 fn write_piece<W: Write>(
     w: &mut W,
     style: &Style,
-    table: &Table<Global>,
+    tables: &TableUnion<Global>,
     fib: &Option<Fib<Global>>,
     piece: &[Addr],
 ) -> Result<(), io::Error>
-    requires fib { IfSome fib.now (λ fib. fib ≡ table.now.routes) }
+    requires fib { IfSome fib.now (λ fib. fib ≡ tables.now) }
     requires few { length piece.now ≤ 256 }
-    ensures { WritesText (W.contents w.old) (W.contents w.new) (found_text style.now piece.now table.now.routes) result }
+    ensures { WritesText (W.contents w.old) (W.contents w.new) (found_text style.now piece.now tables.now) result }
 {
     let mut places = [None; PIECE];
     let found = &mut places[..piece.len()];
-    look_up_by(table, fib, piece, found);
+    look_up_by(tables, fib, piece, found);
     for (index, address) in piece.iter().enumerate() {
         write_lookup(w, style, *address, found[index])?;
     }

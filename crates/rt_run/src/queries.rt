@@ -11,18 +11,21 @@ use crate::chosen::{ChosenTexts, is_selected};
 use crate::faults::AppFault;
 use crate::forwarding::fib_for;
 use crate::output::{write_all_lookups, write_lookups, write_through};
+use crate::parallel::run_on_threads;
 use crate::question::Question;
 use crate::tallies::{RejectedInput, RunSummary, tallies_status};
-use crate::turns::run_in_turn;
 use rt_cidr::Addr;
 use rt_feed::{AddressText, InvalidLine, RunFault, read_addresses};
 use rt_print::{OutputRoom, Style, write_counts, write_routes, write_routes_and_total};
-use rt_rib::{Refused, Route, Selection, Table};
+use rt_rib::{Refused, Route, Selection};
+use rt_tables::TableUnion;
 use std::alloc::Global;
 use std::io::Write;
 use std::mem;
+use std::thread::Threads;
 
-/// Executes the texts one after another. Then writes the answer to `w` in the given style, and nothing else:
+/// Executes the texts on up to `threads` threads, or on fewer if no more can be created. Then writes the answer to `w` in the
+/// given style, and nothing else:
 ///
 /// - for `Question::Best` and each address in order a line, `ADDR route` with the route or `ADDR no route`, or a JSON object
 ///   (`write_lookup`);
@@ -36,9 +39,11 @@ use std::mem;
 ///
 /// Hence, if no command ran out of memory, the bytes are a function of only the texts, the limit and the question
 /// (`laws::query_output`). Returns the summary if everything was written. Its errors are those of `run_texts`; F3 also if
-/// there is no memory for the addresses, the selected routes or the tallies. Leaks the table, as `run_texts` does.
-pub fn show<W: Write>(
+/// there is no memory for the addresses, the selected routes or the tallies. Leaks the tables, as `run_texts` does.
+pub fn show<R: Threads + Sync, W: Write>(
+    rt: &R,
     alloc: Global,
+    threads: usize,
     asked: &ChosenTexts<'_>,
     style: &Style,
     question: &Question<'_>,
@@ -47,23 +52,24 @@ pub fn show<W: Write>(
     ensures text { WritesOrFails (IsAnswer asked.now style.now question.now) (W.contents w.old) (W.contents w.new) result }
     ensures no_text { (result ≡ Err (AppFault.Run RunFault.NoText)) ↔ (asked.now.texts ≡ []) }
 {
-    let (table, mut tallies) = run_in_turn(alloc, asked)?;
+    let (tables, mut tallies) = run_on_threads(rt, alloc, asked, threads)?;
     let (named, text, keep_invalid) = question.addresses();
     let read = read_addresses(alloc, named, text, keep_invalid)?;
     tallies.try_reserve(1)?;
     tallies.push_reserved(RejectedInput::of(read.faulty));
     let status = tallies_status(tallies.as_slice());
     let given = RunSummary { status, tallies };
-    let told = write_answer(alloc, &table, style, question, &read, given, w);
-    mem::forget(table);
+    let told = write_answer(rt, alloc, &tables, style, question, &read, given, w);
+    mem::forget(tables);
     told
 }
 
-/// Writes the answer to the question from the table, in few large writes, and returns `given`; `read` has the addresses to look
+/// Writes the answer to the question from the tables, in few large writes, and returns `given`; `read` has the addresses to look
 /// up, and the invalid lines that are kept.
-fn write_answer<W: Write>(
+fn write_answer<R: Threads + Sync, W: Write>(
+    rt: &R,
     alloc: Global,
-    table: &Table<Global>,
+    tables: &TableUnion<Global>,
     style: &Style,
     question: &Question<'_>,
     read: &AddressText,
@@ -71,38 +77,38 @@ fn write_answer<W: Write>(
     w: &mut W,
 ) -> Result<RunSummary, AppFault>
     ensures { (rows : List AddressRow) → AreOfRows (keeps_invalid question.now) rows read.now.addresses.items read.now.invalid.items
-        → Writes (question_text style.now question.now rows table.now.routes) given (W.contents w.old) (W.contents w.new) result }
+        → Writes (question_text style.now question.now rows tables.now) given (W.contents w.old) (W.contents w.new) result }
 {
     let room = OutputRoom::new(alloc)?;
     let (addresses, invalid) = (read.addresses.as_slice(), read.invalid.as_slice());
     let is_empty = are_empty(addresses, invalid);
     match question {
         Question::Best { .. } => {
-            let fib = fib_for(alloc, table, addresses.len());
+            let fib = fib_for(alloc, tables, addresses.len());
             write_through(w, room, is_empty, given, |out| {
-                write_lookups(out, style, table, &fib, addresses, invalid)
+                write_lookups(out, style, tables, &fib, addresses, invalid)
             })
         }
         Question::All { .. } => {
-            let all = matches_of(alloc, table, addresses)?;
+            let all = matches_of(alloc, tables, addresses)?;
             write_through(w, room, is_empty, given, |out| {
                 write_all_lookups(out, style, all.as_slice(), invalid)
             })
         }
         Question::Routes { selection, feeds } => {
-            let routes = routes_asked(alloc, table, selection, feeds)?;
+            let routes = routes_asked(rt, alloc, tables, selection, feeds)?;
             write_through(w, room, routes.is_empty(), given, |out| {
                 write_routes(out, style, routes.as_slice())
             })
         }
         Question::RoutesAndTotal { selection, feeds } => {
-            let routes = routes_asked(alloc, table, selection, feeds)?;
+            let routes = routes_asked(rt, alloc, tables, selection, feeds)?;
             write_through(w, room, false, given, |out| {
                 write_routes_and_total(out, style, routes.as_slice())
             })
         }
         Question::Counts { selection, feeds } => {
-            let routes = routes_asked(alloc, table, selection, feeds)?;
+            let routes = routes_asked(rt, alloc, tables, selection, feeds)?;
             write_through(w, room, false, given, |out| {
                 write_counts(out, style, routes.as_slice())
             })
@@ -117,32 +123,33 @@ fn are_empty(addresses: &[Addr], invalid: &[InvalidLine]) -> bool
     addresses.is_empty() && invalid.is_empty()
 }
 
-/// Returns each address, in order, and all routes of the table that cover it, the best first.
+/// Returns each address, in order, and all routes of the tables that cover it, the best first.
 fn matches_of(
     alloc: Global,
-    table: &Table<Global>,
+    tables: &TableUnion<Global>,
     addresses: &[Addr],
 ) -> Result<Vec<(Addr, Vec<Route>)>, Refused>
-    ensures { IfOk result (λ all. matches_found all.items ≡ matches_in table.now.routes addresses.now) }
+    ensures { IfOk result (λ all. matches_found all.items ≡ matches_in tables.now addresses.now) }
 {
     let mut all = Vec::with_capacity(alloc, addresses.len())?;
     for addr in addresses {
-        let routes = table.look_up_all(alloc, *addr)?;
+        let routes = tables.look_up_all(alloc, *addr)?;
         all.push_reserved((*addr, routes));
     }
     Ok(all)
 }
 
-/// Returns the selected routes of the table, in its order; of these feeds, if there are any.
-fn routes_asked(
+/// Returns the selected routes of the tables, in dump order; of these feeds, if there are any.
+fn routes_asked<R: Threads + Sync>(
+    rt: &R,
     alloc: Global,
-    table: &Table<Global>,
+    tables: &TableUnion<Global>,
     selection: &Selection,
     feeds: &[u32],
 ) -> Result<Vec<Route>, Refused>
-    ensures { IfOk result (λ routes. routes.items ≡ routes_of_selected feeds.now (selected selection.now table.now.routes)) }
+    ensures { IfOk result (λ routes. routes.items ≡ routes_of_selected feeds.now (selected selection.now tables.now)) }
 {
-    let mut routes = table.select(alloc, selection)?;
+    let mut routes = tables.select(rt, alloc, selection)?;
     routes.retain(|route| is_selected(feeds, route.feed));
     Ok(routes)
 }

@@ -6,6 +6,7 @@ ghost use Rattle.rt_rib.specs.declared.limits.TheConstants.{MAX_FEEDS};
 use super::feed_choice::FeedNumbers;
 use super::prefixes::prefix_of;
 use super::styles::style_of;
+use super::threads::threads_for;
 use super::warnings::{FeedTexts, report_query};
 use super::{ArgumentFault, Program, ProgramError};
 use command_line::{
@@ -19,8 +20,9 @@ use std::alloc::Global;
 use std::io::Write;
 use std::rt::Files;
 use std::sync::Wait;
+use std::thread::Threads;
 
-impl<R: Files + Wait + AllocGlobal, O: Write, E: Write> Program<'_, R, O, E> {
+impl<R: Files + Threads + Wait + Sync + AllocGlobal, O: Write, E: Write> Program<'_, R, O, E> {
     /// Writes, for each address of the command line and then for each address of the file, all routes that cover it, or only
     /// the best one. Reports rejected input, and returns the exit status.
     pub(super) fn show_answers<'w>(
@@ -106,7 +108,10 @@ impl<R: Files + Wait + AllocGlobal, O: Write, E: Write> Program<'_, R, O, E> {
         text: &[u8],
     ) -> Result<u8, ProgramError<'w>> {
         let mut out = self.screen.beside(asked.count(), self.out);
-        let given = show(self.alloc, asked, style, question, &mut out)?;
+        let threads = threads_for(self.rt, files.texts, text.len());
+        let given = show(
+            self.rt, self.alloc, threads, asked, style, question, &mut out,
+        )?;
         report_query(
             &mut self.screen,
             files,

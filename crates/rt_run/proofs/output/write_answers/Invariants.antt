@@ -8,7 +8,7 @@ abbrev pub invariant-loop-rest : goal.invariant-loop-rest
 invariant-loop-rest g l = record {
   text : List ℕ;
   written : Appends (g.W.Write.contents l.initial.w) (g.W.Write.contents l.w) text;
-  whole : text ++ found_text l.style l.rest l.table.routes ≡ found_text l.style l.fn.addresses l.table.routes;
+  whole : text ++ found_text l.style l.rest l.tables ≡ found_text l.style l.fn.addresses l.tables;
 }
 
 abbrev pub decreases-loop-rest : goal.decreases-loop-rest

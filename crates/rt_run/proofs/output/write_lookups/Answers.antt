@@ -10,7 +10,7 @@ use Rattle.rt_run.proofs.output.write_lookups.Goals as goal
 
 pub returns-in_err-write_answers : goal.returns-in_err-write_answers
 returns-in_err-write_answers g c =
-    let text_of : List Addr → List ℕ = λ these. found_text c.args.style.now these c.args.table.now.routes in
+    let text_of : List Addr → List ℕ = λ these. found_text c.args.style.now these c.args.tables.now in
     let whole : List ℕ = with_invalid c.args.style.now.syntax text_of 0 c.args.addresses.now c.args.invalid.now in
     let count : c.min.result ≡ min (c.in-Some.line.now.before - c.loop-line.done) (length c.loop-line.rest.now) =
     omega (arith, c.min.ensures, c.saturating_sub.ensures) in
@@ -21,7 +21,7 @@ returns-in_err-write_answers g c =
 
 pub returns-in_err-write_invalid_line : goal.returns-in_err-write_invalid_line
 returns-in_err-write_invalid_line g c =
-    let text_of : List Addr → List ℕ = λ these. found_text c.args.style.now these c.args.table.now.routes in
+    let text_of : List Addr → List ℕ = λ these. found_text c.args.style.now these c.args.tables.now in
     let whole : List ℕ = with_invalid c.args.style.now.syntax text_of 0 c.args.addresses.now c.args.invalid.now in
     let count : c.min.result ≡ min (c.in-Some.line.now.before - c.loop-line.done) (length c.loop-line.rest.now) =
     omega (arith, c.min.ensures, c.saturating_sub.ensures) in
@@ -32,7 +32,7 @@ returns-in_err-write_invalid_line g c =
 
 pub loop-line-preserved : goal.loop-line-preserved
 loop-line-preserved g c =
-    let text_of : List Addr → List ℕ = λ these. found_text c.args.style.now these c.args.table.now.routes in
+    let text_of : List Addr → List ℕ = λ these. found_text c.args.style.now these c.args.tables.now in
     let whole : List ℕ = with_invalid c.args.style.now.syntax text_of 0 c.args.addresses.now c.args.invalid.now in
     let count : c.min.result ≡ min (c.in-Some.line.now.before - c.loop-line.done) (length c.loop-line.rest.now) =
     omega (arith, c.min.ensures, c.saturating_sub.ensures) in

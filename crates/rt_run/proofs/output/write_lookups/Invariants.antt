@@ -8,8 +8,8 @@ abbrev pub invariant-loop-line : goal.invariant-loop-line
 invariant-loop-line g l = record {
   text : List ℕ;
   written : Appends (g.W.Write.contents l.initial.w) (g.W.Write.contents l.w) text;
-  whole : text ++ with_invalid l.style.syntax (λ these. found_text l.style these l.table.routes) l.done l.rest l.lines
-      ≡ with_invalid l.style.syntax (λ these. found_text l.style these l.table.routes) 0 l.fn.addresses l.fn.invalid;
+  whole : text ++ with_invalid l.style.syntax (λ these. found_text l.style these l.tables) l.done l.rest l.lines
+      ≡ with_invalid l.style.syntax (λ these. found_text l.style these l.tables) 0 l.fn.addresses l.fn.invalid;
 }
 
 abbrev pub decreases-loop-line : goal.decreases-loop-line

@@ -13,7 +13,7 @@ use Rattle.rt_run.proofs.queries.write_answer.Goals as goal
 pub returns-in-Best : goal.returns-in-Best
 returns-in-Best g c rows is =
     let style = c.args.style.now in
-    let table = c.args.table.now.routes in
+    let table = c.args.tables.now in
     let addresses = c.as_slice-addresses.result.now in
     let invalid = c.as_slice-invalid.result.now in
     let these : AreOfRows (keeps_invalid c.args.question.now) rows addresses invalid =
@@ -26,7 +26,7 @@ returns-in-Best g c rows is =
 pub returns-in_ok-all-in-All : goal.returns-in_ok-all-in-All
 returns-in_ok-all-in-All g c rows is =
     let style = c.args.style.now in
-    let table = c.args.table.now.routes in
+    let table = c.args.tables.now in
     let addresses = c.as_slice-addresses.result.now in
     let invalid = c.as_slice-invalid.result.now in
     let these : AreOfRows (keeps_invalid c.args.question.now) rows addresses invalid =
