@@ -16,8 +16,19 @@ from .crates import TOP, cache
 from .optimizing import without_sanitizer
 from .workspaces import add, lay_out
 
-# The setting that the launchers make before the program starts, as in ./yarib's own line: one arena of large pages.
-LAUNCHED = {"GLIBC_TUNABLES": re.search(r'^export GLIBC_TUNABLES="(.*?)\$', (TOP / "yarib").read_text(), re.M)[1]}
+LAUNCHER = (TOP / "yarib").read_text()
+
+
+def launched(subcommand="run"):
+    """The setting that the launchers make before they start the program with this subcommand, as in ./yarib's own lines:
+    arenas of large pages."""
+    arenas = {word: number for words, number in re.findall(r"([\w*| ]+)\) arenas=(\d+) ;;", LAUNCHER)
+              for word in words.split(" in ")[-1].replace(" ", "").split("|")}
+    setting = re.search(r'^export GLIBC_TUNABLES="(.*?)\$\{', LAUNCHER, re.M)[1]
+    return {"GLIBC_TUNABLES": setting.replace("$arenas", arenas.get(subcommand, arenas["*"]))}
+
+
+LAUNCHED = launched()
 
 failures = []  # of each the case's name and what was wrong
 of_thread = threading.local()  # `case` is the name of the case that runs on it

@@ -16,7 +16,7 @@ import resource
 import signal
 import subprocess
 
-from common.checks import LAUNCHED, chosen, close_all, end, expect, run, run_each
+from common.checks import chosen, close_all, end, expect, launched, run, run_each
 from common.table_model import MAX_FEEDS, row, run_text
 from refusing import Wrong, answered_addresses, check_shown, refuse_each, refuser, run_refused
 from texts import AGAIN, FORWARDED, ROW, ROW_OUT, many_routes, own_text, written
@@ -76,7 +76,7 @@ def little_memory(yarib):
         ("the help", ["run", "--help"], None, 16_384, 0),
     ]
     for name, words, texts, step, part in cases:
-        for memory, setting in (({}, ""), (LAUNCHED, ", launched")):
+        for memory, setting in (({}, ""), (launched(words[0]), ", launched")):
             rising_limits(name + setting, [yarib, *words], texts, step, part, memory)
 
 

@@ -68,7 +68,8 @@ cp "$STARTED" "$2"
 """
 # The settings that the launcher makes for glibc's memory.
 TUNABLES = "glibc.malloc.arena_max=1:glibc.malloc.hugetlb=1"
-TUNABLES_OF = {"diff": f"{TUNABLES}:glibc.malloc.arena_max=2"}
+TUNABLES_OF = {word: f"glibc.malloc.arena_max={arenas}:glibc.malloc.hugetlb=1"
+               for word, arenas in (("diff", 2), ("lookup", 64), ("table", 64))}
 
 
 class Copy:
@@ -534,13 +535,14 @@ def in_order(copy):
         expect(f"{crate} is told of", bool(re.search(rf"\b{crate}\b", err)), True)
 
 
-# Catches builds without mutual exclusion: `three calls at once build once`, `two builds at once prove each crate once`.
+# Catches builds without mutual exclusion: `four calls at once build once`, `two builds at once prove each crate once`.
 def one_at_a_time(copy):
-    with concurrent.futures.ThreadPoolExecutor(3) as pool:
-        ended = list(pool.map(lambda name: copy.start(name, "x"), ("run", "table", "diff")))
-    expect("three calls at once start the program", [one[:2] for one in ended],
-           [(0, told([word, "x"], copy.top, TUNABLES_OF.get(word, TUNABLES))) for word in ("run", "table", "diff")])
-    expect("three calls at once build once", copy.built().count("begin rt_app"), 1)
+    calls = ("run", "lookup", "table", "diff")
+    with concurrent.futures.ThreadPoolExecutor(len(calls)) as pool:
+        ended = list(pool.map(lambda name: copy.start(name, "x"), calls))
+    expect("four calls at once start the program", [one[:2] for one in ended],
+           [(0, told([word, "x"], copy.top, TUNABLES_OF.get(word, TUNABLES))) for word in calls])
+    expect("four calls at once build once", copy.built().count("begin rt_app"), 1)
     copy.change("crates/rt_cidr/src/lib.rt")
     with concurrent.futures.ThreadPoolExecutor(2) as pool:
         builds = list(pool.map(lambda name: copy.start(name, by=copy.top / "tools/build")[0], ("rt_app", "rt_app")))
