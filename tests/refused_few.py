@@ -8,10 +8,11 @@ number comes. Each is refused first by itself, then with all later ones. A run r
 SharedRib (new, and apply or with batches apply_batch), in run_feed and in run_texts. tests/refused_calls.py refuses each
 request of the libraries' calls, and tests/refused_growth.py each of more runs.
 
-A comparison of two tables executes its sides on two threads. It is run with each request refused, by itself and with all
-later ones, with a second thread and without one.
+A comparison of two tables executes its sides on two threads, and a query of two large files each on its own. Both are run
+with each request refused, by itself and with all later ones, with a second thread and without one.
 """
 import itertools
+import os
 import pathlib
 import re
 import tempfile
@@ -53,6 +54,8 @@ def run_of(name, texts, batch):
 # Each `add` needs memory: refused, it changes a line of the output.
 OLD = ["".join(f"add {feed}.{at}.0.0/16 {at} 192.0.2.{feed}\n" for at in range(4)) for feed in (1, 2)]
 NEW = ["".join(f"add {feed}.{at}.0.0/16 {at} 192.0.2.9\n" for at in range(4)) for feed in (1, 3)]
+# A query has a thread for each 256 KiB of its feeds.
+COMMENTS = f"# {'-' * 100}\n" * 3000
 # What happens to a comparison, by what it reports on standard error.
 HAPPENINGS = {
     "nothing": "",
@@ -71,32 +74,52 @@ def endings(words, refuse, rest, threads):
             return
 
 
+def ends_alike(called, words, happenings):
+    """A call ends the same without further threads. With them, a refused request has an effect that a refused request has
+    without them. Returns how many threads it wasn't given."""
+    ample = run_refused(words, called.refuse, 0)
+    checks.expect("the status and the messages", (ample.status, ample.err), (1 if "diff" in words else 0, ""))
+    in_turn = list(endings(words, called.refuse, False, False))
+    checks.expect("without a thread", in_turn[-1][:3], ample[:3])
+    explained = {ending[:3] for ending in in_turn}
+    met = {re.sub(r"(?<=: )\d+$", "N", ending.err, flags=re.MULTILINE) for ending in in_turn}
+    checks.expect("what was refused", [what for what, text in happenings.items() if text not in met], [])
+    both = list(endings(words, called.refuse, False, True))
+    checks.expect("with a request refused", [ending for ending in both if ending[:3] not in explained], [])
+    checks.expect("with none refused", both[-1][:3], ample[:3])
+    for threads in (False, True):
+        for ending in endings(words, called.refuse, True, threads):
+            checks.expect("with all later ones refused", is_foreseen(ending, ample), True)
+    return sorted({ending.threads for ending in in_turn} - {0})
+
+
 # Catches a comparison on one thread: `its threads`.
 # Catches one that executes only one side if no thread can be created: `without a thread`.
 # Catches one that ignores that a side had no memory: `with a request refused`.
 def a_comparison(called):
-    """A comparison ends the same without a second thread. With one, a refused request has an effect that a refused request
-    has without one."""
     for form in ([], ["--count"]):
         words = [called.yarib, "diff", *form, *written("old", OLD), "--", *written("new", NEW)]
-        ample = run_refused(words, called.refuse, 0)
-        checks.expect("the status and the messages", (ample.status, ample.err), (1, ""))
-        in_turn = list(endings(words, called.refuse, False, False))
-        checks.expect("its threads", sorted({ending.threads for ending in in_turn} - {0}), [1])
-        checks.expect("without a thread", in_turn[-1][:3], ample[:3])
-        explained = {ending[:3] for ending in in_turn}
-        met = {re.sub(r"(?<=: )\d+$", "N", ending.err, flags=re.MULTILINE) for ending in in_turn}
-        checks.expect("what was refused", [what for what, text in HAPPENINGS.items() if text not in met], [])
-        both = list(endings(words, called.refuse, False, True))
-        checks.expect("with a request refused", [ending for ending in both if ending[:3] not in explained], [])
-        checks.expect("with none refused", both[-1][:3], ample[:3])
-        for threads in (False, True):
-            for ending in endings(words, called.refuse, True, threads):
-                checks.expect("with all later ones refused", is_foreseen(ending, ample), True)
+        checks.expect("its threads", ends_alike(called, words, HAPPENINGS), [1])
+
+
+# Catches a query on one thread: `its threads`.
+# Catches one that executes only one share if no thread can be created: `without a thread`.
+# Catches one that ignores that a share had no memory: `with a request refused`.
+def a_query(called):
+    """Large feeds, whose lines are comments but for a few."""
+    if len(os.sched_getaffinity(0)) < 2:
+        return print("left out: a query has one thread on one processor", flush=True)
+    feeds = written("own", [text + COMMENTS for text in OLD])
+    happenings = {text: HAPPENINGS[text] for text in ("nothing", "the run")} | {
+        f"a command of {name}": f"yarib: {name}.feed: commands failed, out of memory: N\n" for name in ("own1", "own2")}
+    # The tables select their routes on threads, too.
+    for form, threads in ((["lookup", "--address", "1.2.3.4", "--address", "2.3.0.1"], [1]), (["table"], [1, 2])):
+        words = [called.yarib, *form, *feeds]
+        checks.expect("its threads", ends_alike(called, words, happenings), threads)
 
 
 def is_foreseen(ending, ample):
-    """Whether a comparison printed all, or nothing and F3, or what is left without the commands that it reports."""
+    """Whether a call printed all, or nothing and F3, or what is left without the commands that it reports."""
     if ending[1:3] == ("", "yarib: fault F3\n"):
         return ending.status == 5
     if "commands failed" in ending.err:
@@ -110,6 +133,7 @@ CASES = [
     *(run_of("three files", THREE, batch) for batch in ("1", "3")),
     Few("a replay", lambda called: ["replay", "--levels", "6", "5"], check_same, itertools.count),
     a_comparison,
+    a_query,
 ]
 
 KINDS = {"run_texts", "a line of a run", "fault P3"}
