@@ -24,9 +24,9 @@ Exit status, the highest that applies:
             "  4 unreadable file   5 out of memory (`yarib: fault F3` or `commands failed`)
   6 output not written
 
-The feed files of a table are executed one after another; --batch has no
-effect. Without --limit a feed has at most " most_routes " routes. `yarib run --help`
-lists the commands of feed files and the faults.
+Feed files may be executed on several threads; --batch has no effect.
+Without --limit a feed has at most " most_routes " routes. `yarib run --help` lists
+the commands of feed files and the faults.
 
 "
             $example
