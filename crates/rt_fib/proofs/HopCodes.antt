@@ -7,7 +7,7 @@ use Rattle.rt_rib.specs.declared.routes.Route.{Route}
 use Rattle.rt_fib.specs.Hops.{next_hop}
 use Rattle.rt_fib.specs.inside.Entries.{at}
 use Rattle.rt_fib.specs.inside.HopCodes.{code_of, hop_code}
-use Rattle.rt_fib.specs.inside.Pools.{with_value}
+use Rattle.rt_fib.specs.inside.Slab.{with_value}
 
 -- no next hop has the code of no route
 some_code : (hop : Hop) → 1 ≤ code_of hop

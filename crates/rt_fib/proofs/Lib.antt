@@ -1,4 +1,5 @@
 pub mod Placing
+pub mod Both
 pub mod HopCodes
 pub mod Leading
 pub mod Reading

@@ -7,8 +7,8 @@ use Rattle.rt_rib.specs.declared.routes.Hop.TheVariants.{Via, Discard}
 use Rattle.rt_rib.specs.declared.routes.Route.{Route}
 use Rattle.rt_rib.specs.LookUp.{look_up}
 use Rattle.rt_fib.specs.Views.{IsHopNumber, IsAnswerNumber, IsNumber, ViewShows}
-use Rattle.rt_fib.specs.declared.cells.Block.{Block}
-use Rattle.rt_fib.specs.inside.Pools.{Places}
+use Rattle.rt_fib.specs.declared.slabs.Group.{Group}
+use Rattle.rt_fib.specs.declared.slabs.Slabs.{Slabs}
 use Rattle.rt_fib.specs.inside.Entries.{AreAll}
 use Rattle.rt_fib.specs.inside.Shown.{Extends, IsHopOf, AreHopsOf, AreShownEntries, IsShownBlock, AreShownBlocks}
 use Rattle.rt_fib.specs.inside.Spans.{ArePut}
@@ -46,15 +46,15 @@ hops_push old new numbers answers n number answer more are is there = record {
 }
 
 -- one more block
-pub blocks_more : (numbers : List ℕ) (blocks : List Block) (old shown next : List ℕ) (block : Block) (b : ℕ) → AreShownBlocks numbers blocks old shown b
-    → IsShownBlock numbers block.numbers shown next (b * 256) 256 → ((d : Block) → get_or blocks b d ≡ block) → AreShownBlocks numbers blocks old next (b + 1)
+pub blocks_more : (numbers : List ℕ) (blocks : List Group) (old shown next : List ℕ) (block : Group) (b : ℕ) → AreShownBlocks numbers blocks old shown b
+    → IsShownBlock numbers block.numbers shown next (b * 256) 256 → ((d : Group) → get_or blocks b d ≡ block) → AreShownBlocks numbers blocks old next (b + 1)
 blocks_more numbers blocks old shown next block b are is there = record {
   size = is.size ∙ are.size;
   each = λ j k d below low. elim (cases_lt j b) [
     | inl before ↦ is.before (j * 256 + k) (omega (arith, before, low)) ∙ are.each j k d before low
     | inr from ↦
         let last : j ≡ b = omega (arith, below, from) in
-        rw last (is.each k low ∙ ap (λ (l : Block). get_or numbers (get_or l.numbers k 0) 0) (sym (there d)))
+        rw last (is.each k low ∙ ap (λ (l : Group). get_or numbers (get_or l.numbers k 0) 0) (sym (there d)))
   ];
 }
 
@@ -68,42 +68,44 @@ put_extends old new list fits put = record {
 }
 
 -- what is written leads each address to the number of its answer
-pub view_shows : (entries shown old more numbers list routers : List ℕ) (blocks : Places Block) (answers : Places (Option Route)) (since : ℕ) (table : List Route)
-    → AreAll entries blocks answers since table → AreHopsOf list numbers answers.values (length answers.values) → Extends list routers
-    → AreShownEntries numbers entries shown (length entries) → AreShownBlocks numbers blocks.values old more (length blocks.values)
-    → length blocks.values * 256 ≤ length old → ViewShows shown more routers table
-view_shows entries shown old more numbers list routers blocks answers since table all hops longer are put fits = record {
+pub view_shows : {A : Type 0} → (entries shown old more numbers list routers : List ℕ) (slabs : Slabs A) (epoch : ℕ) (table : List Route)
+    → AreAll entries slabs epoch table → AreHopsOf list numbers slabs.routes.places.values (length slabs.routes.places.values) → Extends list routers
+    → AreShownEntries numbers entries shown (length entries)
+    → AreShownBlocks numbers slabs.groups.places.values old more (length slabs.groups.places.values)
+    → length slabs.groups.places.values * 256 ≤ length old → ViewShows shown more routers table
+view_shows entries shown old more numbers list routers slabs epoch table all hops longer are put fits = record {
   size = are.size ∙ all.size;
   each = λ addr within.
       let i = addr.0 / 256 in
       let k = addr.0 % 256 in
       let answer = look_up addr table in
+      let answers = slabs.routes.places.values in
       let low : k < 256 = omega arith in
       let here : i < length entries = omega (arith, within, all.size) in
       let there = are.each i here in
-      let number : (n : ℕ) → n < length answers.values → ((d : Option Route) → get_or answers.values n d ≡ answer) → IsHopOf routers (get_or numbers n 0) answer =
+      let number : (n : ℕ) → n < length answers → ((d : Option Route) → get_or answers n d ≡ answer) → IsHopOf routers (get_or numbers n 0) answer =
       λ n below found.
       let hop = hops.each n answer below in
       record {
         short = hop.short;
         is = subst (λ (a : Option Route). IsAnswerNumber routers (get_or numbers n 0) a) (found answer)
-            (answer_extends list routers (get_or numbers n 0) (get_or answers.values n answer) longer hop.is);
+            (answer_extends list routers (get_or numbers n 0) (get_or answers n answer) longer hop.is);
       } in
-      elim (entry_leads entries blocks answers since table addr.0 (get_or entries i 0) all within (omega arith)) [
+      elim (entry_leads entries slabs epoch table addr.0 (get_or entries i 0) all within (omega arith)) [
         | inl whole ↦
             let same : get_or shown i 0 ≡ get_or numbers (get_or entries i 0) 0 = there.short whole.short in
             let hop = number (get_or entries i 0) whole.number.is_used.within whole.number.there in
             inl (subst (λ (e : ℕ). IsNumber routers e answer) (sym same) (record { short = hop.short; number = hop.is }))
         | inr names ↦
             let same : get_or shown i 0 ≡ get_or entries i 0 = there.long (omega (arith, names.long)) in
-            let block = names.named.is_used.within in
-            let hop = number (get_or names.block.numbers k 0) names.number.is_used.within names.number.there in
-            let read : get_or more (names.place * 256 + k) 0 ≡ get_or numbers (get_or names.block.numbers k 0) 0 =
-            put.each names.place k names.block block low ∙ ap (λ (b : Block). get_or numbers (get_or b.numbers k 0) 0) (names.named.there names.block) in
+            let group = names.named.is_used.within in
+            let hop = number (get_or names.group.numbers k 0) names.number.is_used.within names.number.there in
+            let read : get_or more (names.place * 256 + k) 0 ≡ get_or numbers (get_or names.group.numbers k 0) 0 =
+            put.each names.place k names.group group low ∙ ap (λ (g : Group). get_or numbers (get_or g.numbers k 0) 0) (names.named.there names.group) in
             inr (record {
               block = names.place;
               long = same ∙ names.long;
-              within = omega (arith, block, low, fits, put.size);
+              within = omega (arith, group, low, fits, put.size);
               number = subst (λ (x : ℕ). IsAnswerNumber routers x answer) (sym read) hop.is;
             })
       ];

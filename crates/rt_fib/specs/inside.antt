@@ -2,7 +2,8 @@
 pub mod Entries
 pub mod HopCodes
 pub mod Pieces
+pub mod Slab
+pub mod Slabs
 pub mod Spans
-pub mod Pools
 pub mod Shown
 pub mod Changes

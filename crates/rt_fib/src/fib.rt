@@ -9,12 +9,11 @@ ghost use Rattle.rt_fib.specs.Laws.{KeepsOtherRoutes, PreservesOtherRoutes};
 ghost use Rattle.rt_fib.specs.Views.{ViewShows};
 ghost use Rattle.rt_fib.specs.inside.Spans.{PreservesLookupsOutside};
 
-use crate::cells::{BLOCK_BYTES, Cells};
-use crate::filling::{all_cells, put_entries, renew_cells};
-use crate::following::{Change, change_entries, number_for, own_answer};
-use crate::marking::keep_pace;
-use crate::pools::bytes_reserved;
+use crate::dir24_8::Dir24_8;
+use crate::filling::put_entries;
+use crate::following::Change;
 use crate::purging::{prefixes_to_withdraw, purge_rest, withdraw_each};
+use crate::slabs::{Counts, GROUP_SIZE};
 use crate::spans::{ENTRIES, span_of};
 use crate::views::{ViewSizes, hop_numbers, show_blocks, show_entries};
 use rt_cidr::{Addr, Prefix};
@@ -30,29 +29,27 @@ use std::snapshot::Snapshot;
 /// have more than one answer, and 36 bytes for each answer.
 #[derive(Drop)]
 pub struct Fib<A: Allocator + Copy, B: Allocator + Copy = A> {
-    cells: Cells<A, B>,
+    dir: Dir24_8<A, B>,
 }
 
 impl<A: Allocator + Copy, B: Allocator + Copy> Model for Fib<A, B> {
     ghost use Rattle.std.specs.Prelude.{List};
     ghost use Rattle.rt_rib.specs.declared.routes.Route.{Route};
-    ghost use Rattle.rt_fib.specs.inside.Pools.{places};
-    ghost use Rattle.rt_fib.specs.inside.Entries.{AreCells};
+    ghost use Rattle.rt_fib.specs.inside.Entries.{IsForwarding};
 
     ghost Value = { List Route };
 
-    ghost view = { λ f. f.cells.table.value.routes };
+    ghost view = { λ f. f.dir.table.value.routes };
 
-    ghost invariant = { λ f. AreCells f.cells.entries.items (places f.cells.pools.blocks) f.cells.pools.answers.places f.cells.since
-        f.cells.marked f.cells.table.value.routes };
+    ghost invariant = { λ f. IsForwarding f.dir };
 }
 
-/// Shows how many blocks and answers there are, and none of them.
+/// Shows how many groups and answers there are, and none of them.
 impl<A: Allocator + Copy, B: Allocator + Copy> fmt::Debug for Fib<A, B> {
     fn fmt<W: fmt::Write>(&self, f: &mut fmt::Formatter<W>) -> fmt::Result {
         f.debug_struct("Fib")
-            .field("blocks", &self.cells.pools.blocks.values.len())
-            .field("answers", &self.cells.pools.answers.len())
+            .field("groups", &self.dir.slabs.groups.len())
+            .field("answers", &self.dir.slabs.routes.len())
             .finish_non_exhaustive()
     }
 }
@@ -64,7 +61,7 @@ impl<A: Allocator + Copy, B: Allocator + Copy> Fib<A, B> {
         ensures { IfOk result (λ fib. fib ≡ table.now.routes) }
     {
         Ok(Fib {
-            cells: all_cells(alloc, table)?,
+            dir: Dir24_8::new(alloc, table)?,
         })
     }
 
@@ -76,16 +73,16 @@ impl<A: Allocator + Copy, B: Allocator + Copy> Fib<A, B> {
         ensures { IfOk result (λ copy. copy ≡ self.now) }
     {
         Ok(Fib {
-            cells: self.cells.copy(alloc, table)?,
+            dir: self.dir.copy(alloc, table)?,
         })
     }
 
     /// Looks up the address: returns the best route of the longest prefix that covers it, or `None` if no prefix
-    /// covers it. It reads the address's entry, in some places a block's number, and the answer.
+    /// covers it. It reads the address's entry, in some places a group's number, and the answer.
     pub fn look_up(&self, addr: Addr) -> Option<Route>
         ensures { result ≡ look_up addr self.now }
     {
-        self.cells.look_up(addr)
+        self.dir.look_up(addr)
     }
 
     /// Looks up each address, in order. The answers replace what their list had, which is as long as the list of addresses.
@@ -93,7 +90,7 @@ impl<A: Allocator + Copy, B: Allocator + Copy> Fib<A, B> {
         requires { length answers.old ≡ length addresses.now }
         ensures { answers.new ≡ map (λ addr. look_up addr self.now) addresses.now }
     {
-        self.cells.look_up_each(addresses, answers);
+        self.dir.look_up_each(addresses, answers);
     }
 
     /// Looks up the address's next hop: that of the route that `look_up` returns, or `None` if no prefix covers the address. It reads 4
@@ -101,7 +98,7 @@ impl<A: Allocator + Copy, B: Allocator + Copy> Fib<A, B> {
     pub fn look_up_hop(&self, addr: Addr) -> Option<Hop>
         ensures { result ≡ next_hop (look_up addr self.now) }
     {
-        self.cells.look_up_hop(addr)
+        self.dir.look_up_hop(addr)
     }
 
     /// Follows the last command that the table has answered. After an `add`, a `replace` or a `withdraw` it renews the answers of the
@@ -111,7 +108,7 @@ impl<A: Allocator + Copy, B: Allocator + Copy> Fib<A, B> {
     /// Each change also marks some of the entries and what they lead to. What no address leads to any more is used again once all
     /// entries were marked. If a round of marking saw so little in use that it may take over twice the memory of a new one, the
     /// next change rebuilds it: so a table that shrank gives memory back. M1: `Refused` if memory ran out. Then it answers as
-    /// before, has no more blocks and answers than before, and all that was free is free again: so trying again takes no more than the
+    /// before, has no more groups and answers than before, and all that was free is free again: so trying again takes no more than the
     /// first time.
     pub fn follow(&mut self, table: &Table<B>, cmd: &Cmd) -> Result<(), Refused>
         requires once { IsTable self.old }
@@ -140,23 +137,29 @@ impl<A: Allocator + Copy, B: Allocator + Copy> Fib<A, B> {
     {
         look_up_finds_best();
         table.holds();
-        let entries = span_of(&prefix);
-        let Some(own) = own_answer(&self.cells, table, &prefix, entries) else {
+        let span = span_of(&prefix);
+        let Some(own) = self.dir.uncovered_answer(table, &prefix, span) else {
             return self.refill(table, prefix);
         };
         if own.is_same {
-            let same = Snapshot::of(table);
-            self.cells.table = same;
+            self.dir.table = Snapshot::of(table);
             return Ok(());
         }
-        let number = number_for(&mut self.cells, Addr(prefix.base()), own.addr, own.answer)?;
+        let first = Addr(prefix.base());
+        let number = self
+            .dir
+            .slabs
+            .number_for(&self.dir.tbl24, self.dir.epoch, first, &own)?;
         let change = Change {
             len: prefix.len(),
             answer: own.answer,
             number,
         };
-        change_entries(&mut self.cells, table, &change, entries);
-        keep_pace(&mut self.cells);
+        self.dir.change_entries(table, &change, span);
+        self.dir.keep_pace(Counts {
+            groups: 0,
+            routes: 1,
+        });
         Ok(())
     }
 
@@ -166,14 +169,10 @@ impl<A: Allocator + Copy, B: Allocator + Copy> Fib<A, B> {
         ensures ok { OnOk result (self.new ≡ table.now.routes) }
         ensures err { OnErr result (self.new ≡ self.old) }
     {
-        if self.cells.is_wasteful {
+        if self.dir.is_wasteful {
             return self.rebuild(table);
         }
-        let span = span_of(&prefix);
-        renew_cells(&mut table.lookup_cursor(), &mut self.cells, span)?;
-        self.cells.table = Snapshot::of(table);
-        keep_pace(&mut self.cells);
-        Ok(())
+        self.dir.refill(table, &prefix)
     }
 
     /// Replaces itself by a new one.
@@ -187,7 +186,7 @@ impl<A: Allocator + Copy, B: Allocator + Copy> Fib<A, B> {
 
     /// Returns the allocator of its memory.
     pub(crate) fn allocator(&self) -> A {
-        *self.cells.entries.allocator()
+        *self.dir.tbl24.allocator()
     }
 
     /// Purges the feed's routes from the table whose answers it gives, and follows. Returns the reply of the purge, and the forwarding
@@ -217,10 +216,10 @@ impl<A: Allocator + Copy, B: Allocator + Copy> Fib<A, B> {
     pub fn view_sizes(&self) -> ViewSizes
         ensures { 2 ≤ result.routers }
     {
-        let pools = &self.cells.pools;
+        let Counts { groups, routes } = self.dir.slabs.counts();
         ViewSizes {
-            blocks: pools.blocks.values.len().saturating_mul(256),
-            routers: pools.answers.len().saturating_add(2),
+            blocks: groups.saturating_mul(GROUP_SIZE),
+            routers: routes.saturating_add(2),
         }
     }
 
@@ -243,18 +242,18 @@ impl<A: Allocator + Copy, B: Allocator + Copy> Fib<A, B> {
         ensures err { OnErr result ((entries.new ≡ entries.old) × (blocks.new ≡ blocks.old)) }
         ensures err_routers { OnErr result ((routers.new ≡ routers.old) × (used.new ≡ used.old)) }
     {
-        let cells = &self.cells;
+        let slabs = &self.dir.slabs;
         let mut list = Vec::new(self.allocator());
         list.resize(2, 0u32)?;
-        let numbers = hop_numbers(self.allocator(), cells.pools.answers.values(), &mut list)?;
+        let numbers = hop_numbers(self.allocator(), slabs.routes.values(), &mut list)?;
         if entries.len() != ENTRIES as usize || routers.len() < list.len() {
             return Ok(false);
         }
-        if blocks.len() / 256 < cells.pools.blocks.values.len() {
+        if blocks.len() / GROUP_SIZE < slabs.groups.len() {
             return Ok(false);
         }
-        show_entries(&cells.entries, &numbers, entries);
-        show_blocks(&cells.pools.blocks.values, &numbers, blocks);
+        show_entries(&self.dir.tbl24, &numbers, entries);
+        show_blocks(slabs.groups.values(), &numbers, blocks);
         put_entries(routers, &list, 0);
         *used = list.len();
         Ok(true)
@@ -264,10 +263,7 @@ impl<A: Allocator + Copy, B: Allocator + Copy> Fib<A, B> {
     pub fn memory(&self) -> usize
         ensures { 2 ^ 26 ≤ result }
     {
-        let cells = &self.cells;
-        let blocks = bytes_reserved(&cells.pools.blocks, BLOCK_BYTES);
-        let answers = cells.pools.answers.bytes();
-        let entries = cells.entries.capacity().saturating_mul(4);
-        entries.saturating_add(blocks).saturating_add(answers)
+        let entries = self.dir.tbl24.capacity().saturating_mul(4);
+        entries.saturating_add(self.dir.slabs.bytes())
     }
 }

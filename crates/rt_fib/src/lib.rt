@@ -7,12 +7,12 @@
 //! ```
 //!
 //! It is the table DIR-24-8 of Gupta, Lin and McKeown (*Routing Lookups in Hardware at Memory Access Speeds*, INFOCOM 1998): an
-//! entry for each first 24 bits of an address, 64 MiB of them. If the 256 addresses of an entry have one answer, the entry is the
-//! number of that answer. Otherwise it is the number of a block with 256 numbers, one for each of them. The answers are in a
-//! list, so that each is a whole route (`src/cells.rt`).
+//! entry of `tbl24` for each first 24 bits of an address, 64 MiB of them. If the 256 addresses of an entry have one answer, the entry
+//! is the number of that answer. Otherwise it names a group (a `tbl8`) of 256 numbers, one for each of them. The answers are in a
+//! list, so that each is a whole route (`src/dir24_8.rt`).
 //!
-//! A change puts blocks and answers into places that are free (`src/pools.rt`). A place becomes free when no entry led to it during
-//! a whole round. A round marks all entries, a few after each change (`src/marking.rt`).
+//! A change puts groups and answers into places that are free (`src/slab.rt`). A place becomes free when no entry led to it during
+//! a whole round. A round marks all entries, a few after each change (`src/marking.rt`), and its number is an epoch.
 //!
 //! Contracts see a [`Fib`] as the routing table that it answers by: [`Fib::look_up`] answers each address what a look-up of that
 //! table does (`look_up` in `rt_rib`'s `specs/LookUp.antt`). It is proved that no place is read which isn't there, so no test tries it.
@@ -21,15 +21,17 @@
 //! No clause says how much memory it takes, or that many threads may look up in one: this is only tested.
 #![tactic(auto)]
 
-mod answers;
-mod cells;
+mod dir24_8;
+mod epochs;
 mod fib;
 mod filling;
 mod following;
 pub mod laws;
 mod marking;
-mod pools;
 mod purging;
+mod routes;
+mod slab;
+mod slabs;
 mod spans;
 mod views;
 

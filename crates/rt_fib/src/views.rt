@@ -4,7 +4,7 @@ ghost use Rattle.rt_rib.specs.declared.routes.Hop.TheVariants.{Via};
 ghost use Rattle.rt_fib.specs.Views.{IsHopNumber};
 ghost use Rattle.rt_fib.specs.inside.Shown.{Extends, IsHopOf, AreHopsOf, AreShownEntries, IsShownBlock, AreShownBlocks};
 
-use crate::cells::{Block, LONG};
+use crate::slabs::{GROUP_FLAG, Group};
 use rt_cidr::Addr;
 use rt_rib::{Hop, Refused, Route};
 use std::alloc::Allocator;
@@ -29,7 +29,7 @@ fn number_again(routers: &[u32], number: u32, router: Addr) -> Option<u32>
     ensures short { IfSome result (λ number. number < 2 ^ 31) }
     ensures is { IfSome result (λ number. IsHopNumber routers.now number (Via router)) }
 {
-    if number < 2 || number >= LONG {
+    if number < 2 || number >= GROUP_FLAG {
         return None;
     }
     if number as usize >= routers.len() {
@@ -58,7 +58,7 @@ fn router_number<A: Allocator + Copy>(
         return Ok(number);
     }
     let number = routers.len();
-    if number >= LONG as usize {
+    if number >= GROUP_FLAG as usize {
         return Err(Refused);
     }
     routers.push(router.0)?;
@@ -124,7 +124,7 @@ pub(crate) fn show_entries(entries: &[u32], numbers: &[u32], shown: &mut [u32])
 {
     'entries: for i in 0..entries.len() {
         let entry = entries[i];
-        shown[i] = if entry < LONG {
+        shown[i] = if entry < GROUP_FLAG {
             number_at(numbers, entry)
         } else {
             entry
@@ -143,7 +143,7 @@ fn show_block(block: &[u32; 256], numbers: &[u32], shown: &mut [u32], first: usi
 }
 
 /// Writes the numbers of next hops of all blocks, one block after another.
-pub(crate) fn show_blocks(blocks: &[Block], numbers: &[u32], shown: &mut [u32])
+pub(crate) fn show_blocks(blocks: &[Group], numbers: &[u32], shown: &mut [u32])
     requires { length blocks.now * 256 ≤ length shown.old }
     ensures { AreShownBlocks numbers.now blocks.now shown.old shown.new (length blocks.now) }
 {

@@ -2,12 +2,13 @@
 use Rattle.std.specs.Prelude.{◌≡◌, ◌≢◌, ℕ, ◌+◌, ◌*◌, ◌^◌, ◌<◌, ◌≤◌, ◌⊎◌, Bool, false, nat_lt, cond, List, length, get_or, Option, Some, None}
 use Rattle.rt_rib.specs.declared.routes.Route.{Route}
 use Rattle.rt_rib.specs.LookUp.{look_up}
-use Rattle.rt_fib.specs.declared.cells.Block.{Block}
 use Rattle.rt_fib.specs.declared.following.Change.{Change}
 use Rattle.rt_fib.specs.declared.following.Last.{Last}
+use Rattle.rt_fib.specs.declared.slabs.Group.{Group}
+use Rattle.rt_fib.specs.declared.slabs.Slabs.{Slabs}
 use Rattle.rt_fib.specs.declared.spans.Span.{Span}
-use Rattle.rt_fib.specs.inside.Pools.{Places, Has}
-use Rattle.rt_fib.specs.inside.Entries.{at, Leads, IsEntry}
+use Rattle.rt_fib.specs.inside.Slab.{Has}
+use Rattle.rt_fib.specs.inside.Entries.{at, HasRoute, Leads, IsEntry}
 
 -- the answer is a route to a prefix longer than this
 abbrev pub is_longer : ℕ → Option Route → Bool
@@ -29,37 +30,39 @@ pub record IsChange (len : ℕ) (fresh : Option Route) (span : Span) (old new : 
 abbrev pub AnswerAlike : List Route → List Route → Type 0
 AnswerAlike old new = (i k : ℕ) → i < 2 ^ 24 → k < 256 → look_up (at (i * 256 + k)) old ≡ look_up (at (i * 256 + k)) new
 
--- the number is that of the new answer
-pub record HasNumber (answers : Places (Option Route)) (since : ℕ) (change : Change) : Type 0 where
-  pub short : change.number < 2 ^ 31
-  pub there : Has answers (since + 1) change.number change.answer
+module _ {A : Type 0} where
+  -- the number is that of the new answer
+  pub record HasNumber (slabs : Slabs A) (epoch : ℕ) (change : Change) : Type 0 where
+    pub short : change.number < 2 ^ 31
+    pub there : HasRoute slabs (epoch + 1) change.number change.answer
 
--- the number of any answer became that of the answer after the change
-abbrev pub IsNumberAfter : Places (Option Route) → ℕ → Change → ℕ → ℕ → Type 0
-IsNumberAfter answers since change old new =
-    (t : ℕ) (answer : Option Route) → t ≤ since + 1 → Has answers t old answer → Has answers t new (answer_after change.len change.answer answer)
+  -- the number of any answer became that of the answer after the change
+  abbrev pub IsNumberAfter : Slabs A → ℕ → Change → ℕ → ℕ → Type 0
+  IsNumberAfter slabs epoch change old new =
+      (t : ℕ) (answer : Option Route) → t ≤ epoch + 1 → HasRoute slabs t old answer → HasRoute slabs t new (answer_after change.len change.answer answer)
 
--- so did that of the last entry, if it was short
-pub record IsLast (answers : Places (Option Route)) (since : ℕ) (change : Change) (last : Last) : Type 0 where
-  pub short : last.entry < 2 ^ 31 → last.after < 2 ^ 31
-  pub after : last.entry < 2 ^ 31 → IsNumberAfter answers since change last.entry last.after
+  -- so did that of the last entry, if it was short
+  pub record IsLast (slabs : Slabs A) (epoch : ℕ) (change : Change) (last : Last) : Type 0 where
+    pub short : last.entry < 2 ^ 31 → last.after < 2 ^ 31
+    pub after : last.entry < 2 ^ 31 → IsNumberAfter slabs epoch change last.entry last.after
 
--- the first `count` numbers of a block became those of the answers after the change
-pub record AreNumbersAfter (answers : Places (Option Route)) (since : ℕ) (change : Change) (old new : List ℕ) (count : ℕ) : Type 0 where
-  pub size : length new ≡ 256
-  pub each : (k : ℕ) → k < count → IsNumberAfter answers since change (get_or old k 0) (get_or new k 0)
+  -- the first `count` numbers of a group became those of the answers after the change
+  pub record AreNumbersAfter (slabs : Slabs A) (epoch : ℕ) (change : Change) (old new : List ℕ) (count : ℕ) : Type 0 where
+    pub size : length new ≡ 256
+    pub each : (k : ℕ) → k < count → IsNumberAfter slabs epoch change (get_or old k 0) (get_or new k 0)
 
--- the blocks of all other entries stay
-pub record KeepsOthers (i : ℕ) (old new : Places Block) : Type 0 where
-  pub each : (t n : ℕ) (block : Block) → block.owner ≢ i → Has old t n block → Has new t n block
+  -- the routes and the groups of all other entries stay
+  pub record KeepsOthers (i : ℕ) (old new : Slabs A) : Type 0 where
+    pub routes : new.routes ≡ old.routes
+    pub groups : (t n : ℕ) (group : Group) → group.owner ≢ i → Has old.groups.places t n group → Has new.groups.places t n group
 
--- for every answer to which the i-th entry led, `next` leads to the answer after the change
-abbrev pub LeadsAfter : Places Block → Places Block → Places (Option Route) → ℕ → Change → ℕ → ℕ → ℕ → Type 0
-LeadsAfter blocks more answers since change i entry next =
-    (t k : ℕ) (answer : Option Route) → k < 256 → t ≤ since + 1
-    → Leads blocks answers t i entry k answer → Leads more answers t i next k (answer_after change.len change.answer answer)
+  -- for every answer to which the i-th entry led, `next` leads to the answer after the change
+  abbrev pub LeadsAfter : Slabs A → Slabs A → ℕ → Change → ℕ → ℕ → ℕ → Type 0
+  LeadsAfter old new epoch change i entry next =
+      (t k : ℕ) (answer : Option Route) → k < 256 → t ≤ epoch + 1
+      → Leads old t i entry k answer → Leads new t i next k (answer_after change.len change.answer answer)
 
--- the first `count` entries: those before this place lead to the new table's answers, the others to the old table's
-pub record AreUntil (entries : List ℕ) (blocks : Places Block) (answers : Places (Option Route)) (since : ℕ) (old new : List Route) (place count : ℕ) : Type 0 where
-  pub before : (i : ℕ) → i < place → i < count → IsEntry new blocks answers since i (get_or entries i 0)
-  pub behind : (i : ℕ) → place ≤ i → i < count → IsEntry old blocks answers since i (get_or entries i 0)
+  -- the first `count` entries: those before this place lead to the new table's answers, the others to the old table's
+  pub record AreUntil (entries : List ℕ) (slabs : Slabs A) (epoch : ℕ) (old new : List Route) (place count : ℕ) : Type 0 where
+    pub before : (i : ℕ) → i < place → i < count → IsEntry new slabs epoch i (get_or entries i 0)
+    pub behind : (i : ℕ) → place ≤ i → i < count → IsEntry old slabs epoch i (get_or entries i 0)

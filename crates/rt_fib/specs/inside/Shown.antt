@@ -2,7 +2,7 @@
 use Rattle.std.specs.Prelude.{◌≡◌, ℕ, ◌+◌, ◌*◌, ◌^◌, ◌<◌, ◌≤◌, List, length, get_or, Option}
 use Rattle.rt_rib.specs.declared.routes.Route.{Route}
 use Rattle.rt_fib.specs.Views.{IsAnswerNumber}
-use Rattle.rt_fib.specs.declared.cells.Block.{Block}
+use Rattle.rt_fib.specs.declared.slabs.Group.{Group}
 
 -- the first numbers of the one list are those of the other
 pub record Extends (old new : List ℕ) : Type 0 where
@@ -36,7 +36,7 @@ pub record IsShownBlock (numbers block old shown : List ℕ) (first count : ℕ)
   pub before : (i : ℕ) → i < first → get_or shown i 0 ≡ get_or old i 0
 
 -- all numbers of the first `count` blocks became those of their next hops
-pub record AreShownBlocks (numbers : List ℕ) (blocks : List Block) (old shown : List ℕ) (count : ℕ) : Type 0 where
+pub record AreShownBlocks (numbers : List ℕ) (blocks : List Group) (old shown : List ℕ) (count : ℕ) : Type 0 where
   pub size : length shown ≡ length old
-  pub each : (b k : ℕ) (d : Block) → b < count → k < 256
+  pub each : (b k : ℕ) (d : Group) → b < count → k < 256
       → get_or shown (b * 256 + k) 0 ≡ get_or numbers (get_or (get_or blocks b d).numbers k 0) 0

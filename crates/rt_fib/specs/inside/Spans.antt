@@ -1,15 +1,13 @@
 -- Entries of one prefix, and what a change of these leaves of the others.
-use Rattle.std.specs.Prelude.{◌≡◌, ℕ, ◌+◌, ◌*◌, ◌^◌, ◌<◌, ◌≤◌, ◌⊎◌, false, List, length, get_or, Option}
+use Rattle.std.specs.Prelude.{◌≡◌, ℕ, ◌+◌, ◌*◌, ◌^◌, ◌<◌, ◌≤◌, ◌⊎◌, false, List, length, get_or}
 use Rattle.rt_cidr.specs.declared.address.Addr.{Addr}
 use Rattle.rt_cidr.specs.declared.prefixes.Prefix.{Prefix}
 use Rattle.rt_cidr.specs.Prefix.{covers}
 use Rattle.rt_cidr.specs.Cidr.{size_of}
 use Rattle.rt_rib.specs.declared.routes.Route.{Route}
 use Rattle.rt_rib.specs.LookUp.{look_up}
-use Rattle.rt_fib.specs.declared.cells.Block.{Block}
 use Rattle.rt_fib.specs.declared.spans.Span.{Span}
-use Rattle.rt_fib.specs.inside.Pools.{Places}
-use Rattle.rt_fib.specs.inside.Entries.{at, IsEntry}
+use Rattle.rt_fib.specs.inside.Entries.{at}
 
 -- both tables answer alike each address that the prefix doesn't cover
 abbrev pub PreservesLookupsOutside : Prefix → List Route → List Route → Type 0
@@ -32,10 +30,3 @@ pub record ArePut (old new fresh : List ℕ) (first count : ℕ) : Type 0 where
   pub there : (k : ℕ) → k < count → get_or new (first + k) 0 ≡ get_or fresh k 0
   pub before : (i : ℕ) → i < first → get_or new i 0 ≡ get_or old i 0
   pub behind : (i : ℕ) → first + count ≤ i → get_or new i 0 ≡ get_or old i 0
-
--- the span's entries are those of the table, and the others stayed
-pub record AreRenewed (old new : List ℕ) (blocks : Places Block) (answers : Places (Option Route)) (since : ℕ) (table : List Route) (span : Span) : Type 0 where
-  pub size : length new ≡ length old
-  pub there : (i : ℕ) → span.first ≤ i → i < span.end → IsEntry table blocks answers since i (get_or new i 0)
-  pub before : (i : ℕ) → i < span.first → get_or new i 0 ≡ get_or old i 0
-  pub behind : (i : ℕ) → span.end ≤ i → get_or new i 0 ≡ get_or old i 0

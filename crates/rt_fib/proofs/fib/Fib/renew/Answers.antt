@@ -1,21 +1,16 @@
-use Rattle.rt_fib.proofs.Placing.{keeps_same}
-use Rattle.rt_fib.proofs.Leading.{cells_keep}
-use Rattle.rt_fib.proofs.Changing.{cells_alike}
+use Rattle.rt_fib.proofs.Leading.{all_keep}
+use Rattle.rt_fib.proofs.Changing.{all_alike}
 use Rattle.rt_fib.proofs.Others.{outside_stays}
 use Rattle.rt_fib.proofs.fib.Fib.renew.Goals as goal
 
 pub invariant_of-self : goal.invariant_of-self
-invariant_of-self g c = rw c.of-same.ensures (cells_alike _ _ _ _ _ _ _ (c.in-Some.ensures.same c.if-own.true) c.self.invariant)
+invariant_of-self g c = rw c.of.ensures (all_alike _ _ _ _ _ _ (c.in-Some.ensures.same c.if-own.true) c.self.invariant)
 
 pub refill-requires : goal.refill-requires
 refill-requires g c = outside_stays c.args.prefix c.args.self.now c.args.table.now.routes c.look_up_finds_best.ensures c.requires.once c.holds.ensures.once c.requires.others
 
 pub invariant_of-self-in_err-number : goal.invariant_of-self-in_err-number
-invariant_of-self-in_err-number g c =
-    let kept = c.number_for.ensures in
-    rw (kept.since, kept.marked, kept.table, kept.entries, kept.blocks) (cells_keep _ _ _ _ _ _ _ _ (keeps_same _ _) kept.keeps c.self.invariant)
+invariant_of-self-in_err-number g c = all_keep _ _ _ _ _ _ c.number_for.ensures.keeps c.self.invariant
 
-pub change_entries-requires-clause-cells : goal.change_entries-requires-clause-cells
-change_entries-requires-clause-cells g c =
-    let kept = c.number_for.ensures in
-    rw (kept.since, kept.marked, kept.table, kept.entries, kept.blocks) (cells_keep _ _ _ _ _ _ _ _ (keeps_same _ _) kept.keeps c.self.invariant)
+pub change_entries-requires-clause-right : goal.change_entries-requires-clause-right
+change_entries-requires-clause-right g c = all_keep _ _ _ _ _ _ c.number_for.ensures.keeps c.self.invariant

@@ -1,8 +1,0 @@
-use Rattle.rt_fib.proofs.Reading.{value_read}
-use Rattle.rt_fib.proofs.cells.Cells.answer_by.Goals as goal
-
-pub answer-requires : goal.answer-requires
-answer-requires g c = c.number_by.ensures.is_used.within
-
-pub returns : goal.returns
-returns g c = value_read _ _ _ _ _ c.number_by.ensures c.answer.ensures

@@ -1,0 +1,11 @@
+use Rattle.rt_fib.proofs.Both.{begun_keeps, back_keeps}
+use Rattle.rt_fib.proofs.slabs.Slabs.fresh_entries.Goals as goal
+
+pub returns-in-Ok-clause-keeps : goal.returns-in-Ok-clause-keeps
+returns-in-Ok-clause-keeps g c = begun_keeps _ _ _ _ _ c.begin-counts.ensures c.entries.ensures.fills
+
+pub returns-in-Err-clause-keeps : goal.returns-in-Err-clause-keeps
+returns-in-Err-clause-keeps g c = back_keeps _ _ _ (c.roll_back.ensures _ _ _ c.begin-counts.ensures c.entries.ensures.fills)
+
+pub returns-in-Err-clause-back : goal.returns-in-Err-clause-back
+returns-in-Err-clause-back g c = c.roll_back.ensures _ _ _ c.begin-counts.ensures c.entries.ensures.fills

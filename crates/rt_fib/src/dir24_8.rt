@@ -1,0 +1,177 @@
+//! The table DIR-24-8: an entry for each value of the first 24 bits of an address (`tbl24`), groups for the last 8 (`tbl8`), and a
+//! list of answers.
+ghost use Rattle.std.specs.Prelude.{◌≡◌, ℕ, ◌+◌, ◌<◌, ◌≤◌, ◌^◌, IfOk, get_or, length, map, take};
+ghost use Rattle.rt_rib.specs.LookUp.{look_up};
+ghost use Rattle.rt_fib.specs.Hops.{next_hop};
+ghost use Rattle.rt_fib.specs.inside.Entries.{at, entry_at, HasRoute, IsForwarding};
+
+use crate::epochs::Epoch;
+use crate::slabs::{Counts, GROUP_FLAG, GROUP_SIZE, Slabs};
+use rt_cidr::Addr;
+use rt_rib::{Hop, Refused, Route, Table};
+use std::alloc::Allocator;
+use std::snapshot::Snapshot;
+
+/// Counts groups, and runs of one answer's number. A new table would have as many answers, or fewer.
+#[derive(Clone, Copy)]
+pub(crate) struct Seen {
+    pub(crate) counts: Counts,
+    pub(crate) last: u32,
+}
+
+impl Seen {
+    pub(crate) fn none() -> Seen {
+        Seen {
+            counts: Counts {
+                groups: 0,
+                routes: 0,
+            },
+            last: GROUP_FLAG,
+        }
+    }
+
+    pub(crate) fn see(&mut self, number: u32) {
+        if number < GROUP_FLAG && self.last != number {
+            self.last = number;
+            self.counts.routes = self.counts.routes.saturating_add(1);
+        }
+    }
+
+    pub(crate) fn see_group(&mut self) {
+        self.counts.groups = self.counts.groups.saturating_add(1);
+    }
+}
+
+/// Holds the entries, and what they lead to.
+#[derive(Drop)]
+pub(crate) struct Dir24_8<A: Allocator + Copy, B: Allocator + Copy> {
+    pub(crate) tbl24: Vec<u32, A>,
+    pub(crate) slabs: Slabs<A>,
+    /// The lowest epoch of all that entries lead to, so a place with a lower one is free.
+    pub(crate) epoch: Epoch,
+    /// The number of entries that are marked in this round: what these lead to has a higher epoch.
+    pub(crate) marked: u32,
+    /// What this round has seen in use. No clause mentions it.
+    pub(crate) seen: Seen,
+    /// True if the last round saw so little in use that the next change rebuilds everything. No clause mentions it.
+    pub(crate) is_wasteful: bool,
+    /// The table that the answers are from. It has no bytes: only clauses read it.
+    pub(crate) table: Snapshot<Table<B>>,
+}
+
+/// Says for how many addresses the entries are read before the first answer.
+const AT_ONCE: usize = 16;
+
+impl<A: Allocator + Copy, B: Allocator + Copy> Dir24_8<A, B> {
+    /// Looks up the address.
+    pub(crate) fn look_up(&self, addr: Addr) -> Option<Route>
+        requires { IsForwarding self.now }
+        ensures { result ≡ look_up addr self.now.table.value.routes }
+    {
+        self.answer_by(self.tbl24[addr.0 as usize / GROUP_SIZE], addr)
+    }
+
+    /// Looks up the address's next hop.
+    pub(crate) fn look_up_hop(&self, addr: Addr) -> Option<Hop>
+        requires { IsForwarding self.now }
+        ensures { result ≡ next_hop (look_up addr self.now.table.value.routes) }
+    {
+        let number = self.number_by(self.tbl24[addr.0 as usize / GROUP_SIZE], addr);
+        self.slabs.routes.hop(number)
+    }
+
+    /// Looks up the address, by its entry.
+    fn answer_by(&self, entry: u32, addr: Addr) -> Option<Route>
+        requires right { IsForwarding self.now }
+        requires entry { entry ≡ entry_at self.now.tbl24.items addr }
+        ensures { result ≡ look_up addr self.now.table.value.routes }
+    {
+        self.slabs.routes.answer(self.number_by(entry, addr))
+    }
+
+    /// Returns the number of the address's answer, by its entry.
+    fn number_by(&self, entry: u32, addr: Addr) -> u32
+        requires right { IsForwarding self.now }
+        requires entry { entry ≡ entry_at self.now.tbl24.items addr }
+        ensures { HasRoute self.now.slabs self.now.epoch.number result (look_up addr self.now.table.value.routes) }
+    {
+        if entry < GROUP_FLAG {
+            return entry;
+        }
+        let group = self.slabs.groups.get(entry - GROUP_FLAG);
+        group.numbers[addr.0 as usize % GROUP_SIZE]
+    }
+
+    /// Looks up each address, in order.
+    pub(crate) fn look_up_each(&self, addresses: &[Addr], answers: &mut [Option<Route>])
+        requires right { IsForwarding self.now }
+        requires size { length answers.old ≡ length addresses.now }
+        ensures { answers.new ≡ map (λ addr. look_up addr self.now.table.value.routes) addresses.now }
+    {
+        let mut start = 0usize;
+        'each: while start < addresses.len() {
+            let size = (addresses.len() - start).min(AT_ONCE);
+            self.look_up_some(addresses, answers, start, size);
+            start += size;
+        }
+    }
+
+    /// Looks up this number of the addresses, from this place on. Their entries are read first: no read waits for another, so the
+    /// memory fetches all of them at once.
+    fn look_up_some(
+        &self,
+        addresses: &[Addr],
+        answers: &mut [Option<Route>],
+        start: usize,
+        size: usize,
+    )
+        requires right { IsForwarding self.now }
+        requires few { size ≤ AT_ONCE }
+        requires within { start + size ≤ length addresses.now }
+        requires size { length answers.old ≡ length addresses.now }
+        requires before { take start answers.old ≡ map (λ addr. look_up addr self.now.table.value.routes) (take start addresses.now) }
+        ensures size { length answers.new ≡ length answers.old }
+        ensures each { take (start + size) answers.new
+            ≡ map (λ addr. look_up addr self.now.table.value.routes) (take (start + size) addresses.now) }
+    {
+        let entries = self.entries_at(addresses, start, size);
+        'answers: for k in 0..size {
+            answers[start + k] = self.answer_by(entries[k], addresses[start + k]);
+        }
+    }
+
+    /// Returns the entries of this number of the addresses, from this place on.
+    fn entries_at(&self, addresses: &[Addr], start: usize, size: usize) -> [u32; AT_ONCE]
+        requires all { length self.now.tbl24.items ≡ 2 ^ 24 }
+        requires few { size ≤ AT_ONCE }
+        requires within { start + size ≤ length addresses.now }
+        ensures { (k : ℕ) → k < size
+            → get_or result k 0 ≡ entry_at self.now.tbl24.items (get_or addresses.now (start + k) (at 0)) }
+    {
+        let mut entries = [0u32; AT_ONCE];
+        'entries: for k in 0..size {
+            entries[k] = self.tbl24[addresses[start + k].0 as usize / GROUP_SIZE];
+        }
+        entries
+    }
+
+    /// Copies it into memory of the allocator. The table is one with the same routes.
+    pub(crate) fn copy(&self, alloc: A, table: &Table<B>) -> Result<Dir24_8<A, B>, Refused>
+        requires right { IsForwarding self.now }
+        requires same { self.now.table.value.routes ≡ table.now.routes }
+        ensures right { IfOk result (λ copy. IsForwarding copy) }
+        ensures table { IfOk result (λ copy. copy.table.value ≡ table.now) }
+    {
+        let tbl24 = Vec::from_slice(alloc, &self.tbl24)?;
+        let slabs = self.slabs.copy(alloc)?;
+        Ok(Dir24_8 {
+            tbl24,
+            slabs,
+            epoch: self.epoch,
+            marked: self.marked,
+            seen: self.seen,
+            is_wasteful: self.is_wasteful,
+            table: Snapshot::of(table),
+        })
+    }
+}

@@ -1,0 +1,279 @@
+//! Lists whose places are used again. Each place has the epoch in which it was last marked as used. Whatever is in use has at least
+//! the epoch that the round began with, so a place with a lower one is free.
+ghost use Rattle.std.specs.Prelude.{◌≡◌, ℕ, ◌+◌, ◌<◌, ◌≤◌, ◌^◌, IfOk, IfSome, IsTrue, OnErr, [], length, get_or, take};
+ghost use Rattle.rt_fib.specs.inside.Slab.{with_value, AreCleared, Begins, Fills, Has, IsBack, IsFree, IsUsed, Keeps, SlabState};
+
+use crate::epochs::Epoch;
+use crate::slabs::GROUP_FLAG;
+use rt_rib::Refused;
+use std::alloc::Allocator;
+use std::marker::Model;
+
+/// Says how many places a search for a free one looks at.
+const MOST_TRIES: u32 = 8;
+
+/// Holds values, and the epoch of each place. The epochs are a separate list: so a look-up reads only values, and marking reads 4
+/// bytes of each place.
+#[derive(Drop)]
+pub(crate) struct Slab<T: Copy, A: Allocator + Copy> {
+    values: Vec<T, A>,
+    epochs: Vec<u32, A>,
+    /// The free places that the last change filled. If it is refused, they become free again.
+    undo_log: Vec<u32, A>,
+    /// The place at which the search for a free one goes on. No clause mentions it.
+    next: usize,
+}
+
+impl<T: Copy, A: Allocator + Copy> Model for Slab<T, A> {
+    ghost use Rattle.rt_fib.specs.inside.Slab.{SlabState};
+
+    ghost Value = { SlabState T };
+
+    ghost view = { λ s. record { places = record { values = s.values.items; epochs = s.epochs.items }; undo_log = s.undo_log.items } };
+}
+
+impl<T: Copy, A: Allocator + Copy> Slab<T, A> {
+    /// Makes a slab with no places.
+    pub(crate) fn empty(alloc: A) -> Slab<T, A>
+        ensures { result.places.values ≡ [] }
+    {
+        Slab {
+            values: Vec::new(alloc),
+            epochs: Vec::new(alloc),
+            undo_log: Vec::new(alloc),
+            next: 0,
+        }
+    }
+
+    /// Copies it into memory of the allocator, without the log.
+    pub(crate) fn copy(&self, alloc: A) -> Result<Slab<T, A>, Refused>
+        ensures { IfOk result (λ copy. copy.places ≡ self.now.places) }
+    {
+        let values = Vec::from_slice(alloc, &self.values)?;
+        let epochs = Vec::from_slice(alloc, &self.epochs)?;
+        Ok(Slab {
+            values,
+            epochs,
+            undo_log: Vec::new(alloc),
+            next: self.next,
+        })
+    }
+
+    /// Returns how many places there are.
+    pub(crate) fn len(&self) -> usize
+        ensures { result ≡ length self.now.places.values }
+    {
+        self.values.len()
+    }
+
+    /// Returns the values of all places.
+    pub(crate) fn values(&self) -> &[T]
+        ensures { result.now ≡ self.now.places.values }
+    {
+        self.values.as_slice()
+    }
+
+    /// Returns the value at the place.
+    pub(crate) fn get(&self, n: u32) -> &T
+        requires { n < length self.now.places.values }
+        ensures { result.now ≡ get_or self.now.places.values n result.now }
+    {
+        &self.values[n as usize]
+    }
+
+    /// Gets room for this number of further places, if the allocator has it.
+    pub(crate) fn reserve(&mut self, count: usize)
+        ensures { self.new ≡ self.old }
+    {
+        if self.values.reserve_exact(count).is_err() {
+            return;
+        }
+        if self.epochs.reserve_exact(count).is_err() {
+            self.values.shrink_to(0);
+        }
+    }
+
+    /// Gives back room, if it has over twice what it needs with `count` further places. A slab that only changes has no more, so it
+    /// isn't copied.
+    pub(crate) fn trim(&mut self, count: usize)
+        ensures { self.new ≡ self.old }
+    {
+        let enough = self.values.len().saturating_add(count);
+        if self.values.capacity() > enough.saturating_mul(2) {
+            self.values.shrink_to(enough);
+            self.epochs.shrink_to(enough);
+        }
+    }
+
+    /// Returns how many bytes it takes, if each place takes `size` of them.
+    pub(crate) fn bytes(&self, size: usize) -> usize {
+        let log = self.undo_log.capacity().saturating_mul(4);
+        self.values
+            .capacity()
+            .saturating_mul(size)
+            .saturating_add(log)
+    }
+
+    /// Returns true if the place is there and in use since this epoch.
+    pub(crate) fn is_used(&self, epoch: Epoch, n: u32) -> bool
+        ensures { IsTrue result → IsUsed self.now.places epoch.number n }
+    {
+        let i = n as usize;
+        if i >= self.values.len() {
+            return false;
+        }
+        if i >= self.epochs.len() {
+            return false;
+        }
+        self.epochs[i] >= epoch.number
+    }
+
+    /// Returns a free place, if one is near where the last search ended.
+    fn find_free(&mut self, epoch: Epoch) -> Option<u32>
+        ensures same { self.new ≡ self.old }
+        ensures short { IfSome result (λ n. n < 2 ^ 31) }
+        ensures free { IfSome result (λ n. IsFree self.old.places epoch.number n) }
+    {
+        let count = self.values.len();
+        free_place(self.epochs.as_slice(), count, &mut self.next, epoch)
+    }
+
+    /// Puts the value into the free place, which is in use in the next epoch too.
+    fn put_at(&mut self, epoch: Epoch, n: u32, value: T) -> Result<(), Refused>
+        requires { IsFree self.old.places epoch.number n }
+        ensures fills { Fills epoch.number self.old self.new }
+        ensures there { IfOk result (λ _. Has self.new.places (epoch.number + 1) n value) }
+        ensures put { IfOk result (λ _. self.new.places.values ≡ with_value self.old.places.values n value) }
+        ensures kept { OnErr result (self.new.places.values ≡ self.old.places.values) }
+    {
+        self.undo_log.push(n)?;
+        self.values[n as usize] = value;
+        self.epochs[n as usize] = epoch.next_number();
+        Ok(())
+    }
+
+    /// Puts the value at the end of the list, at a place that is in use in the next epoch too.
+    fn append(&mut self, epoch: Epoch, value: T) -> Result<u32, Refused>
+        ensures fills { Fills epoch.number self.old self.new }
+        ensures short { IfOk result (λ n. n < 2 ^ 31) }
+        ensures there { IfOk result (λ n. Has self.new.places (epoch.number + 1) n value) }
+        ensures within { IfOk result (λ n. n ≤ length self.old.places.values) }
+        ensures put { IfOk result (λ n. self.new.places.values ≡ with_value self.old.places.values n value) }
+        ensures kept { OnErr result (self.new.places.values ≡ self.old.places.values) }
+    {
+        let n = self.values.len();
+        if n >= GROUP_FLAG as usize {
+            return Err(Refused);
+        }
+        self.epochs.truncate(n);
+        self.epochs.resize(n + 1, epoch.next_number())?;
+        self.values.push(value)?;
+        Ok(n as u32)
+    }
+
+    /// Puts the value into a free place, or at the end of the list. The place is in use in the next epoch too.
+    pub(crate) fn put(&mut self, epoch: Epoch, value: T) -> Result<u32, Refused>
+        ensures fills { Fills epoch.number self.old self.new }
+        ensures short { IfOk result (λ n. n < 2 ^ 31) }
+        ensures there { IfOk result (λ n. Has self.new.places (epoch.number + 1) n value) }
+        ensures within { IfOk result (λ n. n ≤ length self.old.places.values) }
+        ensures put { IfOk result (λ n. self.new.places.values ≡ with_value self.old.places.values n value) }
+        ensures kept { OnErr result (self.new.places.values ≡ self.old.places.values) }
+    {
+        match self.find_free(epoch) {
+            Some(n) => {
+                self.put_at(epoch, n, value)?;
+                Ok(n)
+            }
+            None => self.append(epoch, value),
+        }
+    }
+
+    /// Replaces the value at the place.
+    pub(crate) fn replace(&mut self, n: u32, value: T)
+        requires { n < length self.old.places.values }
+        ensures values { self.new.places.values ≡ with_value self.old.places.values n value }
+        ensures epochs { self.new.places.epochs ≡ self.old.places.epochs }
+    {
+        self.values[n as usize] = value;
+    }
+
+    /// Marks the place: if it is in use in this epoch, it is in use in the next one too.
+    pub(crate) fn mark_used(&mut self, epoch: Epoch, n: u32)
+        ensures keeps { Keeps epoch.number self.old.places self.new.places }
+        ensures fills { epoch.number ≤ get_or self.old.places.epochs n 0 → Fills epoch.number self.old self.new }
+        ensures marked { (t : ℕ) → (value : T) → Has self.old.places t n value → Has self.new.places (epoch.number + 1) n value }
+        ensures values { self.new.places.values ≡ self.old.places.values }
+    {
+        let i = n as usize;
+        if i >= self.epochs.len() {
+            return;
+        }
+        if self.epochs[i] > epoch.number {
+            return;
+        }
+        self.epochs[i] = epoch.next_number();
+    }
+
+    /// Begins a change. Returns how many places there are.
+    pub(crate) fn begin(&mut self) -> usize
+        ensures { Begins self.old self.new result }
+    {
+        self.undo_log.clear();
+        self.values.len()
+    }
+
+    /// Returns how many places were filled since a change began with this number of places.
+    pub(crate) fn filled_since(&self, count: usize) -> usize {
+        let appended = self.values.len().saturating_sub(count);
+        self.undo_log.len().saturating_add(appended)
+    }
+
+    /// Undoes a refused change that began with this number of places: the free places that it filled are free again, and the slab
+    /// keeps only its first places.
+    pub(crate) fn roll_back(&mut self, count: usize)
+        ensures back { (epoch : ℕ) → (first start : SlabState T) → Begins first start count → Fills epoch start self.old
+            → IsBack epoch first.places self.new.places }
+        ensures values { self.new.places.values ≡ take count self.old.places.values }
+    {
+        clear_each(self.epochs.as_mut_slice(), self.undo_log.as_slice());
+        self.values.truncate(count);
+        self.epochs.truncate(count);
+    }
+}
+
+/// Returns a free one of the first `count` places, if one is near.
+fn free_place(epochs: &[u32], count: usize, next: &mut usize, epoch: Epoch) -> Option<u32>
+    ensures short { IfSome result (λ n. n < 2 ^ 31) }
+    ensures within { IfSome result (λ n. n < count) }
+    ensures marked { IfSome result (λ n. n < length epochs.now) }
+    ensures unused { IfSome result (λ n. get_or epochs.now n 0 < epoch.number) }
+{
+    if epoch.number == 0 {
+        return None;
+    }
+    'places: for _ in 0..MOST_TRIES {
+        let n = *next;
+        if n >= count || n >= epochs.len() || n >= GROUP_FLAG as usize {
+            *next = 0;
+            return None;
+        }
+        *next = n + 1;
+        if epochs[n] < epoch.number {
+            return Some(n as u32);
+        }
+    }
+    None
+}
+
+/// Writes 0 at each of the places.
+fn clear_each(epochs: &mut [u32], log: &[u32])
+    ensures { AreCleared epochs.old epochs.new log.now (length log.now) }
+{
+    'clear: for k in 0..log.len() {
+        let n = log[k] as usize;
+        if n < epochs.len() {
+            epochs[n] = 0;
+        }
+    }
+}

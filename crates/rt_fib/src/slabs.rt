@@ -1,0 +1,209 @@
+//! The groups and the routes: what the entries lead to.
+ghost use Rattle.std.specs.Prelude.{◌≡◌, ℕ, ◌+◌, ◌<◌, ◌^◌, IfOk, IsTrue};
+ghost use Rattle.rt_fib.specs.declared.slabs.Slabs.{Slabs};
+ghost use Rattle.rt_fib.specs.inside.Slab.{Fills, Has};
+ghost use Rattle.rt_fib.specs.inside.Slabs.{AreBack, BeginsBoth, FillsBoth};
+
+use crate::epochs::Epoch;
+use crate::routes::{ROUTE_BYTES, RouteSlab};
+use crate::slab::Slab;
+use rt_cidr::Addr;
+use rt_rib::Refused;
+use std::alloc::Allocator;
+
+/// An entry from this number on names a group. A lower one is the number of an answer.
+pub(crate) const GROUP_FLAG: u32 = 1 << 31;
+
+/// Says how many addresses an entry has.
+pub(crate) const GROUP_SIZE: usize = 256;
+
+/// Says how many bytes a group takes, with its epoch.
+pub(crate) const GROUP_BYTES: usize = 1032;
+
+/// Says how many bytes all entries take.
+pub(crate) const TBL24_BYTES: usize = 1 << 26;
+
+/// Says how many entries, or numbers of a group, are marked for each byte of an answer that is put or of a group that falls out of
+/// use.
+pub(crate) const PACE: usize = 2;
+
+/// Holds the number of an answer for each of an entry's 256 addresses, and which entry it is: no other one names the group. The
+/// literature calls it a `tbl8`.
+#[derive(Clone, Copy)]
+pub(crate) struct Group {
+    pub(crate) numbers: [u32; GROUP_SIZE],
+    pub(crate) owner: u32,
+}
+
+/// Returns true if two groups are the same.
+fn is_same_group(one: &Group, other: &Group) -> bool
+    ensures { IsTrue result → one.now ≡ other.now }
+{
+    one.owner == other.owner && one.numbers == other.numbers
+}
+
+/// Holds how many groups and routes there are.
+#[derive(Clone, Copy)]
+pub(crate) struct Counts {
+    pub(crate) groups: usize,
+    pub(crate) routes: usize,
+}
+
+impl Counts {
+    /// Returns how many bytes they take.
+    pub(crate) fn bytes(self) -> usize {
+        let groups = self.groups.saturating_mul(GROUP_BYTES);
+        groups.saturating_add(self.routes.saturating_mul(ROUTE_BYTES))
+    }
+}
+
+/// Returns how many bytes two rounds may leave unused, with this number of groups: the bytes for which each entry, and each number of
+/// a group, is marked twice.
+fn most_waste(groups: usize) -> usize {
+    let numbers = groups.saturating_mul(GROUP_SIZE);
+    numbers.saturating_add(TBL24_BYTES / 4).saturating_mul(2) / PACE
+}
+
+/// Holds the groups and the routes.
+#[derive(Drop)]
+pub(crate) struct Slabs<A: Allocator + Copy> {
+    pub(crate) groups: Slab<Group, A>,
+    pub(crate) routes: RouteSlab<A>,
+}
+
+impl<A: Allocator + Copy> Slabs<A> {
+    /// Makes slabs with nothing in them.
+    pub(crate) fn empty(alloc: A) -> Slabs<A> {
+        Slabs {
+            groups: Slab::empty(alloc),
+            routes: RouteSlab::empty(alloc),
+        }
+    }
+
+    /// Copies them into memory of the allocator.
+    pub(crate) fn copy(&self, alloc: A) -> Result<Slabs<A>, Refused>
+        ensures groups { IfOk result (λ copy. copy.groups.places ≡ self.now.groups.places) }
+        ensures routes { IfOk result (λ copy. copy.routes.places ≡ self.now.routes.places) }
+    {
+        let groups = self.groups.copy(alloc)?;
+        let routes = self.routes.copy(alloc)?;
+        Ok(Slabs { groups, routes })
+    }
+
+    /// Returns how many groups and routes there are.
+    pub(crate) fn counts(&self) -> Counts {
+        Counts {
+            groups: self.groups.len(),
+            routes: self.routes.len(),
+        }
+    }
+
+    /// Begins a change. Returns how many groups and routes there are.
+    pub(crate) fn begin(&mut self) -> Counts
+        ensures { BeginsBoth self.old self.new result }
+    {
+        let groups = self.groups.begin();
+        let routes = self.routes.begin();
+        Counts { groups, routes }
+    }
+
+    /// Undoes a refused change that began with these counts: what was free is free again.
+    pub(crate) fn roll_back(&mut self, counts: Counts)
+        ensures { (epoch : ℕ) → (first start : Slabs A) → BeginsBoth first start counts → FillsBoth epoch start self.old
+            → AreBack epoch first self.new }
+    {
+        self.groups.roll_back(counts.groups);
+        self.routes.roll_back(counts.routes);
+    }
+
+    /// Gets room for the places that two rounds may leave unused, so that no change has to copy a long list. A short list gets room
+    /// for as much again as it has.
+    pub(crate) fn reserve_waste(&mut self)
+        ensures { self.new ≡ self.old }
+    {
+        let Counts { groups, routes } = self.counts();
+        let waste = most_waste(groups);
+        self.groups.reserve(groups.min(waste / GROUP_BYTES));
+        self.routes.reserve(routes.min(waste / ROUTE_BYTES));
+    }
+
+    /// Gives back the room that isn't needed.
+    pub(crate) fn trim(&mut self)
+        ensures { self.new ≡ self.old }
+    {
+        let waste = most_waste(self.groups.len());
+        self.groups.trim(waste / GROUP_BYTES);
+        self.routes.trim(waste / ROUTE_BYTES);
+    }
+
+    /// Returns how many bytes they take.
+    pub(crate) fn bytes(&self) -> usize {
+        self.groups
+            .bytes(GROUP_BYTES)
+            .saturating_add(self.routes.bytes())
+    }
+
+    /// Returns the number that the entries lead the address to, or a number without an answer.
+    pub(crate) fn previous_number(&self, entries: &[u32], addr: Addr) -> u32 {
+        let i = addr.0 as usize / GROUP_SIZE;
+        if i >= entries.len() {
+            return GROUP_FLAG;
+        }
+        let entry = entries[i];
+        if entry < GROUP_FLAG {
+            return entry;
+        }
+        let place = entry - GROUP_FLAG;
+        if place as usize >= self.groups.len() {
+            return GROUP_FLAG;
+        }
+        self.groups.get(place).numbers[addr.0 as usize % GROUP_SIZE]
+    }
+
+    /// Keeps the number of the answer to the address before this one, as that which such an answer got last.
+    pub(crate) fn keep_left_number(&mut self, entries: &[u32], addr: Addr)
+        ensures { self.new ≡ self.old }
+    {
+        let left = Addr(addr.0.saturating_sub(1));
+        let number = self.previous_number(entries, left);
+        self.routes.keep_number(number);
+    }
+
+    /// Returns true if this is the place of that group: then it is in use from the next epoch on.
+    fn reuse_if_same_group(&mut self, epoch: Epoch, place: u32, group: &Group) -> bool
+        ensures routes { self.new.routes ≡ self.old.routes }
+        ensures fills { Fills epoch.number self.old.groups self.new.groups }
+        ensures short { IsTrue result → place < 2 ^ 31 }
+        ensures group { IsTrue result → Has self.new.groups.places (epoch.number + 1) place group.now }
+    {
+        if place >= GROUP_FLAG {
+            return false;
+        }
+        if !self.groups.is_used(epoch, place) {
+            return false;
+        }
+        if !is_same_group(self.groups.get(place), group) {
+            return false;
+        }
+        self.groups.mark_used(epoch, place);
+        true
+    }
+
+    /// Returns the place of the group: the previous one, if it is that group's, and else one that was free.
+    pub(crate) fn place_of_group(
+        &mut self,
+        epoch: Epoch,
+        previous: u32,
+        group: Group,
+    ) -> Result<u32, Refused>
+        ensures routes { self.new.routes ≡ self.old.routes }
+        ensures fills { Fills epoch.number self.old.groups self.new.groups }
+        ensures short { IfOk result (λ place. place < 2 ^ 31) }
+        ensures there { IfOk result (λ place. Has self.new.groups.places (epoch.number + 1) place group) }
+    {
+        if self.reuse_if_same_group(epoch, previous, &group) {
+            return Ok(previous);
+        }
+        self.groups.put(epoch, group)
+    }
+}
