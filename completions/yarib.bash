@@ -7,7 +7,7 @@ _yarib() {
     return
   fi
   case ${COMP_WORDS[1]}:$before in
-    run:--limit | run:--batch | lookup:--limit | lookup:--batch | lookup:--address | lookup:--feed | lookup:--without | table:--within | table:--covering | table:--exact | table:--feed | table:--without | table:--limit | table:--batch | diff:--old-feed | diff:--old-without | diff:--new-feed | diff:--new-without | diff:--limit | diff:--batch | replay:--levels) return ;;
+    run:--limit | run:--batch | lookup:--limit | lookup:--address | lookup:--feed | lookup:--without | table:--within | table:--covering | table:--exact | table:--feed | table:--without | table:--limit | diff:--old-feed | diff:--old-without | diff:--new-feed | diff:--new-without | diff:--limit | replay:--levels) return ;;
   esac
   if [ "${COMP_WORDS[1]}:$before" = diff:--by ]; then
     mapfile -t COMPREPLY < <(compgen -W "hop route" -- "$word")
@@ -15,9 +15,9 @@ _yarib() {
   fi
   case ${COMP_WORDS[1]} in
     run) options="--limit --batch --help" ;;
-    lookup) options="--all --feed --without --names --json --address --addresses --keep-invalid --limit --batch --help" ;;
-    table) options="--within --covering --exact --feed --without --best --count --total --names --json --limit --batch --help" ;;
-    diff) options="--by --prefixes --count --old-feed --old-without --new-feed --new-without --names --json --limit --batch --help" ;;
+    lookup) options="--all --feed --without --names --json --address --addresses --keep-invalid --limit --help" ;;
+    table) options="--within --covering --exact --feed --without --best --count --total --names --json --limit --help" ;;
+    diff) options="--by --prefixes --count --old-feed --old-without --new-feed --new-without --names --json --limit --help" ;;
     replay) options="--levels --help" ;;
     help) options="run lookup table diff replay" ;;
     *) return ;;

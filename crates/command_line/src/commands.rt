@@ -34,6 +34,8 @@ struct Parameter {
     is_option: bool,
     /// True if it follows `--`.
     is_last: bool,
+    /// True if no help shows it.
+    is_hidden: bool,
 }
 
 /// An option without a value.
@@ -49,6 +51,7 @@ const FLAG: Parameter = Parameter {
     required: false,
     is_option: true,
     is_last: false,
+    is_hidden: false,
 };
 
 /// An option with a value.
@@ -94,14 +97,21 @@ const LIMIT: Parameter = Parameter {
     ..OPTION
 };
 
-/// The option of `run` where it has no effect.
-const UNUSED_BATCH: Parameter = Parameter {
+const BATCH: Parameter = Parameter {
     name: "batch",
-    help: limits!(text "No effect here (an option of run), 1 to " most_at_once),
+    help: limits!(text "Execute up to K commands of a feed together, 1 to " most_at_once),
     value_names: &["K"],
     parser: ValueParser::Unsigned(1, MAX_BATCH as u64),
-    default_values: &[DEFAULT_QUERY_BATCH],
+    default_values: &[DEFAULT_RUN_BATCH],
     ..OPTION
+};
+
+/// The option of `run` where it has no effect. It is accepted, so that a script can pass the same options to each command
+/// with feed files.
+const UNUSED_BATCH: Parameter = Parameter {
+    default_values: &[DEFAULT_QUERY_BATCH],
+    is_hidden: true,
+    ..BATCH
 };
 
 const WITHOUT: Parameter = Parameter {
@@ -136,11 +146,7 @@ const RUN: &[Parameter] = &[
         default_values: &[DEFAULT_LIMIT],
         ..LIMIT
     },
-    Parameter {
-        help: limits!(text "Execute up to K commands of a feed together, 1 to " most_at_once),
-        default_values: &[DEFAULT_RUN_BATCH],
-        ..UNUSED_BATCH
-    },
+    BATCH,
     FILES,
 ];
 
@@ -382,7 +388,8 @@ impl Parameter {
             .num_args(self.least_values..=self.most_values)
             .default_values(self.default_values)
             .required(self.required)
-            .last(self.is_last);
+            .last(self.is_last)
+            .hide(self.is_hidden);
         if self.is_option {
             arg.long(self.name)
         } else {
