@@ -167,6 +167,10 @@ def files(yarib):
     locked.chmod(0)
     if os.geteuid() != 0:
         expect("a file without leave", yarib("run", locked), unreadable(locked))
+    # Both are regular files, but reading them fails.
+    memory, same = "/proc/self/mem", "/proc/thread-self/mem"
+    expect("two files that can't be read", yarib("table", row, memory, row, same, row), unreadable(memory))
+    expect("two files that can't be read, the other way", yarib("table", same, row, row, memory), unreadable(same))
 
 
 # Catches F3 of `lookup` or `table` for more than 6 texts, or a seventh file that `table` can't read: `the table of 7

@@ -24,7 +24,7 @@ Exit status, the highest that applies:
             "  4 unreadable file   5 out of memory (`yarib: fault F3` or `commands failed`)
   6 output not written
 
-Feed files may be executed on several threads; --batch has no effect.
+Feed files may be executed on several threads; the output is the same.
 Without --limit a feed has at most " most_routes " routes. `yarib run --help` lists
 the commands of feed files and the faults.
 

@@ -1,4 +1,5 @@
 pub mod Lists
+pub mod Pieces
 pub mod Answering
 pub mod InvalidLines
 pub mod Outputs

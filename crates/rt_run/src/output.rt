@@ -1,32 +1,29 @@
 //! Output: the parts of a run's text, the answers to questions, and the differences between two tables. Each part goes to
 //! any writer; `write_through` writes an output through one buffer.
-ghost use Rattle.std.specs.Prelude.{◌≡◌, ◌==◌, ◌++◌, [], ◌≤◌, ℕ, List, Option, length, IfSome, IfOk, IfErr};
+ghost use Rattle.std.specs.Prelude.{◌≡◌, ◌==◌, ◌++◌, [], ◌≤◌, ℕ, List, Option, length, IfOk, IfErr};
 ghost use Rattle.std.specs.Fn.{FnOnceReturnsAtMut};
+ghost use Rattle.std.specs.List.{flat_map};
 ghost use Rattle.rt_cidr.specs.Output.{WritesText};
 ghost use Rattle.rt_print.specs.Buffer.{buffered};
 ghost use Rattle.rt_rib.specs.declared.limits.TheConstants.{MAX_FEEDS};
 ghost use Rattle.rt_print.specs.ChangeCounts.{change_counts_as};
 ghost use Rattle.rt_print.specs.Routes.{table_text};
 ghost use Rattle.rt_run.specs.RunText.{reports_text};
-ghost use Rattle.rt_run.specs.inside.Outputs.{found_text, matches_text, with_invalid, Writes, IsFirstFrom, list_of, lines_of, AreSomeCounts};
+ghost use Rattle.rt_run.specs.inside.Outputs.{with_invalid, Writes, IsFirstFrom, list_of, lines_of, AreSomeCounts};
 
 use crate::faults::AppFault;
-use crate::forwarding::look_up_by;
+use crate::rendering::{Rows, Workers, write_on_threads};
 use rt_cidr::Addr;
 use rt_diff::Difference;
 use rt_feed::{InvalidLine, Report, write_report};
-use rt_fib::Fib;
 use rt_print::{
-    ChangeCount, DiffOptions, OutputBuffer, OutputRoom, Style, write_all_matches,
-    write_change_counts, write_difference, write_invalid_line, write_lookup, write_table,
+    ChangeCount, DiffOptions, OutputBuffer, OutputRoom, Style, write_change_counts,
+    write_difference, write_invalid_line, write_table,
 };
 use rt_rib::{Route, Table};
-use rt_tables::TableUnion;
 use std::alloc::{AllocError, Global};
 use std::io::{self, Write};
-
-/// The number of addresses that are looked up together.
-const PIECE: usize = 256;
+use std::thread::Threads;
 
 /// Writes an output through a new buffer over the writer, by one call of `print`, and returns `given` if everything was
 /// written. The room is the buffer's. An empty output never fails. Doesn't allocate.
@@ -91,106 +88,52 @@ pub(crate) fn write_run<W: Write>(
     write_table(w, routes)
 }
 
-/// Writes the result of looking up each address in the tables, with their forwarding table if there is one, and the invalid
-/// lines in their places.
-pub(crate) fn write_lookups<W: Write>(
+/// Writes the rows of the items, and the invalid lines in their places, through a new buffer over the writer, as
+/// `write_through` does.
+pub(crate) fn write_rows_through<R: Threads + Sync, W: Write, I: Sync, P: Rows<I> + Sync, X: Drop>(
+    workers: &Workers<'_, R>,
+    w: &mut W,
+    room: OutputRoom,
+    style: &Style,
+    rows: &P,
+    items: &[I],
+    invalid: &[InvalidLine],
+    is_empty: bool,
+    given: X,
+) -> Result<X, AppFault>
+    requires new { room ≡ [] }
+    requires empty { is_empty ≡ (length (with_invalid style.now.syntax (flat_map (P.row_of rows.now)) 0 items.now invalid.now) == 0) }
+    ensures { Writes (with_invalid style.now.syntax (flat_map (P.row_of rows.now)) 0 items.now invalid.now) given (W.contents w.old) (W.contents w.new) result }
+{
+    let mut out = OutputBuffer::new(w, room);
+    let written = write_with_invalid(workers, &mut out, style, rows, items, invalid);
+    let told = finish(&mut out, written, is_empty, given);
+    let _ = out.into_writer();
+    told
+}
+
+/// Writes the rows of the items, and the invalid lines in their places.
+fn write_with_invalid<R: Threads + Sync, W: Write, X: Sync, P: Rows<X> + Sync>(
+    workers: &Workers<'_, R>,
     w: &mut W,
     style: &Style,
-    tables: &TableUnion<Global>,
-    fib: &Option<Fib<Global>>,
-    addresses: &[Addr],
+    rows: &P,
+    items: &[X],
     invalid: &[InvalidLine],
 ) -> Result<(), io::Error>
-    requires fib { IfSome fib.now (λ fib. fib ≡ tables.now) }
     ensures { WritesText (W.contents w.old) (W.contents w.new)
-        (with_invalid style.now.syntax (λ these. found_text style.now these tables.now) 0 addresses.now invalid.now) result }
+        (with_invalid style.now.syntax (flat_map (P.row_of rows.now)) 0 items.now invalid.now) result }
 {
-    let (mut rest, mut lines, mut done) = (addresses, invalid, 0);
+    let (mut rest, mut lines, mut done) = (items, invalid, 0);
     while let Some((line, later)) = lines.split_first() {
         let (piece, behind) = rest.split_at(line.before.saturating_sub(done).min(rest.len()));
-        write_answers(w, style, tables, fib, piece)?;
+        write_on_threads(workers, w, rows, piece)?;
         write_invalid_line(w, style, line.number)?;
         rest = behind;
         lines = later;
         done = line.before;
     }
-    write_answers(w, style, tables, fib, rest)
-}
-
-/// Writes all routes that cover each address, the best first, and the invalid lines in their places.
-pub(crate) fn write_all_lookups<W: Write>(
-    w: &mut W,
-    style: &Style,
-    all: &[(Addr, Vec<Route>)],
-    invalid: &[InvalidLine],
-) -> Result<(), io::Error>
-    ensures { WritesText (W.contents w.old) (W.contents w.new) (with_invalid style.now.syntax (matches_text style.now) 0 all.now invalid.now) result }
-{
-    let (mut rest, mut lines, mut done) = (all, invalid, 0);
-    while let Some((line, later)) = lines.split_first() {
-        let (piece, behind) = rest.split_at(line.before.saturating_sub(done).min(rest.len()));
-        write_matches(w, style, piece)?;
-        write_invalid_line(w, style, line.number)?;
-        rest = behind;
-        lines = later;
-        done = line.before;
-    }
-    write_matches(w, style, rest)
-}
-
-/// Writes the result of looking up each address in the tables, with their forwarding table if there is one.
-fn write_answers<W: Write>(
-    w: &mut W,
-    style: &Style,
-    tables: &TableUnion<Global>,
-    fib: &Option<Fib<Global>>,
-    addresses: &[Addr],
-) -> Result<(), io::Error>
-    requires { IfSome fib.now (λ fib. fib ≡ tables.now) }
-    ensures { WritesText (W.contents w.old) (W.contents w.new) (found_text style.now addresses.now tables.now) result }
-{
-    let mut rest = addresses;
-    while !rest.is_empty() {
-        let (piece, behind) = rest.split_at(rest.len().min(PIECE));
-        write_piece(w, style, tables, fib, piece)?;
-        rest = behind;
-    }
-    Ok(())
-}
-
-/// Writes the result of looking up each of at most [`PIECE`] addresses in the tables.
-fn write_piece<W: Write>(
-    w: &mut W,
-    style: &Style,
-    tables: &TableUnion<Global>,
-    fib: &Option<Fib<Global>>,
-    piece: &[Addr],
-) -> Result<(), io::Error>
-    requires fib { IfSome fib.now (λ fib. fib ≡ tables.now) }
-    requires few { length piece.now ≤ 256 }
-    ensures { WritesText (W.contents w.old) (W.contents w.new) (found_text style.now piece.now tables.now) result }
-{
-    let mut places = [None; PIECE];
-    let found = &mut places[..piece.len()];
-    look_up_by(tables, fib, piece, found);
-    for (index, address) in piece.iter().enumerate() {
-        write_lookup(w, style, *address, found[index])?;
-    }
-    Ok(())
-}
-
-/// Writes all routes that cover each address, the best first.
-fn write_matches<W: Write>(
-    w: &mut W,
-    style: &Style,
-    all: &[(Addr, Vec<Route>)],
-) -> Result<(), io::Error>
-    ensures { WritesText (W.contents w.old) (W.contents w.new) (matches_text style.now all.now) result }
-{
-    for one in all {
-        write_all_matches(w, style, one.0, one.1.as_slice())?;
-    }
-    Ok(())
+    write_on_threads(workers, w, rows, rest)
 }
 
 /// Writes the differences between two tables, starting with the given first one.

@@ -10,13 +10,15 @@ ghost use Rattle.rt_run.specs.inside.Outputs.{matches_found, matches_in, Writes}
 use crate::chosen::{ChosenTexts, is_selected};
 use crate::faults::AppFault;
 use crate::forwarding::fib_for;
-use crate::output::{write_all_lookups, write_lookups, write_through};
+use crate::output::{write_rows_through, write_through};
 use crate::parallel::run_on_threads;
 use crate::question::Question;
+use crate::rendering::Workers;
+use crate::rows::LookupTables;
 use crate::tallies::{RejectedInput, RunSummary, tallies_status};
 use rt_cidr::Addr;
 use rt_feed::{AddressText, InvalidLine, RunFault, read_addresses};
-use rt_print::{OutputRoom, Style, write_counts, write_routes, write_routes_and_total};
+use rt_print::{OutputRoom, Style, write_counts, write_routes_and_total};
 use rt_rib::{Refused, Route, Selection};
 use rt_tables::TableUnion;
 use std::alloc::Global;
@@ -59,7 +61,8 @@ pub fn show<R: Threads + Sync, W: Write>(
     tallies.push_reserved(RejectedInput::of(read.faulty));
     let status = tallies_status(tallies.as_slice());
     let given = RunSummary { status, tallies };
-    let told = write_answer(rt, alloc, &tables, style, question, &read, given, w);
+    let workers = Workers { rt, alloc, threads };
+    let told = write_answer(&workers, &tables, style, question, &read, given, w);
     mem::forget(tables);
     told
 }
@@ -67,8 +70,7 @@ pub fn show<R: Threads + Sync, W: Write>(
 /// Writes the answer to the question from the tables, in few large writes, and returns `given`; `read` has the addresses to look
 /// up, and the invalid lines that are kept.
 fn write_answer<R: Threads + Sync, W: Write>(
-    rt: &R,
-    alloc: Global,
+    workers: &Workers<'_, R>,
     tables: &TableUnion<Global>,
     style: &Style,
     question: &Question<'_>,
@@ -79,27 +81,33 @@ fn write_answer<R: Threads + Sync, W: Write>(
     ensures { (rows : List AddressRow) → AreOfRows (keeps_invalid question.now) rows read.now.addresses.items read.now.invalid.items
         → Writes (question_text style.now question.now rows tables.now) given (W.contents w.old) (W.contents w.new) result }
 {
+    let (rt, alloc) = (workers.rt, workers.alloc);
     let room = OutputRoom::new(alloc)?;
     let (addresses, invalid) = (read.addresses.as_slice(), read.invalid.as_slice());
     let is_empty = are_empty(addresses, invalid);
     match question {
         Question::Best { .. } => {
             let fib = fib_for(alloc, tables, addresses.len());
-            write_through(w, room, is_empty, given, |out| {
-                write_lookups(out, style, tables, &fib, addresses, invalid)
-            })
+            let rows = LookupTables {
+                style,
+                tables,
+                fib: &fib,
+            };
+            write_rows_through(
+                workers, w, room, style, &rows, addresses, invalid, is_empty, given,
+            )
         }
         Question::All { .. } => {
             let all = matches_of(alloc, tables, addresses)?;
-            write_through(w, room, is_empty, given, |out| {
-                write_all_lookups(out, style, all.as_slice(), invalid)
-            })
+            let all = all.as_slice();
+            write_rows_through(
+                workers, w, room, style, style, all, invalid, is_empty, given,
+            )
         }
         Question::Routes { selection, feeds } => {
             let routes = routes_asked(rt, alloc, tables, selection, feeds)?;
-            write_through(w, room, routes.is_empty(), given, |out| {
-                write_routes(out, style, routes.as_slice())
-            })
+            let (routes, is_empty) = (routes.as_slice(), routes.is_empty());
+            write_rows_through(workers, w, room, style, style, routes, &[], is_empty, given)
         }
         Question::RoutesAndTotal { selection, feeds } => {
             let routes = routes_asked(rt, alloc, tables, selection, feeds)?;

@@ -19,9 +19,7 @@ returns-in-Best g c rows is =
     let these : AreOfRows (keeps_invalid c.args.question.now) rows addresses invalid =
     record { addressed = c.as_slice-addresses.ensures.value ∙ is.addressed; kept = c.as_slice-invalid.ensures.value ∙ is.kept } in
     let one : Addr → List ℕ = λ addr. found_as style.syntax (label_of style.labels) addr (look_up addr table) in
-    let empty = c.are_empty-is_empty.ensures ∙ with_invalid-empty style.syntax (flat_map one) addresses invalid (answers-empty style (length addresses == 0) table addresses refl) in
-    rw (c.in-Best.is, ← (rows_text style one _ rows addresses invalid (rw c.in-Best.is at these)))
-    (c.write_through.ensures.text (with_invalid style.syntax (flat_map one) 0 addresses invalid) empty (λ old written new called. search rules))
+    rw (c.in-Best.is, ← (rows_text style one _ rows addresses invalid (rw c.in-Best.is at these))) c.write_rows_through.ensures
 
 pub returns-in_ok-all-in-All : goal.returns-in_ok-all-in-All
 returns-in_ok-all-in-All g c rows is =
@@ -34,21 +32,16 @@ returns-in_ok-all-in-All g c rows is =
     let one : Addr → List ℕ = λ addr. all_found_as style.syntax (label_of style.labels) addr (look_up_all addr table) in
     let all = c.in_ok-all-in-All.all.items in
     let found : matches_found all ≡ matches_in table addresses = c.in_ok-all-in-All.ensures {u = tt} in
-    let empty = c.are_empty-is_empty.ensures ∙ (ap (λ n. (n == 0) && (length invalid == 0)) (found-count table addresses all found)
-    ∙ with_invalid-empty style.syntax (matches_text style) all invalid (matches-empty style (length all == 0) all refl)) in
-    rw (c.in-All.is, ← (rows_text style one _ rows addresses invalid (rw c.in-All.is at these)), ← (matches_rows style table addresses invalid all found))
-    (c.write_through-in-All.ensures.text (with_invalid style.syntax (matches_text style) 0 all invalid) empty (λ old written new called. search rules))
+    rw (c.in-All.is, ← (rows_text style one _ rows addresses invalid (rw c.in-All.is at these)), ← (matches_rows style table addresses invalid all found), ← c.as_slice-all.ensures.value) c.write_rows_through-in-All.ensures
 
 pub returns-in_ok-routes-in-Routes : goal.returns-in_ok-routes-in-Routes
 returns-in_ok-routes-in-Routes g c rows is =
-    rw (c.in-Routes.is, ← (c.in_ok-routes-in-Routes.ensures {u = tt}))
-    (c.write_through-in-Routes.ensures.text _ (rows-empty c.args.style.now _ c.in_ok-routes-in-Routes.routes.items (rw c.in_ok-routes-in-Routes.routes.ok.0 at c.is_empty.ensures))
-    (λ old written new called. search rules))
+    rw (c.in-Routes.is, ← (c.in_ok-routes-in-Routes.ensures {u = tt}), ← c.as_slice-routes.ensures.value) c.write_rows_through-in-Routes.ensures
 
 pub returns-in_ok-routes-in-RoutesAndTotal : goal.returns-in_ok-routes-in-RoutesAndTotal
 returns-in_ok-routes-in-RoutesAndTotal g c rows is =
     rw (c.in-RoutesAndTotal.is, ← (c.in_ok-routes-in-RoutesAndTotal.ensures {u = tt}))
-    (c.write_through-in-RoutesAndTotal.ensures.text _ (has_byte _ (rows_and_total-some c.args.style.now c.in_ok-routes-in-RoutesAndTotal.routes.items))
+    (c.write_through.ensures.text _ (has_byte _ (rows_and_total-some c.args.style.now c.in_ok-routes-in-RoutesAndTotal.routes.items))
     (λ old written new called. search rules))
 
 pub returns-in_ok-routes-in-Counts : goal.returns-in_ok-routes-in-Counts
@@ -56,3 +49,28 @@ returns-in_ok-routes-in-Counts g c rows is =
     rw (c.in-Counts.is, ← (c.in_ok-routes-in-Counts.ensures {u = tt}))
     (c.write_through-in-Counts.ensures.text _ (has_byte _ (counts-some c.args.style.now c.in_ok-routes-in-Counts.routes.items))
     (λ old written new called. search rules))
+
+pub write_rows_through-requires-clause-empty : goal.write_rows_through-requires-clause-empty
+write_rows_through-requires-clause-empty g c lifetimes outlive =
+    let style = c.args.style.now in
+    let table = c.args.tables.now in
+    let addresses = c.as_slice-addresses.result.now in
+    let one : Addr → List ℕ = λ addr. found_as style.syntax (label_of style.labels) addr (look_up addr table) in
+    c.are_empty-is_empty.ensures ∙ with_invalid-empty style.syntax (flat_map one) addresses c.as_slice-invalid.result.now
+    (answers-empty style (length addresses == 0) table addresses refl)
+
+pub write_rows_through-requires-in-All-clause-empty : goal.write_rows_through-requires-in-All-clause-empty
+write_rows_through-requires-in-All-clause-empty g c lifetimes outlive =
+    let style = c.args.style.now in
+    let table = c.args.tables.now in
+    let addresses = c.as_slice-addresses.result.now in
+    let invalid = c.as_slice-invalid.result.now in
+    let all = c.in_ok-all-in-All.all.items in
+    let found : matches_found all ≡ matches_in table addresses = c.in_ok-all-in-All.ensures {u = tt} in
+    rw c.as_slice-all.ensures.value (c.are_empty-is_empty.ensures ∙ (ap (λ n. (n == 0) && (length invalid == 0)) (found-count table addresses all found)
+    ∙ with_invalid-empty style.syntax (matches_text style) all invalid (matches-empty style (length all == 0) all refl)))
+
+pub write_rows_through-requires-in-Routes-clause-empty : goal.write_rows_through-requires-in-Routes-clause-empty
+write_rows_through-requires-in-Routes-clause-empty g c lifetimes outlive =
+    let routes = c.in_ok-routes-in-Routes.routes in
+    rw c.as_slice-routes.ensures.value (rows-empty c.args.style.now c.is_empty-is_empty.result routes.items (rw routes.ok.0 at c.is_empty-is_empty.ensures))

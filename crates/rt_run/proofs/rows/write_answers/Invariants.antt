@@ -1,7 +1,7 @@
 use Rattle.std.proofs.Common.{◌≡◌, ℕ, List, ◌++◌, length}
 use Rattle.std.specs.Io.KnownBytes.{Appends}
 use Rattle.rt_run.specs.inside.Outputs.{found_text}
-use Rattle.rt_run.proofs.output.write_answers.Given as goal
+use Rattle.rt_run.proofs.rows.write_answers.Given as goal
 
 -- a text was written; followed by the answers of the rest it is the text of all answers
 abbrev pub invariant-loop-rest : goal.invariant-loop-rest

@@ -6,7 +6,7 @@ use Rattle.rt_cidr.specs.declared.address.Addr.{Addr}
 use Rattle.rt_rib.specs.declared.routes.Route.{Route}
 use Rattle.rt_run.specs.inside.Outputs.{matches_text}
 use Rattle.rt_print.proofs.Promised.{stops_all}
-use Rattle.rt_run.proofs.output.write_matches.Goals as goal
+use Rattle.rt_run.proofs.rows.write_matches.Goals as goal
 
 pub returns-in_err-write_all_matches : goal.returns-in_err-write_all_matches
 returns-in_err-write_all_matches g c =

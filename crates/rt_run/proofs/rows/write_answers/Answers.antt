@@ -3,7 +3,7 @@ use Rattle.rt_cidr.proofs.Promised.{appends_after}
 use Rattle.rt_print.proofs.Promised.{breaks_off}
 use Rattle.rt_run.specs.inside.Outputs.{found_text}
 use Rattle.rt_run.proofs.Answering.{answers_grow, answers_begin}
-use Rattle.rt_run.proofs.output.write_answers.Goals as goal
+use Rattle.rt_run.proofs.rows.write_answers.Goals as goal
 
 pub returns-in_err-write_piece : goal.returns-in_err-write_piece
 returns-in_err-write_piece g c =

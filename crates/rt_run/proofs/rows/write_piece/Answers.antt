@@ -1,5 +1,5 @@
 use Rattle.rt_run.proofs.Answering.{answers_stop}
-use Rattle.rt_run.proofs.output.write_piece.Goals as goal
+use Rattle.rt_run.proofs.rows.write_piece.Goals as goal
 
 pub returns-in_err-write_lookup : goal.returns-in_err-write_lookup
 returns-in_err-write_lookup g c =

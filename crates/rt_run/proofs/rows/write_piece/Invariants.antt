@@ -1,7 +1,7 @@
 use Rattle.std.proofs.Common.{take}
 use Rattle.std.specs.Io.KnownBytes.{Appends}
 use Rattle.rt_run.specs.inside.Outputs.{found_text}
-use Rattle.rt_run.proofs.output.write_piece.Given as goal
+use Rattle.rt_run.proofs.rows.write_piece.Given as goal
 
 -- the answers so far were written
 abbrev pub invariant-loop-index : goal.invariant-loop-index

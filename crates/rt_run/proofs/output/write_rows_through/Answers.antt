@@ -1,0 +1,13 @@
+use Rattle.std.proofs.Common.{rules, ap}
+use Rattle.std.specs.List.{flat_map}
+use Rattle.rt_run.specs.inside.Outputs.{with_invalid}
+use Rattle.rt_run.proofs.output.write_rows_through.Goals as goal
+
+pub returns : goal.returns
+returns g c =
+    let made = c.new-out.ensures in
+    let wrote = c.write_with_invalid-written.ensures in
+    c.finish-told.ensures.text c.new-out.result.writer.ghost_name (g.W.Write.contents c.args.w.now) _
+    (with_invalid c.args.style.now.syntax (flat_map (g.P.Rows.row_of c.args.rows.now)) 0 c.args.items.now c.args.invalid.now) c.requires.empty
+    (rw (made.began, made.over.1, made.held, c.requires.new) at wrote)
+    (λ one. ap g.W.Write.contents {y = c.finish-told.new.buffer.writer.now} (search rules))

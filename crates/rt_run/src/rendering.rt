@@ -1,0 +1,156 @@
+//! The rows of a long list: several threads render a piece of it each, and the pieces are written in order.
+ghost use Rattle.std.specs.Prelude.{◌≡◌, ◌≤◌, ◌+◌, length, IfOk, IfSome};
+ghost use Rattle.std.specs.List.{flat_map};
+ghost use Rattle.std.specs.Fork.{slice_chunk};
+ghost use Rattle.rt_cidr.specs.Output.{WritesText};
+ghost use Rattle.rt_run.specs.inside.Pieces.{IsPieceText, ArePieceTexts};
+ghost use Rattle.rt_run.specs.declared.rendering.TheConstants.{PIECE_ITEMS};
+
+use rt_cidr::put;
+use std::alloc::{AllocError, Global};
+use std::io::{self, Write};
+use std::thread::{self, Threads};
+
+/// The number of items that a thread renders at once. Their rows have about a megabyte.
+const PIECE_ITEMS: usize = 16_384;
+
+/// The bytes of a row for which a piece has room at first.
+const ROW_BYTES: usize = 64;
+
+/// The threads on which rows are rendered, at most so many, and the memory for their texts.
+#[derive(Clone, Copy)]
+pub(crate) struct Workers<'r, R> {
+    pub(crate) rt: &'r R,
+    pub(crate) alloc: Global,
+    pub(crate) threads: usize,
+}
+
+/// How the items of a list are written: each has a row of its own, which doesn't depend on the others.
+pub(crate) trait Rows<X> {
+    ghost use Rattle.std.specs.Prelude.{ℕ, List};
+    ghost use Rattle.std.specs.List.{flat_map};
+    ghost use Rattle.rt_cidr.specs.Output.{WritesText};
+
+    // The row of an item.
+    ghost row_of: { Self → X → List ℕ };
+
+    /// Writes the row of each item, in order. Doesn't allocate.
+    fn write_rows<W: Write>(&self, w: &mut W, items: &[X]) -> io::Result<()>
+        ensures { WritesText (W.contents w.old) (W.contents w.new) (flat_map (row_of self.now) items.now) result };
+}
+
+/// Writes the row of each item, in order. The workers render a piece each, and need memory for its text. A piece for which
+/// there is none is rendered while it is written.
+pub(crate) fn write_on_threads<R: Threads + Sync, W: Write, X: Sync, P: Rows<X> + Sync>(
+    workers: &Workers<'_, R>,
+    w: &mut W,
+    rows: &P,
+    items: &[X],
+) -> io::Result<()>
+    ensures { WritesText (W.contents w.old) (W.contents w.new) (flat_map (P.row_of rows.now) items.now) result }
+{
+    if workers.threads < 2 || items.len() <= PIECE_ITEMS {
+        return rows.write_rows(w, items);
+    }
+    let mut rest = items;
+    while !rest.is_empty() {
+        let most = workers.threads.saturating_mul(PIECE_ITEMS);
+        let (group, behind) = rest.split_at(rest.len().min(most));
+        write_group(workers, w, rows, group)?;
+        rest = behind;
+    }
+    Ok(())
+}
+
+/// Writes the rows of the items, of which each thread renders a piece.
+fn write_group<R: Threads + Sync, W: Write, X: Sync, P: Rows<X> + Sync>(
+    workers: &Workers<'_, R>,
+    w: &mut W,
+    rows: &P,
+    items: &[X],
+) -> io::Result<()>
+    ensures { WritesText (W.contents w.old) (W.contents w.new) (flat_map (P.row_of rows.now) items.now) result }
+{
+    match render_pieces(workers, rows, items) {
+        Ok(texts) => write_texts(w, rows, items, texts.as_slice()),
+        Err(_) => rows.write_rows(w, items),
+    }
+}
+
+/// Returns the text of each piece of the items, without those for which there was no memory. Its error: there was no memory
+/// for their list.
+fn render_pieces<R: Threads + Sync, X: Sync, P: Rows<X> + Sync>(
+    workers: &Workers<'_, R>,
+    rows: &P,
+    items: &[X],
+) -> Result<Vec<Option<Vec<u8>>>, AllocError>
+    ensures { IfOk result (λ texts. ArePieceTexts (P.row_of rows.now) items.now texts.items) }
+{
+    let alloc = workers.alloc;
+    thread::map_indices(
+        workers.rt,
+        alloc,
+        items.len().div_ceil(PIECE_ITEMS),
+        &|index: usize| -> Option<Vec<u8>>
+            ensures { IsPieceText (P.row_of rows.entry.now) items.entry.now index result }
+        { render(alloc, rows, piece_at(items, index)) },
+    )
+}
+
+/// Returns the piece of the items with this index, or no items behind the last one.
+fn piece_at<X>(items: &[X], index: usize) -> &[X]
+    ensures { result.now ≡ slice_chunk items.now PIECE_ITEMS index }
+{
+    if index > items.len() / PIECE_ITEMS {
+        return &[];
+    }
+    let (_, rest) = items.split_at(index * PIECE_ITEMS);
+    let (piece, _) = rest.split_at(PIECE_ITEMS.min(rest.len()));
+    piece
+}
+
+/// Returns the rows of the items, if there is memory for them.
+fn render<X, P: Rows<X>>(alloc: Global, rows: &P, items: &[X]) -> Option<Vec<u8>>
+    ensures { IfSome result (λ text. text.items ≡ flat_map (P.row_of rows.now) items.now) }
+{
+    let size = items.len().saturating_mul(ROW_BYTES);
+    let Ok(mut text) = Vec::with_capacity(alloc, size) else {
+        return None;
+    };
+    match rows.write_rows(&mut text, items) {
+        Ok(()) => Some(text),
+        Err(_) => None,
+    }
+}
+
+/// Writes the pieces of the items in order, with the texts that there are for them.
+fn write_texts<W: Write, X, P: Rows<X>>(
+    w: &mut W,
+    rows: &P,
+    items: &[X],
+    texts: &[Option<Vec<u8>>],
+) -> io::Result<()>
+    requires { ArePieceTexts (P.row_of rows.now) items.now texts.now }
+    ensures { WritesText (W.contents w.old) (W.contents w.new) (flat_map (P.row_of rows.now) items.now) result }
+{
+    for index in 0..texts.len() {
+        write_piece(w, rows, piece_at(items, index), &texts[index])?;
+    }
+    Ok(())
+}
+
+/// Writes the rows of the items, of which this is the text if there is one.
+fn write_piece<W: Write, X, P: Rows<X>>(
+    w: &mut W,
+    rows: &P,
+    items: &[X],
+    text: &Option<Vec<u8>>,
+) -> io::Result<()>
+    requires { IfSome text.now (λ text. text.items ≡ flat_map (P.row_of rows.now) items.now) }
+    ensures { WritesText (W.contents w.old) (W.contents w.new) (flat_map (P.row_of rows.now) items.now) result }
+{
+    match text {
+        Some(text) => put(w, text.as_slice()),
+        None => rows.write_rows(w, items),
+    }
+}
