@@ -14,10 +14,10 @@ use std::thread::{self, Threads};
 /// The number of items that a thread renders at once. Their rows have about a megabyte.
 const PIECE_ITEMS: usize = 16_384;
 
-/// The bytes of a row for which a piece has room at first.
+/// The number of bytes per row that are allocated before a piece is rendered.
 const ROW_BYTES: usize = 64;
 
-/// The threads on which rows are rendered, at most so many, and the memory for their texts.
+/// The threads that render rows, at most `threads` of them, and the allocator of their texts.
 #[derive(Clone, Copy)]
 pub(crate) struct Workers<'r, R> {
     pub(crate) rt: &'r R,
@@ -25,7 +25,7 @@ pub(crate) struct Workers<'r, R> {
     pub(crate) threads: usize,
 }
 
-/// How the items of a list are written: each has a row of its own, which doesn't depend on the others.
+/// A way to write the items of a list: each has a row of its own, which doesn't depend on the others.
 pub(crate) trait Rows<X> {
     ghost use Rattle.std.specs.Prelude.{ℕ, List};
     ghost use Rattle.std.specs.List.{flat_map};
@@ -39,8 +39,8 @@ pub(crate) trait Rows<X> {
         ensures { WritesText (W.contents w.old) (W.contents w.new) (flat_map (row_of self.now) items.now) result };
 }
 
-/// Writes the row of each item, in order. The workers render a piece each, and need memory for its text. A piece for which
-/// there is none is rendered while it is written.
+/// Writes the row of each item, in order. Each worker renders a piece and allocates its text. If memory runs out, a piece is
+/// rendered while it is written.
 pub(crate) fn write_on_threads<R: Threads + Sync, W: Write, X: Sync, P: Rows<X> + Sync>(
     workers: &Workers<'_, R>,
     w: &mut W,
@@ -62,7 +62,7 @@ pub(crate) fn write_on_threads<R: Threads + Sync, W: Write, X: Sync, P: Rows<X> 
     Ok(())
 }
 
-/// Writes the rows of the items, of which each thread renders a piece.
+/// Writes the rows of the items; each thread renders a piece of them.
 fn write_group<R: Threads + Sync, W: Write, X: Sync, P: Rows<X> + Sync>(
     workers: &Workers<'_, R>,
     w: &mut W,
@@ -77,8 +77,8 @@ fn write_group<R: Threads + Sync, W: Write, X: Sync, P: Rows<X> + Sync>(
     }
 }
 
-/// Returns the text of each piece of the items, without those for which there was no memory. Its error: there was no memory
-/// for their list.
+/// Returns the text of each piece of the items, or `None` for a piece if memory ran out. Its error: memory ran out for the
+/// list of texts.
 fn render_pieces<R: Threads + Sync, X: Sync, P: Rows<X> + Sync>(
     workers: &Workers<'_, R>,
     rows: &P,
@@ -97,7 +97,7 @@ fn render_pieces<R: Threads + Sync, X: Sync, P: Rows<X> + Sync>(
     )
 }
 
-/// Returns the piece of the items with this index, or no items behind the last one.
+/// Returns the piece of the items with this index, or no items if there are fewer pieces.
 fn piece_at<X>(items: &[X], index: usize) -> &[X]
     ensures { result.now ≡ slice_chunk items.now PIECE_ITEMS index }
 {
@@ -109,7 +109,7 @@ fn piece_at<X>(items: &[X], index: usize) -> &[X]
     piece
 }
 
-/// Returns the rows of the items, if there is memory for them.
+/// Returns the rows of the items, or `None` if memory runs out.
 fn render<X, P: Rows<X>>(alloc: Global, rows: &P, items: &[X]) -> Option<Vec<u8>>
     ensures { IfSome result (λ text. text.items ≡ flat_map (P.row_of rows.now) items.now) }
 {
@@ -123,7 +123,7 @@ fn render<X, P: Rows<X>>(alloc: Global, rows: &P, items: &[X]) -> Option<Vec<u8>
     }
 }
 
-/// Writes the pieces of the items in order, with the texts that there are for them.
+/// Writes the pieces of the items in order: their texts, and the rows of a piece that has no text.
 fn write_texts<W: Write, X, P: Rows<X>>(
     w: &mut W,
     rows: &P,
@@ -139,7 +139,7 @@ fn write_texts<W: Write, X, P: Rows<X>>(
     Ok(())
 }
 
-/// Writes the rows of the items, of which this is the text if there is one.
+/// Writes the rows of the items: the text, if there is one.
 fn write_piece<W: Write, X, P: Rows<X>>(
     w: &mut W,
     rows: &P,
