@@ -13,7 +13,8 @@ use Rattle.rt_cidr.specs.Cidr.{size_of}
 use Rattle.rt_cidr.specs.Prefix.{covers, same_prefix}
 use Rattle.rt_cidr.proofs.Promised.{prefix_by_parts}
 use Rattle.rt_rib.specs.declared.routes.Route.{Route}
-use Rattle.rt_rib.specs.Table.{below_then, is_better, is_of, precedes, IsTable}
+use Rattle.rt_rib.specs.Table.{is_better, is_of, precedes, IsTable}
+use Rattle.rt_rib.specs.Order.{below_then}
 use Rattle.rt_rib.specs.LookUp.{look_up, best_routes}
 use Rattle.rt_rib.specs.Laws.{IsBestMatch, BestRoutesSuffice}
 use Rattle.rt_rib.proofs.Lists.{AllPairs-head, AllPairs-tail}

@@ -11,8 +11,9 @@ use Rattle.rt_trie.specs.FromPrefix.{from_prefix}
 use Rattle.rt_trie.proofs.PrefixOrder.{lower_rank, rank_of_before, rank_of_not_before}
 use Rattle.rt_rib.specs.declared.routes.Route.{Route}
 use Rattle.rt_rib.specs.declared.offers.Offer.{Offer}
-use Rattle.rt_rib.specs.Maps.{Map, outranks, route_by, routes_of, offer_of}
-use Rattle.rt_rib.specs.Table.{below_then, precedes}
+use Rattle.rt_rib.specs.Maps.{Map, outranks, route_by, routes_of}
+use Rattle.rt_rib.specs.Table.{precedes}
+use Rattle.rt_rib.specs.Order.{below_then, offer_of}
 use Rattle.rt_rib.specs.Places.{from_place}
 use Rattle.rt_rib.specs.inside.Offers.{IsInsertionIndex}
 use Rattle.rt_rib.proofs.Lists.{filter-all}

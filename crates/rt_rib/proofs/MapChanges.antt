@@ -10,7 +10,8 @@ use Rattle.rt_trie.specs.Map.{get, put, erase}
 use Rattle.rt_trie.proofs.Promised.{get-put, get-erase, ordered-put, ordered-erase, one-list}
 use Rattle.rt_rib.specs.declared.routes.Route.{Route}
 use Rattle.rt_rib.specs.declared.offers.Offer.{Offer}
-use Rattle.rt_rib.specs.Maps.{is_from, IsOffers, Map, route_by, routes_of, IsMap, offer_of}
+use Rattle.rt_rib.specs.Maps.{is_from, IsOffers, Map, route_by, routes_of, IsMap}
+use Rattle.rt_rib.specs.Order.{offer_of}
 use Rattle.rt_rib.specs.inside.Offers.{HasGained, HasSwapped}
 use Rattle.rt_rib.specs.Table.{is_of, has, put_in, take_out}
 use Rattle.rt_rib.specs.inside.Maps.{offers_in, offers_at, HasRoute}

@@ -11,7 +11,8 @@ use Rattle.rt_cidr.proofs.Promised.{prefix_by_parts}
 use Rattle.rt_trie.specs.Map.{get}
 use Rattle.rt_trie.proofs.Promised.{pairs-found}
 use Rattle.rt_rib.specs.declared.offers.Offer.{Offer}
-use Rattle.rt_rib.specs.Maps.{outranks, IsRanked, Map, route_by, routes_of, IsMap, offer_of}
+use Rattle.rt_rib.specs.Maps.{outranks, IsRanked, Map, route_by, routes_of, IsMap}
+use Rattle.rt_rib.specs.Order.{offer_of}
 use Rattle.rt_rib.specs.LookUp.{look_up}
 use Rattle.rt_rib.specs.Laws.{IsBestMatch}
 use Rattle.rt_rib.proofs.Lists.{AllPairs-head}

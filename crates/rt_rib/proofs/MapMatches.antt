@@ -10,7 +10,8 @@ use Rattle.rt_trie.specs.Map.{covering, before, IsBeforeAll, IsOrdered}
 use Rattle.rt_trie.proofs.Promised.{later_is_longer, pairs-found}
 use Rattle.rt_rib.specs.declared.routes.Route.{Route}
 use Rattle.rt_rib.specs.declared.offers.Offer.{Offer}
-use Rattle.rt_rib.specs.Maps.{IsOffers, Map, route_by, routes_of, IsMap, offer_of}
+use Rattle.rt_rib.specs.Maps.{IsOffers, Map, route_by, routes_of, IsMap}
+use Rattle.rt_rib.specs.Order.{offer_of}
 use Rattle.rt_rib.specs.LookUp.{look_up_all}
 use Rattle.rt_rib.specs.inside.Maps.{routes_backward}
 use Rattle.rt_rib.proofs.Lists.{AllPairs-append}

@@ -15,8 +15,9 @@ use Rattle.rt_trie.specs.Map.{before, get, IsBeforeAll, IsOrdered}
 use Rattle.rt_trie.proofs.Promised.{pairs-found}
 use Rattle.rt_rib.specs.declared.routes.Route.{Route}
 use Rattle.rt_rib.specs.declared.offers.Offer.{Offer}
-use Rattle.rt_rib.specs.Maps.{outranks, is_from, IsOffers, IsRanked, Map, route_by, routes_of, IsMap, offer_of}
-use Rattle.rt_rib.specs.Table.{precedes, is_better, is_of, below_then, has, IsTable}
+use Rattle.rt_rib.specs.Maps.{outranks, is_from, IsOffers, IsRanked, Map, route_by, routes_of, IsMap}
+use Rattle.rt_rib.specs.Table.{precedes, is_better, is_of, has, IsTable}
+use Rattle.rt_rib.specs.Order.{below_then, offer_of}
 use Rattle.rt_rib.specs.inside.Maps.{offers_in, offers_at, HasRoute}
 use Rattle.rt_rib.proofs.Lists.{AllPairs-append, AllPairs-head, AllPairs-tail, list_any-at, list_any-from_none}
 use Rattle.rt_rib.proofs.Order.{below_then-true, below_then-less, below_then-same, is_of-parts, is_of-from}

@@ -1,13 +1,16 @@
 -- Dump order is strict and, up to feed and prefix, total.
-use Rattle.std.proofs.Common.{◌≡◌, ℕ, ◌<◌, Bool, true, false, eqb, ltb, ◌&&◌, ◌⊎◌, inl, inr, sym, arith}
+use Rattle.std.specs.Prelude.{List, Option, Some, None, is_some}
+use Rattle.std.proofs.Common.{◌≡◌, refl, ap, ◌∙◌, ℕ, ◌<◌, Bool, true, false, eqb, ltb, ◌&&◌, ◌⊎◌, inl, inr, sym, arith}
 use Rattle.std.proofs.lemmas.Bool.{ltb-true, ltb-false, eqb-true, eqb-false, lt-ltb, le-ltb, eq-eqb, or_cases, or_parts, or_left, or_right, or_from}
-use Rattle.std.proofs.lemmas.Bool.{and_parts, and_cases, and_from, and_right, both_ways, cases_order}
+use Rattle.std.proofs.lemmas.Bool.{and_parts, and_cases, and_from, and_right, both_ways, cases_order, cases_Bool, cond-true, cond-false}
 use Rattle.rt_cidr.specs.declared.prefixes.Prefix.{Prefix}
 use Rattle.rt_cidr.specs.Prefix.{same_prefix}
 use Rattle.rt_rib.specs.declared.routes.Route.{Route}
 use Rattle.rt_rib.specs.declared.offers.Offer.{Offer}
+use Rattle.rt_rib.specs.declared.routes.Reason.{Reason}
 use Rattle.rt_rib.specs.Maps.{outranks, is_from}
-use Rattle.rt_rib.specs.Table.{below_then, is_better, precedes, is_of}
+use Rattle.rt_rib.specs.Table.{is_better, precedes, is_of}
+use Rattle.rt_rib.specs.Order.{Step, policy, below_then, offer_of, wins, loses_by, won_by}
 
 -- the cases in which `below_then` is true
 pub below_then-true : (a b : ℕ) (rest : Bool) → below_then a b rest ≡ true → (a < b) ⊎ ((a ≡ b) × (rest ≡ true))
@@ -51,64 +54,74 @@ below_then-trans a b c p q r rest x y =
       ]
     ]
 
--- transitivity by preference and then by feed
-pub by_preference-trans : (p q s f g h : ℕ) → below_then p q (ltb f g) ≡ true → below_then q s (ltb g h) ≡ true → below_then p s (ltb f h) ≡ true
-by_preference-trans p q s f g h =
-    below_then-trans p q s (ltb f g) (ltb g h) (ltb f h) (λ x y. let a = ltb-true f g x in let b = ltb-true g h y in lt-ltb f h (omega arith))
+-- it is false of a number and itself if the rest is
+pub below_then-itself : (a : ℕ) (rest : Bool) → rest ≡ false → below_then a a rest ≡ false
+below_then-itself a rest r = or_from (ltb a a) (eqb a a && rest) (le-ltb a a (omega arith)) (and_right (eqb a a) rest r)
 
--- if two feeds differ and one isn't after the other, it is before the other
-pub by_preference-other : (p q f g : ℕ) → below_then q p (ltb g f) ≡ false → (g ≡ f → ⊥) → below_then p q (ltb f g) ≡ true
-by_preference-other p q f g e other =
-    elim (below_then-false q p (ltb g f) e) [
-      | inl less ↦ below_then-less p q (ltb f g) less
-      | inr same ↦ let prefs = same.0 in let feeds = ltb-false g f same.1 in below_then-same p q (ltb f g) (omega arith) (lt-ltb f g (omega arith))
+-- if two numbers differ and one isn't below the other, it is above the other
+below-other : (f g : ℕ) → below_then g f false ≡ false → (g ≡ f → ⊥) → below_then f g false ≡ true
+below-other f g e other =
+    elim (below_then-false g f false e) [ inl less ↦ below_then-less f g false less | inr same ↦ absurd (other same.0) ]
+
+-- `outranks` is transitive
+pub outranks-trans : (a b c : Offer) → outranks a b ≡ true → outranks b c ≡ true → outranks a c ≡ true
+outranks-trans a b c =
+    below_then-trans a.pref b.pref c.pref (below_then a.feed b.feed false) (below_then b.feed c.feed false) (below_then a.feed c.feed false)
+    (below_then-trans a.feed b.feed c.feed false false false (λ x y. x))
+
+-- if two offers are of different feeds and one doesn't outrank the other, the other outranks it
+outranks-unlike : (a b : Offer) → outranks b a ≡ false → (b.feed ≡ a.feed → ⊥) → outranks a b ≡ true
+outranks-unlike a b e other =
+    elim (below_then-false b.pref a.pref (below_then b.feed a.feed false) e) [
+      | inl less ↦ below_then-less a.pref b.pref (below_then a.feed b.feed false) less
+      | inr same ↦ below_then-same a.pref b.pref (below_then a.feed b.feed false) (sym same.0) (below-other a.feed b.feed same.1 other)
     ]
+
+-- one of two offers of different feeds outranks the other
+pub outranks-other : (a b : Offer) → outranks b a ≡ false → is_from a.feed b ≡ false → outranks a b ≡ true
+outranks-other a b e other = outranks-unlike a b e (λ f. both_ways (is_from a.feed b) other (eq-eqb b.feed a.feed f))
 
 -- `is_better` is transitive
 pub is_better-trans : (r s t : Route) → is_better r s ≡ true → is_better s t ≡ true → is_better r t ≡ true
-is_better-trans r s t = by_preference-trans r.pref s.pref t.pref r.feed s.feed t.feed
+is_better-trans r s t = outranks-trans (offer_of r) (offer_of s) (offer_of t)
 
 -- if two routes are of different feeds and one isn't better than the other, the other is better
 pub is_better-other : (r s : Route) → is_better s r ≡ false → (s.feed ≡ r.feed → ⊥) → is_better r s ≡ true
-is_better-other r s = by_preference-other r.pref s.pref r.feed s.feed
+is_better-other r s = outranks-unlike (offer_of r) (offer_of s)
 
 -- if neither of two routes is better, they have the same preference and feed
 pub even : (r s : Route) → is_better r s ≡ false → is_better s r ≡ false → s.feed ≡ r.feed
 even r s a b =
-    elim (below_then-false r.pref s.pref (ltb r.feed s.feed) a) [
-      | inl less ↦ elim (below_then-false s.pref r.pref (ltb s.feed r.feed) b) [ inl more ↦ omega arith | inr same ↦ let e = same.0 in omega arith ]
-      | inr same ↦ elim (below_then-false s.pref r.pref (ltb s.feed r.feed) b) [
+    elim (below_then-false r.pref s.pref (below_then r.feed s.feed false) a) [
+      | inl less ↦ elim (below_then-false s.pref r.pref (below_then s.feed r.feed false) b)
+          [ inl more ↦ omega arith | inr same ↦ let e = same.0 in omega arith ]
+      | inr same ↦ elim (below_then-false s.pref r.pref (below_then s.feed r.feed false) b) [
         | inl more ↦ let e = same.0 in omega arith
-        | inr also ↦ let low = ltb-false r.feed s.feed same.1 in let high = ltb-false s.feed r.feed also.1 in omega arith
+        | inr also ↦ elim (below_then-false r.feed s.feed false same.1) [
+          | inl low ↦ elim (below_then-false s.feed r.feed false also.1) [ inl high ↦ omega arith | inr equal ↦ equal.0 ]
+          | inr equal ↦ sym equal.0
+        ]
+      ]
+    ]
+
+-- if r is below u and s isn't, then r is below s, where the numbers come first and the rest decides between equal ones
+below_then-over : (a b c : ℕ) (p q r : Bool) → (p ≡ true → q ≡ false → r ≡ true) → below_then a c p ≡ true → below_then b c q ≡ false
+    → below_then a b r ≡ true
+below_then-over a b c p q r rest x y =
+    elim (below_then-true a c p x) [
+      | inl less ↦ elim (below_then-false b c q y)
+          [ inl more ↦ below_then-less a b r (omega arith) | inr same ↦ let e = same.0 in below_then-less a b r (omega arith) ]
+      | inr also ↦ elim (below_then-false b c q y) [
+        | inl more ↦ let e = also.0 in below_then-less a b r (omega arith)
+        | inr same ↦ let e = also.0 in let f = same.0 in below_then-same a b r (omega arith) (rest also.1 same.1)
       ]
     ]
 
 -- if r is better than u and s isn't, then r is better than s
 pub better-over : (r s u : Route) → is_better r u ≡ true → is_better s u ≡ false → is_better r s ≡ true
-better-over r s u x y =
-    elim (below_then-true r.pref u.pref (ltb r.feed u.feed) x) [
-      | inl less ↦ elim (below_then-false s.pref u.pref (ltb s.feed u.feed) y) [
-        | inl more ↦ below_then-less r.pref s.pref (ltb r.feed s.feed) (omega arith)
-        | inr same ↦ let e = same.0 in below_then-less r.pref s.pref (ltb r.feed s.feed) (omega arith)
-      ]
-      | inr also ↦ elim (below_then-false s.pref u.pref (ltb s.feed u.feed) y) [
-        | inl more ↦ let e = also.0 in below_then-less r.pref s.pref (ltb r.feed s.feed) (omega arith)
-        | inr same ↦
-            let e = also.0 in
-            let f = same.0 in
-            let low = ltb-true r.feed u.feed also.1 in
-            let high = ltb-false s.feed u.feed same.1 in
-            below_then-same r.pref s.pref (ltb r.feed s.feed) (omega arith) (lt-ltb r.feed s.feed (omega arith))
-      ]
-    ]
-
--- `outranks` is transitive
-pub outranks-trans : (a b c : Offer) → outranks a b ≡ true → outranks b c ≡ true → outranks a c ≡ true
-outranks-trans a b c = by_preference-trans a.pref b.pref c.pref a.feed b.feed c.feed
-
--- one of two offers of different feeds outranks the other
-pub outranks-other : (a b : Offer) → outranks b a ≡ false → is_from a.feed b ≡ false → outranks a b ≡ true
-outranks-other a b e other = by_preference-other a.pref b.pref a.feed b.feed e (λ f. both_ways (is_from a.feed b) other (eq-eqb b.feed a.feed f))
+better-over r s u =
+    below_then-over r.pref s.pref u.pref (below_then r.feed u.feed false) (below_then s.feed u.feed false) (below_then r.feed s.feed false)
+    (below_then-over r.feed s.feed u.feed false false false (λ x y. x))
 
 -- `precedes` is transitive
 pub precedes-trans : (r s t : Route) → precedes r s ≡ true → precedes s t ≡ true → precedes r t ≡ true
@@ -117,6 +130,17 @@ precedes-trans r s t =
     (below_then r.prefix.len s.prefix.len (is_better r s)) (below_then s.prefix.len t.prefix.len (is_better s t))
     (below_then r.prefix.len t.prefix.len (is_better r t))
     (below_then-trans r.prefix.len s.prefix.len t.prefix.len (is_better r s) (is_better s t) (is_better r t) (is_better-trans r s t))
+
+-- there is a reason why the first wins if and only if it wins
+pub is_some-won_by : (steps : List Step) → is_some (won_by steps) ≡ wins steps
+is_some-won_by steps = elim (cases_Bool (wins steps)) [
+  | inl won ↦ ap is_some (cond-true (wins steps) (Some (loses_by steps)) None won) ∙ sym won
+  | inr lost ↦ ap is_some (cond-false (wins steps) (Some (loses_by steps)) None lost) ∙ sym lost
+]
+
+-- an offer outranks another if and only if the comparison gives a reason
+pub outranks-by : (a b : Offer) (reason : Option Reason) (given : Bool) → reason ≡ won_by (policy a b) → given ≡ is_some reason → outranks a b ≡ given
+outranks-by a b reason given won some = sym (some ∙ ap is_some won ∙ is_some-won_by (policy a b))
 
 -- a feed's route to a prefix has that feed, base and length
 pub is_of-parts : (feed : ℕ) (p : Prefix) (r : Route) → is_of feed p r ≡ true → (r.feed ≡ feed) × (r.prefix.base ≡ p.base) × (r.prefix.len ≡ p.len)
@@ -150,14 +174,10 @@ precedes-other r s e other =
 
 -- no route is better than itself
 pub is_better-itself : (r : Route) → is_better r r ≡ false
-is_better-itself r = or_from (ltb r.pref r.pref) (eqb r.pref r.pref && ltb r.feed r.feed) (le-ltb r.pref r.pref (omega arith))
-    (and_right (eqb r.pref r.pref) (ltb r.feed r.feed) (le-ltb r.feed r.feed (omega arith)))
+is_better-itself r = below_then-itself r.pref (below_then r.feed r.feed false) (below_then-itself r.feed false refl)
 
 -- no route precedes itself
 pub precedes-itself : (r : Route) → precedes r r ≡ false
 precedes-itself r =
-    let len = or_from (ltb r.prefix.len r.prefix.len) (eqb r.prefix.len r.prefix.len && is_better r r) (le-ltb r.prefix.len r.prefix.len (omega arith))
-    (and_right (eqb r.prefix.len r.prefix.len) (is_better r r) (is_better-itself r)) in
-    or_from (ltb r.prefix.base r.prefix.base) (eqb r.prefix.base r.prefix.base && below_then r.prefix.len r.prefix.len (is_better r r))
-    (le-ltb r.prefix.base r.prefix.base (omega arith))
-    (and_right (eqb r.prefix.base r.prefix.base) (below_then r.prefix.len r.prefix.len (is_better r r)) len)
+    below_then-itself r.prefix.base (below_then r.prefix.len r.prefix.len (is_better r r))
+    (below_then-itself r.prefix.len (is_better r r) (is_better-itself r))

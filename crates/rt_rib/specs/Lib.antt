@@ -1,3 +1,4 @@
+pub mod Order
 pub mod Table
 pub mod LookUp
 pub mod Sequential

@@ -1,13 +1,13 @@
 -- The look-up as three filters of a set (RFC 1812, section 5.2.4.3): Basic Match, Longest Match, and the vendor's
 -- policy. And all matches, in the order of these filters, the best first.
-use Rattle.std.specs.Prelude.{Bool, ◌&&◌, not, nat_le, nat_lt, if◌then◌else◌, List, [], ◌∷◌, ◌++◌, Option, filter, find}
+use Rattle.std.specs.Prelude.{Bool, ◌&&◌, not, nat_le, List, [], ◌∷◌, ◌++◌, Option, filter, find}
 use Rattle.std.specs.List.{list_all}
 use Rattle.rt_cidr.specs.declared.address.Addr.{Addr}
 use Rattle.rt_cidr.specs.Prefix.{covers, same_prefix}
 use Rattle.rt_rib.specs.declared.routes.Route.{Route}
 use Rattle.rt_rib.specs.declared.routes.Reason.{Reason}
-use Rattle.rt_rib.specs.declared.routes.Reason.TheVariants.{Shorter, Preference, Feed}
-use Rattle.rt_rib.specs.Table.{below_then, is_better}
+use Rattle.rt_rib.specs.Order.{comparison, wins, loses_by}
+use Rattle.rt_rib.specs.Table.{is_better}
 
 -- the routes whose prefix covers the address
 abbrev pub matching : Addr → List Route → List Route
@@ -27,11 +27,11 @@ look_up addr routes = best (longest_of (matching addr routes))
 
 -- true if r comes before s among matches: its prefix is longer, or equally long and r is better
 abbrev pub beats : Route → Route → Bool
-beats r s = below_then s.prefix.len r.prefix.len (is_better r s)
+beats r s = wins (comparison r s)
 
 -- the reason why r loses to the first of the matches: its prefix is shorter, else its preference is higher, else its feed is
 abbrev pub reason : Route → Route → Reason
-reason first r = if nat_lt r.prefix.len first.prefix.len then Shorter else if nat_lt first.pref r.pref then Preference else Feed
+reason first r = loses_by (comparison first r)
 
 -- the routes, the best first: each after those of the others that beat it, and before the rest of them
 abbrev pub ranking : List Route → List Route

@@ -1,15 +1,15 @@
 -- A map from prefixes to their offers, each prefix's in order, and the routes that it represents.
-use Rattle.std.specs.Prelude.{◌≡◌, List, [], ◌∷◌, ◌++◌, Some, map, ℕ, ◌<◌, Bool, true, false, ◌==◌, nat_lt, length}
+use Rattle.std.specs.Prelude.{◌≡◌, List, [], ◌∷◌, ◌++◌, Some, map, ℕ, ◌<◌, Bool, true, false, ◌==◌, length}
 use Rattle.rt_cidr.specs.declared.prefixes.Prefix.{Prefix}
 use Rattle.rt_trie.specs.Map.{Pairs, get, IsOrdered}
 use Rattle.rt_rib.specs.declared.routes.Route.{Route}
 use Rattle.rt_rib.specs.declared.offers.Offer.{Offer}
 use Rattle.std.specs.List.{AllPairs}
-use Rattle.rt_rib.specs.Table.{below_then}
+use Rattle.rt_rib.specs.Order.{policy, wins}
 
 -- true if the first is preferred: its preference number is lower, or the same and its feed number is lower
 abbrev pub outranks : Offer → Offer → Bool
-outranks a b = below_then a.pref b.pref (nat_lt a.feed b.feed)
+outranks a b = wins (policy a b)
 
 -- true if the offer is this feed's
 abbrev pub is_from : ℕ → Offer → Bool
@@ -32,10 +32,6 @@ Map = Pairs (List Offer)
 -- the route of an offer for a prefix
 abbrev pub route_by : Prefix → Offer → Route
 route_by p o = record { prefix = p; feed = o.feed; pref = o.pref; hop = o.hop }
-
--- a route's offer for its prefix
-abbrev pub offer_of : Route → Offer
-offer_of r = record { feed = r.feed; pref = r.pref; hop = r.hop }
 
 -- the routes of the map, prefix by prefix
 abbrev pub routes_of : Map → List Route

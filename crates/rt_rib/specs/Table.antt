@@ -1,10 +1,11 @@
 -- The table: a finite set of routes, no two of the same prefix and feed. A list of routes represents the set of its
 -- elements, and dump order makes that list unique.
-use Rattle.std.specs.Prelude.{◌≡◌, ℕ, Bool, true, false, not, ◌==◌, ◌&&◌, ◌||◌, nat_lt, List, ◌∷◌, ◌++◌, filter, count_by}
+use Rattle.std.specs.Prelude.{◌≡◌, ℕ, Bool, true, false, not, ◌==◌, ◌&&◌, List, ◌∷◌, ◌++◌, filter, count_by}
 use Rattle.std.specs.List.{list_any, AllPairs}
 use Rattle.rt_cidr.specs.declared.prefixes.Prefix.{Prefix}
 use Rattle.rt_cidr.specs.Prefix.{same_prefix}
 use Rattle.rt_rib.specs.declared.routes.Route.{Route}
+use Rattle.rt_rib.specs.Order.{offer_of, policy, below_then, wins}
 
 -- true if the route is this feed's to this prefix
 abbrev pub is_of : ℕ → Prefix → Route → Bool
@@ -18,13 +19,9 @@ has feed prefix table = list_any (is_of feed prefix) table
 abbrev pub count_of : ℕ → List Route → ℕ
 count_of feed table = count_by (λ r. r.feed == feed) table
 
--- true if a is below b, or equal to it and `rest` is true
-abbrev pub below_then : ℕ → ℕ → Bool → Bool
-below_then a b rest = nat_lt a b || (a == b && rest)
-
 -- true if r has a lower preference number, or the same one and a lower feed number
 abbrev pub is_better : Route → Route → Bool
-is_better r s = below_then r.pref s.pref (nat_lt r.feed s.feed)
+is_better r s = wins (policy (offer_of r) (offer_of s))
 
 -- dump order: by base, then length, then preference, then feed
 abbrev pub precedes : Route → Route → Bool

@@ -2,11 +2,12 @@
 ghost use Rattle.std.specs.Prelude.{◌≡◌, ◌<◌, ◌+◌, false, [], ◌∷◌, length, IsTrue, IsOk, IfOk, OnOk, OnErr, Some, position, slice_get, vec_len, vec_capacity};
 ghost use Rattle.std.specs.Option.{option_map};
 ghost use Rattle.std.specs.List.{All, list_any};
-ghost use Rattle.rt_rib.specs.Maps.{outranks, route_by, offer_of, is_from, IsRanked, IsOffers};
+ghost use Rattle.rt_rib.specs.Order.{offer_of, policy, won_by};
+ghost use Rattle.rt_rib.specs.Maps.{route_by, is_from, IsRanked, IsOffers};
 ghost use Rattle.rt_rib.specs.inside.Offers.{IsInsertionIndex, HasGained, HasSwapped, TakesOut, without};
 
 use crate::refused::Refused;
-use crate::routes::{Hop, Route};
+use crate::routes::{Hop, Reason, Route};
 use rt_cidr::Prefix;
 use std::alloc::Allocator;
 use std::marker::Model;
@@ -17,6 +18,24 @@ pub(crate) struct Offer {
     pub feed: u32,
     pub pref: u32,
     pub hop: Hop,
+}
+
+impl Offer {
+    /// Returns the reason why the offer is better than `other`, which is for the same prefix: a lower preference number
+    /// or, if both have the same one, a lower feed number. Returns None if it isn't better. This is the order of routes
+    /// to a prefix; no other function compares preference numbers.
+    #[inline(always)]
+    pub(crate) fn beats(&self, other: &Offer) -> Option<Reason>
+        ensures { result ≡ won_by (policy self.now other.now) }
+    {
+        if self.pref < other.pref {
+            Some(Reason::Preference)
+        } else if self.pref == other.pref && self.feed < other.feed {
+            Some(Reason::Feed)
+        } else {
+            None
+        }
+    }
 }
 
 /// Returns the route of an offer for a prefix.
@@ -227,13 +246,6 @@ impl<A: Allocator + Copy> OneOrMany<A> {
     }
 }
 
-/// Returns true if `a` comes before `b`: it has a lower preference number, or the same one and a lower feed number.
-fn comes_before(a: &Offer, b: &Offer) -> bool
-    ensures { result ≡ outranks a.now b.now }
-{
-    a.pref < b.pref || a.pref == b.pref && a.feed < b.feed
-}
-
 /// Returns the index of the feed's offer, if it has one.
 fn offer_index(offers: &[Offer], feed: u32) -> Option<usize>
     ensures { result ≡ position (is_from feed) offers.now }
@@ -247,7 +259,7 @@ pub(crate) fn insertion_index(offers: &[Offer], offer: &Offer) -> usize
     ensures { IsInsertionIndex offer.now offers.now result }
 {
     let mut index = 0;
-    while index < offers.len() && comes_before(&offers[index], offer) {
+    while index < offers.len() && offers[index].beats(offer).is_some() {
         index += 1;
     }
     index
@@ -313,7 +325,7 @@ fn two<A: Allocator + Copy>(
     ensures ranked { IfOk result (λ offers. IsRanked offers.value.items) }
     ensures both { IfOk result (λ offers. length offers.value.items ≡ 2) }
 {
-    let offers = if comes_before(&one, &other) {
+    let offers = if one.beats(&other).is_some() {
         [one, other]
     } else {
         [other, one]

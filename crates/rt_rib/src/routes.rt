@@ -1,8 +1,10 @@
 //! Routes: plain data, as callers see it.
 ghost use Rattle.std.specs.Prelude.{◌≡◌};
 ghost use Rattle.rt_rib.specs.Table.{IsTable};
+ghost use Rattle.rt_rib.specs.Order.{comparison, won_by};
 ghost use Rattle.rt_rib.specs.LookUp.{best_routes, reason};
 
+use crate::offers::offer_of;
 use rt_cidr::{Addr, Prefix};
 use std::alloc::Allocator;
 
@@ -42,16 +44,33 @@ pub enum Reason {
 }
 
 impl Route {
+    /// Returns the reason why the route comes before `other` among the matches of an address: a longer prefix or, if both
+    /// prefixes are equally long, a lower preference number or, if both have the same one, a lower feed number. Returns
+    /// None if it doesn't come before `other`.
+    #[inline(always)]
+    pub fn beats(&self, other: &Route) -> Option<Reason>
+        ensures { result ≡ won_by (comparison self.now other.now) }
+    {
+        let (len, other_len) = (self.prefix.len(), other.prefix.len());
+        if len == other_len {
+            offer_of(self).beats(&offer_of(other))
+        } else if len > other_len {
+            Some(Reason::Shorter)
+        } else {
+            None
+        }
+    }
+
     /// Returns the reason why the route is not the best one of an address whose best route is `best`.
     pub fn reason(&self, best: &Route) -> Reason
         ensures { result ≡ reason best.now self.now }
     {
         if self.prefix.len() < best.prefix.len() {
             Reason::Shorter
-        } else if self.pref > best.pref {
-            Reason::Preference
         } else {
-            Reason::Feed
+            offer_of(best)
+                .beats(&offer_of(self))
+                .unwrap_or(Reason::Feed)
         }
     }
 }

@@ -5,7 +5,7 @@ ghost use Rattle.rt_tables.specs.Unions.{union_of};
 ghost use Rattle.rt_tables.specs.inside.Answers.{better_of, route_at, AreImproved};
 ghost use Rattle.rt_tables.specs.inside.Tables.{AreTables};
 
-use crate::merge::{ListOrder, beats, merge};
+use crate::merge::{ListOrder, merge};
 use rt_cidr::Addr;
 use rt_rib::{Refused, Route, Table};
 use std::alloc::Allocator;
@@ -18,7 +18,7 @@ fn better_of(first: Option<Route>, second: Option<Route>) -> Option<Route>
     ensures { result ≡ better_of first second }
 {
     match (first, second) {
-        (Some(a), Some(b)) => { if beats(&b, &a) { second } else { first } }
+        (Some(a), Some(b)) => { if b.beats(&a).is_some() { second } else { first } }
         (None, _) => second,
         _ => first,
     }

@@ -1,7 +1,6 @@
 //! Merging two lists of routes, in the order of a dump or of the matches of an address.
 ghost use Rattle.std.specs.Prelude.{◌≡◌, IfOk, OnOk, ◌++◌};
-ghost use Rattle.rt_rib.specs.Table.{is_better, precedes};
-ghost use Rattle.rt_rib.specs.LookUp.{beats};
+ghost use Rattle.rt_rib.specs.Table.{precedes};
 ghost use Rattle.rt_tables.specs.inside.Merging.{goes_before, merged};
 
 use rt_rib::{Refused, Route};
@@ -16,13 +15,6 @@ pub(crate) enum ListOrder {
     Matches,
 }
 
-/// Returns true if `a` is better than `b`: it has a lower preference number, or the same one and a lower feed number.
-fn is_better(a: &Route, b: &Route) -> bool
-    ensures { result ≡ is_better a.now b.now }
-{
-    a.pref < b.pref || a.pref == b.pref && a.feed < b.feed
-}
-
 /// Returns true if `a` precedes `b` in dump order.
 fn precedes(a: &Route, b: &Route) -> bool
     ensures { result ≡ precedes a.now b.now }
@@ -30,15 +22,7 @@ fn precedes(a: &Route, b: &Route) -> bool
     let (base, other_base) = (a.prefix.base(), b.prefix.base());
     let (len, other_len) = (a.prefix.len(), b.prefix.len());
     base < other_base
-        || base == other_base && (len < other_len || len == other_len && is_better(a, b))
-}
-
-/// Returns true if `a` comes before `b` among the matches of an address.
-pub(crate) fn beats(a: &Route, b: &Route) -> bool
-    ensures { result ≡ beats a.now b.now }
-{
-    let (len, other_len) = (a.prefix.len(), b.prefix.len());
-    other_len < len || other_len == len && is_better(a, b)
+        || base == other_base && (len < other_len || len == other_len && a.beats(b).is_some())
 }
 
 /// Returns true if `a` comes before `b` in this order.
@@ -47,7 +31,7 @@ fn goes_before(order: ListOrder, a: &Route, b: &Route) -> bool
 {
     match order {
         ListOrder::Dump => precedes(a, b),
-        ListOrder::Matches => beats(a, b),
+        ListOrder::Matches => a.beats(b).is_some(),
     }
 }
 

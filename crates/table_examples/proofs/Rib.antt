@@ -1,6 +1,7 @@
 -- Examples that test the definitions of rt_rib, in a file for each file of definitions, each under a line with the
 -- definition's name. Both sides are computed; a relation or a theorem is spelled out for some values.
 pub mod Values
+pub mod Order
 pub mod Table
 pub mod Places
 pub mod LookUp

@@ -7,7 +7,8 @@ use Rattle.rt_trie.specs.Map.{get}
 use Rattle.rt_rib.specs.declared.routes.Route.{Route}
 use Rattle.rt_rib.specs.declared.offers.Offer.{Offer}
 use Rattle.rt_rib.specs.LookUp.{look_up}
-use Rattle.rt_rib.specs.Maps.{Map, route_by, offer_of}
+use Rattle.rt_rib.specs.Maps.{Map, route_by}
+use Rattle.rt_rib.specs.Order.{offer_of}
 
 -- the offers found at a prefix, or the empty list if nothing was found
 abbrev pub offers_in : Option (List Offer) → List Offer

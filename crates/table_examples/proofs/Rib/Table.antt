@@ -1,7 +1,7 @@
 -- Examples of the routes of a table and of their order.
 use Rattle.std.proofs.Common.{◌≡◌, true, false, [], ◌∷◌, ◌++◌, refl, arith}
 use Rattle.table_examples.proofs.Cidr.{everything, ten_8, ten_0_16, last_32}
-use Rattle.rt_rib.specs.Table.{below_then, is_of, has, count_of, is_better, precedes, put_in, take_out, purge, IsTable}
+use Rattle.rt_rib.specs.Table.{is_of, has, count_of, is_better, precedes, put_in, take_out, purge, IsTable}
 use Rattle.rt_rib.proofs.Tables.{IsTable-nil, IsTable-put_in}
 use Rattle.table_examples.proofs.Rib.Values.{upper_half, ten_1_16, route, nested}
 
@@ -28,19 +28,6 @@ three_are_of_feed_1 = refl
 
 one_is_of_feed_2 : count_of 2 (route ten_8 2 5 ∷ nested) ≡ 1
 one_is_of_feed_2 = refl
-
--- below_then
-below_whatever_the_rest : below_then 1 2 false ≡ true
-below_whatever_the_rest = refl
-
-where_equal_the_rest_decides : below_then 2 2 true ≡ true
-where_equal_the_rest_decides = refl
-
-equal_is_not_below : below_then 2 2 false ≡ false
-equal_is_not_below = refl
-
-above_whatever_the_rest : below_then 3 2 true ≡ false
-above_whatever_the_rest = refl
 
 -- is_better
 lesser_preference_is_better : is_better (route ten_8 64 4) (route ten_8 1 5) ≡ true

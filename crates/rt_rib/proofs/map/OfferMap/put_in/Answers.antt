@@ -1,5 +1,6 @@
 use Rattle.std.proofs.Common.{sym, ap, ◌∙◌, refl}
-use Rattle.rt_rib.specs.Maps.{is_from, Map, offer_of}
+use Rattle.rt_rib.specs.Maps.{is_from, Map}
+use Rattle.rt_rib.specs.Order.{offer_of}
 use Rattle.rt_rib.proofs.Lists.{list_any-none}
 use Rattle.rt_rib.proofs.MapChanges.{none_had, is_had, more, unchanged, first_added, IsMap-put, IsOffers-one, err_from}
 use Rattle.rt_rib.proofs.BestAfter.{best_there, best_put}

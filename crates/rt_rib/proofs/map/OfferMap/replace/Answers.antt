@@ -1,5 +1,5 @@
 use Rattle.std.proofs.Common.{sym, ◌∙◌}
-use Rattle.rt_rib.specs.Maps.{offer_of}
+use Rattle.rt_rib.specs.Order.{offer_of}
 use Rattle.rt_rib.proofs.BestAfter.{best_there, best_put}
 use Rattle.rt_rib.proofs.MapChanges.{none_had, is_had, unchanged, other, IsMap-put}
 use Rattle.rt_rib.proofs.map.OfferMap.replace.Goals as goal

@@ -1,8 +1,0 @@
-use Rattle.std.proofs.Common.{rules}
-use Rattle.rt_rib.proofs.offers.comes_before.Goals as goal
-
-pub returns-then-a-b : goal.returns-then-a-b
-returns-then-a-b c = search rules
-
-pub returns-else-a-b-2 : goal.returns-else-a-b-2
-returns-else-a-b-2 c = search rules
