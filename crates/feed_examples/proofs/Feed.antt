@@ -26,7 +26,8 @@ use Rattle.rt_feed.specs.declared.parse.LineFault.TheVariants as fault
 use Rattle.rt_feed.specs.declared.report.Answer.TheVariants as answer
 use Rattle.rt_feed.specs.declared.versions.Version.TheVariants.{One, Two}
 use Rattle.rt_feed.specs.CommandText.{space, words, route_words, command_text, HasHop, HasCommand}
-use Rattle.rt_feed.specs.Grammar.{prefix, preference, hop, address, hash, is_skipped, fields, purge_kinds, kinds_after, IsOfKind, IsFaultOf}
+use Rattle.rt_feed.specs.Commands.{prefix, preference, hop, address, Form, commands, has, kinds_in, kinds_among}
+use Rattle.rt_feed.specs.Grammar.{hash, is_skipped, fields, kinds_after, IsOfKind, IsFaultOf}
 use Rattle.rt_feed.specs.Grammar.{IsFirstFault, IsFaultAfter, IsFaultOfFields, AnswersLine}
 use Rattle.rt_feed.specs.Addresses.{AnswersAddressLine, AddressRow, address_row, invalid_row, rows_said, addresses_in, invalid_in, faults_said, faulty_lines, SaysAddresses, AreOfRows, ReadsAddresses}
 use Rattle.rt_feed.specs.Lines.{lf, CutsLine, HasVersion2Header, IsBody, LineOutcome, skipped, faulty, asked}
@@ -108,7 +109,7 @@ version_2_has_it : HasCommand Two Purge
 version_2_has_it = refl
 
 version_1_has_no_discard : ¬ HasCommand One (Add ten_8 100 Discard)
-version_1_has_no_discard h = let same = h.1 in cc
+version_1_has_no_discard h = let same = h.2 in cc
 
 -- is_skipped
 an_empty_line_is_skipped : is_skipped [] ≡ true
@@ -137,19 +138,49 @@ a_purge_in_version_2 = refl
 names_are_in_small_letters : kinds_after Two (codes "Dump") ≡ None
 names_are_in_small_letters = refl
 
-after_each_name :
-    (version : Version)
-    → map (kinds_after version) (codes "add" ∷ codes "replace" ∷ codes "withdraw" ∷ codes "lookup" ∷ codes "dump" ∷ codes "purge" ∷ codes "frob" ∷ [])
-    ≡ Some (prefix ∷ preference ∷ hop version ∷ []) ∷ Some (prefix ∷ preference ∷ hop version ∷ []) ∷ Some (prefix ∷ []) ∷ Some (address ∷ []) ∷ Some []
-    ∷ purge_kinds version ∷ None ∷ []
-after_each_name version = refl
+-- a text for each command's name, in order, and one that is no command's
+abbrev first_fields : List (List ℕ)
+first_fields = codes "add" ∷ codes "replace" ∷ codes "withdraw" ∷ codes "lookup" ∷ codes "dump" ∷ codes "purge" ∷ codes "frob" ∷ []
 
--- purge_kinds
-a_word_of_version_2 : purge_kinds Two ≡ Some []
+after_each_name :
+    map (kinds_after One) first_fields
+    ≡ Some (prefix ∷ preference ∷ hop One ∷ []) ∷ Some (prefix ∷ preference ∷ hop One ∷ []) ∷ Some (prefix ∷ []) ∷ Some (address ∷ []) ∷ Some []
+    ∷ None ∷ None ∷ []
+after_each_name = refl
+
+after_each_name_in_version_2 :
+    map (kinds_after Two) first_fields
+    ≡ Some (prefix ∷ preference ∷ hop Two ∷ []) ∷ Some (prefix ∷ preference ∷ hop Two ∷ []) ∷ Some (prefix ∷ []) ∷ Some (address ∷ []) ∷ Some []
+    ∷ Some [] ∷ None ∷ []
+after_each_name_in_version_2 = refl
+
+-- kinds_in
+abbrev came_with_version_2 : Form
+came_with_version_2 = record { word = codes "frob"; kinds = λ version. address ∷ []; since = Two }
+
+a_word_of_version_2 : kinds_in Two came_with_version_2 ≡ Some (address ∷ [])
 a_word_of_version_2 = refl
 
-no_word_of_version_1 : purge_kinds One ≡ None
+no_word_of_version_1 : kinds_in One came_with_version_2 ≡ None
 no_word_of_version_1 = refl
+
+-- kinds_among
+among_no_commands : kinds_among [] One (codes "dump") ≡ None
+among_no_commands = refl
+
+among_all_commands : kinds_among commands One (codes "lookup") ≡ Some (address ∷ [])
+among_all_commands = refl
+
+-- has
+what_each_version_has : (has One One ≡ true) × (has Two One ≡ true) × (has One Two ≡ false) × (has Two Two ≡ true)
+what_each_version_has = (refl, refl, refl, refl)
+
+-- commands
+each_name_once : map (λ (form : Form). form.word) commands ≡ codes "add" ∷ codes "replace" ∷ codes "withdraw" ∷ codes "lookup" ∷ codes "dump" ∷ codes "purge" ∷ []
+each_name_once = refl
+
+only_purge_came_with_version_2 : map (λ (form : Form). form.since) commands ≡ One ∷ One ∷ One ∷ One ∷ One ∷ Two ∷ []
+only_purge_came_with_version_2 = refl
 
 -- the text of an address, a slash and a length of any size
 pair_text : (digits : List ℕ) (base len : ℕ) → base < 2 ^ 32 → IsDecimal digits len → IsPrefixText (address_text base ++ slash ∷ digits) base len
@@ -275,7 +306,7 @@ no_fault_of_no_field version answer h = h
 
 -- AnswersLine
 an_add : AnswersLine One (codes "add 10.0.0.0/8 100 192.0.2.1") (Ok (Some add_10))
-an_add = ((omega arith, omega arith), sym the_text_of_an_add)
+an_add = ((refl, omega arith, omega arith), sym the_text_of_an_add)
 
 a_purge : AnswersLine Two (codes "purge") (Ok (Some Purge))
 a_purge = (refl, refl)
@@ -312,7 +343,7 @@ a_discard_is_E7_in_version_1 : AnswersLine One (codes "add 10.0.0.0/8 100 discar
 a_discard_is_E7_in_version_1 = inr (omega arith, refl, inr (refl, inr (is_10, inr (is_100, inl (discard_is_no_hop_in_version_1, refl)))))
 
 a_discard_is_a_hop_in_version_2 : AnswersLine Two (codes "add 10.0.0.0/8 100 discard") (Ok (Some (Add ten_8 100 Discard)))
-a_discard_is_a_hop_in_version_2 = ((omega arith, refl), sym the_text_of_a_discard)
+a_discard_is_a_hop_in_version_2 = ((refl, omega arith, refl), sym the_text_of_a_discard)
 
 no_hop_is_E7_in_version_2 : AnswersLine Two (codes "add 10.0.0.0/8 100 10") (Err fault.Hop)
 no_hop_is_E7_in_version_2 = inr (omega arith, refl, inr (refl, inr (is_10, inr (is_100, inl (is_no_hop, refl)))))
@@ -612,7 +643,7 @@ lines_of_north : LinesYield One north north_read []
 unfolding digits address_text prefix_text
 lines_of_north = become One (codes "# Has a way to all of 10.0.0.0/8, and a better one to a part of it." ∷ codes "add 10.0.0.0/8 50 192.0.2.1"
     ∷ codes "add 10.1.0.0/16 10 192.0.2.1" ∷ codes "lookup 10.1.2.3" ∷ [])
-    north_read refl ((omega arith, refl), (((omega arith, omega arith), refl), (((omega arith, omega arith), refl), ((omega arith, refl), refl))))
+    north_read refl ((omega arith, refl), (((refl, omega arith, omega arith), refl), (((refl, omega arith, omega arith), refl), (((refl, omega arith), refl), refl))))
 
 lines_of_south : LinesYield Two south_lines south_read []
 unfolding digits address_text prefix_text
@@ -621,12 +652,12 @@ lines_of_south = become Two (codes "# Loses its neighbour, takes back all that i
     south_read refl (
       (omega arith, refl),
       (
-        ((omega arith, omega arith), refl),
+        ((refl, omega arith, omega arith), refl),
         (
-          ((omega arith, omega arith), refl),
+          ((refl, omega arith, omega arith), refl),
           (
             (refl, refl),
-            (((omega arith, omega arith), refl), refl),
+            (((refl, omega arith, omega arith), refl), refl),
           ),
         ),
       ),
@@ -636,7 +667,7 @@ lines_of_east : LinesYield Two east_lines east_read []
 unfolding digits address_text prefix_text
 lines_of_east = become Two (codes "# Discards what nobody is to reach, and takes back one way." ∷ codes "add 10.9.0.0/16 10 discard"
     ∷ codes "add 10.3.0.0/16 10 192.0.2.3" ∷ codes "withdraw 10.3.0.0/16" ∷ codes "lookup 10.9.0.1" ∷ [])
-    east_read refl ((omega arith, refl), (((omega arith, refl), refl), (((omega arith, omega arith), refl), ((tt, refl), ((omega arith, refl), refl)))))
+    east_read refl ((omega arith, refl), (((refl, omega arith, refl), refl), (((refl, omega arith, omega arith), refl), ((refl, refl), (((refl, omega arith), refl), refl)))))
 
 no_line_left_out : ¬ LinesYield One (codes "dump\n") [] []
 no_line_left_out same = cc

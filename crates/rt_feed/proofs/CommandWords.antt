@@ -86,11 +86,11 @@ no_space-route : (version : Version) (p : Prefix) (pref : ℕ) (next : Hop) → 
 no_space-route version p pref next fits has = (no_space-prefix p, (no_space-decimal pref (omega arith), no_space-hop version next has))
 
 no_space-words : (version : Version) (cmd : Cmd) → HasCommand version cmd → NoSpaces (words cmd)
-no_space-words version (Add p pref hop) fits = (All-from_recursion NotSpace (codes "add") (omega arith), no_space-route version p pref hop fits.0 fits.1)
+no_space-words version (Add p pref hop) fits = (All-from_recursion NotSpace (codes "add") (omega arith), no_space-route version p pref hop fits.1 fits.2)
 no_space-words version (Replace p pref hop) fits =
-    (All-from_recursion NotSpace (codes "replace") (omega arith), no_space-route version p pref hop fits.0 fits.1)
+    (All-from_recursion NotSpace (codes "replace") (omega arith), no_space-route version p pref hop fits.1 fits.2)
 no_space-words version (Withdraw p) fits = (All-from_recursion NotSpace (codes "withdraw") (omega arith), no_space-prefix p)
-no_space-words version (Lookup addr) fits = (All-from_recursion NotSpace (codes "lookup") (omega arith), no_space-address addr.0 fits)
+no_space-words version (Lookup addr) fits = (All-from_recursion NotSpace (codes "lookup") (omega arith), no_space-address addr.0 fits.1)
 no_space-words version Dump fits = All-from_recursion NotSpace (codes "dump") (omega arith)
 no_space-words version Purge fits = All-from_recursion NotSpace (codes "purge") (omega arith)
 
@@ -111,8 +111,8 @@ length-route p pref next fits =
 
 -- a command's text is at most as long as a line may be
 pub length-command_text : (version : Version) (cmd : Cmd) → HasCommand version cmd → length (command_text cmd) ≤ LINE_BYTES
-length-command_text version (Add p pref hop) fits = omega (arith, length-route p pref hop fits.0)
-length-command_text version (Replace p pref hop) fits = omega (arith, length-route p pref hop fits.0)
+length-command_text version (Add p pref hop) fits = omega (arith, length-route p pref hop fits.1)
+length-command_text version (Replace p pref hop) fits = omega (arith, length-route p pref hop fits.1)
 length-command_text version (Withdraw p) fits = omega (arith, length-prefix_text p.base p.len)
 length-command_text version (Lookup addr) fits = omega (arith, length-address_text addr.0)
 length-command_text version cmd fits = omega arith

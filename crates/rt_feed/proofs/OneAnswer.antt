@@ -15,7 +15,8 @@ use Rattle.rt_feed.specs.declared.parse.LineFault.{LineFault}
 use Rattle.rt_feed.specs.declared.versions.Version.{Version}
 use Rattle.rt_feed.specs.CommandText.{words, route_words, HasHop, HasCommand}
 use Rattle.rt_print.specs.Routes.{hop_text}
-use Rattle.rt_feed.specs.Grammar.{Kind, prefix, address, IsOfKind, IsFaultOf, IsFirstFault, IsFaultAfter, IsFaultOfFields, prefix_fault, kinds_after, fields}
+use Rattle.rt_feed.specs.Commands.{Kind, prefix, address}
+use Rattle.rt_feed.specs.Grammar.{IsOfKind, IsFaultOf, IsFirstFault, IsFaultAfter, IsFaultOfFields, prefix_fault, kinds_after, fields}
 use Rattle.rt_feed.specs.Grammar.{AnswersLine}
 use Rattle.rt_feed.specs.Addresses.{AnswersAddressLine}
 use Rattle.rt_feed.specs.Laws.{LineHasOneAnswer, AddressLineHasOneAnswer}
@@ -62,7 +63,7 @@ one_command texts version (Add p pref next) (Add q pref' next') fits fits' same 
 one_command texts version (Replace p pref next) (Replace q pref' next') fits fits' same =
     grind (arith, one_prefix texts p q, decimal_injective pref pref', one_hop texts version next next')
 one_command texts version (Withdraw p) (Withdraw q) fits fits' same = let equal = one_prefix texts p q (cc) in cc
-one_command texts version (Lookup a) (Lookup b) fits fits' same = let equal = one_address texts a b fits fits' (cc) in cc
+one_command texts version (Lookup a) (Lookup b) fits fits' same = let equal = one_address texts a b fits.1 fits'.1 (cc) in cc
 one_command texts version Dump Dump fits fits' same = refl
 one_command texts version Purge Purge fits fits' same = refl
 one_command texts version cmd other fits fits' same = absurd (omega (arith, ap (λ ws. length (slice_index_or ws 0 [])) same))
@@ -100,10 +101,10 @@ sound-route version p pref next fits has answer (inr (same, inr (some, inr (more
 
 -- nor do a command's
 sound-words : (version : Version) (cmd : Cmd) → HasCommand version cmd → (answer : LineFault) → ¬ IsFaultOfFields version (words cmd) answer
-sound-words version (Add p pref a) fits answer is = sound-route version p pref a fits.0 fits.1 answer is
-sound-words version (Replace p pref a) fits answer is = sound-route version p pref a fits.0 fits.1 answer is
+sound-words version (Add p pref a) fits answer is = sound-route version p pref a fits.1 fits.2 answer is
+sound-words version (Replace p pref a) fits answer is = sound-route version p pref a fits.1 fits.2 answer is
 sound-words version (Withdraw p) fits answer fault = let is : IsOfKind prefix (prefix_text p.base p.len) = (p, refl) in grind (arith, is)
-sound-words version (Lookup a) fits answer fault = let is : IsOfKind address (address_text a.0) = (a, fits, refl) in grind (arith, is)
+sound-words version (Lookup a) fits answer fault = let is : IsOfKind address (address_text a.0) = (a, fits.1, refl) in grind (arith, is)
 sound-words version cmd fits answer fault = grind arith
 
 -- a command's text is neither skipped nor faulty

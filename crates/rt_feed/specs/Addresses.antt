@@ -9,7 +9,8 @@ use Rattle.rt_feed.specs.declared.parse.LineFault.TheVariants as fault
 use Rattle.rt_feed.specs.declared.faulty.FaultyLines.{FaultyLines}
 use Rattle.rt_feed.specs.declared.addresses.AddressText.{AddressText}
 use Rattle.rt_feed.specs.declared.addresses.InvalidLine.{InvalidLine}
-use Rattle.rt_feed.specs.Grammar.{address, is_skipped, IsOfKind}
+use Rattle.rt_feed.specs.Commands.{address}
+use Rattle.rt_feed.specs.Grammar.{is_skipped, IsOfKind}
 use Rattle.rt_feed.specs.Lines.{LinesParseAs}
 
 -- the answer for a line of a text of addresses: an address, if the line is its text; none, if the line is skipped as in

@@ -1,6 +1,6 @@
 -- The grammar of one line of a feed's text, without its LF: the command with this text, or the first fault.
-use Rattle.std.specs.Prelude.{◌≡◌, ◌≢◌, ℕ, ◌^◌, ◌<◌, ◌≤◌, ◌==◌, ◌⊎◌, ◌||◌, Bool, true, false, if◌then◌else◌}
-use Rattle.std.specs.Prelude.{List, [], ◌∷◌, length, codes, decimal, bytes_eq, Option, None, Some, Ok, Err}
+use Rattle.std.specs.Prelude.{◌≡◌, ◌≢◌, ℕ, ◌^◌, ◌<◌, ◌≤◌, ◌==◌, ◌⊎◌, Bool, true, false}
+use Rattle.std.specs.Prelude.{List, [], ◌∷◌, length, decimal, Option, None, Some, Ok, Err}
 use Rattle.std.specs.declared.result.Result.{Result}
 use Rattle.std.specs.List.{slice_split}
 use Rattle.rt_cidr.specs.declared.address.Addr.{Addr}
@@ -15,7 +15,7 @@ use Rattle.rt_feed.specs.declared.parse.TheConstants.{LINE_BYTES}
 use Rattle.rt_feed.specs.declared.parse.LineFault.{LineFault}
 use Rattle.rt_feed.specs.declared.parse.LineFault.TheVariants as fault
 use Rattle.rt_feed.specs.declared.versions.Version.{Version}
-use Rattle.rt_feed.specs.declared.versions.Version.TheVariants.{One, Two}
+use Rattle.rt_feed.specs.Commands.{Kind, prefix, preference, hop, address, commands, kinds_among}
 use Rattle.rt_feed.specs.CommandText.{space, command_text, HasHop, HasCommand}
 use Rattle.rt_print.specs.Routes.{hop_text}
 
@@ -31,13 +31,6 @@ is_skipped (byte ∷ line) = byte == hash
 -- the fields of the line, which is split at every space; a field may be empty
 abbrev pub fields : List ℕ → List (List ℕ)
 fields line = slice_split (λ byte. byte == space) line
-
--- the kind of a field after a command's name; the text's version determines the possible next hops
-pub data Kind : Type 0 where
-  prefix : Kind
-  preference : Kind
-  hop : Version → Kind
-  address : Kind
 
 -- the field is the text of such a value
 abbrev pub IsOfKind : Kind → List ℕ → Type 0
@@ -65,20 +58,9 @@ IsFirstFault (kind ∷ kinds) (field ∷ rest) answer =
     ((¬ IsOfKind kind field) × IsFaultOf kind field answer) ⊎ (IsOfKind kind field × IsFirstFault kinds rest answer)
 IsFirstFault kinds rest answer = ⊥
 
--- the fields after `purge`, which is a command's name only in version 2
-abbrev pub purge_kinds : Version → Option (List Kind)
-purge_kinds One = None
-purge_kinds Two = Some []
-
--- the kinds of the fields after this one, if it is a command's name
+-- the kinds of the fields after this one, if it is a command's name in texts of this version
 abbrev pub kinds_after : Version → List ℕ → Option (List Kind)
-kinds_after version name =
-    if bytes_eq name (codes "add") || bytes_eq name (codes "replace") then Some (prefix ∷ preference ∷ hop version ∷ [])
-    else if bytes_eq name (codes "withdraw") then Some (prefix ∷ [])
-    else if bytes_eq name (codes "lookup") then Some (address ∷ [])
-    else if bytes_eq name (codes "dump") then Some []
-    else if bytes_eq name (codes "purge") then purge_kinds version
-    else None
+kinds_after version field = kinds_among commands version field
 
 -- the fault after a first field: that it isn't a command's name; or else that the number of the fields after it is
 -- wrong, or the first fault of these fields

@@ -1,4 +1,5 @@
 pub mod Addresses
+pub mod Commands
 pub mod CommandText
 pub mod Grammar
 pub mod Laws

@@ -3,7 +3,8 @@ ghost use Rattle.std.specs.Prelude.{◌≡◌, ◌≢◌, ◌∷◌, ◌<◌, �
 ghost use Rattle.rt_cidr.specs.Text.{address_text, prefix_text};
 ghost use Rattle.rt_feed.specs.CommandText.{words, route_words, HasHop, HasCommand};
 ghost use Rattle.rt_print.specs.Routes.{hop_text};
-ghost use Rattle.rt_feed.specs.Grammar.{Kind, kinds_after, is_skipped, IsFaultOfFields, AnswersLine};
+ghost use Rattle.rt_feed.specs.Commands.{Kind};
+ghost use Rattle.rt_feed.specs.Grammar.{kinds_after, is_skipped, IsFaultOfFields, AnswersLine};
 ghost use Rattle.rt_feed.specs.inside.Fields.{fields_of_rest, name_text, IsFaulty};
 
 use crate::lines::cut_at;
