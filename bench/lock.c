@@ -23,7 +23,10 @@
 #define CROWDED 4
 #endif
 #ifndef FORGOTTEN
-#define FORGOTTEN 1000
+#define FORGOTTEN 10000
+#endif
+#ifndef NAPS
+#define NAPS 8
 #endif
 #ifndef LOOKS
 #define LOOKS 4
@@ -129,16 +132,23 @@ static int is_taken_again(struct tree *t) {
     return 0;
 }
 
-// Naps if somebody is at the root, as at CROWDED entries before this one in a row, or as after the place's last nap.
-// Returns what the place remembers then: how many entries in a row found somebody or, from CROWDED on, how many since
-// its nap found nobody.
+// Naps until nobody is at the root, but at most NAPS times.
+static void nap_while_taken(struct tree *t, uint64_t place) {
+    uint64_t length = SHARE * 1000ull << t->levels;
+    struct timespec time = {length / 1000000000, length % 1000000000};
+    for (unsigned nap = 0; nap < NAPS; nap++) {
+        syscall(SYS_futex, bell_word(t, place), FUTEX_WAIT_PRIVATE, 0, &time, 0, 0);
+        if (!is_taken_again(t)) return;
+    }
+}
+
+// Naps if somebody is at the root, as at CROWDED entries before this one in a row. Returns what the place remembers then: how
+// many entries in a row found somebody or, from CROWDED on, how many since then found nobody.
 static unsigned throttle_if_contended(struct tree *t, uint64_t place, unsigned crowded) {
     if (!is_taken(t)) return crowded >= CROWDED && crowded < CROWDED + FORGOTTEN ? crowded + 1 : 0;
     if (crowded < CROWDED) return crowded + 1;
-    uint64_t nap = SHARE * 1000ull << t->levels;
-    struct timespec time = {nap / 1000000000, nap % 1000000000};
-    syscall(SYS_futex, bell_word(t, place), FUTEX_WAIT_PRIVATE, 0, &time, 0, 0);
-    return is_taken_again(t) ? CROWDED : 0;
+    nap_while_taken(t, place);
+    return CROWDED;
 }
 
 struct job {

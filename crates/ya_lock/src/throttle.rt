@@ -16,10 +16,15 @@ use std::time::Duration;
 /// and then never nap.
 const CONTENDED_ENTRIES: u32 = 4;
 
-/// After this many entries in a row that find no other place, a place that napped forgets the crowd.
-const FORGOTTEN: u32 = 1_000;
+/// After this many entries in a row that find no other place, a place that napped forgets the crowd. It is more than a place
+/// makes while all others nap.
+const FORGOTTEN: u32 = 10_000;
 
-/// The number of looks for the crowd after a nap: if none of them finds another place, the crowd is gone.
+/// The maximum number of naps before an entry. A place that enters while another one works takes its turn away: with more
+/// naps, turns change less often, and a place waits longer for its turn.
+const NAPS: u32 = 8;
+
+/// The number of looks for another place after a nap: if none of them finds one, the place enters.
 const LOOKS: u32 = 4;
 
 /// The number of spins between two looks, each twice as long as the one before: together some microseconds, more than a
@@ -55,8 +60,8 @@ impl Contention {
 }
 
 impl<V: Kept + Drop, const L: u32> TreeLock<V, L> {
-    /// Naps once if the lock is crowded. `crowd` is the memory of the seat's own place; returns its new memory. A place
-    /// that remembers a crowd naps as soon as it finds another place, so that the other goes on without a competitor.
+    /// Naps if the lock is crowded. `crowd` is the memory of the seat's own place; returns its new memory. A place that remembers
+    /// a crowd naps as soon as it finds another place, so that the other goes on without a competitor.
     #[inline(always)]
     pub(crate) fn throttle_if_contended<R: Wait>(
         &self,
@@ -78,17 +83,26 @@ impl<V: Kept + Drop, const L: u32> TreeLock<V, L> {
                 Contention::Remembered(0)
             };
         }
-        self.nap(rt, seat, place);
-        if self.is_taken_again() {
-            Contention::Remembered(0)
-        } else {
-            Contention::NONE
+        self.nap_while_taken(rt, seat, place);
+        Contention::Remembered(0)
+    }
+
+    /// Naps until no place is at the root, but at most `NAPS` times.
+    #[cold]
+    #[inline(never)]
+    fn nap_while_taken<R: Wait>(&self, rt: &R, seat: &LockSeat<V>, place: usize)
+        requires place { place < 2 ^ L }
+        requires own { IsFreeSeat place seat.now.me.0 }
+    {
+        for _nap in 0..NAPS {
+            self.nap(rt, seat, place);
+            if !self.is_taken_again() {
+                return;
+            }
         }
     }
 
     /// Returns true if a place is at the root at one of the next few looks.
-    #[cold]
-    #[inline(never)]
     fn is_taken_again(&self) -> bool {
         for _look in 0..LOOKS {
             if self.is_taken() {
@@ -117,8 +131,6 @@ impl<V: Kept + Drop, const L: u32> TreeLock<V, L> {
 
     /// Sleeps for the shares of all places, on the bell of the seat's own place: on another one it could take a wake from
     /// the place that sleeps there. Its place isn't in the tree, so no rival has to wake it.
-    #[cold]
-    #[inline(never)]
     fn nap<R: Wait>(&self, rt: &R, seat: &LockSeat<V>, place: usize)
         requires place { place < 2 ^ L }
         requires own { IsFreeSeat place seat.now.me.0 }
