@@ -1,6 +1,7 @@
 pub mod Promised
 pub mod Lists
 pub mod Rest
+pub mod Parts
 pub mod Deciding
 pub mod Equality
 pub mod Existence

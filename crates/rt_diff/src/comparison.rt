@@ -1,9 +1,9 @@
 //! Ranges of addresses that have different answers in two tables.
-ghost use Rattle.std.specs.Prelude.{◌≡◌, ◌+◌};
+ghost use Rattle.std.specs.Prelude.{◌≡◌, ◌+◌, ◌↔◌, IsTrue};
 ghost use Rattle.rt_diff.specs.Answers.{own_numbers};
-ghost use Rattle.rt_diff.specs.Differences.{IsFirstDifference};
+ghost use Rattle.rt_diff.specs.Differences.{IsAlike, IsFirstDifference, IsFirstUpTo};
 
-use crate::pieces::{first_unlike, last_of};
+use crate::pieces::{are_alike, first_unlike, last_of};
 use crate::renumbered::RenumberedLookups;
 use crate::table_answers::{CompareBy, TableAnswer};
 use rt_cidr::Addr;
@@ -82,11 +82,29 @@ impl<'a, A: Allocator + Copy> Comparison<'a, A> {
         ensures kept { self.new ≡ self.old }
         ensures first { IsFirstDifference self.old.by self.old.old_table self.old.new_table from result }
     {
-        let pieces = first_unlike(&mut self.old_table, &mut self.new_table, self.by, from)?;
-        let last = last_of(&mut self.old_table, &mut self.new_table, self.by, &pieces);
+        self.first_difference_up_to(from, Addr(u32::MAX))
+    }
+
+    /// Returns the same range as `first_difference`, unless it begins after the last address: then it returns `None`, and
+    /// doesn't visit the addresses after the last one. Doesn't allocate.
+    pub fn first_difference_up_to(&mut self, from: Addr, last: Addr) -> Option<Difference>
+        ensures kept { self.new ≡ self.old }
+        ensures first { IsFirstUpTo self.old.by self.old.old_table self.old.new_table from last result }
+    {
+        if last.0 < from.0 {
+            return None;
+        }
+        let pieces = first_unlike(
+            &mut self.old_table,
+            &mut self.new_table,
+            self.by,
+            from,
+            last,
+        )?;
+        let end = last_of(&mut self.old_table, &mut self.new_table, self.by, &pieces);
         Some(Difference {
             first: pieces.from,
-            last,
+            last: end,
             old: pieces.old.answer,
             new: pieces.new.answer,
         })
@@ -100,5 +118,23 @@ impl<'a, A: Allocator + Copy> Comparison<'a, A> {
     {
         let from = last.0.checked_add(1)?;
         self.first_difference(Addr(from))
+    }
+    /// Returns the first range after the address, as `first_difference_up_to` does from the next address on, or `None` if the
+    /// address is the last of all.
+    pub fn difference_between(&mut self, after: Addr, last: Addr) -> Option<Difference>
+        ensures kept { self.new ≡ self.old }
+        ensures first { IsFirstUpTo self.old.by self.old.old_table self.old.new_table (record { 0 = after.0 + 1 }) last result }
+    {
+        let from = after.0.checked_add(1)?;
+        self.first_difference_up_to(Addr(from), last)
+    }
+
+    /// Returns true if both tables give the same answer for the address. The list of ranges can be cut there: no range
+    /// begins before the address and goes on after it. Doesn't allocate.
+    pub fn is_alike(&mut self, addr: Addr) -> bool
+        ensures kept { self.new ≡ self.old }
+        ensures alike { IsTrue result ↔ IsAlike self.old.by self.old.old_table self.old.new_table addr }
+    {
+        are_alike(&mut self.old_table, &mut self.new_table, self.by, addr)
     }
 }

@@ -17,9 +17,11 @@
 
 mod comparison;
 pub mod laws;
+mod listing;
 mod pieces;
 mod renumbered;
 mod table_answers;
 
 pub use comparison::{Comparison, Difference};
+pub use listing::ComparedTables;
 pub use table_answers::{CompareBy, TableAnswer};

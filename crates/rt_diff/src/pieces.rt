@@ -1,5 +1,6 @@
 //! Visiting both tables interval by interval. A piece is an answer with the last address that is known to have it.
 ghost use Rattle.std.specs.Prelude.{◌≡◌, ◌≤◌, ◌↔◌, IsTrue};
+ghost use Rattle.rt_diff.specs.Differences.{IsAlike};
 ghost use Rattle.rt_diff.specs.inside.Pieces.{IsPieceFrom, IsPieceAt, ArePieces, reach, AreBehind, FindsUnlike, IsEnd};
 
 use crate::renumbered::RenumberedLookups;
@@ -118,19 +119,38 @@ fn pieces_behind<A: Allocator + Copy>(
     })
 }
 
-/// Returns the first pieces at or after the address whose answers differ.
+/// Returns true if both tables give the same answer for the address.
+pub(crate) fn are_alike<A: Allocator + Copy>(
+    old: &mut RenumberedLookups<'_, A>,
+    new: &mut RenumberedLookups<'_, A>,
+    by: CompareBy,
+    addr: Addr,
+) -> bool
+    ensures old { old.new ≡ old.old }
+    ensures new { new.new ≡ new.old }
+    ensures alike { IsTrue result ↔ IsAlike by old.old new.old addr }
+{
+    pieces_at(old, new, by, addr).is_alike()
+}
+
+/// Returns the first pieces at or after the address whose answers differ, unless they begin after the last address.
 pub(crate) fn first_unlike<A: Allocator + Copy>(
     old: &mut RenumberedLookups<'_, A>,
     new: &mut RenumberedLookups<'_, A>,
     by: CompareBy,
     from: Addr,
+    last: Addr,
 ) -> Option<Pieces>
+    requires { from.0 ≤ last.0 }
     ensures old { old.new ≡ old.old }
     ensures new { new.new ≡ new.old }
-    ensures unlike { FindsUnlike by old.old new.old from result }
+    ensures unlike { FindsUnlike by old.old new.old from last result }
 {
     let mut pieces = pieces_at(old, new, by, from);
     while pieces.is_alike() {
+        if last.0 <= pieces.reach().0 {
+            return None;
+        }
         pieces = pieces_behind(old, new, by, &pieces)?;
     }
     Some(pieces)

@@ -34,16 +34,17 @@ AreBehind by old new pieces (Some next) = (next.from.0 ≡ reach pieces + 1) × 
 abbrev pub AreAlike : CompareBy → RenumberedTable → RenumberedTable → Addr → ℕ → Type 0
 AreAlike by old new from end = (addr : Addr) → from.0 ≤ addr.0 → addr.0 < end → IsAlike by old new addr
 
--- the first pieces from an address on whose answers differ, or there are none
+-- the first pieces from an address on whose answers differ
 pub record AreFirstUnlike (by : CompareBy) (old new : RenumberedTable) (from : Addr) (pieces : Pieces) : Type 0 where
   pub onward : from.0 ≤ pieces.from.0
   pub before : AreAlike by old new from pieces.from.0
   pub there : ArePieces by old new pieces
   pub differ : pieces.old.answer ≢ pieces.new.answer
 
-abbrev pub FindsUnlike : CompareBy → RenumberedTable → RenumberedTable → Addr → Option Pieces → Type 0
-FindsUnlike by old new from None = AreAlike by old new from (2 ^ 32)
-FindsUnlike by old new from (Some pieces) = AreFirstUnlike by old new from pieces
+-- these pieces, which don't begin after the last address; or no address up to it has different answers
+abbrev pub FindsUnlike : CompareBy → RenumberedTable → RenumberedTable → Addr → Addr → Option Pieces → Type 0
+FindsUnlike by old new from last None = AreAlike by old new from (last.0 + 1)
+FindsUnlike by old new from last (Some pieces) = (pieces.from.0 ≤ last.0) × AreFirstUnlike by old new from pieces
 
 -- each address from the pieces' first up to, but not including, this end has their answers
 abbrev pub HoldsUpTo : CompareBy → RenumberedTable → RenumberedTable → Pieces → ℕ → Type 0

@@ -8,6 +8,7 @@ invariant-loop-by g l = record {
   same_old_table : l.old ≡ l.fn.old;
   same_new_table : l.new ≡ l.fn.new;
   onward : l.fn.from.0 ≤ l.pieces.from.0;
+  near : l.pieces.from.0 ≤ l.fn.last.0;
   before : AreAlike l.by l.fn.old l.fn.new l.fn.from l.pieces.from.0;
   there : ArePieces l.by l.fn.old l.fn.new l.pieces;
 }
