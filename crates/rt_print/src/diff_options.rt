@@ -7,7 +7,7 @@ ghost use Rattle.rt_print.specs.DifferenceText.{diff_of};
 use crate::format::{Format, Syntax};
 use crate::labels::pair_feeds_by_name;
 use crate::style::Style;
-use rt_diff::{CompareBy, Comparison};
+use rt_diff::{CompareBy, ComparedTables, Comparison};
 use rt_rib::Table;
 use std::alloc::{AllocError, Global};
 use std::marker::Model;
@@ -89,5 +89,19 @@ impl DiffOptions {
         let mut tables = Comparison::new(old, new, self.by);
         tables.renumber_new_feeds(self.numbers.as_slice());
         tables
+    }
+    /// Returns these two tables with the way in which they are compared.
+    pub fn compared_tables<'a>(
+        &'a self,
+        old: &'a Table<Global>,
+        new: &'a Table<Global>,
+    ) -> ComparedTables<'a, Global>
+        ensures { result ≡ record {
+          by = self.now.by;
+          old_table = own_numbers old.now.routes;
+          new_table = record { routes = new.now.routes; numbers = self.now.numbers };
+        } }
+    {
+        ComparedTables::new(old, new, self.by, self.numbers.as_slice())
     }
 }

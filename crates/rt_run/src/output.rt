@@ -7,13 +7,13 @@ ghost use Rattle.rt_cidr.specs.Output.{WritesText};
 ghost use Rattle.rt_print.specs.Buffer.{buffered};
 ghost use Rattle.rt_rib.specs.declared.limits.TheConstants.{MAX_FEEDS};
 ghost use Rattle.rt_print.specs.ChangeCounts.{change_counts_as};
+ghost use Rattle.rt_print.specs.DifferenceText.{differences_as};
 ghost use Rattle.rt_print.specs.Routes.{table_text};
 ghost use Rattle.rt_run.specs.RunText.{reports_text};
-ghost use Rattle.rt_run.specs.inside.Outputs.{with_invalid, Writes, IsFirstFrom, list_of, lines_of, AreSomeCounts};
+ghost use Rattle.rt_run.specs.inside.Outputs.{with_invalid, Writes, list_of, AreSomeCounts};
 
 use crate::faults::AppFault;
 use crate::rendering::{Rows, Workers, write_on_threads};
-use rt_cidr::Addr;
 use rt_diff::Difference;
 use rt_feed::{InvalidLine, Report, write_report};
 use rt_print::{
@@ -136,43 +136,62 @@ fn write_with_invalid<R: Threads + Sync, W: Write, X: Sync, P: Rows<X> + Sync>(
     write_on_threads(workers, w, rows, rest)
 }
 
-/// Writes the differences between two tables, starting with the given first one.
-pub(crate) fn write_differences<'a, W: Write>(
+/// Each range has its line, or the lines of its prefixes.
+impl Rows<Difference> for DiffOptions {
+    ghost use Rattle.rt_print.specs.DifferenceText.{difference_as};
+
+    ghost row_of = { λ options d. difference_as options d };
+
+    fn write_rows<W: Write>(&self, w: &mut W, items: &[Difference]) -> io::Result<()> {
+        write_ranges(w, self, items)
+    }
+}
+
+/// Writes the line of each range, or the lines of its prefixes.
+fn write_ranges<W: Write>(
     w: &mut W,
-    options: &'a DiffOptions,
-    old: &'a Table<Global>,
-    new: &'a Table<Global>,
-    first: Option<Difference>,
+    options: &DiffOptions,
+    list: &[Difference],
 ) -> Result<(), io::Error>
-    requires { IsFirstFrom options.now old.now.routes new.now.routes (record { 0 = 0 }) first }
-    ensures { WritesText (W.contents w.old) (W.contents w.new) (lines_of options.now old.now.routes new.now.routes) result }
+    ensures { WritesText (W.contents w.old) (W.contents w.new) (differences_as options.now list.now) result }
 {
-    let mut tables = options.comparison(old, new);
-    let mut next = first;
-    while let Some(difference) = next {
-        write_difference(w, options, &difference)?;
-        next = tables.difference_after(difference.last);
+    for difference in list {
+        write_difference(w, options, difference)?;
     }
     Ok(())
 }
 
-/// Returns the differences between two tables, in ascending order.
-pub(crate) fn differences_of<'a>(
-    alloc: Global,
-    options: &'a DiffOptions,
-    old: &'a Table<Global>,
-    new: &'a Table<Global>,
+/// Writes these ranges, which are all of two tables, through a new buffer over the writer, as `write_through` does.
+pub(crate) fn write_differences<R: Threads + Sync, W: Write, X: Drop>(
+    workers: &Workers<'_, R>,
+    w: &mut W,
+    room: OutputRoom,
+    options: &DiffOptions,
+    list: &[Difference],
+    given: X,
+) -> Result<X, AppFault>
+    requires new { room ≡ [] }
+    requires empty { (length list.now == 0) ≡ (length (differences_as options.now list.now) == 0) }
+    ensures { Writes (differences_as options.now list.now) given (W.contents w.old) (W.contents w.new) result }
+{
+    let mut out = OutputBuffer::new(w, room);
+    let written = write_on_threads(workers, &mut out, options, list);
+    let told = finish(&mut out, written, list.is_empty(), given);
+    let _ = out.into_writer();
+    told
+}
+
+/// Returns the differences between two tables, in ascending order, found on this many threads.
+pub(crate) fn differences_of<R: Threads + Sync>(
+    workers: &Workers<'_, R>,
+    options: &DiffOptions,
+    old: &Table<Global>,
+    new: &Table<Global>,
 ) -> Result<Vec<Difference>, AllocError>
     ensures { IfOk result (λ list. list.items ≡ list_of options.now old.now.routes new.now.routes) }
 {
-    let mut tables = options.comparison(old, new);
-    let mut next = tables.first_difference(Addr(0));
-    let mut list = Vec::new(alloc);
-    while let Some(difference) = next {
-        list.push(difference)?;
-        next = tables.difference_after(difference.last);
-    }
-    Ok(list)
+    let tables = options.compared_tables(old, new);
+    tables.differences(workers.rt, workers.alloc, workers.threads)
 }
 
 /// Writes the numbers of differences, by these counts.

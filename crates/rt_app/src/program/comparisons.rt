@@ -6,6 +6,7 @@ ghost use Rattle.rt_rib.specs.declared.limits.TheConstants.{MAX_FEEDS};
 use super::feed_choice::FeedNumbers;
 use super::queries::asked_of;
 use super::styles::{check_sides, diff_options};
+use super::threads::threads_to_compare;
 use super::warnings::{FeedTexts, report_sides};
 use super::{Program, ProgramError};
 use command_line::{DiffRequest, DifferenceOutput};
@@ -43,6 +44,7 @@ impl<R: Files + Threads + Wait + Sync + AllocGlobal, O: Write, E: Write> Program
     {
         let old_asked = asked_of(&request.run, old_texts, sides.old.choice());
         let new_asked = asked_of(&request.run, new_texts, sides.new.choice());
+        let threads = threads_to_compare(self.rt, old_texts, new_texts);
         let mut out = self
             .screen
             .beside(old_asked.count() + new_asked.count(), self.out);
@@ -51,6 +53,7 @@ impl<R: Files + Threads + Wait + Sync + AllocGlobal, O: Write, E: Write> Program
                 count_diff_texts(
                     self.rt,
                     self.alloc,
+                    threads,
                     &old_asked,
                     &new_asked,
                     &sides.options,
@@ -61,6 +64,7 @@ impl<R: Files + Threads + Wait + Sync + AllocGlobal, O: Write, E: Write> Program
                 diff_texts(
                     self.rt,
                     self.alloc,
+                    threads,
                     &old_asked,
                     &new_asked,
                     &sides.options,

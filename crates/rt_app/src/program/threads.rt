@@ -1,4 +1,4 @@
-//! The number of threads on which a query executes its feed files.
+//! The number of threads on which a query executes its feed files, and on which two tables are compared.
 
 use std::thread::{self, Threads};
 
@@ -10,19 +10,43 @@ const BYTES_PER_THREAD: usize = 1 << 18;
 /// long as the file of addresses, for each thread.
 const BYTES_PER_ADDRESS_BYTE: usize = 4;
 
+/// The bytes of the feed files of both sides for which a further thread pays when their tables are compared: with fewer, it
+/// takes longer to create the threads than to compare.
+const BYTES_PER_COMPARING_THREAD: usize = 1 << 20;
+
 /// Returns the number of threads on which these texts of feeds are executed, at least one: at most one for each processor
 /// and for each text that isn't empty, and no further thread that doesn't pay. The text of addresses, which are looked up
 /// then, has `address_bytes` bytes.
 pub(super) fn threads_for<R: Threads>(rt: &R, texts: &[Vec<u8>], address_bytes: usize) -> usize {
-    let (mut count, mut bytes) = (0usize, 0usize);
+    let mut count = 0usize;
     for text in texts {
         count = count.saturating_add(usize::from(!text.is_empty()));
-        bytes = bytes.saturating_add(text.len());
     }
+    let bytes = bytes_of(texts);
     let bytes_per_thread = address_bytes
         .saturating_mul(BYTES_PER_ADDRESS_BYTE)
         .max(BYTES_PER_THREAD);
-    let paying = count.min(bytes / bytes_per_thread);
+    processors_for(rt, count.min(bytes / bytes_per_thread))
+}
+
+/// Returns the number of threads on which the tables of these old and new texts are compared, at least one: at most one for
+/// each processor, and no further thread that doesn't pay.
+pub(super) fn threads_to_compare<R: Threads>(rt: &R, old: &[Vec<u8>], new: &[Vec<u8>]) -> usize {
+    let bytes = bytes_of(old).saturating_add(bytes_of(new));
+    processors_for(rt, bytes / BYTES_PER_COMPARING_THREAD)
+}
+
+/// Returns the number of bytes of the texts.
+fn bytes_of(texts: &[Vec<u8>]) -> usize {
+    let mut bytes = 0usize;
+    for text in texts {
+        bytes = bytes.saturating_add(text.len());
+    }
+    bytes
+}
+
+/// Returns the number of threads of which at most this many pay: at least one, and at most one for each processor.
+fn processors_for<R: Threads>(rt: &R, paying: usize) -> usize {
     if paying < 2 {
         return 1;
     }

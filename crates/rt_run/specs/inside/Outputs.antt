@@ -55,35 +55,9 @@ Writes text given old new (Err (Run refusal)) = (refusal ≡ fault.Memory) × (n
 Writes text given old new (Err (Replay fault)) = ⊥
 Writes text given old new (Err Write) = AppendsBeginning old new text
 
--- the first difference of all from an address on
-abbrev pub IsFirstFrom : DiffContents → List Route → List Route → Addr → Option Difference → Type 0
-IsFirstFrom asked old new from first = IsFirstDifference asked.by (own_numbers old) (renumbered_new asked new) from first
-
--- all differences of the two tables, and their lines
+-- all differences of the two tables
 abbrev pub list_of : DiffContents → List Route → List Route → List Difference
 list_of asked old new = differences_of asked.by (own_numbers old) (renumbered_new asked new)
-
-abbrev pub lines_of : DiffContents → List Route → List Route → List ℕ
-lines_of asked old new = differences_as asked (list_of asked old new)
-
--- the number of addresses from the range on
-abbrev pub addresses_from : Option Difference → ℕ
-addresses_from None = 0
-addresses_from (Some d) = 2 ^ 32 - d.first.0
-
--- this is the next difference, and the differences from it on follow this list
-pub record IsListedSoFar (asked : DiffContents) (old new : List Route) (next : Option Difference) (list : List Difference) : Type 0 where
-  pub from : Addr
-  pub first : IsFirstFrom asked old new from next
-  pub whole : (rest : List Difference) → AreRest asked.by (own_numbers old) (renumbered_new asked new) from.0 rest
-      → list_of asked old new ≡ list ++ rest
-
--- this is the next difference, and the lines of the differences from it on follow this text
-pub record IsSoFar (asked : DiffContents) (old new : List Route) (next : Option Difference) (text : List ℕ) : Type 0 where
-  pub from : Addr
-  pub first : IsFirstFrom asked old new from next
-  pub whole : (rest : List Difference) → AreRest asked.by (own_numbers old) (renumbered_new asked new) from.0 rest
-      → lines_of asked old new ≡ text ++ differences_as asked rest
 
 -- the counts of some ranges, which have at most all addresses
 pub record AreSomeCounts (counts : List ChangeCount) : Type 0 where
