@@ -34,4 +34,4 @@ lines-some Prefixes syntax d old new rest some fits =
 
 pub difference-some : (asked : DiffContents) (d : Difference) (rest : List ℕ) → d.first.0 ≤ d.last.0 → d.last.0 < 2 ^ 32
     → 0 < length (difference_as asked d ++ rest)
-difference-some asked d rest = lines-some asked.output asked.old.syntax d (answer_as asked.old d.old) (answer_as asked.new d.new) rest
+difference-some asked d rest = lines-some asked.output asked.old.syntax d (answer_as asked.by asked.old d.old) (answer_as asked.by asked.new d.new) rest

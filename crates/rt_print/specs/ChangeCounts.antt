@@ -1,5 +1,5 @@
 -- The differences of two tables in numbers: for each pair of next hops the number of ranges, and of their addresses, that
--- change from the one to the other.
+-- change from the one to the other. Numbers have no columns, so CSV has plain lines for them.
 use Rattle.std.specs.Prelude.{◌≡◌, ◌⊎◌, ℕ, ◌+◌, ◌-◌, ◌==◌, ◌<◌, Bool, true, if◌then◌else◌, List, [], ◌∷◌, ◌++◌, All, AllPairs, sum_by, count_by, get_or, codes, decimal, Option, None, Some}
 use Rattle.std.specs.List.{flat_map, range_with_len}
 use Rattle.rt_rib.specs.declared.routes.Hop.{Hop}
@@ -8,21 +8,17 @@ use Rattle.rt_diff.specs.declared.table_answers.TableAnswer.{TableAnswer}
 use Rattle.rt_diff.specs.declared.table_answers.TableAnswer.TheVariants as answered
 use Rattle.rt_diff.specs.declared.comparison.Difference.{Difference}
 use Rattle.rt_print.specs.declared.format.Syntax.{Syntax}
-use Rattle.rt_print.specs.declared.format.Syntax.TheVariants.{Line, Json}
+use Rattle.rt_print.specs.declared.format.Syntax.TheVariants.{Json}
 use Rattle.rt_print.specs.declared.change_counts.ChangeCount.{ChangeCount}
 use Rattle.rt_print.specs.declared.change_counts.TheConstants.{KINDS}
-use Rattle.rt_print.specs.DifferenceText.{DiffContents, answer_as}
+use Rattle.rt_print.specs.DifferenceText.{DiffContents, way_text}
+use Rattle.rt_print.specs.Routes.{hop_members}
 
 -- the next hop of an answer, if there is a route
 abbrev pub hop_of : TableAnswer → Option Hop
 hop_of answered.NoRoute = None
 hop_of (answered.Hop hop) = Some hop
 hop_of (answered.Route r) = Some r.hop
-
--- the answer with this next hop
-abbrev pub answer_with : Option Hop → TableAnswer
-answer_with None = answered.NoRoute
-answer_with (Some hop) = answered.Hop hop
 
 -- a test of an old and a new next hop
 abbrev pub HopTest : Type 0
@@ -94,10 +90,10 @@ kind_words =
 
 -- a number of ranges and of their addresses, after this text of what they have in common
 unfoldable pub number_as : Syntax → List ℕ → ℕ → ℕ → List ℕ
-number_as Line front ranges addresses =
-    front ++ (codes "ranges " ++ (decimal ranges ++ (codes " addresses " ++ (decimal addresses ++ codes "\n"))))
 number_as Json front ranges addresses =
     codes "{" ++ (front ++ (codes "\"ranges\":" ++ (decimal ranges ++ (codes ",\"addresses\":" ++ (decimal addresses ++ codes "}\n")))))
+number_as _ front ranges addresses =
+    front ++ (codes "ranges " ++ (decimal ranges ++ (codes " addresses " ++ (decimal addresses ++ codes "\n"))))
 
 -- the numbers of the counts that pass the test
 abbrev pub sums_as : Syntax → List ℕ → HopTest → List ChangeCount → List ℕ
@@ -105,8 +101,8 @@ sums_as syntax front test counts = number_as syntax front (ranges_by test counts
 
 -- the kind, before its numbers
 unfoldable pub kind_front : Syntax → ℕ → List ℕ
-kind_front Line kind = codes "change " ++ (get_or kind_words kind [] ++ codes " ")
 kind_front Json kind = codes "\"change\":\"" ++ (get_or kind_words kind [] ++ codes "\",")
+kind_front _ kind = codes "change " ++ (get_or kind_words kind [] ++ codes " ")
 
 -- the change is of this kind
 abbrev pub is_of : ℕ → HopTest
@@ -116,18 +112,24 @@ is_of kind old new = kind_of old new == kind
 unfoldable pub kind_as : Syntax → List ChangeCount → ℕ → List ℕ
 kind_as syntax counts kind = if ranges_by (is_of kind) counts == 0 then [] else sums_as syntax (kind_front syntax kind) (is_of kind) counts
 
--- the next hops, before their numbers
-unfoldable pub hops_front : Syntax → List ℕ → List ℕ → List ℕ
-hops_front Line old new = codes "hops " ++ (old ++ (codes " -> " ++ (new ++ codes " ")))
-hops_front Json old new = codes "\"old\":" ++ (old ++ (codes ",\"new\":" ++ (new ++ codes ",")))
+-- a next hop, if there is a route
+unfoldable pub hop_as : Syntax → Option Hop → List ℕ
+hop_as Json None = codes "null"
+hop_as Json (Some hop) = codes "{" ++ (hop_members hop ++ codes "}")
+hop_as _ None = codes "no route"
+hop_as _ (Some hop) = way_text hop
 
--- a count; next hops are printed as answers of the tables
-abbrev pub count_line : DiffContents → ChangeCount → List ℕ
-count_line asked c =
-    number_as asked.old.syntax (hops_front asked.old.syntax (answer_as asked.old (answer_with c.old)) (answer_as asked.new (answer_with c.new))) c.ranges c.addresses
+-- the next hops, before their numbers
+unfoldable pub hops_front : Syntax → Option Hop → Option Hop → List ℕ
+hops_front Json old new = codes "\"old\":" ++ (hop_as Json old ++ (codes ",\"new\":" ++ (hop_as Json new ++ codes ",")))
+hops_front syntax old new = codes "hops " ++ (hop_as syntax old ++ (codes " -> " ++ (hop_as syntax new ++ codes " ")))
+
+-- a count
+abbrev pub count_line : Syntax → ChangeCount → List ℕ
+count_line syntax c = number_as syntax (hops_front syntax c.old c.new) c.ranges c.addresses
 
 -- all ranges in numbers, then each kind, then each pair of next hops
 unfoldable pub change_counts_as : DiffContents → List ChangeCount → List ℕ
 change_counts_as asked counts =
     sums_as asked.old.syntax [] (λ old new. true) counts
-    ++ (flat_map (kind_as asked.old.syntax counts) (range_with_len 0 KINDS) ++ flat_map (count_line asked) counts)
+    ++ (flat_map (kind_as asked.old.syntax counts) (range_with_len 0 KINDS) ++ flat_map (count_line asked.old.syntax) counts)

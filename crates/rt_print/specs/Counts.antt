@@ -1,5 +1,5 @@
 -- The numbers of routes: in all, of their prefixes, of each feed, and to prefixes of each length; and routes followed by
--- their number.
+-- their number. Numbers have no columns, so CSV has plain lines for them.
 use Rattle.std.specs.Prelude.{ℕ, ◌+◌, ◌==◌, if◌then◌else◌, List, [], ◌++◌, length, codes, decimal, count_by}
 use Rattle.std.specs.List.{dedup, flat_map, range_with_len}
 use Rattle.rt_cidr.specs.Prefix.{same_prefix}
@@ -7,7 +7,7 @@ use Rattle.rt_rib.specs.declared.limits.TheConstants.{MAX_FEEDS}
 use Rattle.rt_rib.specs.declared.routes.Route.{Route}
 use Rattle.rt_rib.specs.Table.{count_of}
 use Rattle.rt_print.specs.declared.format.Syntax.{Syntax}
-use Rattle.rt_print.specs.declared.format.Syntax.TheVariants.{Line, Json}
+use Rattle.rt_print.specs.declared.format.Syntax.TheVariants.{Json}
 use Rattle.rt_print.specs.declared.counts.TheConstants.{MAX_BITS}
 use Rattle.rt_print.specs.Styles.{StyleContents, label_of, rows_as}
 
@@ -21,14 +21,14 @@ length_count len routes = count_by (λ r. r.prefix.len == len) routes
 
 -- the text of the numbers of routes and of prefixes
 unfoldable pub totals_as : Syntax → ℕ → ℕ → List ℕ
-totals_as Line routes prefixes = codes "routes " ++ (decimal routes ++ (codes " prefixes " ++ (decimal prefixes ++ codes "\n")))
 totals_as Json routes prefixes = codes "{\"routes\":" ++ (decimal routes ++ (codes ",\"prefixes\":" ++ (decimal prefixes ++ codes "}\n")))
+totals_as _ routes prefixes = codes "routes " ++ (decimal routes ++ (codes " prefixes " ++ (decimal prefixes ++ codes "\n")))
 
 -- the text of the number of routes of this kind and name, empty for 0
 unfoldable pub count_as : Syntax → List ℕ → List ℕ → ℕ → List ℕ
-count_as Line kind name count = if count == 0 then [] else kind ++ (codes " " ++ (name ++ (codes " routes " ++ (decimal count ++ codes "\n"))))
 count_as Json kind name count =
     if count == 0 then [] else codes "{\"" ++ (kind ++ (codes "\":" ++ (name ++ (codes ",\"routes\":" ++ (decimal count ++ codes "}\n")))))
+count_as _ kind name count = if count == 0 then [] else kind ++ (codes " " ++ (name ++ (codes " routes " ++ (decimal count ++ codes "\n"))))
 
 -- all these numbers of routes
 unfoldable pub counts_as : StyleContents → List Route → List ℕ
@@ -39,8 +39,8 @@ counts_as style routes =
 
 -- the text of the number of routes before it
 unfoldable pub total_as : Syntax → ℕ → List ℕ
-total_as Line count = codes "total " ++ (decimal count ++ codes "\n")
 total_as Json count = codes "{\"total\":" ++ (decimal count ++ codes "}\n")
+total_as _ count = codes "total " ++ (decimal count ++ codes "\n")
 
 -- the routes in order, and last their number
 abbrev pub rows_and_total_as : StyleContents → List Route → List ℕ

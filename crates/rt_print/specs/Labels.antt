@@ -1,12 +1,13 @@
--- The label of a feed: its number, its name, or its members in JSON.
+-- The label of a feed: its number, its name, its members in JSON, or its fields in CSV.
 use Rattle.std.specs.Prelude.{ℕ, ◌+◌, ◌-◌, ◌==◌, Bool, true, false, if◌then◌else◌, List, [], ◌++◌, length, map, take, drop, codes, decimal, position, bytes_eq, Option}
 use Rattle.std.specs.List.{after_last, enumerate_from}
 use Rattle.std.specs.Option.{option_map_or}
 use Rattle.rt_cidr.specs.Text.{slash}
 use Rattle.rt_print.specs.declared.format.Format.{Format}
-use Rattle.rt_print.specs.declared.format.Format.TheVariants.{Numbers, Names, Json, JsonWithNames}
+use Rattle.rt_print.specs.declared.format.Format.TheVariants.{Numbers, Names, Json, JsonWithNames, Csv, CsvWithNames}
 use Rattle.rt_print.specs.declared.format.Syntax.{Syntax}
 use Rattle.rt_print.specs.declared.format.Syntax.TheVariants as syntax
+use Rattle.rt_print.specs.Csv.{csv_field}
 use Rattle.rt_print.specs.Routes.{json_string}
 
 -- a name without `.feed` at its end
@@ -23,21 +24,30 @@ syntax_of Numbers = syntax.Line
 syntax_of Names = syntax.Line
 syntax_of Json = syntax.Json
 syntax_of JsonWithNames = syntax.Json
+syntax_of Csv = syntax.Csv
+syntax_of CsvWithNames = syntax.Csv
 
--- feeds are printed by their names
+-- feeds are identified by their names
 abbrev pub has_names : Format → Bool
 has_names Names = true
 has_names JsonWithNames = true
+has_names CsvWithNames = true
 has_names _ = false
 
--- the label of the feed of this number and path: `FEED`, `NAME`, `FEED,"file":"PATH"`, or
--- `FEED,"name":"NAME","file":"PATH"`
+-- the fields of the feed of this number and path, `FEED,NAME,PATH`
+abbrev pub feed_record : ℕ → List ℕ → List ℕ
+feed_record feed path = decimal feed ++ (codes "," ++ (csv_field (feed_name path) ++ (codes "," ++ csv_field path)))
+
+-- the label of the feed of this number and path: `FEED`, `NAME`, `FEED,"file":"PATH"`, `FEED,"name":"NAME","file":"PATH"`, or
+-- its fields
 unfoldable pub label_by : Format → ℕ → List ℕ → List ℕ
 label_by Numbers feed path = decimal feed
 label_by Names feed path = feed_name path
 label_by Json feed path = decimal feed ++ (codes ",\"file\":" ++ json_string path)
 label_by JsonWithNames feed path =
     decimal feed ++ (codes ",\"name\":" ++ (json_string (feed_name path) ++ (codes ",\"file\":" ++ json_string path)))
+label_by Csv feed path = feed_record feed path
+label_by CsvWithNames feed path = feed_record feed path
 
 -- the index of the first of these paths whose feed has this name
 abbrev pub index_of_name : List (List ℕ) → List ℕ → Option ℕ

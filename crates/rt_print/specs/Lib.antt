@@ -1,6 +1,7 @@
 pub mod Buffer
 pub mod ChangeCounts
 pub mod Counts
+pub mod Csv
 pub mod DifferenceText
 pub mod FeedNames
 pub mod Labels

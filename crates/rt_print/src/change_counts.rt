@@ -4,12 +4,10 @@ ghost use Rattle.std.specs.List.{flat_map, range_with_len};
 ghost use Rattle.std.specs.Map.{values_of};
 ghost use Rattle.rt_cidr.specs.Output.{WritesText};
 ghost use Rattle.rt_diff.specs.declared.comparison.Difference.{Difference};
-ghost use Rattle.rt_print.specs.DifferenceText.{answer_as};
-ghost use Rattle.rt_print.specs.ChangeCounts.{hop_of, answer_with, HopTest, passes, is_counted, range_size, ranges_by, addresses_by, hop_position, IsBefore, AreChangeCounts, kind_of, kind_words, number_as, kind_as, count_line, is_of, change_counts_as};
+ghost use Rattle.rt_print.specs.ChangeCounts.{hop_of, HopTest, passes, is_counted, range_size, ranges_by, addresses_by, hop_position, IsBefore, AreChangeCounts, kind_of, kind_words, number_as, kind_as, hop_as, count_line, is_of, change_counts_as};
 ghost use Rattle.rt_print.specs.inside.ChangeMaps.{AreKeyed, total_ranges, total_addresses, CountsOneMore, test_of};
 
 use crate::diff_options::DiffOptions;
-use crate::differences::StyledAnswer;
 use crate::format::Syntax;
 use crate::text::Text;
 use rt_diff::{Difference, TableAnswer};
@@ -130,7 +128,7 @@ pub fn write_change_counts<W: Write>(
     let (ranges, addresses) = sums_of(counts, None);
     put_number(w, syntax, "", ranges, addresses)?;
     put_kinds(w, syntax, counts)?;
-    put_counts(w, options, counts)
+    put_counts(w, syntax, counts)
 }
 
 /// Writes the numbers of each kind of change that occurs.
@@ -164,42 +162,83 @@ fn put_kind<W: Write>(
     }
     let words = kind_words(kind);
     let front = match syntax {
-        Syntax::Line => ("change ", (words, " ")),
         Syntax::Json => ("\"change\":\"", (words, "\",")),
+        Syntax::Line | Syntax::Csv => ("change ", (words, " ")),
     };
     put_number(w, syntax, front, ranges, addresses)
 }
 
 /// Writes each count.
-fn put_counts<W: Write>(w: &mut W, options: &DiffOptions, counts: &[ChangeCount]) -> io::Result<()>
-    ensures { WritesText (W.contents w.old) (W.contents w.new) (flat_map (count_line options.now) counts.now) result }
+fn put_counts<W: Write>(w: &mut W, syntax: Syntax, counts: &[ChangeCount]) -> io::Result<()>
+    ensures { WritesText (W.contents w.old) (W.contents w.new) (flat_map (count_line syntax) counts.now) result }
 {
     for count in counts {
-        put_count(w, options, count)?;
+        put_count(w, syntax, count)?;
     }
     Ok(())
 }
 
 /// Writes a count: the next hops, and then its numbers.
 #[tactic(auto, unfolding(crate::specs::ChangeCounts::hops_front))]
-fn put_count<W: Write>(w: &mut W, options: &DiffOptions, count: &ChangeCount) -> io::Result<()>
-    ensures { WritesText (W.contents w.old) (W.contents w.new) (count_line options.now count.now) result }
+fn put_count<W: Write>(w: &mut W, syntax: Syntax, count: &ChangeCount) -> io::Result<()>
+    ensures { WritesText (W.contents w.old) (W.contents w.new) (count_line syntax count.now) result }
 {
-    let syntax = options.old.syntax();
-    let (old, new) = (answer_with(count.old), answer_with(count.new));
-    let old = StyledAnswer {
-        style: &options.old,
-        answer: &old,
+    let old = CountedHop {
+        syntax,
+        hop: count.old,
     };
-    let new = StyledAnswer {
-        style: &options.new,
-        answer: &new,
+    let new = CountedHop {
+        syntax,
+        hop: count.new,
     };
     let front = match syntax {
-        Syntax::Line => ("hops ", (old, (" -> ", (new, " ")))),
         Syntax::Json => ("\"old\":", (old, (",\"new\":", (new, ",")))),
+        Syntax::Line | Syntax::Csv => ("hops ", (old, (" -> ", (new, " ")))),
     };
     put_number(w, syntax, front, count.ranges, count.addresses)
+}
+
+/// A next hop, if there is a route, in this syntax.
+#[derive(Clone, Copy)]
+struct CountedHop {
+    syntax: Syntax,
+    hop: Option<Hop>,
+}
+
+impl Text for CountedHop {
+    ghost text = { λ counted. hop_as counted.syntax counted.hop };
+
+    #[tactic(auto, unfolding(crate::specs::ChangeCounts::hop_as))]
+    fn put_to<W: Write>(&self, w: &mut W) -> io::Result<()> {
+        match self.syntax {
+            Syntax::Json => put_hop_object(w, self.hop),
+            Syntax::Line | Syntax::Csv => put_hop_line(w, self.hop),
+        }
+    }
+}
+
+/// Writes a next hop as a line has it: `no route`, `via ADDR`, or `discard`.
+#[tactic(auto, unfolding(crate::specs::ChangeCounts::hop_as))]
+fn put_hop_line<W: Write>(w: &mut W, hop: Option<Hop>) -> io::Result<()>
+    ensures { WritesText (W.contents w.old) (W.contents w.new) (hop_as Syntax.Line hop) result }
+{
+    match hop {
+        None => "no route".put_to(w),
+        Some(Hop::Via(address)) => ("via ", address).put_to(w),
+        Some(Hop::Discard) => "discard".put_to(w),
+    }
+}
+
+/// Writes a next hop as an object has it: `null`, or its members.
+#[tactic(auto, unfolding(crate::specs::ChangeCounts::hop_as))]
+fn put_hop_object<W: Write>(w: &mut W, hop: Option<Hop>) -> io::Result<()>
+    ensures { WritesText (W.contents w.old) (W.contents w.new) (hop_as Syntax.Json hop) result }
+{
+    match hop {
+        None => "null".put_to(w),
+        Some(Hop::Via(address)) => ("{\"via\":\"", (address, "\"}")).put_to(w),
+        Some(Hop::Discard) => "{\"via\":null,\"discard\":true}".put_to(w),
+    }
 }
 
 /// Writes a number of ranges and of their addresses, after this text of what they have in common.
@@ -214,13 +253,13 @@ fn put_number<W: Write, T: Text + Copy>(
     ensures { WritesText (W.contents w.old) (W.contents w.new) (number_as syntax (T.text front) ranges addresses) result }
 {
     match syntax {
-        Syntax::Line => {
-            let numbers = (ranges, (" addresses ", (addresses, "\n")));
-            (front, ("ranges ", numbers)).put_to(w)
-        }
         Syntax::Json => {
             let numbers = (ranges, (",\"addresses\":", (addresses, "}\n")));
             ("{", (front, ("\"ranges\":", numbers))).put_to(w)
+        }
+        Syntax::Line | Syntax::Csv => {
+            let numbers = (ranges, (" addresses ", (addresses, "\n")));
+            (front, ("ranges ", numbers)).put_to(w)
         }
     }
 }
@@ -278,15 +317,5 @@ fn kind_words(kind: usize) -> &'static str
         3 => "is discarded",
         4 => "isn't discarded any more",
         _ => "the same next hop by another route",
-    }
-}
-
-/// Returns the answer with this next hop.
-fn answer_with(hop: Option<Hop>) -> TableAnswer
-    ensures { result ≡ answer_with hop }
-{
-    match hop {
-        None => TableAnswer::NoRoute,
-        Some(hop) => TableAnswer::Hop(hop),
     }
 }

@@ -66,8 +66,8 @@ fn put_total<W: Write>(w: &mut W, syntax: Syntax, count: u64) -> io::Result<()>
     ensures { WritesText (W.contents w.old) (W.contents w.new) (total_as syntax count) result }
 {
     match syntax {
-        Syntax::Line => ("total ", (count, "\n")).put_to(w),
         Syntax::Json => ("{\"total\":", (count, "}\n")).put_to(w),
+        Syntax::Line | Syntax::Csv => ("total ", (count, "\n")).put_to(w),
     }
 }
 
@@ -105,10 +105,12 @@ fn put_totals<W: Write>(w: &mut W, syntax: Syntax, routes: u64, prefixes: u64) -
     ensures { WritesText (W.contents w.old) (W.contents w.new) (totals_as syntax routes prefixes) result }
 {
     match syntax {
-        Syntax::Line => ("routes ", (routes, (" prefixes ", (prefixes, "\n")))).put_to(w),
         Syntax::Json => {
             let prefixes = (",\"prefixes\":", (prefixes, "}\n"));
             ("{\"routes\":", (routes, prefixes)).put_to(w)
+        }
+        Syntax::Line | Syntax::Csv => {
+            ("routes ", (routes, (" prefixes ", (prefixes, "\n")))).put_to(w)
         }
     }
 }
@@ -150,10 +152,12 @@ fn put_number<W: Write>(
         return Ok(());
     }
     match syntax {
-        Syntax::Line => (kind, (" ", (name, (" routes ", (count, "\n"))))).put_to(w),
         Syntax::Json => {
             let routes = (name, (",\"routes\":", (count, "}\n")));
             ("{\"", (kind, ("\":", routes))).put_to(w)
+        }
+        Syntax::Line | Syntax::Csv => {
+            (kind, (" ", (name, (" routes ", (count, "\n"))))).put_to(w)
         }
     }
 }

@@ -2,7 +2,8 @@
 ghost use Rattle.std.specs.Prelude.{◌≡◌, ◌≤◌, length, map, IfOk};
 ghost use Rattle.rt_rib.specs.declared.limits.TheConstants.{MAX_FEEDS};
 ghost use Rattle.rt_diff.specs.Answers.{own_numbers};
-ghost use Rattle.rt_print.specs.DifferenceText.{diff_of};
+ghost use Rattle.rt_print.specs.Csv.{csv_line};
+ghost use Rattle.rt_print.specs.DifferenceText.{diff_of, difference_columns, differences_header};
 
 use crate::format::{Format, Syntax};
 use crate::labels::pair_feeds_by_name;
@@ -24,7 +25,7 @@ pub enum DiffOutput {
 /// The options of a comparison of two tables and of its output. Contracts see all of them.
 #[derive(Debug, Drop)]
 pub struct DiffOptions {
-    by: CompareBy,
+    pub(crate) by: CompareBy,
     pub(crate) output: DiffOutput,
     numbers: Vec<u32>,
     pub(crate) old: Style,
@@ -67,6 +68,17 @@ impl DiffOptions {
         })
     }
 
+    /// Returns the header of differences: in CSV a line with the names of the columns, else no bytes.
+    #[tactic(auto, unfolding(crate::specs::DifferenceText::differences_header))]
+    pub fn header(&self) -> &'static [u8]
+        ensures { result.now ≡ differences_header self.now }
+    {
+        match self.old.syntax() {
+            Syntax::Line | Syntax::Json => b"",
+            Syntax::Csv => csv_header(self.by, self.output),
+        }
+    }
+
     /// Returns the syntax in which differences are printed.
     pub(crate) fn syntax(&self) -> Syntax
         ensures { result ≡ self.now.old.syntax }
@@ -103,5 +115,26 @@ impl DiffOptions {
         } }
     {
         ComparedTables::new(old, new, self.by, self.numbers.as_slice())
+    }
+}
+
+/// Returns the names of the columns of differences.
+#[tactic(auto, unfolding(crate::specs::Csv::csv_field))]
+fn csv_header(by: CompareBy, output: DiffOutput) -> &'static [u8]
+    ensures { result.now ≡ csv_line (difference_columns by output) }
+{
+    match (by, output) {
+        (CompareBy::Hop, DiffOutput::Ranges) => {
+            b"first,last,old_via,old_discard,new_via,new_discard\r\n"
+        }
+        (CompareBy::Hop, DiffOutput::Prefixes) => {
+            b"prefix,old_via,old_discard,new_via,new_discard\r\n"
+        }
+        (CompareBy::Route, DiffOutput::Ranges) => {
+            b"first,last,old_prefix,old_feed,old_name,old_file,old_pref,old_via,old_discard,new_prefix,new_feed,new_name,new_file,new_pref,new_via,new_discard\r\n"
+        }
+        (CompareBy::Route, DiffOutput::Prefixes) => {
+            b"prefix,old_prefix,old_feed,old_name,old_file,old_pref,old_via,old_discard,new_prefix,new_feed,new_name,new_file,new_pref,new_via,new_discard\r\n"
+        }
     }
 }

@@ -9,9 +9,12 @@ pub enum Syntax {
     Line,
     /// JSON objects (RFC 8259), one a line.
     Json,
+    /// Comma-separated values (RFC 4180). What has no columns, as a number of routes, has a line of words.
+    Csv,
 }
 
-/// The format of printed routes: lines or JSON objects, one a line, and what identifies a feed in them.
+/// The format of printed routes: lines, JSON objects, one a line, or comma-separated values, and what identifies a feed in
+/// them.
 #[derive(Clone, Copy, PartialEq, Eq, Debug)]
 pub enum Format {
     /// Lines, each feed by its number.
@@ -22,6 +25,10 @@ pub enum Format {
     Json,
     /// JSON objects, each feed by its number, its name and the path of its file.
     JsonWithNames,
+    /// Comma-separated values, each feed by its number, its name and the path of its file.
+    Csv,
+    /// The same, but feeds are identified by their names, as in `JsonWithNames`.
+    CsvWithNames,
 }
 
 impl Format {
@@ -32,13 +39,17 @@ impl Format {
         match self {
             Format::Numbers | Format::Names => Syntax::Line,
             Format::Json | Format::JsonWithNames => Syntax::Json,
+            Format::Csv | Format::CsvWithNames => Syntax::Csv,
         }
     }
 
-    /// Returns true if feeds are printed by their names.
+    /// Returns true if feeds are identified by their names.
     pub fn has_names(self) -> bool
         ensures { result ≡ has_names self }
     {
-        matches!(self, Format::Names | Format::JsonWithNames)
+        matches!(
+            self,
+            Format::Names | Format::JsonWithNames | Format::CsvWithNames
+        )
     }
 }

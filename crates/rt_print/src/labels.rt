@@ -1,4 +1,4 @@
-//! The label of a feed: its number, its name, or its members in JSON. Feeds of two sets of files are paired by their names.
+//! The label of a feed: its number, its name, its members in JSON, or its fields in CSV. Feeds of two sets of files are paired by their names.
 ghost use Rattle.std.specs.Prelude.{◌≡◌, ℕ, List, ◌≤◌, length, map, decimal, None, IfOk, IfSome};
 ghost use Rattle.std.specs.List.{flat_map, enumerate_from};
 ghost use Rattle.rt_cidr.specs.Output.{WritesText};
@@ -8,6 +8,7 @@ ghost use Rattle.rt_print.specs.Styles.{label_of};
 ghost use Rattle.rt_print.specs.inside.Parts.{label_pairs};
 ghost use Rattle.rt_print.specs.Labels.{feed_name, index_of_name, label_by, labels_by, paired_number};
 
+use crate::csv::CsvField;
 use crate::format::Format;
 use crate::text::Text;
 use rt_cidr::put;
@@ -125,6 +126,10 @@ fn put_label<W: Write>(w: &mut W, format: Format, feed: u64, path: &[u8]) -> io:
         Format::Json => (feed, file).put_to(w),
         Format::JsonWithNames => {
             (feed, (",\"name\":\"", (Escaped(name), ("\"", file)))).put_to(w)
+        }
+        Format::Csv | Format::CsvWithNames => {
+            let fields = (CsvField(name), (",", CsvField(path)));
+            (feed, (",", fields)).put_to(w)
         }
     }
 }

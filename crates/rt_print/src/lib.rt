@@ -1,5 +1,5 @@
-//! Printed output: routes, look-up results, numbers of routes, differences and their numbers, as lines or as JSON objects; the
-//! text of a replay of the lock; and a buffer through which text goes to a writer. `laws` says which prefixes are printed for a
+//! Printed output: routes, look-up results, numbers of routes, differences and their numbers, as lines or as JSON objects;
+//! routes, look-up results and differences also as comma-separated values; the text of a replay of the lock; and a buffer through which text goes to a writer. `laws` says which prefixes are printed for a
 //! range, and that ranges have only one list of counts.
 //!
 //! A [`Style`] determines the output. It is made from a [`Format`] and the paths of the feeds' files, and gives each feed
@@ -26,6 +26,7 @@
 mod buffer;
 mod change_counts;
 mod counts;
+mod csv;
 mod diff_options;
 mod differences;
 mod format;

@@ -1,11 +1,12 @@
-//! Look-up results: lines, or JSON objects (RFC 8259), one a line.
+//! Look-up results: lines, JSON objects (RFC 8259), one a line, or comma-separated values (RFC 4180).
 ghost use Rattle.std.specs.Prelude.{◌≡◌, ◌+◌, ◌≤◌, ◌++◌, [], length, codes};
 ghost use Rattle.rt_cidr.specs.Output.{WritesText};
 ghost use Rattle.rt_cidr.specs.ShortText.{FitsInShortText};
 ghost use Rattle.rt_rib.specs.LookUp.{reason};
-ghost use Rattle.rt_print.specs.Styles.{label_of, address_head, found_as, reason_text, also_line, also_object, all_found_as, invalid_as};
+ghost use Rattle.rt_print.specs.Styles.{label_of, address_head, found_as, reason_text, also_line, also_object, also_record, all_found_as, invalid_as};
 ghost use Rattle.rt_print.specs.inside.Parts.{label_pairs, route_open, asked_head, reason_end, others_begin, others_end, other_as};
 
+use crate::csv::LINE_END;
 use crate::format::Syntax;
 use crate::labels::FeedLabel;
 use crate::routes::put_route;
@@ -16,8 +17,8 @@ use rt_rib::{Reason, Route};
 use std::io::{self, Write};
 
 /// Writes the result of a look-up of the address, in the style: `ADDR route` and the route, as `write_routes` writes it, or
-/// `ADDR no route` and LF; or a JSON object. Errors and memory are as for `write_routes`.
-#[tactic(auto, using(crate::proofs::LineParts::found_line_parts, crate::proofs::LineParts::found_object_parts), unfolding(crate::specs::Styles::found_as))]
+/// `ADDR no route` and LF; a JSON object; or a line of fields. Errors and memory are as for `write_routes`.
+#[tactic(auto, using(crate::proofs::LineParts::found_line_parts, crate::proofs::LineParts::found_object_parts, crate::proofs::LineParts::found_record_parts), unfolding(crate::specs::Styles::found_as))]
 pub fn write_lookup<W: Write>(
     w: &mut W,
     style: &Style,
@@ -32,12 +33,14 @@ pub fn write_lookup<W: Write>(
         (Syntax::Line, Some(route)) => put_best(w, Syntax::Line, labels, addr, &route, b"\n"),
         (Syntax::Json, None) => ("{\"address\":\"", (addr, "\",\"route\":null}\n")).put_to(w),
         (Syntax::Json, Some(route)) => put_best(w, Syntax::Json, labels, addr, &route, b"}}\n"),
+        (Syntax::Csv, None) => (addr, (",,,,,,,", LINE_END)).put_to(w),
+        (Syntax::Csv, Some(route)) => put_best(w, Syntax::Csv, labels, addr, &route, b"\r\n"),
     }
 }
 
 /// Writes all routes that cover the address, given best first, in the style: the first on the line that `write_lookup`
-/// writes, and each further one as `ADDR also`, the route, its reason and LF; in JSON all in one object. The
-/// reason is the step at which the route lost to the first one (RFC 1812, section 5.2.4.3): `shorter` for a shorter
+/// writes, and each further one as `ADDR also`, the route, its reason and LF; in JSON all in one object; in CSV each on a
+/// line of fields whose last is the reason, empty for the first. The reason is the step at which the route lost to the first one (RFC 1812, section 5.2.4.3): `shorter` for a shorter
 /// prefix; `preference` for an equally long prefix and a higher preference; and `feed` if both are equal. For an empty
 /// list it writes that there is no route. Errors and memory are as for `write_routes`.
 pub fn write_all_matches<W: Write>(
@@ -70,8 +73,8 @@ pub fn write_invalid_line<W: Write>(w: &mut W, style: &Style, number: usize) -> 
 {
     let number = number as u64;
     match style.syntax() {
-        Syntax::Line => (number, " invalid\n").put_to(w),
         Syntax::Json => ("{\"line\":", (number, ",\"invalid\":true}\n")).put_to(w),
+        Syntax::Line | Syntax::Csv => (number, " invalid\n").put_to(w),
     }
 }
 
@@ -89,6 +92,7 @@ fn put_none_of_all<W: Write>(w: &mut W, style: &Style, addr: Addr) -> io::Result
             )
                 .put_to(w)
         }
+        Syntax::Csv => (addr, (",,,,,,,,", LINE_END)).put_to(w),
     }
 }
 
@@ -131,6 +135,7 @@ fn others_begin(syntax: Syntax) -> &'static [u8]
     match syntax {
         Syntax::Line => b"\n",
         Syntax::Json => b"},\"also\":[",
+        Syntax::Csv => b",\r\n",
     }
 }
 
@@ -140,8 +145,8 @@ fn others_end(syntax: Syntax) -> &'static [u8]
     ensures { result.now ≡ others_end syntax }
 {
     match syntax {
-        Syntax::Line => b"",
         Syntax::Json => b"]}\n",
+        Syntax::Line | Syntax::Csv => b"",
     }
 }
 
@@ -163,6 +168,7 @@ fn put_other<W: Write>(
     match style.syntax() {
         Syntax::Line => put_other_line(w, labels, addr, best, route),
         Syntax::Json => put_other_object(w, labels, best, comma, route),
+        Syntax::Csv => put_other_record(w, labels, addr, best, route),
     }
 }
 
@@ -219,6 +225,33 @@ fn put_other_object<W: Write>(
     )
 }
 
+/// Writes a route that lost to the best one as a line of fields.
+#[tactic(auto, using(crate::proofs::LineParts::fits))]
+fn put_other_record<W: Write>(
+    w: &mut W,
+    labels: &[FeedLabel],
+    addr: Addr,
+    best: &Route,
+    route: &Route,
+) -> io::Result<()>
+    ensures { WritesText (W.contents w.old) (W.contents w.new) (also_record (label_of (label_pairs labels.now)) addr best.now route.now) result }
+{
+    let mut head = ShortText::new();
+    prepend_record_head(&mut head, addr);
+    let mut end = ShortText::new();
+    prepend_record_reason(&mut end, best, route);
+    let mut text = ShortText::new();
+    put_route(
+        w,
+        &mut text,
+        Syntax::Csv,
+        labels,
+        head.as_bytes(),
+        route,
+        end.as_bytes(),
+    )
+}
+
 /// Prepends ` REASON` and LF.
 #[tactic(auto, using(rt_cidr::proofs::Promised::prepending), unfolding(crate::specs::inside::Parts::reason_end))]
 fn prepend_line_reason(text: &mut ShortText, best: &Route, route: &Route)
@@ -241,6 +274,17 @@ fn prepend_object_reason(text: &mut ShortText, best: &Route, route: &Route)
     text.prepend(b",\"reason\":\"");
 }
 
+/// Prepends `,REASON` and the end of the line.
+#[tactic(auto, using(rt_cidr::proofs::Promised::prepending), unfolding(crate::specs::inside::Parts::reason_end))]
+fn prepend_record_reason(text: &mut ShortText, best: &Route, route: &Route)
+    requires room { FitsInShortText (reason_end Syntax.Csv best.now route.now) text.old }
+    ensures { text.new ≡ reason_end Syntax.Csv best.now route.now ++ text.old }
+{
+    text.prepend(b"\r\n");
+    text.prepend(reason_text(best, route));
+    text.prepend(b",");
+}
+
 /// Returns the word for the reason why the route lost to the best one.
 #[tactic(auto, unfolding(crate::specs::Styles::reason_text))]
 fn reason_text(best: &Route, route: &Route) -> &'static [u8]
@@ -253,7 +297,7 @@ fn reason_text(best: &Route, route: &Route) -> &'static [u8]
     }
 }
 
-/// Prepends the address and this word, or the beginning of an object.
+/// Prepends the address and this word, or the beginning of an object or of a line of fields.
 #[tactic(auto, unfolding(crate::specs::inside::Parts::asked_head))]
 fn prepend_head(text: &mut ShortText, syntax: Syntax, addr: Addr, word: &[u8])
     requires room { FitsInShortText (asked_head syntax addr word.now) text.old }
@@ -262,6 +306,7 @@ fn prepend_head(text: &mut ShortText, syntax: Syntax, addr: Addr, word: &[u8])
     match syntax {
         Syntax::Line => prepend_line_head(text, addr, word),
         Syntax::Json => prepend_object_head(text, addr),
+        Syntax::Csv => prepend_record_head(text, addr),
     }
 }
 
@@ -284,4 +329,14 @@ fn prepend_object_head(text: &mut ShortText, addr: Addr)
     text.prepend(b"\",\"route\":");
     addr.prepend_to(text);
     text.prepend(b"{\"address\":\"");
+}
+
+/// Prepends `ADDR,`.
+#[tactic(auto, using(rt_cidr::proofs::Promised::prepending), unfolding(crate::specs::inside::Parts::asked_head))]
+fn prepend_record_head(text: &mut ShortText, addr: Addr)
+    requires room { FitsInShortText (asked_head Syntax.Csv addr []) text.old }
+    ensures { text.new ≡ asked_head Syntax.Csv addr [] ++ text.old }
+{
+    text.prepend(b",");
+    addr.prepend_to(text);
 }

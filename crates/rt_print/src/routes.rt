@@ -3,6 +3,7 @@ ghost use Rattle.std.specs.Prelude.{◌≡◌, ◌≤◌, ◌++◌, length};
 ghost use Rattle.rt_cidr.specs.Output.{WritesText};
 ghost use Rattle.rt_cidr.specs.ShortText.{FitsInShortText};
 ghost use Rattle.std.specs.List.{flat_map};
+ghost use Rattle.rt_print.specs.Csv.{hop_record};
 ghost use Rattle.rt_print.specs.Routes.{hop_text, hop_members, route_text, table_text};
 ghost use Rattle.rt_print.specs.Styles.{label_of, row_as, rows_as};
 ghost use Rattle.rt_print.specs.inside.Parts.{label_pairs, route_front, route_back, route_open, row_end};
@@ -30,9 +31,9 @@ pub fn write_table<W: Write>(w: &mut W, routes: &[Route]) -> io::Result<()>
     put_rows(w, Syntax::Line, &[], routes)
 }
 
-/// Writes the routes in the style, each on a line. Errors are the writer's, as `put` returns them; a prefix of that text
-/// but not all of it was then written, so an empty list never fails. Doesn't allocate; wrap a writer with expensive calls
-/// in an `OutputBuffer`.
+/// Writes the routes in the style, each on a line, without the header. Errors are the writer's, as `put` returns them; a
+/// prefix of that text but not all of it was then written, so an empty list never fails. Doesn't allocate; wrap a writer
+/// with expensive calls in an `OutputBuffer`.
 pub fn write_routes<W: Write>(w: &mut W, style: &Style, routes: &[Route]) -> io::Result<()>
     ensures { WritesText (W.contents w.old) (W.contents w.new) (rows_as style.now routes.now) result }
 {
@@ -65,6 +66,7 @@ fn row_end(syntax: Syntax) -> &'static [u8]
     match syntax {
         Syntax::Line => b"\n",
         Syntax::Json => b"}\n",
+        Syntax::Csv => b"\r\n",
     }
 }
 
@@ -124,6 +126,7 @@ fn prepend_front(text: &mut ShortText, syntax: Syntax, route: &Route)
     match syntax {
         Syntax::Line => prepend_line_front(text, route),
         Syntax::Json => prepend_object_front(text, route),
+        Syntax::Csv => prepend_record_front(text, route),
     }
 }
 
@@ -148,6 +151,16 @@ fn prepend_object_front(text: &mut ShortText, route: &Route)
     text.prepend(b"{\"prefix\":\"");
 }
 
+/// Prepends `PREFIX,`.
+#[tactic(auto, using(rt_cidr::proofs::Promised::prepending), unfolding(crate::specs::inside::Parts::route_front))]
+fn prepend_record_front(text: &mut ShortText, route: &Route)
+    requires room { FitsInShortText (route_front Syntax.Csv route.now) text.old }
+    ensures { text.new ≡ route_front Syntax.Csv route.now ++ text.old }
+{
+    text.prepend(b",");
+    route.prefix.prepend_to(text);
+}
+
 /// Prepends what is after the feed's label.
 fn prepend_back(text: &mut ShortText, syntax: Syntax, route: &Route)
     requires room { FitsInShortText (route_back syntax route.now) text.old }
@@ -156,6 +169,7 @@ fn prepend_back(text: &mut ShortText, syntax: Syntax, route: &Route)
     match syntax {
         Syntax::Line => prepend_line_back(text, route),
         Syntax::Json => prepend_object_back(text, route),
+        Syntax::Csv => prepend_record_back(text, route),
     }
 }
 
@@ -183,6 +197,18 @@ fn prepend_object_back(text: &mut ShortText, route: &Route)
     text.prepend(b",\"pref\":");
 }
 
+/// Prepends `,P,` and the next hop as fields.
+#[tactic(auto, using(rt_cidr::proofs::Promised::prepending), unfolding(crate::specs::inside::Parts::route_back))]
+fn prepend_record_back(text: &mut ShortText, route: &Route)
+    requires room { FitsInShortText (route_back Syntax.Csv route.now) text.old }
+    ensures { text.new ≡ route_back Syntax.Csv route.now ++ text.old }
+{
+    prepend_hop_record(text, route.hop);
+    text.prepend(b",");
+    text.prepend_decimal(u64::from(route.pref));
+    text.prepend(b",");
+}
+
 /// Prepends the next hop's address, or `discard`.
 #[tactic(auto, using(rt_cidr::proofs::Promised::prepending))]
 fn prepend_hop_text(text: &mut ShortText, hop: Hop)
@@ -208,5 +234,20 @@ fn prepend_hop_members(text: &mut ShortText, hop: Hop)
             text.prepend(b"\"via\":\"");
         }
         Hop::Discard => text.prepend(b"\"via\":null,\"discard\":true"),
+    }
+}
+
+/// Prepends the next hop as fields.
+#[tactic(auto, using(rt_cidr::proofs::Promised::prepending))]
+fn prepend_hop_record(text: &mut ShortText, hop: Hop)
+    requires room { FitsInShortText (hop_record hop) text.old }
+    ensures { text.new ≡ hop_record hop ++ text.old }
+{
+    match hop {
+        Hop::Via(address) => {
+            text.prepend(b",");
+            address.prepend_to(text);
+        }
+        Hop::Discard => text.prepend(b",true"),
     }
 }

@@ -1,7 +1,7 @@
-//! The style of printed routes: lines or JSON objects, and the labels of the feeds.
+//! The style of printed routes: lines, JSON objects or comma-separated values, and the labels of the feeds.
 ghost use Rattle.std.specs.Prelude.{◌≡◌, ◌≤◌, ℕ, List, [], length, map, IfOk};
 ghost use Rattle.rt_rib.specs.declared.limits.TheConstants.{MAX_FEEDS};
-ghost use Rattle.rt_print.specs.Styles.{style_of};
+ghost use Rattle.rt_print.specs.Styles.{style_of, rows_header, found_header, all_found_header};
 ghost use Rattle.rt_print.specs.inside.Parts.{label_pairs};
 
 use crate::format::{Format, Syntax};
@@ -50,6 +50,39 @@ impl Style {
             syntax: format.syntax(),
             labels,
         })
+    }
+
+    /// Returns the header of routes: in CSV a line with the names of the columns, else no bytes.
+    #[tactic(auto, unfolding(crate::specs::Styles::rows_header, crate::specs::Csv::csv_field))]
+    pub fn rows_header(&self) -> &'static [u8]
+        ensures { result.now ≡ rows_header self.now.syntax }
+    {
+        match self.syntax {
+            Syntax::Line | Syntax::Json => b"",
+            Syntax::Csv => b"prefix,feed,name,file,pref,via,discard\r\n",
+        }
+    }
+
+    /// Returns the header of look-up results, as `rows_header` does.
+    #[tactic(auto, unfolding(crate::specs::Styles::found_header, crate::specs::Csv::csv_field))]
+    pub fn found_header(&self) -> &'static [u8]
+        ensures { result.now ≡ found_header self.now.syntax }
+    {
+        match self.syntax {
+            Syntax::Line | Syntax::Json => b"",
+            Syntax::Csv => b"address,prefix,feed,name,file,pref,via,discard\r\n",
+        }
+    }
+
+    /// Returns the header of all routes that cover an address, as `rows_header` does.
+    #[tactic(auto, unfolding(crate::specs::Styles::all_found_header, crate::specs::Csv::csv_field))]
+    pub fn all_found_header(&self) -> &'static [u8]
+        ensures { result.now ≡ all_found_header self.now.syntax }
+    {
+        match self.syntax {
+            Syntax::Line | Syntax::Json => b"",
+            Syntax::Csv => b"address,prefix,feed,name,file,pref,via,discard,reason\r\n",
+        }
     }
 
     /// Returns the syntax in which routes are printed.

@@ -20,4 +20,4 @@ unfolding change_counts_as
 returns g c =
     let sums = c.sums_of-ranges.ensures in
     writes_after _ _ _ _ _ _ (rw (c.syntax-syntax.ensures, sums.ranges, sums.addresses) at c.in_ok-put_number.ensures.ok)
-    (writes_after _ _ _ _ _ _ (rw c.syntax-syntax.ensures at c.in_ok-put_kinds.ensures.ok) c.put_counts.ensures)
+    (writes_after _ _ _ _ _ _ (rw c.syntax-syntax.ensures at c.in_ok-put_kinds.ensures.ok) (rw c.syntax-syntax.ensures at c.put_counts.ensures))

@@ -13,7 +13,7 @@ use Rattle.rt_print.proofs.differences.+put_prefixes.Goals.{then-bits-eq0-via-th
 pub returns-then-is_inside : goal.returns-then-is_inside
 returns-then-is_inside g t c =
     let change = c.args.change in
-    let line = prefix_as change.syntax (answer_as change.old.style.now change.old.answer.now) (answer_as change.new.style.now change.new.answer.now) in
+    let line = prefix_as change.syntax (answer_as change.old.by change.old.style.now change.old.answer.now) (answer_as change.new.by change.new.style.now change.new.answer.now) in
     let d = c.args.difference.now in
     let size = one_shl c.args.bits 64 (omega (arith, c.requires.few)) in
     subst (λ (text : List ℕ). WritesText (g.W.Write.contents c.args.w.now) (g.W.Write.contents c.put_prefix.new.w) text c.put_prefix.result)
@@ -22,7 +22,7 @@ returns-then-is_inside g t c =
 pub returns-then-bits-eq0 : goal.returns-then-bits-eq0
 returns-then-bits-eq0 g t c =
     let change = c.args.change in
-    let line = prefix_as change.syntax (answer_as change.old.style.now change.old.answer.now) (answer_as change.new.style.now change.new.answer.now) in
+    let line = prefix_as change.syntax (answer_as change.old.by change.old.style.now change.old.answer.now) (answer_as change.new.by change.new.style.now change.new.answer.now) in
     let d = c.args.difference.now in
     let size = one_shl c.args.bits 64 (omega (arith, c.requires.few)) in
     let none : [] ≡ flat_map line (prefixes_in d.first.0 d.last.0 c.args.bits c.args.base) = elim c.then-bits-eq0.branch [
@@ -54,7 +54,7 @@ overflow_add-base g t c =
 pub returns-in_err-put_prefixes : goal.returns-in_err-put_prefixes
 returns-in_err-put_prefixes g t c =
     let change = c.args.change in
-    let line = prefix_as change.syntax (answer_as change.old.style.now change.old.answer.now) (answer_as change.new.style.now change.new.answer.now) in
+    let line = prefix_as change.syntax (answer_as change.old.by change.old.style.now change.old.answer.now) (answer_as change.new.by change.new.style.now change.new.answer.now) in
     let d = c.args.difference.now in
     let some : 0 < c.args.bits = omega (arith, c.if-bits-eq0.false) in
     let size = one_shl c.args.bits 64 (omega (arith, c.requires.few)) in
@@ -65,7 +65,7 @@ returns-in_err-put_prefixes g t c =
 pub returns : goal.returns
 returns g t c =
     let change = c.args.change in
-    let line = prefix_as change.syntax (answer_as change.old.style.now change.old.answer.now) (answer_as change.new.style.now change.new.answer.now) in
+    let line = prefix_as change.syntax (answer_as change.old.by change.old.style.now change.old.answer.now) (answer_as change.new.by change.new.style.now change.new.answer.now) in
     let d = c.args.difference.now in
     let some : 0 < c.args.bits = omega (arith, c.if-bits-eq0.false) in
     let size = one_shl c.args.bits 64 (omega (arith, c.requires.few)) in
