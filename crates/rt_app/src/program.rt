@@ -10,15 +10,16 @@ mod styles;
 mod threads;
 mod warnings;
 
-ghost use Rattle.std.specs.Prelude.{◌≡◌, ◌≤◌, length, vec_len, IfOk};
+ghost use Rattle.std.specs.Prelude.{◌≡◌, ◌≤◌, true, [], length, map, vec_len, IfOk};
 ghost use Rattle.rt_rib.specs.declared.limits.TheConstants.{MAX_FEEDS};
+ghost use Rattle.rt_run.specs.ChosenFeeds.{is_left_out, AreWithout};
 
 use command_line::{Arguments, Refusal, ReplayRequest, Request, RequestFault, RunRequest};
 use feed_choice::FeedFiles;
 pub(crate) use program_error::ProgramError;
 use program_error::{ArgumentFault, NO_MEMORY};
 use rt_cidr::put;
-use rt_run::{AppFault, FeedChoice, MAX_FEED_FILES, Status, replay_text, run_texts};
+use rt_run::{AppFault, MAX_FEED_FILES, Status, is_left_out, replay_text, run_texts};
 use std::alloc::Global;
 use std::fs;
 use std::io::Write;
@@ -31,12 +32,6 @@ use terminal_line::{ProgressLine, Screen, Stage};
 const _: () = prove!(command_line::MAX_FEED_FILES == MAX_FEED_FILES);
 
 const _: () = prove!(command_line::MAX_ROUTES_PER_FEED == rt_rib::MAX_ROUTES_PER_FEED);
-
-/// The choice that leaves no feed out.
-const EVERY_FEED: FeedChoice<'static> = FeedChoice {
-    only: &[],
-    without: &[],
-};
 
 /// Runs the program with its arguments, of which the first is its name. Writes results to `out` and messages to `err`, and
 /// returns the exit status. Errors of `err` itself are ignored.
@@ -111,7 +106,7 @@ impl<R: Files + Threads + Wait + Sync + AllocGlobal, O: Write, E: Write> Program
     /// Writes the replies to the commands of the files and the table, and returns the exit status.
     fn run_files<'w>(&mut self, request: &RunRequest<'w>) -> Result<u8, ProgramError<'w>> {
         let files = FeedFiles::of(request.files)?;
-        let texts = self.read_feeds(files, EVERY_FEED)?;
+        let texts = self.read_feeds(files, &[], &[])?;
         let (texts, batch) = (texts.as_slice(), request.batch as usize);
         let mut out = self.screen.beside(texts.len(), self.out);
         Ok(run_texts(self.rt, self.alloc, texts, request.limit, batch, &mut out)?)
@@ -134,25 +129,41 @@ impl<R: Files + Wait + AllocGlobal, O: Write, E: Write> Program<'_, R, O, E> {
         }
     }
 
-    /// Returns the texts of the feed files, and an empty text for each feed that is left out, whose file isn't read.
+    /// Returns the texts of the feed files, and an empty text for each feed that is left out, whose file isn't read: feeds that
+    /// are one of `without`, or, if `only` has feeds, none of these.
     fn read_feeds<'w>(
         &mut self,
         files: FeedFiles<'w>,
-        choice: FeedChoice<'_>,
+        only: &[u32],
+        without: &[u32],
     ) -> Result<Vec<Vec<u8>>, ProgramError<'w>>
-        ensures { IfOk result (λ texts. vec_len texts ≤ MAX_FEEDS) }
+        ensures few { IfOk result (λ texts. vec_len texts ≤ MAX_FEEDS) }
+        ensures left_out { IfOk result (λ texts. AreWithout (is_left_out only.now without.now) (map (λ text. text.items) texts.items) (map (λ text. text.items) texts.items)) }
     {
         let mut texts = Vec::new(self.alloc);
         for (index, name) in files.names.iter().enumerate() {
             self.screen.set(Stage::Reading(index, files.names.len()));
-            let text = if choice.leaves_out(index as u32 + 1) {
-                Vec::new(self.alloc)
-            } else {
-                self.read_file(name)?
-            };
+            let text = self.read_feed(name, index as u32 + 1, only, without)?;
             texts.push(text)?;
         }
         Ok(texts)
+    }
+
+    /// Returns the text of the feed of this number, from the file of this name, or an empty text if the feed is left out.
+    fn read_feed<'w>(
+        &self,
+        name: &'w str,
+        feed: u32,
+        only: &[u32],
+        without: &[u32],
+    ) -> Result<Vec<u8>, ProgramError<'w>>
+        ensures { IfOk result (λ text. is_left_out only.now without.now feed ≡ true → text.items ≡ []) }
+    {
+        if is_left_out(only, without, feed) {
+            Ok(Vec::new(self.alloc))
+        } else {
+            self.read_file(name)
+        }
     }
 
     fn read_file<'w>(&self, name: &'w str) -> Result<Vec<u8>, ProgramError<'w>> {

@@ -1,5 +1,5 @@
 -- Shares of a run's texts, each executed by itself: from the list of their results to tables and tallies of shares.
-use Rattle.std.proofs.Common.{◌≡◌, ℕ, suc, ◌+◌, ◌<◌, ◌≤◌, inl, inr, List, [], ◌∷◌, ◌++◌, map, length, get_or, refl, sym, ap, subst, ◌∙◌, arith}
+use Rattle.std.proofs.Common.{◌≡◌, ℕ, suc, ◌+◌, ◌<◌, ◌≤◌, inl, inr, List, [], ◌∷◌, ◌++◌, map, length, get_or, if◌then◌else◌, refl, sym, ap, subst, ◌∙◌, arith}
 use Rattle.std.specs.Prelude.{Ok, Err, IsOk, All, alloc_error}
 use Rattle.std.specs.declared.vec.Vec.{Vec}
 use Rattle.std.specs.declared.alloc.Global.{Global}
@@ -15,12 +15,13 @@ use Rattle.rt_tables.specs.Unions.{union_of, AreOfDifferentFeeds}
 use Rattle.rt_tables.specs.Laws.{UnionIsTable, UnionHasTheirRoutes}
 use Rattle.rt_feed.specs.Lines.{LineOutcome, report_lines}
 use Rattle.rt_run.specs.declared.tallies.RejectedInput.{RejectedInput}
-use Rattle.rt_run.specs.RunText.{RunContents, ExplainsFrom}
-use Rattle.rt_run.specs.TableText.{tally_of, LeavesTable}
-use Rattle.rt_run.specs.Shares.{share_with, is_of_other, share_of, AreShares, IsTableOfAll}
-use Rattle.rt_run.specs.inside.Runs.{ShareRun, EndsShare, EndEach, routes_left, tallies_left, AreOfRuns, AreTalliesOfEach}
+use Rattle.rt_run.specs.RunText.{InputContents, RunContents, in_batches, ExplainsFrom}
+use Rattle.rt_run.specs.TableText.{tally_of, has_faulty, LeavesTable, IsGivenBack}
+use Rattle.rt_run.specs.Shares.{share_with, is_of_other, AreShares, IsTableOfAll}
+use Rattle.rt_run.specs.inside.Runs.{LeavesInAnyBatches, part_of, PartRun, EndsPart, EndEachPart, EndEach, routes_left, tallies_left, part_left, AreOfRuns, AreTalliesOfEach, IsGivenBackByShares}
 use Rattle.rt_run.proofs.Lists.{map_more}
 use Rattle.rt_run.proofs.KeptTexts.{kept_length}
+use Rattle.rt_run.proofs.Shares.{has_text_at}
 
 -- a run of texts has a tally for each
 as_many_outcomes : (batch feed : ℕ) (journal : List Entry) (texts : List (List ℕ)) (outcomes : List (List LineOutcome)) → ExplainsFrom batch feed journal texts outcomes
@@ -29,17 +30,17 @@ as_many_outcomes batch feed journal [] [] is = refl
 as_many_outcomes batch feed journal (text ∷ texts) (lines ∷ outcomes) is = ap suc (as_many_outcomes batch (feed + 1) journal texts outcomes is.1)
 as_many_outcomes batch feed journal texts outcomes is = absurd is
 
-as_many_tallies : (asked : RunContents) (table : List Route) (tallies : List RejectedInput) → LeavesTable asked table tallies → length tallies ≡ length asked.texts
+pub as_many_tallies : (asked : RunContents) (table : List Route) (tallies : List RejectedInput) → LeavesTable asked table tallies → length tallies ≡ length asked.texts
 as_many_tallies asked table tallies left =
     ap length left.tallied
     ∙ (length-map (map (report_lines 1) left.outcomes) tally_of
     ∙ (length-map left.outcomes (report_lines 1) ∙ as_many_outcomes asked.batch 1 left.journal asked.texts left.outcomes left.history.explained))
 
--- what a share left that didn't run out of memory
-left_by_ran : (asked : RunContents) (dealt : List ℕ) (share : ℕ) (run : ShareRun) → IsOk run → EndsShare asked dealt share run
-    → LeavesTable (share_of asked dealt share) (routes_left run) (tallies_left run)
-left_by_ran asked dealt share (Ok left) ran ended = ended
-left_by_ran asked dealt share (Err fault) ran ended = absurd (cc)
+-- what a part left that didn't run out of memory
+left_by_ran : (part : InputContents) (run : PartRun) → IsOk run → EndsPart part run
+    → LeavesInAnyBatches part (routes_left run) (tallies_left run) × IsGivenBack part (tallies_left run) (part_left run)
+left_by_ran part (Ok left) ran ended = ended
+left_by_ran part (Err fault) ran ended = absurd (cc)
 
 -- each text is in some share: one that isn't dealt is in the first
 in_some_share : (dealt : List ℕ) (shares : ℕ) → 1 ≤ shares → All (λ share. share < shares) dealt → (k : ℕ) → share_with dealt k < shares
@@ -48,15 +49,30 @@ in_some_share dealt shares some each k = elim (cases_lt k (length dealt)) [
   | inr past ↦ omega (arith, some, get_or_past dealt k 0 past)
 ]
 
-module _ (asked : RunContents) (dealt : List ℕ) (shares : ℕ) (runs : List ShareRun) (tables : List (List Route)) (told : List (List RejectedInput)) (some : 1 ≤ shares)
-    (each : All (λ share. share < shares) dealt) (counted : length runs ≡ shares)
-    (ended : EndEach asked dealt runs) (split : AreOfRuns runs tables told) where
-  left_at : (share : ℕ) → share < shares → LeavesTable (share_of asked dealt share) (get_or tables share []) (get_or told share [])
+-- the parts that were executed are those of the shares
+pub ended_each : (input : InputContents) (dealt : List ℕ) (shares : ℕ) (parts : List InputContents) (runs : List PartRun) → length parts ≡ shares → length runs ≡ shares
+    → ((share : ℕ) (none : InputContents) → share < shares → get_or parts share none ≡ part_of input dealt share) → EndEachPart parts runs → EndEach input dealt runs
+ended_each input dealt shares parts runs count ran are ended share none here =
+    let within : share < shares = omega (arith, here, ran) in
+    subst (λ part. EndsPart part (get_or runs share none)) (are share input within) (ended share input none (omega (arith, within, count)))
+
+module _ (input : InputContents) (dealt : List ℕ) (shares : ℕ) (runs : List PartRun) (tables : List (List Route)) (told : List (List RejectedInput))
+    (parts : List InputContents) (some : 1 ≤ shares) (each : All (λ share. share < shares) dealt) (counted : length runs ≡ shares)
+    (ended : EndEach input dealt runs) (split : AreOfRuns runs tables told parts) where
+  left_at : (share : ℕ) → share < shares → LeavesInAnyBatches (part_of input dealt share) (get_or tables share []) (get_or told share [])
+      × IsGivenBack (part_of input dealt share) (get_or told share []) (get_or parts share input)
   left_at share here =
-      let none : ShareRun = Err alloc_error in
+      let none : PartRun = Err alloc_error in
       let within : share < length runs = omega (arith, counted, here) in
-      rw (split.tables_left, split.told, get_or-map routes_left runs share none [] within, get_or-map tallies_left runs share none [] within)
-      (left_by_ran asked dealt share (get_or runs share none) (All-get_or IsOk runs share none within split.ran) (ended share none within))
+      rw (
+        split.tables_left,
+        split.told,
+        split.parts_left,
+        get_or-map routes_left runs share none [] within,
+        get_or-map tallies_left runs share none [] within,
+        get_or-map part_left runs share none input within,
+      )
+      (left_by_ran (part_of input dealt share) (get_or runs share none) (All-get_or IsOk runs share none within split.ran) (ended share none within))
 
   pub table_count : length tables ≡ shares
   table_count = ap length split.tables_left ∙ (length-map runs routes_left ∙ counted)
@@ -64,18 +80,43 @@ module _ (asked : RunContents) (dealt : List ℕ) (shares : ℕ) (runs : List Sh
   tally_count : length told ≡ shares
   tally_count = ap length split.told ∙ (length-map runs tallies_left ∙ counted)
 
-  pub are_shares : AreShares asked dealt tables told
-  are_shares = record {
+  pub part_count : length parts ≡ shares
+  part_count = ap length split.parts_left ∙ (length-map runs part_left ∙ counted)
+
+  pub are_shares : (batch : ℕ) → 1 ≤ batch → AreShares (in_batches batch input) dealt tables told
+  are_shares batch any = record {
     dealt_to_some = λ k here. omega (arith, table_count, in_some_share dealt shares some each k);
-    left = λ share here. left_at share (omega (arith, table_count, here));
+    left = λ share here. (left_at share (omega (arith, table_count, here))).0 batch any;
   }
 
-  pub are_tallies_of_each : AreTalliesOfEach asked dealt told
+  pub are_tallies_of_each : AreTalliesOfEach (length input.texts) dealt told
   are_tallies_of_each = record {
     dealt_to_some = λ k here. omega (arith, tally_count, in_some_share dealt shares some each k);
     as_many = λ share here.
-        as_many_tallies (share_of asked dealt share) (get_or tables share []) (get_or told share []) (left_at share (omega (arith, tally_count, here)))
-        ∙ kept_length (is_of_other dealt share) 1 asked.texts;
+        as_many_tallies (in_batches 1 (part_of input dealt share)) (get_or tables share []) (get_or told share [])
+        ((left_at share (omega (arith, tally_count, here))).0 1 (omega arith))
+        ∙ kept_length (is_of_other dealt share) 1 input.texts;
+  }
+
+  -- each part still has a place for every text
+  pub part_lengths : All (λ (part : InputContents). length part.texts ≡ length input.texts) parts
+  part_lengths = All-from_get_or (λ (part : InputContents). length part.texts ≡ length input.texts) parts input (λ share here.
+      (left_at share (omega (arith, part_count, here))).1.as_many ∙ kept_length (is_of_other dealt share) 1 input.texts)
+
+  -- the texts that the parts still have were put back
+  pub given_by_parts : (new : InputContents) → new.limit ≡ input.limit → length new.texts ≡ length input.texts
+      → ((k : ℕ) (none : InputContents) → k < length input.texts → share_with dealt k < length parts
+      → get_or new.texts k [] ≡ get_or (get_or parts (share_with dealt k) none).texts k []) → IsGivenBackByShares input dealt told new
+  given_by_parts new limited as_many back = record {
+    limited = limited;
+    as_many = as_many;
+    each = λ k none here.
+        let share = share_with dealt k in
+        let within : share < shares = in_some_share dealt shares some each k in
+        let has : get_or (part_of input dealt share).texts k [] ≡ get_or input.texts k [] = has_text_at (in_batches 1 input) dealt share k refl in
+        back k input here (omega (arith, part_count, within))
+        ∙ ((left_at share within).1.each k none (omega (arith, here, kept_length (is_of_other dealt share) 1 input.texts))
+        ∙ ap (λ text. if has_faulty (get_or (get_or told share []) k none) then text else []) has);
   }
 
 -- the union of the tables of shares is the table of all their routes
@@ -90,18 +131,20 @@ whole_of_shares by_entry is_table has_theirs asked dealt tables told shares apar
     }
 
 -- one more run, which didn't run out of memory
-pub split_more : (runs : List ShareRun) (run : ShareRun) (tables tables' : List (TableContents)) (told told' : List (Vec RejectedInput Global)) (table : TableContents)
-    (tallies : Vec RejectedInput Global) → AreOfRuns runs (map (λ t. t.routes) tables) (map (λ l. l.items) told) → run ≡ Ok (table, tallies)
-    → tables' ≡ tables ++ table ∷ [] → told' ≡ told ++ tallies ∷ [] → AreOfRuns (runs ++ run ∷ []) (map (λ t. t.routes) tables') (map (λ l. l.items) told')
-split_more runs run tables tables' told told' table tallies so_far is pushed also =
+pub split_more : (runs : List PartRun) (run : PartRun) (tables tables' : List (TableContents)) (told told' : List (Vec RejectedInput Global)) (parts parts' : List InputContents)
+    (table : TableContents) (tallies : Vec RejectedInput Global) (part : InputContents) → AreOfRuns runs (map (λ t. t.routes) tables) (map (λ l. l.items) told) parts
+    → run ≡ Ok (table, tallies, part) → tables' ≡ tables ++ table ∷ [] → told' ≡ told ++ tallies ∷ [] → parts' ≡ parts ++ part ∷ []
+    → AreOfRuns (runs ++ run ∷ []) (map (λ t. t.routes) tables') (map (λ l. l.items) told') parts'
+split_more runs run tables tables' told told' parts parts' table tallies part so_far is pushed also last =
     let routes_of : TableContents → List Route = λ t. t.routes in
     let items_of : Vec RejectedInput Global → List RejectedInput = λ l. l.items in
     record {
-      ran = All-push (λ (r : ShareRun). IsOk r) runs run so_far.ran (subst (λ (r : ShareRun). IsOk r) (sym is) refl);
+      ran = All-push (λ (r : PartRun). IsOk r) runs run so_far.ran (subst (λ (r : PartRun). IsOk r) (sym is) refl);
       tables_left = map_more routes_left (map routes_of tables) (map routes_of tables') runs run (routes_of table) so_far.tables_left
           (ap (map routes_of) pushed ∙ map_push routes_of tables table) (sym (ap routes_left is));
       told = map_more tallies_left (map items_of told) (map items_of told') runs run (items_of tallies) so_far.told
           (ap (map items_of) also ∙ map_push items_of told tallies) (sym (ap tallies_left is));
+      parts_left = map_more part_left parts parts' runs run part so_far.parts_left last (sym (ap part_left is));
     }
 
 -- the tallies at a place of a list of vectors

@@ -6,13 +6,14 @@ pub mod Outputs
 pub mod Comparing
 pub mod CountedLines
 pub mod InTurn
-pub mod BothSides
 pub mod KeptTexts
 pub mod SeveralFeeds
 pub mod SameTables
 pub mod LeftOut
 pub mod Alone
 pub mod Shares
+pub mod TakenTexts
+pub mod GivenBack
 pub mod Dealt
 pub mod SameTallies
 pub mod SameOutputs

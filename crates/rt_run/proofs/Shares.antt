@@ -22,7 +22,6 @@ use Rattle.rt_run.specs.RunText.{RunContents}
 use Rattle.rt_run.specs.TableText.{tally_of, LeavesTable}
 use Rattle.rt_run.specs.inside.Runs.{ExecutesText}
 use Rattle.rt_run.specs.Shares.{share_with, is_of_other, share_of, AreShares, AreTalliesOfShares, IsTableOfAll, SharesAreApart, SharesAreOneRun}
-use Rattle.rt_run.specs.ChosenFeeds.{texts_kept}
 use Rattle.rt_run.proofs.InTurn.{entries_by, leaves_nothing, leaves_more}
 use Rattle.rt_run.proofs.SameTables.{has_text}
 use Rattle.rt_run.proofs.LeftOut.{own_entries}
@@ -32,10 +31,6 @@ use Rattle.rt_run.proofs.Alone.{state, replied_in, text_again, replied_again, sa
 -- the feed at a place is another thread's or not
 pub other_at : (dealt : List ℕ) (thread k : ℕ) → is_of_other dealt thread (k + 1) ≡ not (share_with dealt k == thread)
 other_at dealt thread k = let place : (k + 1) - 1 ≡ k = omega arith in ap (λ i. not (share_with dealt i == thread)) place
-
-all_kept : (feed : ℕ) (texts : List (List ℕ)) → texts_kept (is_of_other [] 0) feed texts ≡ texts
-all_kept feed [] = refl
-all_kept feed (text ∷ texts) = ap (λ ts. text ∷ ts) (all_kept (feed + 1) texts)
 
 -- a thread has the texts of its feeds, and no other
 pub has_text_at : (asked : RunContents) (dealt : List ℕ) (thread k : ℕ) → share_with dealt k ≡ thread
@@ -48,10 +43,6 @@ pub has_none_at : (asked : RunContents) (dealt : List ℕ) (thread k : ℕ) → 
 has_none_at asked dealt thread k other =
     kept_at (is_of_other dealt thread) 1 asked.texts k
     ∙ cond-true (is_of_other dealt thread (k + 1)) [] (get_or asked.texts k []) (other_at dealt thread k ∙ ap not other)
-
--- the only share has all texts
-pub one_share : (asked : RunContents) → share_of asked [] 0 ≡ asked
-one_share asked = ap (λ texts. record asked { texts = texts }) (all_kept 1 asked.texts)
 
 -- texts were executed one after another, and left each feed these routes
 pub record HasExecuted (asked : RunContents) (own : ℕ → List Route) (tallies : List RejectedInput) : Type 0 where

@@ -18,12 +18,20 @@ use Rattle.rt_feed.specs.declared.faults.RunFault.TheVariants as fault
 use Rattle.rt_run.specs.declared.faults.AppFault.{AppFault}
 use Rattle.rt_run.specs.declared.faults.AppFault.TheVariants.{Run, Replay, Write}
 
--- the texts of feeds, the maximum number of routes of each feed, and the maximum number of a feed's commands that are
--- executed together
+-- the input of a query: the texts of feeds, and the maximum number of routes of each feed
+pub record InputContents : Type 0 where
+  pub texts : List (List ℕ)
+  pub limit : ℕ
+
+-- the input of a run: the same, and the maximum number of a feed's commands that are executed together
 pub record RunContents : Type 0 where
   pub texts : List (List ℕ)
   pub limit : ℕ
   pub batch : ℕ
+
+-- the input of a run of these texts in batches of this size
+abbrev pub in_batches : ℕ → InputContents → RunContents
+in_batches batch input = record { texts = input.texts; limit = input.limit; batch = batch }
 
 -- the feed's whole text became these lines. Its commands are split into pieces of `batch`: the answered commands of each
 -- piece are in the journal in one piece, in this order, and no other entry of the journal is the feed's

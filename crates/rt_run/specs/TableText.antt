@@ -1,5 +1,5 @@
 -- The output of queries of a run's final table, and the tally of each text.
-use Rattle.std.specs.Prelude.{◌≡◌, ℕ, Bool, true, false, ◌||◌, if◌then◌else◌, nat_lt, List, [], ◌∷◌, ◌++◌, length, map, count_by, filter, filter_map, Option, Some, None}
+use Rattle.std.specs.Prelude.{◌≡◌, ℕ, Bool, true, false, ◌<◌, ◌||◌, if◌then◌else◌, nat_lt, List, [], ◌∷◌, ◌++◌, length, get_or, map, count_by, filter, filter_map, Option, Some, None}
 use Rattle.std.specs.List.{flat_map, list_any}
 use Rattle.rt_cidr.specs.declared.address.Addr.{Addr}
 use Rattle.rt_rib.specs.declared.routes.Route.{Route}
@@ -23,7 +23,7 @@ use Rattle.rt_run.specs.declared.tallies.RejectedLines.{RejectedLines}
 use Rattle.rt_run.specs.declared.tallies.RunSummary.{RunSummary}
 use Rattle.rt_run.specs.declared.question.Question.{Question}
 use Rattle.rt_run.specs.declared.question.Question.TheVariants as ask
-use Rattle.rt_run.specs.RunText.{RunContents, IsJournalOfRun, reports_of, status_where}
+use Rattle.rt_run.specs.RunText.{InputContents, RunContents, IsJournalOfRun, reports_of, status_where}
 use Rattle.rt_run.specs.ChosenFeeds.{routes_of_selected}
 
 -- what is printed for a row: the answer for its address; for an invalid line its number, if such lines are kept, or else nothing
@@ -129,6 +129,10 @@ has_refused tally = nat_lt 0 tally.refused
 abbrev pub has_rejected : RejectedInput → Bool
 has_rejected tally = nat_lt 0 tally.faulty.count || nat_lt 0 tally.full.count
 
+-- a line was faulty
+abbrev pub has_faulty : RejectedInput → Bool
+has_faulty tally = nat_lt 0 tally.faulty.count
+
 -- the status of a query: faulty lines and `add`s over the limit count as rejected input
 abbrev pub tallies_status : List RejectedInput → ℕ
 tallies_status tallies = status_where (list_any has_refused tallies) (list_any has_rejected tallies)
@@ -144,6 +148,13 @@ pub record LeavesTable (asked : RunContents) (table : List Route) (tallies : Lis
   pub history : IsJournalOfRun asked.texts asked.limit asked.batch journal outcomes
   pub left : table ≡ table_of_journal asked.limit journal
   pub tallied : tallies ≡ map tally_of (reports_of outcomes)
+
+-- the input after its texts were executed with these tallies: a text with a faulty line is as it was, and the memory of each
+-- other text was given back, so that it is empty
+pub record IsGivenBack (old : InputContents) (tallies : List RejectedInput) (new : InputContents) : Type 0 where
+  pub limited : new.limit ≡ old.limit
+  pub as_many : length new.texts ≡ length old.texts
+  pub each : (k : ℕ) (none : RejectedInput) → k < length old.texts → get_or new.texts k [] ≡ (if has_faulty (get_or tallies k none) then get_or old.texts k [] else [])
 
 -- the bytes are the text of the table that some run of this input left, and these are the run's tallies
 pub record IsQueryOutput (asked : RunContents) (text_of : List Route → List ℕ) (bytes : List ℕ) (tallies : List RejectedInput) : Type 0 where

@@ -1,11 +1,11 @@
 //! Comparisons of two runs: the addresses for which their final tables give different answers.
-ghost use Rattle.std.specs.Prelude.{◌≡◌, ◌↔◌, ◌⊎◌, max, []};
-ghost use Rattle.rt_run.specs.RunText.{WritesOrFails};
-ghost use Rattle.rt_run.specs.TableText.{tallies_status};
+ghost use Rattle.std.specs.Prelude.{◌≡◌, ◌↔◌, ◌⊎◌, ◌≤◌, ℕ, max, [], length, drop, IfOk};
+ghost use Rattle.rt_run.specs.RunText.{WritesOrFails, in_batches};
+ghost use Rattle.rt_run.specs.TableText.{tallies_status, IsGivenBack};
 ghost use Rattle.rt_run.specs.DiffText.{differ_status, IsDiffText, IsCountText};
 
-use crate::chosen::ChosenTexts;
 use crate::faults::AppFault;
+use crate::input::RunInput;
 use crate::output::{differences_of, write_differences, write_numbers, write_through};
 use crate::rendering::Workers;
 use crate::sides::run_both;
@@ -26,20 +26,24 @@ use std::thread::Threads;
 /// instead of a line (`write_difference`). Writes nothing else; hence if nothing is written, both tables give the same answer
 /// for every address. All ranges are stored before the first is written. Returns the summary if everything was written. Its
 /// errors are those of `run_texts`: F1 if there is no old text or no new text; F3 also if there is no memory for the ranges or
-/// the tallies. Leaks the tables, as `run_texts` does.
+/// the tallies. Gives back the memory of each text once it is executed, unless it has a faulty line; after an error some texts
+/// may be empty. Leaks the tables, as `run_texts` does.
 pub fn diff_texts<R: Threads + Sync, W: Write>(
     rt: &R,
     alloc: Global,
     threads: usize,
-    old_asked: &ChosenTexts<'_>,
-    new_asked: &ChosenTexts<'_>,
+    old_input: &mut RunInput,
+    new_input: &mut RunInput,
     options: &DiffOptions,
     w: &mut W,
 ) -> Result<RunSummary, AppFault>
-    ensures text { WritesOrFails (IsDiffText options.now old_asked.now new_asked.now) (W.contents w.old) (W.contents w.new) result }
-    ensures no_text { (result ≡ Err (AppFault.Run RunFault.NoText)) ↔ ((old_asked.now.texts ≡ []) ⊎ (new_asked.now.texts ≡ [])) }
+    ensures text { (old_batch new_batch : ℕ) → 1 ≤ old_batch → 1 ≤ new_batch
+        → WritesOrFails (IsDiffText options.now (in_batches old_batch old_input.old) (in_batches new_batch new_input.old)) (W.contents w.old) (W.contents w.new) result }
+    ensures old_given_back { IfOk result (λ given. IsGivenBack old_input.old given.tallies.items old_input.new) }
+    ensures new_given_back { IfOk result (λ given. IsGivenBack new_input.old (drop (length old_input.old.texts) given.tallies.items) new_input.new) }
+    ensures no_text { (result ≡ Err (AppFault.Run RunFault.NoText)) ↔ ((old_input.old.texts ≡ []) ⊎ (new_input.old.texts ≡ [])) }
 {
-    let (old_table, new_table, tallies) = run_both(rt, alloc, old_asked, new_asked)?;
+    let (old_table, new_table, tallies) = run_both(rt, alloc, old_input, new_input)?;
     let workers = Workers { rt, alloc, threads };
     let differences = differences_of(&workers, options, &old_table, &new_table)?;
     mem::forget((old_table, new_table));
@@ -57,15 +61,18 @@ pub fn count_diff_texts<R: Threads + Sync, W: Write>(
     rt: &R,
     alloc: Global,
     threads: usize,
-    old_asked: &ChosenTexts<'_>,
-    new_asked: &ChosenTexts<'_>,
+    old_input: &mut RunInput,
+    new_input: &mut RunInput,
     options: &DiffOptions,
     w: &mut W,
 ) -> Result<RunSummary, AppFault>
-    ensures text { WritesOrFails (IsCountText options.now old_asked.now new_asked.now) (W.contents w.old) (W.contents w.new) result }
-    ensures no_text { (result ≡ Err (AppFault.Run RunFault.NoText)) ↔ ((old_asked.now.texts ≡ []) ⊎ (new_asked.now.texts ≡ [])) }
+    ensures text { (old_batch new_batch : ℕ) → 1 ≤ old_batch → 1 ≤ new_batch
+        → WritesOrFails (IsCountText options.now (in_batches old_batch old_input.old) (in_batches new_batch new_input.old)) (W.contents w.old) (W.contents w.new) result }
+    ensures old_given_back { IfOk result (λ given. IsGivenBack old_input.old given.tallies.items old_input.new) }
+    ensures new_given_back { IfOk result (λ given. IsGivenBack new_input.old (drop (length old_input.old.texts) given.tallies.items) new_input.new) }
+    ensures no_text { (result ≡ Err (AppFault.Run RunFault.NoText)) ↔ ((old_input.old.texts ≡ []) ⊎ (new_input.old.texts ≡ [])) }
 {
-    let (old_table, new_table, tallies) = run_both(rt, alloc, old_asked, new_asked)?;
+    let (old_table, new_table, tallies) = run_both(rt, alloc, old_input, new_input)?;
     let workers = Workers { rt, alloc, threads };
     let differences = differences_of(&workers, options, &old_table, &new_table)?;
     mem::forget((old_table, new_table));

@@ -4,13 +4,14 @@
 //! - [`run_texts`] runs the texts of 1 to [`MAX_FEED_FILES`] feeds over one table behind the lock. Each feed has its own
 //!   thread, and the output goes to a writer. Its clause `text` is the theorem from bytes to bytes: the output is the text
 //!   of a run.
-//! - [`show`] executes the texts one after another and stores neither journal nor reports. It writes the answer to a
+//! - [`show`] executes the texts, each thread a share of them, and stores neither journal nor reports. It writes the answer to a
 //!   [`Question`] about the final table: the best route of each address, all routes that cover it, the selected routes, or
 //!   their number. It returns a tally of the rejected input of each text.
 //! - [`diff_texts`] executes two sets of texts this way, both at the same time if a thread can be created. It writes the
 //!   addresses for which their final tables differ.
 //! - [`count_diff_texts`] writes the number of these ranges and of their addresses instead.
-//! - A [`ChosenTexts`] leaves some feeds out of a query or of a side of a comparison.
+//! - A [`RunInput`] has the texts of a query or of a side of a comparison. The memory of each text is given back once it is
+//!   executed, unless it has a faulty line.
 //! - [`replay_text`] writes the atomic steps of a schedule of the lock. Each step has one line.
 //! - `laws` says what holds for every run and every interleaving of its threads.
 //!
@@ -29,9 +30,11 @@ mod comparisons;
 mod dealing;
 mod faults;
 mod forwarding;
+mod input;
 pub mod laws;
 mod output;
 mod parallel;
+mod parts;
 mod queries;
 mod question;
 mod rendering;
@@ -43,9 +46,10 @@ mod status;
 mod tallies;
 mod turns;
 
-pub use chosen::{ChosenTexts, FeedChoice};
+pub use chosen::is_left_out;
 pub use comparisons::{count_diff_texts, diff_texts};
 pub use faults::AppFault;
+pub use input::RunInput;
 pub use queries::show;
 pub use question::Question;
 pub use replays::replay_text;

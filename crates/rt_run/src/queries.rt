@@ -1,15 +1,16 @@
 //! Queries: a question to the finished table of a run, and the output of the answer.
-ghost use Rattle.std.specs.Prelude.{◌≡◌, ◌↔◌, ◌==◌, ◌&&◌, [], List, IfOk, length};
+ghost use Rattle.std.specs.Prelude.{◌≡◌, ◌↔◌, ◌≤◌, ◌==◌, ◌&&◌, ℕ, [], List, IfOk, length};
 ghost use Rattle.rt_feed.specs.Addresses.{AddressRow, AreOfRows};
 ghost use Rattle.rt_rib.specs.Selection.{selected};
 ghost use Rattle.rt_run.specs.ChosenFeeds.{routes_of_selected};
-ghost use Rattle.rt_run.specs.RunText.{WritesOrFails};
-ghost use Rattle.rt_run.specs.TableText.{question_text, keeps_invalid, IsAnswer};
+ghost use Rattle.rt_run.specs.RunText.{WritesOrFails, in_batches};
+ghost use Rattle.rt_run.specs.TableText.{question_text, keeps_invalid, IsAnswer, IsGivenBack};
 ghost use Rattle.rt_run.specs.inside.Outputs.{matches_found, matches_in, Writes};
 
-use crate::chosen::{ChosenTexts, is_selected};
+use crate::chosen::is_selected;
 use crate::faults::AppFault;
 use crate::forwarding::fib_for;
+use crate::input::RunInput;
 use crate::output::{write_rows_through, write_through};
 use crate::parallel::run_on_threads;
 use crate::question::Question;
@@ -41,20 +42,22 @@ use std::thread::Threads;
 ///
 /// Hence, if no command ran out of memory, the bytes are a function of only the texts, the limit and the question
 /// (`laws::query_output`). Returns the summary if everything was written. Its errors are those of `run_texts`; F3 also if
-/// there is no memory for the addresses, the selected routes or the tallies. Leaks the tables, as `run_texts` does.
+/// there is no memory for the addresses, the selected routes or the tallies. Gives back the memory of each text once it is
+/// executed, unless it has a faulty line; after an error some texts may be empty. Leaks the tables, as `run_texts` does.
 pub fn show<R: Threads + Sync, W: Write>(
     rt: &R,
     alloc: Global,
     threads: usize,
-    asked: &ChosenTexts<'_>,
+    input: &mut RunInput,
     style: &Style,
     question: &Question<'_>,
     w: &mut W,
 ) -> Result<RunSummary, AppFault>
-    ensures text { WritesOrFails (IsAnswer asked.now style.now question.now) (W.contents w.old) (W.contents w.new) result }
-    ensures no_text { (result ≡ Err (AppFault.Run RunFault.NoText)) ↔ (asked.now.texts ≡ []) }
+    ensures text { (batch : ℕ) → 1 ≤ batch → WritesOrFails (IsAnswer (in_batches batch input.old) style.now question.now) (W.contents w.old) (W.contents w.new) result }
+    ensures given_back { IfOk result (λ given. IsGivenBack input.old given.tallies.items input.new) }
+    ensures no_text { (result ≡ Err (AppFault.Run RunFault.NoText)) ↔ (input.old.texts ≡ []) }
 {
-    let (tables, mut tallies) = run_on_threads(rt, alloc, asked, threads)?;
+    let (tables, mut tallies) = run_on_threads(rt, alloc, input, threads)?;
     let (named, text, keep_invalid) = question.addresses();
     let read = read_addresses(alloc, named, text, keep_invalid)?;
     tallies.try_reserve(1)?;

@@ -1,13 +1,15 @@
 //! Both sides of a comparison, executed at the same time.
-ghost use Rattle.std.specs.Prelude.{◌≡◌, ◌≢◌, ◌↔◌, ◌⊎◌, [], ◌∷◌, vec_len, IfOk};
-ghost use Rattle.rt_run.specs.inside.Runs.{EndsInTurn, EndsSide, LeavesBoth};
+ghost use Rattle.std.specs.Prelude.{◌≡◌, ◌≢◌, ◌↔◌, ◌⊎◌, ◌≤◌, ℕ, [], length, drop, IfOk};
+ghost use Rattle.rt_run.specs.RunText.{in_batches};
+ghost use Rattle.rt_run.specs.TableText.{IsGivenBack};
+ghost use Rattle.rt_run.specs.inside.Runs.{EndsInTurn, LeavesBoth};
 
-use crate::chosen::ChosenTexts;
+use crate::input::RunInput;
 use crate::tallies::RejectedInput;
 use crate::turns::run_in_turn;
 use rt_feed::RunFault;
 use rt_rib::Table;
-use std::alloc::{AllocError, Global};
+use std::alloc::Global;
 use std::thread;
 use std::thread::Threads;
 
@@ -21,19 +23,20 @@ type SideRun = Result<(Table<Global>, Vec<RejectedInput>), RunFault>;
 pub(crate) fn run_both<R: Threads + Sync>(
     rt: &R,
     alloc: Global,
-    old_asked: &ChosenTexts<'_>,
-    new_asked: &ChosenTexts<'_>,
+    old_input: &mut RunInput,
+    new_input: &mut RunInput,
 ) -> Result<(Table<Global>, Table<Global>, Vec<RejectedInput>), RunFault>
-    ensures ran { IfOk result (λ both. LeavesBoth old_asked.now new_asked.now both.0.routes both.1.routes both.2.items) }
+    ensures ran { IfOk result (λ both. (old_batch new_batch : ℕ) → 1 ≤ old_batch → 1 ≤ new_batch
+        → LeavesBoth (in_batches old_batch old_input.old) (in_batches new_batch new_input.old) both.0.routes both.1.routes both.2.items) }
+    ensures old_given_back { IfOk result (λ both. IsGivenBack old_input.old both.2.items old_input.new) }
+    ensures new_given_back { IfOk result (λ both. IsGivenBack new_input.old (drop (length old_input.old.texts) both.2.items) new_input.new) }
     ensures refused { result ≢ Err RunFault.FeedCount }
-    ensures no_text { (result ≡ Err RunFault.NoText) ↔ ((old_asked.now.texts ≡ []) ⊎ (new_asked.now.texts ≡ [])) }
+    ensures no_text { (result ≡ Err RunFault.NoText) ↔ ((old_input.old.texts ≡ []) ⊎ (new_input.old.texts ≡ [])) }
 {
-    if old_asked.count() == 0 || new_asked.count() == 0 {
+    if old_input.count() == 0 || new_input.count() == 0 {
         return Err(RunFault::NoText);
     }
-    let Ok((old_run, new_run)) = run_sides(rt, alloc, old_asked, new_asked) else {
-        return Err(RunFault::Memory);
-    };
+    let (old_run, new_run) = run_sides(rt, alloc, old_input, new_input);
     let (old_table, mut tallies) = old_run?;
     let (new_table, mut new_tallies) = new_run?;
     let Ok(()) = tallies.append(&mut new_tallies) else {
@@ -42,54 +45,23 @@ pub(crate) fn run_both<R: Threads + Sync>(
     Ok((old_table, new_table, tallies))
 }
 
-/// Executes both sides, each on its own thread if one can be created. Returns the old one and the new one. Its error: there
-/// was no memory for their list.
+/// Executes both sides, each on its own thread if one can be created. Returns the old one and the new one.
 fn run_sides<R: Threads + Sync>(
     rt: &R,
     alloc: Global,
-    old_asked: &ChosenTexts<'_>,
-    new_asked: &ChosenTexts<'_>,
-) -> Result<(SideRun, SideRun), AllocError>
-    ensures { IfOk result (λ both. EndsInTurn old_asked.now both.0 × EndsInTurn new_asked.now both.1) }
+    old_input: &mut RunInput,
+    new_input: &mut RunInput,
+) -> (SideRun, SideRun)
+    ensures old { EndsInTurn old_input.old result.0 old_input.new }
+    ensures new { EndsInTurn new_input.old result.1 new_input.new }
 {
-    let runs = thread::map_indices(
+    thread::join_mut(
         rt,
-        alloc,
-        2,
-        &|side: usize| -> SideRun
-            ensures { EndsSide old_asked.entry.now new_asked.entry.now side result }
-        { run_side(alloc, old_asked, new_asked, side) },
-    )?;
-    Ok(pair_of(runs))
-}
-
-/// Executes the old texts for side 0, and the new ones for any other.
-fn run_side(
-    alloc: Global,
-    old_asked: &ChosenTexts<'_>,
-    new_asked: &ChosenTexts<'_>,
-    side: usize,
-) -> SideRun
-    ensures { EndsSide old_asked.now new_asked.now side result }
-{
-    if side == 0 {
-        run_in_turn(alloc, old_asked)
-    } else {
-        run_in_turn(alloc, new_asked)
-    }
-}
-
-/// Returns the two elements of the list.
-fn pair_of(runs: Vec<SideRun>) -> (SideRun, SideRun)
-    requires { vec_len runs ≡ 2 }
-    ensures { runs.items ≡ result.0 ∷ result.1 ∷ [] }
-{
-    let mut runs = runs;
-    let Some(new_run) = runs.pop() else {
-        unreachable!()
-    };
-    let Some(old_run) = runs.pop() else {
-        unreachable!()
-    };
-    (old_run, new_run)
+        &mut || -> SideRun
+            ensures { EndsInTurn old_input.entry.now result old_input.exit.now }
+        { run_in_turn(alloc, old_input) },
+        &mut || -> SideRun
+            ensures { EndsInTurn new_input.entry.now result new_input.exit.now }
+        { run_in_turn(alloc, new_input) },
+    )
 }

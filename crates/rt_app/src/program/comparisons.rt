@@ -1,17 +1,13 @@
 //! `diff`: the addresses for which the tables of two sets of feed files differ, and reports of rejected input.
 
-ghost use Rattle.std.specs.Prelude.{◌≤◌, length};
-ghost use Rattle.rt_rib.specs.declared.limits.TheConstants.{MAX_FEEDS};
-
 use super::feed_choice::FeedNumbers;
-use super::queries::asked_of;
-use super::styles::{check_sides, diff_options};
+use super::styles::{diff_options, sides_of};
 use super::threads::threads_to_compare;
-use super::warnings::{FeedTexts, report_sides};
+use super::warnings::{FeedTexts, ends_of_line, report_sides};
 use super::{Program, ProgramError};
 use command_line::{DiffRequest, DifferenceOutput};
 use rt_print::DiffOptions;
-use rt_run::{count_diff_texts, diff_texts};
+use rt_run::{RunInput, count_diff_texts, diff_texts};
 use std::alloc::Global;
 use std::io::Write;
 use std::rt::Files;
@@ -26,9 +22,24 @@ impl<R: Files + Threads + Wait + Sync + AllocGlobal, O: Write, E: Write> Program
         request: &DiffRequest<'w>,
     ) -> Result<u8, ProgramError<'w>> {
         let sides = Sides::of(self.alloc, request)?;
-        let old_texts = self.read_feeds(sides.old.files, sides.old.choice())?;
-        let new_texts = self.read_feeds(sides.new.files, sides.new.choice())?;
-        self.show_differences(request, &sides, old_texts.as_slice(), new_texts.as_slice())
+        let old_input = self.read_side(request, &sides.old)?;
+        let new_input = self.read_side(request, &sides.new)?;
+        self.show_differences(request, &sides, old_input, new_input)
+    }
+
+    /// Reads the files of a side.
+    fn read_side<'w>(
+        &mut self,
+        request: &DiffRequest<'_>,
+        feeds: &FeedNumbers<'w>,
+    ) -> Result<RunInput, ProgramError<'w>> {
+        let FeedNumbers {
+            files,
+            only,
+            without,
+        } = feeds;
+        let texts = self.read_feeds(*files, only.as_slice(), without.as_slice())?;
+        Ok(RunInput::new(texts, request.run.limit))
     }
 
     /// Executes the texts of both sides and writes their differences, as `compare` says.
@@ -36,26 +47,24 @@ impl<R: Files + Threads + Wait + Sync + AllocGlobal, O: Write, E: Write> Program
         &mut self,
         request: &DiffRequest<'_>,
         sides: &Sides<'_>,
-        old_texts: &[Vec<u8>],
-        new_texts: &[Vec<u8>],
-    ) -> Result<u8, ProgramError<'w>>
-        requires old { length old_texts.now ≤ MAX_FEEDS }
-        requires new { length new_texts.now ≤ MAX_FEEDS }
-    {
-        let old_asked = asked_of(&request.run, old_texts, sides.old.choice());
-        let new_asked = asked_of(&request.run, new_texts, sides.new.choice());
-        let threads = threads_to_compare(self.rt, old_texts, new_texts);
+        old_input: RunInput,
+        new_input: RunInput,
+    ) -> Result<u8, ProgramError<'w>> {
+        let (mut old_input, mut new_input) = (old_input, new_input);
+        let old_ends = ends_of_line(self.alloc, old_input.texts())?;
+        let new_ends = ends_of_line(self.alloc, new_input.texts())?;
+        let threads = threads_to_compare(self.rt, old_input.texts(), new_input.texts());
         let mut out = self
             .screen
-            .beside(old_asked.count() + new_asked.count(), self.out);
+            .beside(old_input.count() + new_input.count(), self.out);
         let compared = match request.output {
             DifferenceOutput::Counts => {
                 count_diff_texts(
                     self.rt,
                     self.alloc,
                     threads,
-                    &old_asked,
-                    &new_asked,
+                    &mut old_input,
+                    &mut new_input,
                     &sides.options,
                     &mut out,
                 )
@@ -65,8 +74,8 @@ impl<R: Files + Threads + Wait + Sync + AllocGlobal, O: Write, E: Write> Program
                     self.rt,
                     self.alloc,
                     threads,
-                    &old_asked,
-                    &new_asked,
+                    &mut old_input,
+                    &mut new_input,
                     &sides.options,
                     &mut out,
                 )
@@ -75,11 +84,13 @@ impl<R: Files + Threads + Wait + Sync + AllocGlobal, O: Write, E: Write> Program
         let summary = compared?;
         let old = FeedTexts {
             names: request.run.files,
-            texts: old_texts,
+            texts: old_input.texts(),
+            ends: old_ends.as_slice(),
         };
         let new = FeedTexts {
             names: request.new_files,
-            texts: new_texts,
+            texts: new_input.texts(),
+            ends: new_ends.as_slice(),
         };
         report_sides(&mut self.screen, old, new, summary.tallies.as_slice());
         Ok(summary.status)
@@ -95,13 +106,13 @@ struct Sides<'w> {
 }
 
 impl<'w> Sides<'w> {
-    /// Returns what the command line asks to compare. Stops as `check_sides` does, and then as `FeedNumbers::of` does for
-    /// the old feeds and for the new ones.
+    /// Returns what the command line asks to compare. Stops as `sides_of` does, and then as `FeedNumbers::of` does for the old
+    /// feeds and for the new ones.
     fn of(alloc: Global, request: &DiffRequest<'w>) -> Result<Sides<'w>, ProgramError<'w>> {
-        check_sides(request)?;
-        let old = FeedNumbers::of(alloc, &request.old_feeds, request.run.files)?;
-        let new = FeedNumbers::of(alloc, &request.new_feeds, request.new_files)?;
-        let options = diff_options(alloc, request, old.files, new.files)?;
+        let (old_files, new_files) = sides_of(request)?;
+        let old = FeedNumbers::of(alloc, &request.old_feeds, old_files)?;
+        let new = FeedNumbers::of(alloc, &request.new_feeds, new_files)?;
+        let options = diff_options(alloc, request, old_files, new_files)?;
         Ok(Sides { old, new, options })
     }
 }

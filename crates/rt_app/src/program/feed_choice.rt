@@ -6,7 +6,7 @@ ghost use Rattle.rt_rib.specs.declared.limits.TheConstants.{MAX_FEEDS};
 use super::{ArgumentFault, ProgramError};
 use command_line::NamedFeeds;
 use rt_print::{NameFault, check_names, feed_name};
-use rt_run::{FeedChoice, MAX_FEED_FILES};
+use rt_run::MAX_FEED_FILES;
 use std::alloc::Global;
 
 /// The names of the feed files of a run or of a side of a comparison: as many as a run accepts.
@@ -101,14 +101,13 @@ pub(super) struct FeedNumbers<'w> {
 }
 
 impl<'w> FeedNumbers<'w> {
-    /// Returns the numbers of feeds that are read from the files of these names. Stops if there are more files than a run
-    /// accepts, if an argument identifies no feed, or several, or if a selected feed is also left out.
+    /// Returns the numbers of feeds that are read from these files. Stops if an argument identifies no feed, or several, or if a
+    /// selected feed is also left out.
     pub(super) fn of(
         alloc: Global,
         feeds: &NamedFeeds<'w>,
-        names: &'w [&'w str],
+        files: FeedFiles<'w>,
     ) -> Result<FeedNumbers<'w>, ProgramError<'w>> {
-        let files = FeedFiles::of(names)?;
         let only = numbers_of(alloc, feeds.only, files)?;
         let without = numbers_of(alloc, feeds.without, files)?;
         check_selected(feeds.without, without.as_slice(), only.as_slice())?;
@@ -117,22 +116,6 @@ impl<'w> FeedNumbers<'w> {
             only,
             without,
         })
-    }
-
-    /// Returns the choice of the feeds that are selected, except those that are left out.
-    pub(super) fn choice(&self) -> FeedChoice<'_> {
-        FeedChoice {
-            only: self.only.as_slice(),
-            without: self.without.as_slice(),
-        }
-    }
-
-    /// Returns the choice of every feed, except those that are left out.
-    pub(super) fn choice_of_all(&self) -> FeedChoice<'_> {
-        FeedChoice {
-            only: &[],
-            without: self.without.as_slice(),
-        }
     }
 }
 

@@ -1,13 +1,10 @@
 //! `lookup` and `table`: queries of the final table of feed files, and reports of rejected input.
 
-ghost use Rattle.std.specs.Prelude.{◌≤◌, length};
-ghost use Rattle.rt_rib.specs.declared.limits.TheConstants.{MAX_FEEDS};
-
-use super::feed_choice::FeedNumbers;
+use super::feed_choice::{FeedFiles, FeedNumbers};
 use super::prefixes::prefix_of;
 use super::styles::style_of;
 use super::threads::threads_for;
-use super::warnings::{FeedTexts, report_query};
+use super::warnings::{FeedTexts, ends_of_line, report_query};
 use super::{ArgumentFault, Program, ProgramError};
 use command_line::{
     LookupRequest, NamedFeeds, PrefixFilterArg, RunRequest, TableOutput, TableRequest,
@@ -15,7 +12,7 @@ use command_line::{
 use rt_cidr::Addr;
 use rt_print::Style;
 use rt_rib::{PrefixFilter, Selection};
-use rt_run::{ChosenTexts, FeedChoice, Question, show};
+use rt_run::{Question, RunInput, show};
 use std::alloc::Global;
 use std::io::Write;
 use std::rt::Files;
@@ -42,22 +39,16 @@ impl<R: Files + Threads + Wait + Sync + AllocGlobal, O: Write, E: Write> Program
         named: &[Addr],
         query: &Query<'w>,
     ) -> Result<u8, ProgramError<'w>> {
-        let texts = self.read_feeds(query.feeds.files, query.feeds.choice())?;
-        let text = self.read_more(request.more)?;
-        let asked = asked_of(&request.run, texts.as_slice(), query.feeds.choice());
-        let question = addresses_question(request, named, text.as_slice());
-        let files = FeedTexts {
-            names: request.run.files,
-            texts: texts.as_slice(),
-        };
-        self.show(
-            &asked,
-            &query.style,
-            &question,
+        let FeedNumbers {
             files,
-            request.more,
-            text.as_slice(),
-        )
+            only,
+            without,
+        } = &query.feeds;
+        let texts = self.read_feeds(*files, only.as_slice(), without.as_slice())?;
+        let text = self.read_more(request.more)?;
+        let question = addresses_question(request, named, text.as_slice());
+        let input = RunInput::new(texts, request.run.limit);
+        self.show(input, query, &question, request.more, text.as_slice())
     }
 
     /// Returns the contents of the file with further addresses, or an empty text if there is none.
@@ -86,32 +77,41 @@ impl<R: Files + Threads + Wait + Sync + AllocGlobal, O: Write, E: Write> Program
         selection: Selection,
         query: &Query<'w>,
     ) -> Result<u8, ProgramError<'w>> {
-        let texts = self.read_feeds(query.feeds.files, query.feeds.choice_of_all())?;
-        let asked = asked_of(&request.run, texts.as_slice(), query.feeds.choice_of_all());
+        // The feeds that aren't selected take part too: which of their routes are best may depend on them.
+        let texts = self.read_feeds(query.feeds.files, &[], query.feeds.without.as_slice())?;
         let question = question_of(request.output, selection, query.feeds.only.as_slice());
-        let files = FeedTexts {
-            names: request.run.files,
-            texts: texts.as_slice(),
-        };
-        self.show(&asked, &query.style, &question, files, None, &[])
+        let input = RunInput::new(texts, request.run.limit);
+        self.show(input, query, &question, None, &[])
     }
 
     /// Writes the answer to the question. Reports rejected input of the file with further addresses, if there is one, and of
     /// the feeds' files, and returns the exit status.
     fn show<'w>(
         &mut self,
-        asked: &ChosenTexts<'_>,
-        style: &Style,
+        input: RunInput,
+        query: &Query<'w>,
         question: &Question<'_>,
-        files: FeedTexts<'_>,
         more: Option<&str>,
         text: &[u8],
     ) -> Result<u8, ProgramError<'w>> {
-        let mut out = self.screen.beside(asked.count(), self.out);
-        let threads = threads_for(self.rt, files.texts, text.len());
+        let mut input = input;
+        let threads = threads_for(self.rt, input.texts(), text.len());
+        let ends = ends_of_line(self.alloc, input.texts())?;
+        let mut out = self.screen.beside(input.count(), self.out);
         let given = show(
-            self.rt, self.alloc, threads, asked, style, question, &mut out,
+            self.rt,
+            self.alloc,
+            threads,
+            &mut input,
+            &query.style,
+            question,
+            &mut out,
         )?;
+        let files = FeedTexts {
+            names: query.feeds.files.names,
+            texts: input.texts(),
+            ends: ends.as_slice(),
+        };
         report_query(
             &mut self.screen,
             files,
@@ -131,8 +131,8 @@ struct Query<'w> {
 }
 
 impl<'w> Query<'w> {
-    /// Returns the feeds that the command line names, and the style with these options. Stops as `style_of` does, and then
-    /// as `FeedNumbers::of` does.
+    /// Returns the feeds that the command line names, and the style with these options. Stops if there are more files than a
+    /// run accepts, then as `style_of` does, and then as `FeedNumbers::of` does.
     fn of(
         alloc: Global,
         run: &RunRequest<'w>,
@@ -140,21 +140,11 @@ impl<'w> Query<'w> {
         names: bool,
         json: bool,
     ) -> Result<Query<'w>, ProgramError<'w>> {
-        let style = style_of(alloc, names, json, run.files)?;
-        let feeds = FeedNumbers::of(alloc, feeds, run.files)?;
+        let files = FeedFiles::of(run.files)?;
+        let style = style_of(alloc, names, json, files)?;
+        let feeds = FeedNumbers::of(alloc, feeds, files)?;
         Ok(Query { feeds, style })
     }
-}
-
-/// Returns the input of a run of these texts, without those of the feeds that the choice leaves out.
-pub(super) fn asked_of<'t>(
-    request: &RunRequest<'_>,
-    texts: &'t [Vec<u8>],
-    choice: FeedChoice<'t>,
-) -> ChosenTexts<'t>
-    requires { length texts.now ≤ MAX_FEEDS }
-{
-    ChosenTexts::new(texts, request.limit, request.batch as usize, choice)
 }
 
 /// Returns the question about these addresses and about those of the text.

@@ -17,15 +17,14 @@ fn format_of(names: bool, json: bool) -> Format {
     }
 }
 
-/// Returns the style for the feeds of these files, with these options of the command line. Stops if there are too many files or if, with `--names`, a
-/// file has no valid feed name or two files have the same.
+/// Returns the style for the feeds of these files, with these options of the command line. Stops if, with `--names`, a file has
+/// no valid feed name or two files have the same.
 pub(super) fn style_of<'w>(
     alloc: Global,
     names: bool,
     json: bool,
-    files: &'w [&'w str],
+    files: FeedFiles<'w>,
 ) -> Result<Style, ProgramError<'w>> {
-    let files = FeedFiles::of(files)?;
     if names {
         files.check_names()?;
     }
@@ -51,16 +50,15 @@ pub(super) fn diff_options<'w>(
     Ok(DiffOptions::new(alloc, by, output, format, old.names, new.names)?)
 }
 
-/// Stops as `style_of` does, on either side, if feeds have labels; also if there are too many files on a side.
-pub(super) fn check_sides<'w>(request: &DiffRequest<'w>) -> Result<(), ProgramError<'w>> {
-    if !request.names && !request.json {
-        return Ok(());
-    }
+/// Returns the old files and the new ones. Stops as `style_of` does, on either side; also if there are too many files on a side.
+pub(super) fn sides_of<'w>(
+    request: &DiffRequest<'w>,
+) -> Result<(FeedFiles<'w>, FeedFiles<'w>), ProgramError<'w>> {
     let old = FeedFiles::of(request.run.files)?;
     let new = FeedFiles::of(request.new_files)?;
     if request.names {
         old.check_names()?;
         new.check_names()?;
     }
-    Ok(())
+    Ok((old, new))
 }

@@ -8,6 +8,7 @@ ghost use Rattle.std.specs.Option.{option_map_or};
 use super::hints::{FileKind, explain};
 use rt_feed::FaultyLines;
 use rt_run::{RejectedInput, RejectedLines};
+use std::alloc::{AllocError, Global};
 use std::io::Write;
 
 /// A file of the command line, and the text that was read from it.
@@ -17,11 +18,13 @@ struct InputFile<'a> {
     text: &'a [u8],
 }
 
-/// Feed files of the command line: their names, and the texts that were read from them.
+/// Feed files of the command line: their names, what is left of the texts that were read from them, and whether each text ended
+/// with a line end. The text of a file with a faulty line is whole.
 #[derive(Clone, Copy)]
 pub(super) struct FeedTexts<'a> {
     pub(super) names: &'a [&'a str],
     pub(super) texts: &'a [Vec<u8>],
+    pub(super) ends: &'a [bool],
 }
 
 /// Reports the rejected input of both sides of a comparison. The tallies of the new files follow those of the old ones.
@@ -61,14 +64,26 @@ pub(super) fn report_query<E: Write>(
 /// Reports the rejected input of each feed file, and whether it ends within a line.
 fn report_each<E: Write>(err: &mut E, files: FeedTexts<'_>, tallies: &[RejectedInput]) {
     let inputs = files.names.iter().zip(files.texts.iter());
-    for ((name, text), tally) in inputs.zip(tallies.iter()) {
+    let told = tallies.iter().zip(files.ends.iter());
+    for ((name, text), (tally, ends)) in inputs.zip(told) {
         let file = InputFile {
             name,
             text: text.as_slice(),
         };
         report_rejected(err, file, FileKind::Feed, tally);
-        report_line_end(err, file);
+        if !*ends {
+            report_line_end(err, name);
+        }
     }
+}
+
+/// Returns for each text whether it has a line end after its last line. Its error: memory ran out.
+pub(super) fn ends_of_line(alloc: Global, texts: &[Vec<u8>]) -> Result<Vec<bool>, AllocError> {
+    let mut ends = Vec::with_capacity(alloc, texts.len())?;
+    for text in texts {
+        ends.push_reserved(has_line_end(text.as_slice()));
+    }
+    Ok(ends)
 }
 
 /// Returns true if the last byte of the text, if there is one, is LF.
@@ -80,14 +95,11 @@ fn has_line_end(text: &[u8]) -> bool
 
 /// Reports a feed file whose last line has no line end: it may have been cut off within this line, which is then another
 /// command than the one that was written.
-fn report_line_end<E: Write>(err: &mut E, file: InputFile<'_>) {
-    if !has_line_end(file.text) {
-        let name = file.name;
-        let _ = writeln!(
-            err,
-            "yarib: {name}: the last line has no line end: check that the file is complete"
-        );
-    }
+fn report_line_end<E: Write>(err: &mut E, name: &str) {
+    let _ = writeln!(
+        err,
+        "yarib: {name}: the last line has no line end: check that the file is complete"
+    );
 }
 
 /// Reports the rejected input of a file by kind: the number of its faulty lines, of its commands without effect by reason,

@@ -5,6 +5,6 @@ use Rattle.rt_run.proofs.dealing.deal.Given as goal
 abbrev pub invariant-loop-index : goal.invariant-loop-index
 invariant-loop-index l = record {
   dealt : All (λ share. share < l.fn.shares) l.dealt.items;
-  counted : vec_len l.dealt ≡ length l.asked.texts;
+  counted : vec_len l.dealt ≡ length l.input.texts;
   lengths : vec_len l.lengths ≡ l.fn.shares;
 }

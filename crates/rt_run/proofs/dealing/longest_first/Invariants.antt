@@ -4,7 +4,7 @@ use Rattle.rt_run.proofs.dealing.longest_first.Given as goal
 -- the places so far are those of texts, and there is capacity for the others
 abbrev pub invariant-loop-index : goal.invariant-loop-index
 invariant-loop-index l = record {
-  within : All (λ index. index < length l.asked.texts) l.places.items;
+  within : All (λ index. index < length l.input.texts) l.places.items;
   counted : vec_len l.places ≡ l.index;
-  room : length l.asked.texts ≤ vec_capacity l.places;
+  room : length l.input.texts ≤ vec_capacity l.places;
 }

@@ -1,16 +1,15 @@
-use Rattle.std.proofs.Common.{◌≡◌, ◌<◌, ℕ, [], List, map, length, get_or, sym, ap, ◌∙◌, arith}
+use Rattle.std.proofs.Common.{◌<◌, ℕ, [], List, map, length, get_or, sym, ap, ◌∙◌, arith}
 use Rattle.std.specs.declared.vec.Vec.{Vec}
 use Rattle.std.specs.declared.alloc.Global.{Global}
 use Rattle.std.proofs.lemmas.List.{length-map, get_or_read}
 use Rattle.rt_run.specs.declared.tallies.RejectedInput.{RejectedInput}
-use Rattle.rt_run.specs.Shares.{share_with}
 use Rattle.rt_run.proofs.Dealt.{told_by, tallies_at, told_more}
 use Rattle.rt_run.proofs.parallel.tallies_of.Goals as goal
 
 pub index-requires : goal.index-requires
 index-requires c =
     let one = c.index-told-share_with.result in
-    let within : c.loop-index.index < length c.args.asked.now.texts = omega (arith, c.loop-index-test.true, c.count-index-end.ensures.count) in
+    let within : c.loop-index.index < c.args.count = omega (arith, c.loop-index-test.true) in
     let dealt = c.requires.dealt_to_some c.loop-index.index within in
     let here : c.share_with.result < length c.args.told.now =
     omega (arith, dealt, length-map c.args.told.now (λ (tallies : Vec RejectedInput Global). tallies.items), c.share_with.ensures) in
@@ -24,7 +23,7 @@ loop-index-preserved c =
     let i = c.loop-index.index in
     let one = c.index-told-share_with.result in
     let so_far = c.loop-index.invariant in
-    let within : i < length c.args.asked.now.texts = omega (arith, c.loop-index-test.true, c.count-index-end.ensures.count) in
+    let within : i < c.args.count = omega (arith, c.loop-index-test.true) in
     let some = c.requires.dealt_to_some i within in
     let here : c.share_with.result < length told = omega (arith, some, length-map told (λ (tallies : Vec RejectedInput Global). tallies.items), c.share_with.ensures) in
     let at = tallies_at told c.share_with.result one here c.index-told-share_with.is in

@@ -5,7 +5,7 @@ use Rattle.rt_rib.specs.LookUp.{look_up, look_up_all}
 use Rattle.rt_print.specs.Styles.{label_of, found_as, all_found_as}
 use Rattle.rt_feed.specs.Addresses.{AreOfRows}
 use Rattle.rt_run.specs.TableText.{keeps_invalid}
-use Rattle.rt_run.specs.inside.Outputs.{matches_text, matches_found, matches_in, with_invalid}
+use Rattle.rt_run.specs.inside.Outputs.{matches_text, matches_found, matches_in}
 use Rattle.rt_run.proofs.InvalidLines.{rows_text, matches_rows, found-count, with_invalid-empty}
 use Rattle.rt_run.proofs.Outputs.{has_byte, rows-empty, answers-empty, matches-empty, rows_and_total-some, counts-some}
 use Rattle.rt_run.proofs.queries.write_answer.Goals as goal

@@ -1,4 +1,4 @@
-use Rattle.std.proofs.Common.{◌≡◌, ◌∙◌, take, ap}
+use Rattle.std.proofs.Common.{◌∙◌, take, ap}
 use Rattle.std.proofs.lemmas.List.{take_min}
 use Rattle.rt_run.specs.declared.rendering.TheConstants.{PIECE_ITEMS}
 use Rattle.rt_run.proofs.rendering.piece_at.Goals as goal
