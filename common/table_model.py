@@ -1,5 +1,7 @@
 """The model of a table: addresses, the sequential table, and what runs, look-ups, lists and comparisons print."""
+import csv
 import functools
+import io
 import json
 import re
 
@@ -136,6 +138,40 @@ def members(route, **more):
 def json_text(value):
     """A value as the program prints it as JSON."""
     return json.dumps(value, separators=(",", ":"))
+
+
+HOP_COLUMNS = ("via", "discard")
+ROUTE_COLUMNS = ("prefix", "feed", "name", "file", "pref", *HOP_COLUMNS)
+
+
+def csv_text(columns, records):
+    """The records as Python's `csv` writes them, the names of the columns first; what a record lacks is empty."""
+    text = io.StringIO(newline="")
+    writer = csv.DictWriter(text, columns, restval="", lineterminator="\r\n")
+    writer.writeheader()
+    writer.writerows(records)
+    return text.getvalue()
+
+
+def csv_fields(value, front=""):
+    """The columns of a route or a next hop, from its members in JSON, or of none; each name follows `front`."""
+    told = {key: "true" if key == "discard" else str(one) for key, one in (value or {}).items() if one is not None}
+    if "file" in told:
+        told["name"] = told["file"].rpartition("/")[2].removesuffix(".feed")
+    return {front + key: one for key, one in told.items()}
+
+
+def csv_of(command, told):
+    """What a command prints as CSV, from the objects that it prints as JSON."""
+    if command[0] == "table":
+        return csv_text(ROUTE_COLUMNS, map(csv_fields, told))
+    if command[0] == "lookup":
+        rows = [{"address": one["address"], **csv_fields(route)} for one in told for route in (one["route"], *one.get("also", ()))]
+        return csv_text(["address", *ROUTE_COLUMNS, *["reason"] * ("--all" in command)], rows)
+    columns = ROUTE_COLUMNS if "route" in command else HOP_COLUMNS
+    place = ["prefix"] if "--prefixes" in command else ["first", "last"]
+    rows = [{name: one[name] for name in place} | csv_fields(one["old"], "old_") | csv_fields(one["new"], "new_") for one in told]
+    return csv_text([*place, *(f"{side}_{name}" for side in ("old", "new") for name in columns)], rows)
 
 
 def differences(old, new, answer):

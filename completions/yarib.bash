@@ -15,9 +15,9 @@ _yarib() {
   fi
   case ${COMP_WORDS[1]} in
     run) options="--limit --batch --help" ;;
-    lookup) options="--all --feed --without --names --json --address --addresses --keep-invalid --limit --help" ;;
-    table) options="--within --covering --exact --feed --without --best --count --total --names --json --limit --help" ;;
-    diff) options="--by --prefixes --count --old-feed --old-without --new-feed --new-without --names --json --limit --help" ;;
+    lookup) options="--all --feed --without --names --json --csv --address --addresses --keep-invalid --limit --help" ;;
+    table) options="--within --covering --exact --feed --without --best --count --total --names --json --csv --limit --help" ;;
+    diff) options="--by --prefixes --count --old-feed --old-without --new-feed --new-without --names --json --csv --limit --help" ;;
     replay) options="--levels --help" ;;
     help) options="run lookup table diff replay" ;;
     *) return ;;

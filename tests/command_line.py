@@ -27,7 +27,7 @@ import tty
 
 from common import calls
 from common.checks import TOP, Program, chosen, close_all, compare, end, expect, is_unproved, run_each
-from common.table_model import (E1, E3, E8, MAX_FEEDS, TOO_MANY_FILES, Table, differences_text, dotted, json_text,
+from common.table_model import (E1, E3, E8, MAX_FEEDS, TOO_MANY_FILES, Table, csv_of, differences_text, dotted, json_text,
                                 members, row, shown)
 from common.versions import VERSION
 from schedules import in_turns, loaded
@@ -583,7 +583,7 @@ def left_out(yarib):
                  for word in ("--address", address)]
     queries = [["lookup", *addresses], ["lookup", "--all", *addresses], ["lookup", "--names", *addresses],
                ["lookup", "--json", "--names", *addresses], ["table"], ["table", "--best"], ["table", "--count"],
-               ["table", "--json", "--within", "10.0.0.0/9"]]
+               ["table", "--json", "--within", "10.0.0.0/9"], ["table", "--csv"], ["lookup", "--csv", "--all", *addresses]]
 
     def named(feed):
         return str(feed) if choice.randrange(2) else f"left{feed}"
@@ -607,7 +607,7 @@ def left_out(yarib):
                 gone = [feed for feed in range(1, 5) if feed not in most]
                 ended = yarib(*query, *options("--feed", most), *options("--without", out), *placed(gone, "missing"))
                 expect(f"{query} without {out}: of {most} only", ended, yarib(*query, *placed(gone, "empty")))
-        for more in ([], ["--by", "route"], ["--names", "--by", "route"], ["--json"]):
+        for more in ([], ["--by", "route"], ["--names", "--by", "route"], ["--json"], ["--csv"]):
             lost = choice.sample(range(1, 5), choice.randrange(4))
             stay = [feed for feed in range(1, 5) if feed not in lost]
             wanted = yarib("diff", *more, *placed(out, "empty"), "--", *placed(lost, "empty"))
@@ -885,6 +885,44 @@ def compared_as_json(yarib):
     compare("no range as JSON", yarib("diff", "--json", "row.feed", "--", "row.feed"), 0, "")
     ended = yarib("diff", "--json", "row.feed", "--", *["row.feed"] * (MAX_FEEDS + 1))
     expect("too many new files, as JSON", ended, TOO_MANY)
+
+
+# Catches a comparison that prints an answer of the old side as one of the new, a header of other columns, or another number
+# of fields for no route: `as CSV`.
+# Catches an option that is accepted beside `--csv`: `only one of`.
+def compared_as_csv(yarib):
+    """Random tables: what Python's `csv` writes of the objects that the same command prints with --json."""
+    choice = random.Random(93)
+    names = ["a", ",", '"', "ä,b", '"",""', "\U0001f600"]
+    options = ([], ["--by", "route"], ["--prefixes"], ["--by", "route", "--prefixes"], ["--by", "route", "--names"], ["--names"])
+    for number in (0, 1, 4, 9):
+        sides = []
+        for side in ("older", "newer"):
+            paths = [f"{side}/{name}.feed" for name in choice.sample(names, 2)]
+            pathlib.Path(side).mkdir(exist_ok=True)
+            for path, made in zip(paths, random_table(choice, side, number)[1]):
+                pathlib.Path(path).write_text("version 2\n" + pathlib.Path(made).read_text().replace("192.0.2.1", "discard"))
+            sides.append(paths)
+        both = [*sides[0], "--", *sides[1]]
+        for more in options:
+            status, lines, err = yarib("diff", "--json", *more, *both)
+            told = [json.loads(line) for line in lines.splitlines()]
+            ended = yarib("diff", "--csv", *more, *both)
+            compare(f"{more} {number} as CSV", ended, status, csv_of(["diff", *more], told), err)
+    compare("a range as CSV, to the byte", yarib("diff", "--csv", "row.feed", "--", "empty.feed"), 1, (
+        "first,last,old_via,old_discard,new_via,new_discard\r\n10.0.0.0,10.255.255.255,192.0.2.1,,,\r\n"))
+    compare("no range as CSV", yarib("diff", "--csv", "--prefixes", "row.feed", "--", "row.feed"), 0,
+            "prefix,old_via,old_discard,new_via,new_discard\r\n")
+    asked = ["lookup", "--address", "10.0.0.1"]
+    for option, command in (("json", asked), ("json", ["table"]), ("json", ["diff"]), ("keep-invalid", asked), ("count", ["table"]),
+                            ("total", ["table"]), ("count", ["diff"])):
+        files = ["missing.feed", *["--", "missing.feed"] * (command == ["diff"])]
+        for both in (["--csv", f"--{option}"], [f"--{option}", "--names", "--csv"]):
+            expect(f"{command} {both}", yarib(*command, *both, *files), (3, "", f"yarib: only one of --csv and --{option} may be given\n"))
+    misused("--csv twice", yarib("table", "--csv", "--csv", "row.feed"), "--csv")
+    misused("--csv of a run", yarib("run", "--csv", "row.feed"), "--csv")
+    with open("/dev/full", "w") as full:
+        expect("a header that can't be written", yarib("table", "--csv", "empty.feed", stdout=full), CANNOT_WRITE)
 
 
 # Catches a comparison that ignores `--prefixes`, or prints halves of a prefix, prefixes beyond the range, or too few:
@@ -1429,7 +1467,7 @@ def progress_of_long_runs(yarib):
 CASES = (
     runs, any_name, what_the_table_says, what_two_tables_answer_otherwise, file_order, many_files, unreadable, names,
     texts, limits, batches, twice, replays, finished_tables, parts_of_tables, left_out, routes_of_feeds,
-    unknown_feeds, counted_tables, totalled_tables, compared_tables, compared_as_json, compared_as_prefixes,
+    unknown_feeds, counted_tables, totalled_tables, compared_tables, compared_as_json, compared_as_csv, compared_as_prefixes,
     counted_differences, compared_by_name, old_first, not_taken, not_asked, files_told, cut_off, addresses_told, invalid_lines, pages, advice,
     examples_of_the_help, help_is_true, closed_outputs, progress, line_each_second, progress_of_long_runs,
 )

@@ -8,7 +8,9 @@ If the plain reader accepts a line as a command, other lines are put around it, 
 the program read in that line. Runs of random feeds on threads are judged by tests/linearizability.py: some order of the feeds'
 batches has to explain each.
 """
+import csv
 import gzip
+import io
 import itertools
 import json
 import os
@@ -20,8 +22,8 @@ import time
 from typing import NamedTuple
 
 from common.checks import chosen, compare, end, expect, is_unproved, run_each
-from common.table_model import (E1, E3, E8, HAS_CR, MAX_FEEDS, TOO_MANY_FILES, Table, command_of, dotted, json_text, members, route_text,
-                                run_text, table_text)
+from common.table_model import (E1, E3, E8, HAS_CR, MAX_FEEDS, ROUTE_COLUMNS, TOO_MANY_FILES, Table, command_of, csv_of, dotted, json_text,
+                                members, route_text, run_text, table_text)
 from common.worked import REPLAYS, SIX, WORKED, report
 import linearizability
 from schedules import in_turns
@@ -275,17 +277,18 @@ def answers_of_lookups(yarib):
     compare("the rows of an empty table", yarib("table", names[2]), 0, "")
 
 
-# Answers with feeds' names, and as JSON
+# Answers with feeds' names, as JSON and as CSV
 
 # Paths of feeds' files, and their feeds' names. Bytes of 0 and `/` are in no file's name; what isn't UTF-8 is refused.
 NAMED = {
     "east.feed": "east", "feeds/west.feed": "west", "./north": "north", "feeds/../twice.feed.feed": "twice.feed",
     "quote\".feed": 'quote"', "back\\slash.feed": "back\\slash", "umläut.feed": "umläut",
     "\U0001f600.feed": "\U0001f600", "feed": "feed", "7.feed": "7", "a,b:{}[].feed": "a,b:{}[]", "u0041.feed": "u0041",
+    ",.feed": ",", '"".feed': '""', '"a",\r\n"b"/".feed': '"', '"quoted,".feed': '"quoted,"',
 }
-# Paths whose feed can't be named on a line, but in JSON.
+# Paths whose feed can't be named on a line, but in JSON and in CSV.
 NAMELESS = (
-    ".feed", "feeds/.feed", "a b.feed", "line\nfeed.feed", "\t.feed",
+    ".feed", "feeds/.feed", "a b.feed", "line\nfeed.feed", "\r\n,\".feed", "\t.feed",
     "".join(map(chr, range(1, 32))) + ".feed", "\x7f.feed",
     *(f"feeds/a{chr(code)}b.feed" for code in (
         0x80, 0x85, 0x9B, 0x9F, 0x61C, 0x200E, 0x200F, 0x202A, 0x202E, 0x2066, 0x2069)),
@@ -375,6 +378,56 @@ def answers_as_json(yarib):
     compare("rows as JSON, to the byte", rows, 0, wanted)
 
 
+# The same route in each syntax, to the byte: all columns of each command, an address without a route and no row at all.
+CSV_TEXTS = (
+    (["table"], '''\
+prefix,feed,name,file,pref,via,discard
+0.0.0.0/0,1,"a,""b""","dir/a,""b"".feed",0,192.0.2.3,
+10.0.0.0/8,1,"a,""b""","dir/a,""b"".feed",5,,true
+'''),
+    (["table", "--exact", "11.0.0.0/8"], "prefix,feed,name,file,pref,via,discard\n"),
+    (["lookup", "--address", "10.1.2.3", "--address", "11.0.0.0"], '''\
+address,prefix,feed,name,file,pref,via,discard
+10.1.2.3,10.0.0.0/8,1,"a,""b""","dir/a,""b"".feed",5,,true
+11.0.0.0,0.0.0.0/0,1,"a,""b""","dir/a,""b"".feed",0,192.0.2.3,
+'''),
+    (["lookup", "--all", "--address", "10.1.2.3"], '''\
+address,prefix,feed,name,file,pref,via,discard,reason
+10.1.2.3,10.0.0.0/8,1,"a,""b""","dir/a,""b"".feed",5,,true,
+10.1.2.3,0.0.0.0/0,1,"a,""b""","dir/a,""b"".feed",0,192.0.2.3,,shorter
+'''),
+)
+NO_ROUTE_TEXTS = (
+    (["lookup", "--address", "10.1.2.3"], "address,prefix,feed,name,file,pref,via,discard\n10.1.2.3,,,,,,,\n"),
+    (["lookup", "--all", "--address", "10.1.2.3"], "address,prefix,feed,name,file,pref,via,discard,reason\n10.1.2.3,,,,,,,,\n"),
+    (["lookup", "--addresses", "none.txt"], "address,prefix,feed,name,file,pref,via,discard\n"),
+    (["lookup", "--all", "--addresses", "none.txt"], "address,prefix,feed,name,file,pref,via,discard,reason\n"),
+)
+
+
+# Catches a field that isn't quoted or a quotation mark that isn't doubled, a header that is left out or printed twice, LF
+# instead of CR and LF, a discard that is another field, and fewer fields for no route: `as CSV`.
+# Catches a header without `reason`, or a row of the best route without its empty field: the same, with `--all`.
+# Catches an empty answer without its header: `CSV, to the byte`.
+def answers_as_csv(yarib):
+    """The records are those that Python's `csv` writes of what `--json` prints, and it reads the same fields from them."""
+    for paths, flags in ((offered_by(NAMED), ["--names"]), (offered_by([*NAMED, *NAMELESS]), [])):
+        for command in (*TOLD, ["table", "--within", "11.0.0.0/8"], ["table", "--feed", "2"]):
+            status, lines, err = yarib(*command, "--json", *flags, *paths)
+            told = [json.loads(line) for line in lines.split("\n")[:-1]]
+            compare(f"{command} {flags} as CSV", yarib(*command, "--csv", *flags, *paths), status, csv_of(command, told), err)
+        read = list(csv.DictReader(io.StringIO(yarib("table", "--csv", *flags, *paths)[1], newline=""), strict=True))
+        expect("the columns", {tuple(row) for row in read}, {ROUTE_COLUMNS})
+        expect("the files", [row["file"] for row in read], [paths[int(row["feed"]) - 1] for row in read])
+    (one,) = offered_by(['dir/a,"b".feed'])
+    pathlib.Path(one).write_text("version 2\nadd 10.0.0.0/8 5 discard\nadd 0.0.0.0/0 0 192.0.2.3\n")
+    for name in ("empty.feed", "none.txt"):
+        pathlib.Path(name).write_text("")
+    for texts, file in ((CSV_TEXTS, one), (NO_ROUTE_TEXTS, "empty.feed")):
+        for command, text in texts:
+            compare(f"{command} as CSV, to the byte", yarib(*command, "--csv", file), 0, text.replace("\n", "\r\n"))
+
+
 # Catches another feed's name in a feed's place.
 # Catches a range of control characters without its first or its last one: `['table'] with 'feeds/a\x80b.feed'`.
 def answers_with_names(yarib):
@@ -385,7 +438,7 @@ def answers_with_names(yarib):
         named = re.sub(r" feed (\d+) ", lambda told: f" feed {NAMED[paths[int(told[1]) - 1]]} ", lines)
         compare(f"{command} with names", yarib(*command, "--names", *paths), 0, named)
     for path in NAMELESS:
-        for command in (["table"], ["table", "--json"], ["lookup", *ASKED]):
+        for command in (["table"], ["table", "--json"], ["table", "--csv"], ["lookup", *ASKED]):
             ended = yarib(*command, "--names", *offered_by(["east.feed", path]))
             compare(f"{command} with {path!r}", ended, 3, "", f"yarib: no valid feed name (rename the file, or leave out --names): {path}\n")
     for path in NAMED_BESIDE:
@@ -862,7 +915,8 @@ def replays(yarib):
 
 CASES = (
     worked_runs, every_batch_size, hundreds_of_thousands_of_lines, versions, texts_are_cut_into_lines, faulty_lines,
-    texts_of_one_byte, addresses, answers_of_lookups, answers_as_json, answers_with_names,
+    texts_of_one_byte, addresses, answers_of_lookups, answers_as_json, answers_as_csv,
+    answers_with_names,
     every_byte_at_every_place, a_byte_more_or_less_at_every_place, lines_about_128_bytes, forty_thousand_hostile_lines,
     feeds_meet_in_one_table, a_place_for_each_feed, tables_of_each_size,
     changes_of_one_feed, each_address_of_a_small_universe,

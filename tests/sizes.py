@@ -25,7 +25,7 @@ import pathlib
 import subprocess
 
 from common.checks import LAUNCHED, Program, chosen, compare, end, expect, run_each
-from common.table_model import (MAX_FEEDS, all_answers_text, answers_text, dotted, json_text, members, ran, row,
+from common.table_model import (MAX_FEEDS, all_answers_text, answers_text, csv_of, dotted, json_text, members, ran, row,
                                 run_text, told_text)
 from texts import FORWARDED, many_routes
 
@@ -276,24 +276,29 @@ def forms_by_options(name):
     tables = [(options, route) for options in (
         ["--within", "10.0.0.0/7"], ["--feed", "1"], ["--feed", "1", "--feed", "2"], ["--without", "2"], ["--best"],
         ["--best", "--feed", "1"])]
-    tables += [(["--names"], by_name), (["--json"], said), (["--names", "--json"], named),
+    record = f"{{0}}/32,1,{name},{name}.feed,1,192.0.2.1,"
+    tables += [(["--csv"], record + "\r"), (["--names"], by_name), (["--json"], said), (["--names", "--json"], named),
                (["--json", "--within", "10.0.0.0/7", "--feed", "1"], said)]
     answers = [(options, "{0} route " + route) for options in ([], ["--all"], ["--feed", "1"], ["--without", "2"])]
     answers += [([*more, "--names"], "{0} route " + by_name) for more in ([], ["--all"])]
-    answers += [(["--json"], '{"address":"{0}","route":' + said + "}"),
+    answers += [(["--csv"], "{0}," + record + "\r"), (["--csv", "--all"], "{0}," + record + ",\r"),
+                (["--json"], '{"address":"{0}","route":' + said + "}"),
                 (["--json", "--all", "--names"], '{"address":"{0}","route":' + named + ',"also":[]}')]
     ranges = [([], "{0}-{0} no route -> " + hop),
               (["--by", "route"], "{0}-{0} no route -> " + route),
                (["--by", "route", "--names"], "{0}-{0} no route -> " + by_name),
+               (["--csv"], "{0},{0},,,192.0.2.1,\r"),
+               (["--csv", "--by", "route"], "{0},{0},,,,,,,," + record + "\r"),
                (["--json"], '{"first":"{0}","last":"{0}","old":null,"new":{"via":"192.0.2.1"}}'),
                (["--by", "route", "--json"], '{"first":"{0}","last":"{0}","old":null,"new":' + said + "}")]
     return tables, answers, ranges
 
 
-def printed(form, places):
-    """The lines of this form for these places: each place is put between the parts of the form."""
+def printed(form, places, *words):
+    """The lines of this form for these places: each place is put between the parts of the form. With --csv the header of the
+    command of these words comes first."""
     parts = f"{form}\n".split("{0}")
-    return "".join([place.join(parts) for place in places])
+    return "".join([csv_of(words, ()) if "--csv" in words else "", *(place.join(parts) for place in places)])
 
 
 # Catches F3 for --within or --feed with over 2,000 rows, or for JSON with over 5,000: `['--feed', '1'] of 2001 rows`,
@@ -310,13 +315,13 @@ def options(yarib):
         # The last options of each command have the largest output; with the maximum number of rows only they are given.
         tables, answers, ranges = [forms[-1:] if count == MANY else forms for forms in forms_by_options("rows")]
         for words, form in tables:
-            compare(f"{words} of {count} rows", yarib("table", *words, *files), 0, printed(form, places))
+            compare(f"{words} of {count} rows", yarib("table", *words, *files), 0, printed(form, places, "table", *words))
         for words, form in answers:
             ended = yarib("lookup", *words, "--addresses", "asked.txt", *files)
-            compare(f"{words} of {count} answers", ended, 0, printed(form, places))
+            compare(f"{words} of {count} answers", ended, 0, printed(form, places, "lookup", *words))
         for words, form in ranges:
             ended = yarib("diff", *words, "none.feed", "--", *files)
-            compare(f"{words} of {count} ranges", ended, 1, printed(form, places))
+            compare(f"{words} of {count} ranges", ended, 1, printed(form, places, "diff", *words))
         counts = f"routes {count} prefixes {count}\nfeed 1 routes {count}\nlength 32 routes {count}\n"
         for words in ([], ["--best"], ["--feed", "1"], ["--within", "10.0.0.0/7"]):
             compare(f"--count {words} of {count} rows", yarib("table", "--count", *words, *files), 0, counts)

@@ -111,6 +111,13 @@ For discard: \"via\":null,\"discard\":true. For no route: \"route\":null.
 For an invalid line: {\"line\":LINE,\"invalid\":true}.
 With --all, \"also\" is the list of the other routes, each with its \"reason\".
 
+With --csv the output is CSV (RFC 4180): a line of column names, and a line for
+each route, or for an address without one:
+  address,prefix,feed,name,file,pref,via,discard
+For discard, via is empty and discard is `true`. For no route only address isn't
+empty. With --all, reason is the last column; it is empty for the best route.
+--csv can't be given with --json or --keep-invalid.
+
 --without F leaves out a feed: its file isn't read, and the output is that of a
 run in which this file is empty. The other feeds keep their numbers. --feed F
 leaves out every feed that isn't given. Here F is a number or a feed's name.
@@ -164,6 +171,12 @@ With --json each line is one object; --names adds \"name\" before \"file\":
   {\"feed\":F,\"file\":FILE,\"routes\":N}   {\"length\":L,\"routes\":N}
   {\"total\":N}
 For discard: \"via\":null,\"discard\":true.
+
+With --csv the output is CSV (RFC 4180): a line of column names, and a line for
+each route:
+  prefix,feed,name,file,pref,via,discard
+For discard, via is empty and discard is `true`. --csv can't be given with
+--json, --count or --total.
 
 ",
     "  0 done   2 invalid line, or add over the limit   3 invalid command line\n",
@@ -226,6 +239,15 @@ With --json each line is one object; --names adds \"name\" before \"file\":
 ANSWER is {\"via\":HOP}, {\"via\":null,\"discard\":true}, or null if there is no
 route; with --by route it is null or
   {\"prefix\":PREFIX,\"feed\":F,\"file\":FILE,\"pref\":P,\"via\":HOP}
+
+With --csv the output is CSV (RFC 4180): a line of column names, which is always
+printed, and a line for each range:
+  first,last,old_via,old_discard,new_via,new_discard
+With --prefixes the column prefix takes the place of first and last. With --by
+route an answer also has the columns prefix, feed, name, file and pref (as in
+old_prefix) before these. For discard, via is empty and discard is `true`. For
+no route all columns of the answer are empty. --csv can't be given with --json
+or --count.
 
 --old-without F leaves out a feed of the old side: its file isn't read, and the
 output is that of a run in which this file is empty. The other feeds keep their

@@ -132,6 +132,12 @@ const JSON: Parameter = Parameter {
     ..FLAG
 };
 
+const CSV: Parameter = Parameter {
+    name: "csv",
+    help: "Print CSV, a line of column names first",
+    ..FLAG
+};
+
 fn run() -> Subcommand {
     Subcommand {
         name: "run",
@@ -173,6 +179,7 @@ const LOOKUP: &[Parameter] = &[
     WITHOUT,
     NAMES,
     JSON,
+    CSV,
     LIMIT,
     UNUSED_BATCH,
     Parameter {
@@ -244,6 +251,7 @@ const TABLE: &[Parameter] = &[
     },
     NAMES,
     JSON,
+    CSV,
     LIMIT,
     UNUSED_BATCH,
     FILES,
@@ -299,6 +307,7 @@ const DIFF: &[Parameter] = &[
     },
     NAMES,
     JSON,
+    CSV,
     LIMIT,
     UNUSED_BATCH,
     Parameter {

@@ -95,10 +95,8 @@ pub struct LookupRequest<'a> {
     pub keep_invalid: bool,
     /// Print every route that covers an address.
     pub all: bool,
-    /// Print a feed's name instead of its number.
-    pub names: bool,
-    /// Print JSON objects instead of plain lines.
-    pub json: bool,
+    /// How the output is printed.
+    pub format: OutputFormat,
 }
 
 /// The routes to list, and the feed files.
@@ -114,10 +112,25 @@ pub struct TableRequest<'a> {
     pub part: PrefixFilterArg<'a>,
     /// What is printed of these routes.
     pub output: TableOutput,
-    /// Print a feed's name instead of its number.
-    pub names: bool,
-    /// Print JSON objects instead of plain lines.
-    pub json: bool,
+    /// How the output is printed.
+    pub format: OutputFormat,
+}
+
+/// How the output of `lookup`, `table` and `diff` is printed, and what identifies a feed in it.
+#[derive(Clone, Copy)]
+pub enum OutputFormat {
+    /// Plain lines, each feed by its number.
+    Numbers,
+    /// Plain lines, each feed by its name.
+    Names,
+    /// JSON objects, each feed by its number and its file.
+    Json,
+    /// JSON objects, each feed by its number, its name and its file.
+    JsonWithNames,
+    /// Comma-separated values, each feed by its number, its name and its file.
+    Csv,
+    /// The same. The feeds' names are checked, and identify feeds as in `JsonWithNames`.
+    CsvWithNames,
 }
 
 /// What `table` prints of the routes that it lists.
@@ -159,10 +172,8 @@ pub struct DiffRequest<'a> {
     pub by: ComparedBy,
     /// What is printed of the differences.
     pub output: DifferenceOutput,
-    /// Print a feed's name instead of its number. Feeds with the same name on both sides then count as the same feed.
-    pub names: bool,
-    /// Print JSON objects instead of plain lines.
-    pub json: bool,
+    /// How the output is printed. If it has names, feeds with the same name on both sides count as the same feed.
+    pub format: OutputFormat,
 }
 
 /// What `diff` prints of the differences.
@@ -217,6 +228,18 @@ pub enum RequestFault {
     /// Both `--prefixes` and `--count` were given.
     #[error("only one of --prefixes and --count may be given")]
     PrefixesAndCount,
+    /// Both `--csv` and `--json` were given.
+    #[error("only one of --csv and --json may be given")]
+    CsvAndJson,
+    /// Both `--csv` and `--keep-invalid` were given.
+    #[error("only one of --csv and --keep-invalid may be given")]
+    CsvAndKeepInvalid,
+    /// Both `--csv` and `--count` were given.
+    #[error("only one of --csv and --count may be given")]
+    CsvAndCount,
+    /// Both `--csv` and `--total` were given.
+    #[error("only one of --csv and --total may be given")]
+    CsvAndTotal,
     /// `clap` accepted arguments that this crate doesn't expect. This would be a bug of this crate; no such arguments are
     /// known.
     #[error("cannot parse the command line: see yarib --help")]
@@ -283,29 +306,38 @@ fn without_advice(alloc: Global, text: &str) -> Result<String, AllocError> {
 }
 
 fn lookup_request<'a>(matches: &'a ArgMatches<'_>) -> Result<Request<'a>, RequestFault> {
+    let format = format_of(matches)?;
+    let keep_invalid = matches.get_flag("keep-invalid");
+    if format.is_csv() && keep_invalid {
+        return Err(RequestFault::CsvAndKeepInvalid);
+    }
     Ok(Request::Lookup(LookupRequest {
         run: run_request(matches)?,
         feeds: feeds_of(matches, "feed", "without"),
         addresses: texts_of(matches, "address"),
         more: matches.get_str("addresses"),
-        keep_invalid: matches.get_flag("keep-invalid"),
+        keep_invalid,
         all: matches.get_flag("all"),
-        names: matches.get_flag("names"),
-        json: matches.get_flag("json"),
+        format,
     }))
 }
 
 fn table_request<'a>(matches: &'a ArgMatches<'_>) -> Result<Request<'a>, RequestFault> {
     let part = part_of(matches)?;
     let output = output_of(matches)?;
+    let format = format_of(matches)?;
+    match output {
+        TableOutput::Counts if format.is_csv() => return Err(RequestFault::CsvAndCount),
+        TableOutput::RoutesAndTotal if format.is_csv() => return Err(RequestFault::CsvAndTotal),
+        _ => (),
+    }
     Ok(Request::Table(TableRequest {
         run: run_request(matches)?,
         feeds: feeds_of(matches, "feed", "without"),
         only_best: matches.get_flag("best"),
         part,
         output,
-        names: matches.get_flag("names"),
-        json: matches.get_flag("json"),
+        format,
     }))
 }
 
@@ -333,6 +365,11 @@ fn output_of(matches: &ArgMatches<'_>) -> Result<TableOutput, RequestFault> {
 fn diff_request<'a>(matches: &'a ArgMatches<'_>) -> Result<Request<'a>, RequestFault> {
     let by = compared_by(matches)?;
     let output = difference_output(matches)?;
+    let format = format_of(matches)?;
+    match output {
+        DifferenceOutput::Counts if format.is_csv() => return Err(RequestFault::CsvAndCount),
+        _ => (),
+    }
     Ok(Request::Diff(DiffRequest {
         run: run_request(matches)?,
         old_feeds: feeds_of(matches, "old-feed", "old-without"),
@@ -340,8 +377,7 @@ fn diff_request<'a>(matches: &'a ArgMatches<'_>) -> Result<Request<'a>, RequestF
         new_feeds: feeds_of(matches, "new-feed", "new-without"),
         by,
         output,
-        names: matches.get_flag("names"),
-        json: matches.get_flag("json"),
+        format,
     }))
 }
 
@@ -360,6 +396,35 @@ fn compared_by(matches: &ArgMatches<'_>) -> Result<ComparedBy, RequestFault> {
         Some(HOP) => Ok(ComparedBy::Hop),
         Some(ROUTE) => Ok(ComparedBy::Route),
         Some(_) | None => Err(RequestFault::Unknown),
+    }
+}
+
+/// Returns how the output is printed.
+fn format_of(matches: &ArgMatches<'_>) -> Result<OutputFormat, RequestFault> {
+    let names = matches.get_flag("names");
+    match (matches.get_flag("json"), matches.get_flag("csv")) {
+        (false, false) if names => Ok(OutputFormat::Names),
+        (false, false) => Ok(OutputFormat::Numbers),
+        (true, false) if names => Ok(OutputFormat::JsonWithNames),
+        (true, false) => Ok(OutputFormat::Json),
+        (false, true) if names => Ok(OutputFormat::CsvWithNames),
+        (false, true) => Ok(OutputFormat::Csv),
+        (true, true) => Err(RequestFault::CsvAndJson),
+    }
+}
+
+impl OutputFormat {
+    /// Returns true for comma-separated values.
+    fn is_csv(self) -> bool {
+        matches!(self, OutputFormat::Csv | OutputFormat::CsvWithNames)
+    }
+
+    /// Returns true if feeds are identified by their names.
+    pub fn has_names(self) -> bool {
+        matches!(
+            self,
+            OutputFormat::Names | OutputFormat::JsonWithNames | OutputFormat::CsvWithNames
+        )
     }
 }
 

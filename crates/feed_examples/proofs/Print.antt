@@ -15,21 +15,22 @@ use Rattle.rt_diff.specs.declared.table_answers.CompareBy.TheVariants as by
 use Rattle.rt_diff.specs.declared.table_answers.TableAnswer.TheVariants as answered
 use Rattle.rt_diff.specs.declared.comparison.Difference.{Difference}
 use Rattle.rt_print.specs.declared.format.Format.{Format}
-use Rattle.rt_print.specs.declared.format.Format.TheVariants.{Numbers, Names, Json, JsonWithNames}
+use Rattle.rt_print.specs.declared.format.Format.TheVariants.{Numbers, Names, Json, JsonWithNames, Csv, CsvWithNames}
 use Rattle.rt_print.specs.declared.format.Syntax.TheVariants as syntax
 use Rattle.rt_print.specs.Buffer.{buffered}
+use Rattle.rt_print.specs.Csv.{csv_field, csv_line, hop_record, route_record}
 use Rattle.rt_print.specs.Routes.{hop_text, route_text, row_text, count_text, table_text}
 use Rattle.rt_print.specs.Routes.{escaped, json_string, hop_members, route_object}
 use Rattle.rt_print.specs.declared.names.NameFault.TheVariants.{Invalid, Duplicate}
 use Rattle.rt_print.specs.FeedNames.{is_name, name_at, HasOwnName, ChecksNames}
 use Rattle.rt_print.specs.Labels.{syntax_of, has_names, without_feed, feed_name, label_by, index_of_name, paired_number, labels_by}
-use Rattle.rt_print.specs.Styles.{StyleContents, label_of, row_as, address_head, found_as, reason_text, also_line, all_found_as}
+use Rattle.rt_print.specs.Styles.{StyleContents, label_of, row_as, rows_header, address_head, found_as, found_header, reason_text, also_line, all_found_as, all_found_header}
 use Rattle.rt_print.specs.declared.diff_options.DiffOutput.{DiffOutput}
 use Rattle.rt_print.specs.declared.diff_options.DiffOutput.TheVariants.{Ranges, Prefixes}
 use Rattle.rt_print.specs.RangePrefixes.{prefixes_in, prefixes_of}
-use Rattle.rt_print.specs.DifferenceText.{way_text, DiffContents, diff_of, answered_as, range_as, prefix_as, difference_as, differences_as}
+use Rattle.rt_print.specs.DifferenceText.{way_text, DiffContents, diff_of, answered_as, range_as, prefix_as, difference_as, differences_as, differences_header}
 use Rattle.rt_print.specs.declared.change_counts.ChangeCount.{ChangeCount}
-use Rattle.rt_print.specs.ChangeCounts.{range_size, hop_position, kind_of, number_as, kind_front, kind_as, hops_front, count_line, change_counts_as}
+use Rattle.rt_print.specs.ChangeCounts.{range_size, hop_position, kind_of, number_as, kind_front, kind_as, hop_as, hops_front, count_line, change_counts_as}
 use Rattle.rt_print.specs.Counts.{prefix_count, length_count, totals_as, count_as, counts_as, total_as, rows_and_total_as}
 use Rattle.feed_examples.proofs.Feed.{at_192_0_2_1}
 
@@ -102,8 +103,8 @@ discard_as_way = refl
 
 -- answered_as
 an_answer_of_each_kind :
-    (answered_as syntax.Line (λ feed. decimal feed) answered.NoRoute ≡ codes "no route") × (answered_as syntax.Line (λ feed. decimal feed) (answered.Hop Discard) ≡ codes "discard")
-    × (answered_as syntax.Line (λ feed. decimal feed) (answered.Route route_10) ≡ codes "10.0.0.0/8 feed 1 pref 100 via 192.0.2.1")
+    (answered_as syntax.Line by.Route (λ feed. decimal feed) answered.NoRoute ≡ codes "no route") × (answered_as syntax.Line by.Route (λ feed. decimal feed) (answered.Hop Discard) ≡ codes "discard")
+    × (answered_as syntax.Line by.Route (λ feed. decimal feed) (answered.Route route_10) ≡ codes "10.0.0.0/8 feed 1 pref 100 via 192.0.2.1")
 unfolding digits address_text prefix_text answered_as
 an_answer_of_each_kind = (refl, refl, refl)
 
@@ -126,6 +127,49 @@ new_feeds_by_their_names : ((compared_files Names).numbers ≡ 3 ∷ 1 ∷ []) �
 unfolding feed_name
 new_feeds_by_their_names = (refl, refl)
 
+-- csv_field
+fields_that_need_quotation_marks :
+    (csv_field (codes "a,b") ≡ codes "\"a,b\"") × (csv_field (codes "\"") ≡ codes "\"\"\"\"") × (csv_field (13 ∷ []) ≡ 34 ∷ 13 ∷ 34 ∷ [])
+    × (csv_field (10 ∷ []) ≡ 34 ∷ 10 ∷ 34 ∷ []) × (csv_field (codes "a b") ≡ codes "a b") × (csv_field [] ≡ [])
+unfolding csv_field
+fields_that_need_quotation_marks = (refl, refl, refl, refl, refl, refl)
+
+-- csv_line
+a_line_of_three_fields : csv_line (codes "a" ∷ [] ∷ codes "b,c" ∷ []) ≡ codes "a,,\"b,c\"" ++ 13 ∷ 10 ∷ []
+unfolding csv_field
+a_line_of_three_fields = refl
+
+-- hop_record
+the_fields_of_a_next_hop_and_of_none : (hop_record (Via at_192_0_2_1) ≡ codes "192.0.2.1,") × (hop_record Discard ≡ codes ",true")
+unfolding digits address_text
+the_fields_of_a_next_hop_and_of_none = (refl, refl)
+
+-- route_record
+a_route_as_fields : route_record (codes "1,a,a.feed") route_10 ≡ codes "10.0.0.0/8,1,a,a.feed,100,192.0.2.1,"
+unfolding digits address_text prefix_text route_record
+a_route_as_fields = refl
+
+-- rows_header
+only_csv_has_a_header :
+    (rows_header syntax.Csv ≡ codes "prefix,feed,name,file,pref,via,discard" ++ 13 ∷ 10 ∷ []) × (rows_header syntax.Line ≡ []) × (rows_header syntax.Json ≡ [])
+unfolding rows_header csv_field
+only_csv_has_a_header = (refl, refl, refl)
+
+-- all_found_header
+the_reason_is_the_last_column : all_found_header syntax.Csv ≡ codes "address,prefix,feed,name,file,pref,via,discard,reason" ++ 13 ∷ 10 ∷ []
+unfolding all_found_header csv_field
+the_reason_is_the_last_column = refl
+
+-- differences_header
+the_columns_of_next_hops_of_ranges : differences_header (diff_of by.Hop Ranges Csv [] []) ≡ codes "first,last,old_via,old_discard,new_via,new_discard" ++ 13 ∷ 10 ∷ []
+unfolding differences_header csv_field labels_by
+the_columns_of_next_hops_of_ranges = refl
+
+the_columns_of_routes_of_prefixes : differences_header (diff_of by.Route Prefixes CsvWithNames [] [])
+    ≡ codes "prefix,old_prefix,old_feed,old_name,old_file,old_pref,old_via,old_discard,new_prefix,new_feed,new_name,new_file,new_pref,new_via,new_discard" ++ 13 ∷ 10 ∷ []
+unfolding differences_header csv_field labels_by
+the_columns_of_routes_of_prefixes = refl
+
 -- difference_as
 each_answer_by_its_own_labels : difference_as (compared_files Names) told_range
     ≡ codes "10.1.2.3-10.9.0.1 10.0.0.0/8 feed a pref 5 via discard -> 10.0.0.0/8 feed c pref 5 via discard\n"
@@ -136,6 +180,15 @@ a_range_as_an_object : difference_as (compared_files Json) range_without_way
     ≡ codes "{\"first\":\"10.1.2.3\",\"last\":\"10.9.0.1\",\"old\":{\"via\":\"192.0.2.1\"},\"new\":null}\n"
 unfolding digits address_text range_as answered_as
 a_range_as_an_object = refl
+
+a_range_as_fields : difference_as (compared_files CsvWithNames) told_range
+    ≡ codes "10.1.2.3,10.9.0.1,10.0.0.0/8,1,a,a.feed,5,,true,10.0.0.0/8,1,c,new/c.feed,5,,true" ++ 13 ∷ 10 ∷ []
+unfolding digits address_text prefix_text range_as answered_as route_record csv_field labels_by label_by feed_name
+a_range_as_fields = refl
+
+no_route_as_empty_fields : difference_as (diff_of by.Hop Ranges Csv [] []) range_without_way ≡ codes "10.1.2.3,10.9.0.1,192.0.2.1,,," ++ 13 ∷ 10 ∷ []
+unfolding digits address_text range_as answered_as
+no_route_as_empty_fields = refl
 
 -- prefixes_in
 the_prefixes_of_eight_addresses : prefixes_of 3 10 ≡ (3, 32) ∷ (4, 30) ∷ (8, 31) ∷ (10, 32) ∷ []
@@ -186,16 +239,16 @@ two_counts =
 
 all_ranges_and_kinds_and_pairs : change_counts_as (compared_files Numbers) two_counts
     ≡ codes "ranges 3 addresses 304\nchange loses its route ranges 2 addresses 300\nchange is discarded ranges 1 addresses 4\nhops no route -> discard ranges 1 addresses 4\nhops via 192.0.2.1 -> no route ranges 2 addresses 300\n"
-unfolding digits address_text change_counts_as kind_as kind_front number_as hops_front answered_as
+unfolding digits address_text change_counts_as kind_as kind_front number_as hops_front hop_as
 all_ranges_and_kinds_and_pairs = refl
 
 no_range_at_all : change_counts_as (compared_files Json) [] ≡ codes "{\"ranges\":0,\"addresses\":0}\n"
 unfolding digits change_counts_as kind_as number_as
 no_range_at_all = refl
 
-a_pair_as_an_object : count_line (compared_files Json) (record { old = None; new = Some Discard; ranges = 1; addresses = 4 })
+a_pair_as_an_object : count_line syntax.Json (record { old = None; new = Some Discard; ranges = 1; addresses = 4 })
     ≡ codes "{\"old\":null,\"new\":{\"via\":null,\"discard\":true},\"ranges\":1,\"addresses\":4}\n"
-unfolding digits number_as hops_front answered_as
+unfolding digits number_as hops_front hop_as
 a_pair_as_an_object = refl
 
 -- differences_as
@@ -364,7 +417,19 @@ no_route_was_found : found_as syntax.Line (λ feed. decimal feed) at_192_0_2_1 N
 unfolding digits address_text found_as
 no_route_was_found = refl
 
+a_look_up_as_fields :
+    (found_as syntax.Csv (λ feed. codes "1,a,a.feed") at_10_1_2_3 (Some (route_via ten_8 1 30 Discard)) ≡ codes "10.1.2.3,10.0.0.0/8,1,a,a.feed,30,,true" ++ 13 ∷ 10 ∷ [])
+    × (found_as syntax.Csv (λ feed. codes "1,a,a.feed") at_10_1_2_3 None ≡ codes "10.1.2.3,,,,,,," ++ 13 ∷ 10 ∷ [])
+unfolding digits address_text prefix_text route_record found_as
+a_look_up_as_fields = (refl, refl)
+
 -- all_found_as
+all_routes_as_lines_of_fields :
+    all_found_as syntax.Csv (λ feed. codes "1,a,a.feed") at_10_1_2_3 (route_via ten_1_16 1 10 Discard ∷ route_via ten_8 1 30 (via_192_0_2 2) ∷ [])
+    ≡ (codes "10.1.2.3,10.1.0.0/16,1,a,a.feed,10,,true," ++ 13 ∷ 10 ∷ []) ++ (codes "10.1.2.3,10.0.0.0/8,1,a,a.feed,30,192.0.2.2,,shorter" ++ 13 ∷ 10 ∷ [])
+unfolding digits address_text prefix_text route_record reason_text all_found_as
+all_routes_as_lines_of_fields = refl
+
 nothing_covers_it : all_found_as syntax.Line (λ feed. decimal feed) at_192_0_2_1 [] ≡ codes "192.0.2.1 no route\n"
 unfolding digits address_text found_as all_found_as
 nothing_covers_it = refl

@@ -38,7 +38,7 @@ use Rattle.feed_examples.proofs.Feed.{at_192_0_2_1, asked_text, asked_rows, two_
 use Rattle.feed_examples.proofs.Feed.{north, north_read, south, south_read, east, east_read, what_north_becomes, what_south_becomes, what_east_becomes}
 use Rattle.rt_diff.specs.declared.comparison.Difference.{Difference}
 use Rattle.rt_print.specs.declared.diff_options.DiffOutput.TheVariants.{Ranges}
-use Rattle.rt_print.specs.DifferenceText.{DiffContents}
+use Rattle.rt_print.specs.DifferenceText.{DiffContents, differences_header}
 use Rattle.rt_diff.specs.Answers.{own_numbers}
 use Rattle.rt_diff.specs.declared.table_answers.CompareBy.TheVariants as by
 use Rattle.table_examples.proofs.Diff.{a_table_and_itself_have_none}
@@ -55,7 +55,8 @@ use Rattle.rt_run.specs.Replayed.{IsReplayText, LeavesReplay}
 use Rattle.rt_run.specs.declared.tallies.RejectedInput.{RejectedInput}
 use Rattle.rt_run.specs.declared.tallies.RejectedLines.{RejectedLines}
 use Rattle.rt_feed.specs.Addresses.{address_row, invalid_row}
-use Rattle.rt_print.specs.Styles.{StyleContents, row_as, found_as, all_found_as, reason_text, invalid_as}
+use Rattle.rt_print.specs.Csv.{csv_field, route_record}
+use Rattle.rt_print.specs.Styles.{StyleContents, row_as, rows_header, found_as, found_header, all_found_as, all_found_header, reason_text, invalid_as}
 use Rattle.rt_print.specs.Counts.{totals_as, count_as, counts_as, total_as}
 use Rattle.rt_run.specs.TableText.{line_answer_text, answers_text, all_answers_text, keeps_invalid, was_full, was_existing, was_missing, faults_of, lines_where, rejected_lines, tally_of}
 use Rattle.rt_run.specs.TableText.{has_refused, has_rejected, tallies_status, faulty_tally, NoneRefused, LeavesTable, question_text, named_in, said_in, IsQueryOutput, IsAnswer}
@@ -271,23 +272,24 @@ counts_text style selection feeds table = question_text style (ask.Counts select
 
 -- question_text
 all_of_them : routes_text plain (record { part = part.All; only_best = false; feed = None; hop = None }) [] two_to_ten_8 ≡ codes "10.0.0.0/8 feed 2 pref 30 via discard\n10.0.0.0/8 feed 1 pref 50 via discard\n"
-unfolding digits address_text prefix_text row_as
+unfolding digits address_text prefix_text rows_header row_as
 all_of_them = refl
 
 only_the_best : routes_text plain (record { part = part.All; only_best = true; feed = None; hop = None }) [] two_to_ten_8 ≡ codes "10.0.0.0/8 feed 2 pref 30 via discard\n"
-unfolding digits address_text prefix_text row_as
+unfolding digits address_text prefix_text rows_header row_as
 only_the_best = refl
 
 only_a_feeds : routes_text plain (record { part = part.Exact ten_8; only_best = false; feed = Some 1; hop = None }) [] two_to_ten_8 ≡ codes "10.0.0.0/8 feed 1 pref 50 via discard\n"
-unfolding digits address_text prefix_text row_as
+unfolding digits address_text prefix_text rows_header row_as
 only_a_feeds = refl
 
 only_those_of_the_feeds_that_are_best :
     routes_text plain (record { part = part.All; only_best = true; feed = None; hop = None }) (1 ∷ 2 ∷ []) two_to_ten_8 ≡ codes "10.0.0.0/8 feed 2 pref 30 via discard\n"
-unfolding digits address_text prefix_text row_as
+unfolding digits address_text prefix_text rows_header row_as
 only_those_of_the_feeds_that_are_best = refl
 
 none_if_the_best_is_anothers : routes_text plain (record { part = part.All; only_best = true; feed = None; hop = None }) (1 ∷ []) two_to_ten_8 ≡ []
+unfolding rows_header
 none_if_the_best_is_anothers = refl
 
 -- routes_of_selected
@@ -835,7 +837,7 @@ routes_and_their_numbers :
     × (question_text plain every_route_and_the_number [] two_to_ten_8
     ≡ codes "10.0.0.0/8 feed 2 pref 30 via discard\n10.0.0.0/8 feed 1 pref 50 via discard\ntotal 2\n")
     × (question_text plain the_number_of_all [] two_to_ten_8 ≡ codes "routes 2 prefixes 1\nfeed 1 routes 1\nfeed 2 routes 1\nlength 8 routes 2\n")
-unfolding digits address_text prefix_text row_as total_as counts_as totals_as count_as
+unfolding digits address_text prefix_text rows_header row_as total_as counts_as totals_as count_as
 routes_and_their_numbers = (refl, refl, refl)
 
 all_or_the_best :
@@ -843,8 +845,24 @@ all_or_the_best :
     ≡ codes "10.1.2.3 route 10.0.0.0/8 feed 2 pref 30 via discard\n2 invalid\n")
     × (question_text plain all_of_one_and_a_text (address_row at_10_1_2_3 ∷ invalid_row 2 ∷ []) two_to_ten_8
     ≡ codes "10.1.2.3 route 10.0.0.0/8 feed 2 pref 30 via discard\n10.1.2.3 also 10.0.0.0/8 feed 1 pref 50 via discard preference\n")
-unfolding digits address_text prefix_text look_up look_up_all found_as all_found_as reason_text invalid_as
+unfolding digits address_text prefix_text look_up look_up_all found_header found_as all_found_header all_found_as reason_text invalid_as
 all_or_the_best = (refl, refl)
+
+-- routes as CSV
+abbrev as_fields : StyleContents
+as_fields = record { syntax = syntax.Csv; labels = (1, codes "1,a,a.feed") ∷ (2, codes "2,b,b.feed") ∷ [] }
+
+-- question_text
+the_header_and_then_the_rows : question_text as_fields every_route [] two_to_ten_8
+    ≡ (codes "prefix,feed,name,file,pref,via,discard" ++ 13 ∷ 10 ∷ [])
+    ++ (codes "10.0.0.0/8,2,b,b.feed,30,,true" ++ 13 ∷ 10 ∷ []) ++ (codes "10.0.0.0/8,1,a,a.feed,50,,true" ++ 13 ∷ 10 ∷ [])
+unfolding digits address_text prefix_text rows_header csv_field row_as route_record
+the_header_and_then_the_rows = refl
+
+the_header_of_no_row : (question_text as_fields every_route [] [] ≡ codes "prefix,feed,name,file,pref,via,discard" ++ 13 ∷ 10 ∷ [])
+    × (question_text as_fields the_best_of_one_and_a_text [] [] ≡ codes "address,prefix,feed,name,file,pref,via,discard" ++ 13 ∷ 10 ∷ [])
+unfolding rows_header found_header csv_field
+the_header_of_no_row = (refl, refl)
 
 -- IsAnswer
 the_named_one_before_the_two_of_the_text :
@@ -853,6 +871,7 @@ the_named_one_before_the_two_of_the_text :
     → IsAnswer the_tutorials_run plain the_best_of_one_and_a_text
     (answers_text plain true (address_row at_10_9_0_1 ∷ address_row at_192_0_2_1 ∷ invalid_row 3 ∷ address_row at_10_1_2_3 ∷ []) (table_of_journal 65536 tutorial))
     (record { status = 2; tallies = tallies })
+unfolding found_header
 the_named_one_before_the_two_of_the_text tallies tallied = record {
   said = asked_rows;
   faulty = record { count = 1; first = Some (3, fault.Text) };
@@ -944,11 +963,11 @@ what_a_comparison_is_asked : (style : StyleContents) → ((whole_routes style).b
 what_a_comparison_is_asked style = (refl, refl, refl)
 
 -- IsDiffText
-nothing_is_written_of_a_run_and_itself :
+only_the_header_is_written_of_a_run_and_itself :
     (style : StyleContents) (tallies : Vec RejectedInput Global)
     → tallies.items ≡ map tally_of (reports_of the_tutorials_outcomes) ++ map tally_of (reports_of the_tutorials_outcomes)
-    → IsDiffText (whole_routes style) the_tutorials_run the_tutorials_run [] (record { status = 0; tallies = tallies })
-nothing_is_written_of_a_run_and_itself style tallies tallied = record {
+    → IsDiffText (whole_routes style) the_tutorials_run the_tutorials_run (differences_header (whole_routes style)) (record { status = 0; tallies = tallies })
+only_the_header_is_written_of_a_run_and_itself style tallies tallied = record {
   old_table = table_of_journal 65536 tutorial;
   new_table = table_of_journal 65536 tutorial;
   old_tallies = map tally_of (reports_of the_tutorials_outcomes);
@@ -958,7 +977,7 @@ nothing_is_written_of_a_run_and_itself style tallies tallied = record {
   tallied = tallied;
   list = [];
   differences = a_table_and_itself_have_none (own_numbers (table_of_journal 65536 tutorial));
-  printed = refl;
+  printed = sym (append-nil (differences_header (whole_routes style)));
   is_status = rw tallied refl;
 }
 

@@ -11,8 +11,9 @@
 //!
 //! Contracts see a table as its routes. An answer is the result of a look-up among them
 //! (`specs/Answers.antt`). If the two tables number their feeds differently, [`Comparison::renumber_new_feeds`] pairs them.
-//! These ranges are the only list of the tables' differences (`specs/Differences.antt`, [`laws`]). No call allocates.
-//! Each takes time in proportion to the number of the tables' boundaries in the visited range, without a step for each address.
+//! These ranges are the only list of the tables' differences (`specs/Differences.antt`, [`laws`]). Only
+//! [`ComparedTables::differences`] allocates: it returns the whole list, which several threads find. Each call takes time in
+//! proportion to the number of the tables' boundaries in the visited range, without a step for each address.
 #![tactic(auto)]
 
 mod comparison;

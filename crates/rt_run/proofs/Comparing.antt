@@ -21,8 +21,8 @@ use Rattle.std.specs.declared.alloc.Global.{Global}
 use Rattle.std.specs.declared.alloc.AllocError.{AllocError}
 use Rattle.std.proofs.lemmas.Result.{IfOk-weaker}
 use Rattle.rt_print.specs.declared.format.Syntax.{Syntax}
-use Rattle.rt_print.specs.declared.format.Syntax.TheVariants.{Line, Json}
-use Rattle.rt_print.specs.DifferenceText.{DiffContents, difference_as, differences_as}
+use Rattle.rt_print.specs.declared.format.Syntax.TheVariants.{Line, Json, Csv}
+use Rattle.rt_print.specs.DifferenceText.{DiffContents, difference_as, differences_as, differences_header}
 use Rattle.rt_print.proofs.Promised.{difference-some}
 use Rattle.rt_run.specs.declared.tallies.RejectedInput.{RejectedInput}
 use Rattle.rt_run.specs.declared.tallies.RunSummary.{RunSummary}
@@ -98,6 +98,7 @@ number-some : (syntax : Syntax) (ranges addresses : ℕ) → 0 < length (number_
 unfolding number_as
 number-some Line ranges addresses = grind (arith, common_steps)
 number-some Json ranges addresses = grind (arith, common_steps)
+number-some Csv ranges addresses = grind (arith, common_steps)
 
 pub changes-some : (asked : DiffContents) (counts : List ChangeCount) → 0 < length (change_counts_as asked counts)
 unfolding change_counts_as
@@ -128,7 +129,7 @@ is_count asked old_asked new_asked old new old_tallies new_tallies given list co
 pub is_diff : (asked : DiffContents) (old_asked new_asked : RunContents) (old new : List Route) (old_tallies new_tallies : List RejectedInput) (given : RunSummary)
     (list : List Difference) → LeavesTable old_asked old old_tallies → LeavesTable new_asked new new_tallies → given.tallies.items ≡ old_tallies ++ new_tallies
     → list ≡ list_of asked old new → given.status ≡ max (differ_status list) (tallies_status given.tallies.items)
-    → IsDiffText asked old_asked new_asked (differences_as asked list) given
+    → IsDiffText asked old_asked new_asked (differences_header asked ++ differences_as asked list) given
 is_diff asked old_asked new_asked old new old_tallies new_tallies given list old_left new_left tallied is status = record {
   old_table = old;
   new_table = new;

@@ -13,7 +13,7 @@ use Rattle.rt_cidr.proofs.Promised.{appends_after, begins_after, begins_longer}
 use Rattle.rt_feed.specs.declared.addresses.InvalidLine.{InvalidLine}
 use Rattle.rt_feed.specs.Addresses.{AddressRow, address_row, invalid_row, addresses_in, invalid_in, AreOfRows}
 use Rattle.rt_print.specs.declared.format.Syntax.{Syntax}
-use Rattle.rt_print.specs.declared.format.Syntax.TheVariants.{Line, Json}
+use Rattle.rt_print.specs.declared.format.Syntax.TheVariants.{Line, Json, Csv}
 use Rattle.rt_print.specs.Styles.{StyleContents, label_of, all_found_as, invalid_as}
 use Rattle.rt_rib.specs.declared.routes.Route.{Route}
 use Rattle.rt_rib.specs.LookUp.{look_up_all}
@@ -62,6 +62,7 @@ invalid_as-some : (syntax : Syntax) (number : ℕ) → 0 < length (invalid_as sy
 unfolding invalid_as
 invalid_as-some Line number = grind (arith, common_steps)
 invalid_as-some Json number = grind (arith, common_steps)
+invalid_as-some Csv number = grind (arith, common_steps)
 
 pub with_invalid-empty : {X : Type 0} (syntax : Syntax) (text_of : List X → List ℕ) (items : List X) (lines : List InvalidLine)
     → (length items == 0) ≡ (length (text_of items) == 0)

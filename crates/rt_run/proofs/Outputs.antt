@@ -1,6 +1,7 @@
 -- The effect of a call on its writer, from its output, and which output is empty.
 use Rattle.std.proofs.Common.{◌≡◌, ◌==◌, ℕ, ◌<◌, Bool, false, List, [], ◌∷◌, ◌++◌, length, map, Option, None, Some, Result, Ok, Err, IfErr, refl, sym, subst, ◌∙◌, arith, length-append}
 use Rattle.std.proofs.Common.{◌≤◌}
+use Rattle.std.specs.Prelude.{◌&&◌}
 use Rattle.std.specs.List.{flat_map}
 use Rattle.std.proofs.lemmas.Bool.Decides.{nat_tests}
 use Rattle.std.proofs.lemmas.Grind.{common_steps}
@@ -10,7 +11,7 @@ use Rattle.rt_rib.specs.LookUp.{look_up}
 use Rattle.rt_feed.specs.declared.faulty.FaultyLines.{FaultyLines}
 use Rattle.rt_feed.specs.declared.faults.RunFault.TheVariants as refusal
 use Rattle.rt_print.specs.declared.format.Syntax.{Syntax}
-use Rattle.rt_print.specs.declared.format.Syntax.TheVariants.{Line, Json}
+use Rattle.rt_print.specs.declared.format.Syntax.TheVariants.{Line, Json, Csv}
 use Rattle.rt_print.specs.Routes.{table_text, count_text}
 use Rattle.rt_print.specs.Counts.{prefix_count, totals_as, counts_as, total_as, rows_and_total_as}
 use Rattle.rt_print.specs.Styles.{StyleContents, label_of, row_as, rows_as, address_head, found_as, all_found_as}
@@ -84,6 +85,7 @@ row_as-some : (syntax : Syntax) (label : ℕ → List ℕ) (route : Route) → 0
 unfolding row_as
 row_as-some Line label route = grind (arith, common_steps)
 row_as-some Json label route = grind (arith, common_steps)
+row_as-some Csv label route = grind (arith, common_steps)
 
 found_as-some : (syntax : Syntax) (label : ℕ → List ℕ) (addr : Addr) (found : Option Route) → 0 < length (found_as syntax label addr found)
 unfolding found_as address_head
@@ -91,6 +93,8 @@ found_as-some Line label addr None = grind (arith, common_steps)
 found_as-some Line label addr (Some r) = grind (arith, common_steps)
 found_as-some Json label addr None = grind (arith, common_steps)
 found_as-some Json label addr (Some r) = grind (arith, common_steps)
+found_as-some Csv label addr None = grind (arith, common_steps)
+found_as-some Csv label addr (Some r) = grind (arith, common_steps)
 
 all_found_as-some : (syntax : Syntax) (label : ℕ → List ℕ) (addr : Addr) (found : List Route) → 0 < length (all_found_as syntax label addr found)
 unfolding all_found_as address_head
@@ -98,6 +102,8 @@ all_found_as-some Line label addr [] = grind (arith, common_steps, found_as-some
 all_found_as-some Line label addr (first ∷ others) = grind (arith, common_steps, found_as-some)
 all_found_as-some Json label addr [] = grind (arith, common_steps, found_as-some)
 all_found_as-some Json label addr (first ∷ others) = grind (arith, common_steps, found_as-some)
+all_found_as-some Csv label addr [] = grind (arith, common_steps, found_as-some)
+all_found_as-some Csv label addr (first ∷ others) = grind (arith, common_steps, found_as-some)
 
 module _ (style : StyleContents) (empty : Bool) where
   pub rows-empty : (routes : List Route) → empty ≡ (length routes == 0) → empty ≡ (length (rows_as style routes) == 0)
@@ -117,11 +123,18 @@ module _ (style : StyleContents) (empty : Bool) where
 pub first-some : (front rest : List ℕ) → 0 < length front → 0 < length (front ++ rest)
 first-some front rest some = omega (arith, some, length-append front rest)
 
+-- a text is empty if and only if its header and its rest are
+pub headed-empty : (header rest : List ℕ) (empty : Bool) → empty ≡ (length rest == 0) → ((length header == 0) && empty) ≡ (length (header ++ rest) == 0)
+headed-empty [] rest empty is = is
+headed-empty (byte ∷ header) rest empty is =
+    rw (sym (has_byte (byte ∷ header) (omega arith))) (has_byte ((byte ∷ header) ++ rest) (omega (arith, length-append (byte ∷ header) rest)))
+
 -- the text of the counts isn't empty
 totals-some : (syntax : Syntax) (routes prefixes : ℕ) → 0 < length (totals_as syntax routes prefixes)
 unfolding totals_as
 totals-some Line routes prefixes = grind (arith, common_steps)
 totals-some Json routes prefixes = grind (arith, common_steps)
+totals-some Csv routes prefixes = grind (arith, common_steps)
 
 pub counts-some : (style : StyleContents) (routes : List Route) → 0 < length (counts_as style routes)
 unfolding counts_as
@@ -133,6 +146,7 @@ total-some : (syntax : Syntax) (count : ℕ) → 0 < length (total_as syntax cou
 unfolding total_as
 total-some Line count = grind (arith, common_steps)
 total-some Json count = grind (arith, common_steps)
+total-some Csv count = grind (arith, common_steps)
 
 pub rows_and_total-some : (style : StyleContents) (routes : List Route) → 0 < length (rows_and_total_as style routes)
 rows_and_total-some style routes = omega (arith, length-append (rows_as style routes) (total_as style.syntax (length routes)), total-some style.syntax (length routes))

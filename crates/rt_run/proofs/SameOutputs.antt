@@ -11,11 +11,11 @@ use Rattle.rt_diff.specs.Answers.{own_numbers}
 use Rattle.rt_diff.specs.Differences.{AreDifferences}
 use Rattle.rt_diff.specs.Laws.{HaveOneList}
 use Rattle.rt_diff.specs.declared.comparison.Difference.{Difference}
-use Rattle.rt_print.specs.DifferenceText.{DiffContents, differences_as}
+use Rattle.rt_print.specs.DifferenceText.{DiffContents}
 use Rattle.rt_print.specs.ChangeCounts.{AreChangeCounts, HaveOneCountList, change_counts_as}
 use Rattle.rt_run.specs.declared.tallies.RunSummary.{RunSummary}
 use Rattle.rt_run.specs.RunText.{RunContents}
-use Rattle.rt_run.specs.DiffText.{renumbered_new, IsComparison}
+use Rattle.rt_run.specs.DiffText.{renumbered_new, diff_text, IsComparison}
 use Rattle.rt_run.proofs.SameTables.{left_union, say_the_same}
 
 both_false : (a b : Bool) → (a || b) ≡ false → (a ≡ false) × (b ≡ false)
@@ -85,7 +85,7 @@ module _ (leaves : LeavesUnion) (one : HaveOneUnion) (one_list : HaveOneList) (h
 pub diff_output_is_deterministic : LeavesUnion → HaveOneUnion → HaveOneList → HaveSameTallies → DiffOnce
 diff_output_is_deterministic leaves one one_list have_same asked old old' new new' bytes bytes' given given' same_old same_new is is' none none' =
     let (same, status, tallied) = same_comparison leaves one one_list have_same asked old old' new new' _ _ given given' same_old same_new is is' none none' in
-    (is.printed ∙ (ap (differences_as asked) same ∙ sym is'.printed), status, tallied)
+    (is.printed ∙ (ap (diff_text asked) same ∙ sym is'.printed), status, tallied)
 
 pub count_output_is_deterministic : LeavesUnion → HaveOneUnion → HaveOneList → HaveSameTallies → HaveOneCountList → CountOnce
 count_output_is_deterministic leaves one one_list have_same one_count asked old old' new new' bytes bytes' given given' same_old same_new is is' none none' =

@@ -6,7 +6,7 @@ use Rattle.rt_diff.specs.Answers.{RenumberedTable, own_numbers}
 use Rattle.rt_diff.specs.Differences.{AreDifferences}
 use Rattle.rt_print.specs.declared.change_counts.ChangeCount.{ChangeCount}
 use Rattle.rt_print.specs.ChangeCounts.{AreChangeCounts, change_counts_as}
-use Rattle.rt_print.specs.DifferenceText.{DiffContents, differences_as}
+use Rattle.rt_print.specs.DifferenceText.{DiffContents, differences_as, differences_header}
 use Rattle.rt_run.specs.declared.tallies.RejectedInput.{RejectedInput}
 use Rattle.rt_run.specs.declared.tallies.RunSummary.{RunSummary}
 use Rattle.rt_run.specs.RunText.{RunContents}
@@ -36,9 +36,13 @@ pub record IsComparison (asked : DiffContents) (old new : RunContents) (ArePrint
   pub printed : ArePrinted list
   pub is_status : given.status ≡ max (differ_status list) (tallies_status given.tallies.items)
 
--- the bytes are the lines of these ranges
+-- the header, which only CSV has, and the lines of these ranges
+abbrev pub diff_text : DiffContents → List Difference → List ℕ
+diff_text asked list = differences_header asked ++ differences_as asked list
+
+-- the bytes are this text of these ranges
 abbrev pub IsDiffText : DiffContents → RunContents → RunContents → List ℕ → RunSummary → Type 0
-IsDiffText asked old new bytes given = IsComparison asked old new (λ list. bytes ≡ differences_as asked list) given
+IsDiffText asked old new bytes given = IsComparison asked old new (λ list. bytes ≡ diff_text asked list) given
 
 -- the bytes are the lines of the counts of these ranges
 pub record TellsCounts (asked : DiffContents) (list : List Difference) (bytes : List ℕ) : Type 0 where

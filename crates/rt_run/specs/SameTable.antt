@@ -26,8 +26,8 @@ use Rattle.rt_run.specs.ChosenFeeds.{AreWithout}
 use Rattle.rt_diff.specs.declared.comparison.Difference.{Difference}
 use Rattle.rt_diff.specs.Answers.{own_numbers}
 use Rattle.rt_diff.specs.Differences.{AreDifferences}
-use Rattle.rt_print.specs.DifferenceText.{DiffContents, differences_as}
-use Rattle.rt_run.specs.DiffText.{renumbered_new, TellsCounts, IsDiffText, IsCountText}
+use Rattle.rt_print.specs.DifferenceText.{DiffContents}
+use Rattle.rt_run.specs.DiffText.{renumbered_new, diff_text, TellsCounts, IsDiffText, IsCountText}
 
 -- the set that the feed's commands leave by themselves, whatever their outcomes, with at most `limit` routes
 unfoldable pub table_alone : ℕ → ℕ → List (Cmd × Outcome) → List Route
@@ -166,7 +166,7 @@ pub record TellsUnions (asked : DiffContents) (old new : RunContents) (ArePrinte
 abbrev pub DiffsUnions : Type 0
 DiffsUnions =
     (asked : DiffContents) (old new : RunContents) (bytes : List ℕ) (given : RunSummary)
-    → IsDiffText asked old new bytes given → NoneRefused given.tallies.items → TellsUnions asked old new (λ list. bytes ≡ differences_as asked list)
+    → IsDiffText asked old new bytes given → NoneRefused given.tallies.items → TellsUnions asked old new (λ list. bytes ≡ diff_text asked list)
 
 -- and of a comparison that writes the counts
 abbrev pub CountsUnions : Type 0

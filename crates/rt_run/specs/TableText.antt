@@ -17,7 +17,7 @@ use Rattle.rt_feed.specs.Lines.{LineOutcome}
 use Rattle.rt_feed.specs.Addresses.{AddressRow, address_row, invalid_row, faulty_lines, SaysAddresses}
 use Rattle.rt_feed.specs.Reports.{is_refusal}
 use Rattle.rt_print.specs.Counts.{counts_as, rows_and_total_as}
-use Rattle.rt_print.specs.Styles.{StyleContents, label_of, rows_as, found_as, all_found_as, invalid_as}
+use Rattle.rt_print.specs.Styles.{StyleContents, label_of, rows_header, rows_as, found_header, found_as, all_found_header, all_found_as, invalid_as}
 use Rattle.rt_run.specs.declared.tallies.RejectedInput.{RejectedInput}
 use Rattle.rt_run.specs.declared.tallies.RejectedLines.{RejectedLines}
 use Rattle.rt_run.specs.declared.tallies.RunSummary.{RunSummary}
@@ -41,11 +41,11 @@ all_answers_text style keeps rows table =
     flat_map (line_answer_text style keeps (λ addr. all_found_as style.syntax (label_of style.labels) addr (look_up_all addr table))) rows
 
 -- the text that answers a question about a table, in the style; the rows have the addresses to look up. If there are feeds,
--- only their routes among the selected ones are printed or counted
+-- only their routes among the selected ones are printed or counted. Answers and routes follow their header, which only CSV has
 abbrev pub question_text : StyleContents → Question → List AddressRow → List Route → List ℕ
-question_text style (ask.Best named text keeps) rows table = answers_text style keeps rows table
-question_text style (ask.All named text keeps) rows table = all_answers_text style keeps rows table
-question_text style (ask.Routes selection feeds) rows table = rows_as style (routes_of_selected feeds.now (selected selection table))
+question_text style (ask.Best named text keeps) rows table = found_header style.syntax ++ answers_text style keeps rows table
+question_text style (ask.All named text keeps) rows table = all_found_header style.syntax ++ all_answers_text style keeps rows table
+question_text style (ask.Routes selection feeds) rows table = rows_header style.syntax ++ rows_as style (routes_of_selected feeds.now (selected selection table))
 question_text style (ask.RoutesAndTotal selection feeds) rows table = rows_and_total_as style (routes_of_selected feeds.now (selected selection table))
 question_text style (ask.Counts selection feeds) rows table = counts_as style (routes_of_selected feeds.now (selected selection table))
 

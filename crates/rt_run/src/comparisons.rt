@@ -23,11 +23,12 @@ use std::thread::Threads;
 /// second one can be created, or else one. Then compares the tables on several threads, if `threads` is more than one, and
 /// writes to `w` each range of addresses for which the two tables give different answers, in ascending order and with the
 /// given options: a line `FIRST-LAST OLD -> NEW`, a line `PREFIX OLD -> NEW` for each prefix of the range, or a JSON object
-/// instead of a line (`write_difference`). Writes nothing else; hence if nothing is written, both tables give the same answer
-/// for every address. All ranges are stored before the first is written. Returns the summary if everything was written. Its
-/// errors are those of `run_texts`: F1 if there is no old text or no new text; F3 also if there is no memory for the ranges or
-/// the tallies. Gives back the memory of each text once it is executed, unless it has a faulty line; after an error some texts
-/// may be empty. Leaks the tables, as `run_texts` does.
+/// instead of a line (`write_difference`). Before them it writes the header, which only CSV has (`DiffOptions::header`). Writes
+/// nothing else; hence if nothing is written but the header, both tables give the same answer for every address. All ranges
+/// are stored before the first is written. Returns the summary if everything was written. Its errors are those of `run_texts`:
+/// F1 if there is no old text or no new text; F3 also if there is no memory for the ranges or the tallies. Gives back the
+/// memory of each text once it is executed, unless it has a faulty line; after an error some texts may be empty. Leaks the
+/// tables, as `run_texts` does.
 pub fn diff_texts<R: Threads + Sync, W: Write>(
     rt: &R,
     alloc: Global,

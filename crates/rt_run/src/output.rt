@@ -1,19 +1,20 @@
 //! Output: the parts of a run's text, the answers to questions, and the differences between two tables. Each part goes to
 //! any writer; `write_through` writes an output through one buffer.
-ghost use Rattle.std.specs.Prelude.{◌≡◌, ◌==◌, ◌++◌, [], ◌≤◌, ℕ, List, Option, length, IfOk, IfErr};
+ghost use Rattle.std.specs.Prelude.{◌≡◌, ◌==◌, ◌&&◌, ◌++◌, [], ◌≤◌, ℕ, List, Option, length, IfOk, IfErr};
 ghost use Rattle.std.specs.Fn.{FnOnceReturnsAtMut};
 ghost use Rattle.std.specs.List.{flat_map};
 ghost use Rattle.rt_cidr.specs.Output.{WritesText};
 ghost use Rattle.rt_print.specs.Buffer.{buffered};
 ghost use Rattle.rt_rib.specs.declared.limits.TheConstants.{MAX_FEEDS};
 ghost use Rattle.rt_print.specs.ChangeCounts.{change_counts_as};
-ghost use Rattle.rt_print.specs.DifferenceText.{differences_as};
+ghost use Rattle.rt_print.specs.DifferenceText.{differences_as, differences_header};
 ghost use Rattle.rt_print.specs.Routes.{table_text};
 ghost use Rattle.rt_run.specs.RunText.{reports_text};
 ghost use Rattle.rt_run.specs.inside.Outputs.{with_invalid, Writes, list_of, AreSomeCounts};
 
 use crate::faults::AppFault;
 use crate::rendering::{Rows, Workers, write_on_threads};
+use rt_cidr::put;
 use rt_diff::Difference;
 use rt_feed::{InvalidLine, Report, write_report};
 use rt_print::{
@@ -88,28 +89,54 @@ pub(crate) fn write_run<W: Write>(
     write_table(w, routes)
 }
 
-/// Writes the rows of the items, and the invalid lines in their places, through a new buffer over the writer, as
-/// `write_through` does.
+/// Writes the header, the rows of the items, and the invalid lines in their places, through a new buffer over the writer, as
+/// `write_through` does. `no_rows` is true if there are neither rows nor invalid lines.
 pub(crate) fn write_rows_through<R: Threads + Sync, W: Write, I: Sync, P: Rows<I> + Sync, X: Drop>(
     workers: &Workers<'_, R>,
     w: &mut W,
     room: OutputRoom,
+    header: &[u8],
     style: &Style,
     rows: &P,
     items: &[I],
     invalid: &[InvalidLine],
-    is_empty: bool,
+    no_rows: bool,
     given: X,
 ) -> Result<X, AppFault>
     requires new { room ≡ [] }
-    requires empty { is_empty ≡ (length (with_invalid style.now.syntax (flat_map (P.row_of rows.now)) 0 items.now invalid.now) == 0) }
-    ensures { Writes (with_invalid style.now.syntax (flat_map (P.row_of rows.now)) 0 items.now invalid.now) given (W.contents w.old) (W.contents w.new) result }
+    requires empty { no_rows ≡ (length (with_invalid style.now.syntax (flat_map (P.row_of rows.now)) 0 items.now invalid.now) == 0) }
+    ensures { Writes (header.now ++ with_invalid style.now.syntax (flat_map (P.row_of rows.now)) 0 items.now invalid.now) given (W.contents w.old) (W.contents w.new) result }
 {
+    let is_empty = is_output_empty(header, no_rows);
     let mut out = OutputBuffer::new(w, room);
-    let written = write_with_invalid(workers, &mut out, style, rows, items, invalid);
+    let written = write_with_header(workers, &mut out, header, style, rows, items, invalid);
     let told = finish(&mut out, written, is_empty, given);
     let _ = out.into_writer();
     told
+}
+
+/// Returns true if an output with this header is empty; `no_rows` is true if nothing follows the header.
+pub(crate) fn is_output_empty(header: &[u8], no_rows: bool) -> bool
+    ensures { result ≡ ((length header.now == 0) && no_rows) }
+{
+    header.is_empty() && no_rows
+}
+
+/// Writes the header, the rows of the items, and the invalid lines in their places.
+fn write_with_header<R: Threads + Sync, W: Write, X: Sync, P: Rows<X> + Sync>(
+    workers: &Workers<'_, R>,
+    w: &mut W,
+    header: &[u8],
+    style: &Style,
+    rows: &P,
+    items: &[X],
+    invalid: &[InvalidLine],
+) -> Result<(), io::Error>
+    ensures { WritesText (W.contents w.old) (W.contents w.new)
+        (header.now ++ with_invalid style.now.syntax (flat_map (P.row_of rows.now)) 0 items.now invalid.now) result }
+{
+    put(w, header)?;
+    write_with_invalid(workers, w, style, rows, items, invalid)
 }
 
 /// Writes the rows of the items, and the invalid lines in their places.
@@ -161,7 +188,8 @@ fn write_ranges<W: Write>(
     Ok(())
 }
 
-/// Writes these ranges, which are all of two tables, through a new buffer over the writer, as `write_through` does.
+/// Writes the header and these ranges, which are all of two tables, through a new buffer over the writer, as `write_through`
+/// does.
 pub(crate) fn write_differences<R: Threads + Sync, W: Write, X: Drop>(
     workers: &Workers<'_, R>,
     w: &mut W,
@@ -172,13 +200,27 @@ pub(crate) fn write_differences<R: Threads + Sync, W: Write, X: Drop>(
 ) -> Result<X, AppFault>
     requires new { room ≡ [] }
     requires empty { (length list.now == 0) ≡ (length (differences_as options.now list.now) == 0) }
-    ensures { Writes (differences_as options.now list.now) given (W.contents w.old) (W.contents w.new) result }
+    ensures { Writes (differences_header options.now ++ differences_as options.now list.now) given (W.contents w.old) (W.contents w.new) result }
 {
+    let is_empty = is_output_empty(options.header(), list.is_empty());
     let mut out = OutputBuffer::new(w, room);
-    let written = write_on_threads(workers, &mut out, options, list);
-    let told = finish(&mut out, written, list.is_empty(), given);
+    let written = write_headed_ranges(workers, &mut out, options, list);
+    let told = finish(&mut out, written, is_empty, given);
     let _ = out.into_writer();
     told
+}
+
+/// Writes the header, and then the line of each range, or the lines of its prefixes.
+fn write_headed_ranges<R: Threads + Sync, W: Write>(
+    workers: &Workers<'_, R>,
+    w: &mut W,
+    options: &DiffOptions,
+    list: &[Difference],
+) -> Result<(), io::Error>
+    ensures { WritesText (W.contents w.old) (W.contents w.new) (differences_header options.now ++ differences_as options.now list.now) result }
+{
+    put(w, options.header())?;
+    write_on_threads(workers, w, options, list)
 }
 
 /// Returns the differences between two tables, in ascending order, found on this many threads.

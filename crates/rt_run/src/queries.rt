@@ -1,11 +1,12 @@
 //! Queries: a question to the finished table of a run, and the output of the answer.
-ghost use Rattle.std.specs.Prelude.{◌≡◌, ◌↔◌, ◌≤◌, ◌==◌, ◌&&◌, ℕ, [], List, IfOk, length};
+ghost use Rattle.std.specs.Prelude.{◌≡◌, ◌↔◌, ◌≤◌, ◌==◌, ◌&&◌, ◌++◌, ℕ, [], List, IfOk, length};
 ghost use Rattle.rt_feed.specs.Addresses.{AddressRow, AreOfRows};
+ghost use Rattle.rt_print.specs.Styles.{found_header};
 ghost use Rattle.rt_rib.specs.Selection.{selected};
 ghost use Rattle.rt_run.specs.ChosenFeeds.{routes_of_selected};
 ghost use Rattle.rt_run.specs.RunText.{WritesOrFails, in_batches};
 ghost use Rattle.rt_run.specs.TableText.{question_text, keeps_invalid, IsAnswer, IsGivenBack};
-ghost use Rattle.rt_run.specs.inside.Outputs.{matches_found, matches_in, Writes};
+ghost use Rattle.rt_run.specs.inside.Outputs.{found_text, matches_found, matches_in, with_invalid, Writes};
 
 use crate::chosen::is_selected;
 use crate::faults::AppFault;
@@ -39,6 +40,9 @@ use std::thread::Threads;
 /// - for `Question::Routes` the selected routes, without the table's first line;
 /// - for `Question::RoutesAndTotal` the same and a last line with their number (`write_routes_and_total`);
 /// - for `Question::Counts` their numbers (`write_counts`).
+///
+/// For `Best`, `All` and `Routes` the header is written first, which only CSV has (`Style::found_header`,
+/// `Style::all_found_header`, `Style::rows_header`).
 ///
 /// Hence, if no command ran out of memory, the bytes are a function of only the texts, the limit and the question
 /// (`laws::query_output`). Returns the summary if everything was written. Its errors are those of `run_texts`; F3 also if
@@ -90,27 +94,32 @@ fn write_answer<R: Threads + Sync, W: Write>(
     let is_empty = are_empty(addresses, invalid);
     match question {
         Question::Best { .. } => {
-            let fib = fib_for(alloc, tables, addresses.len());
-            let rows = LookupTables {
-                style,
-                tables,
-                fib: &fib,
-            };
-            write_rows_through(
-                workers, w, room, style, &rows, addresses, invalid, is_empty, given,
-            )
+            write_best(workers, w, room, style, tables, addresses, invalid, given)
         }
         Question::All { .. } => {
             let all = matches_of(alloc, tables, addresses)?;
             let all = all.as_slice();
+            let header = style.all_found_header();
             write_rows_through(
-                workers, w, room, style, style, all, invalid, is_empty, given,
+                workers, w, room, header, style, style, all, invalid, is_empty, given,
             )
         }
         Question::Routes { selection, feeds } => {
             let routes = routes_asked(rt, alloc, tables, selection, feeds)?;
             let (routes, is_empty) = (routes.as_slice(), routes.is_empty());
-            write_rows_through(workers, w, room, style, style, routes, &[], is_empty, given)
+            let header = style.rows_header();
+            write_rows_through(
+                workers,
+                w,
+                room,
+                header,
+                style,
+                style,
+                routes,
+                &[],
+                is_empty,
+                given,
+            )
         }
         Question::RoutesAndTotal { selection, feeds } => {
             let routes = routes_asked(rt, alloc, tables, selection, feeds)?;
@@ -125,6 +134,35 @@ fn write_answer<R: Threads + Sync, W: Write>(
             })
         }
     }
+}
+
+/// Writes the result of looking up each address in the tables after the header, with the invalid lines in their places, as
+/// `write_rows_through` does.
+fn write_best<R: Threads + Sync, W: Write>(
+    workers: &Workers<'_, R>,
+    w: &mut W,
+    room: OutputRoom,
+    style: &Style,
+    tables: &TableUnion<Global>,
+    addresses: &[Addr],
+    invalid: &[InvalidLine],
+    given: RunSummary,
+) -> Result<RunSummary, AppFault>
+    requires new { room ≡ [] }
+    ensures { Writes (found_header style.now.syntax ++ with_invalid style.now.syntax (λ list. found_text style.now list tables.now) 0 addresses.now invalid.now)
+        given (W.contents w.old) (W.contents w.new) result }
+{
+    let fib = fib_for(workers.alloc, tables, addresses.len());
+    let rows = LookupTables {
+        style,
+        tables,
+        fib: &fib,
+    };
+    let no_rows = are_empty(addresses, invalid);
+    let header = style.found_header();
+    write_rows_through(
+        workers, w, room, header, style, &rows, addresses, invalid, no_rows, given,
+    )
 }
 
 /// Returns true if there is neither an address nor an invalid line.

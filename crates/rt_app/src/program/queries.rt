@@ -7,7 +7,7 @@ use super::threads::threads_for;
 use super::warnings::{FeedTexts, ends_of_line, report_query};
 use super::{ArgumentFault, Program, ProgramError};
 use command_line::{
-    LookupRequest, NamedFeeds, PrefixFilterArg, RunRequest, TableOutput, TableRequest,
+    LookupRequest, NamedFeeds, OutputFormat, PrefixFilterArg, RunRequest, TableOutput, TableRequest,
 };
 use rt_cidr::Addr;
 use rt_print::Style;
@@ -27,8 +27,7 @@ impl<R: Files + Threads + Wait + Sync + AllocGlobal, O: Write, E: Write> Program
         request: &LookupRequest<'w>,
     ) -> Result<u8, ProgramError<'w>> {
         let named = named_addresses(self.alloc, request)?;
-        let LookupRequest { names, json, .. } = *request;
-        let query = Query::of(self.alloc, &request.run, &request.feeds, names, json)?;
+        let query = Query::of(self.alloc, &request.run, &request.feeds, request.format)?;
         self.look_up(request, named.as_slice(), &query)
     }
 
@@ -65,8 +64,7 @@ impl<R: Files + Threads + Wait + Sync + AllocGlobal, O: Write, E: Write> Program
         request: &TableRequest<'w>,
     ) -> Result<u8, ProgramError<'w>> {
         let selection = selection_of(request)?;
-        let TableRequest { names, json, .. } = *request;
-        let query = Query::of(self.alloc, &request.run, &request.feeds, names, json)?;
+        let query = Query::of(self.alloc, &request.run, &request.feeds, request.format)?;
         self.list(request, selection, &query)
     }
 
@@ -131,17 +129,16 @@ struct Query<'w> {
 }
 
 impl<'w> Query<'w> {
-    /// Returns the feeds that the command line names, and the style with these options. Stops if there are more files than a
+    /// Returns the feeds that the command line names, and the style in this format. Stops if there are more files than a
     /// run accepts, then as `style_of` does, and then as `FeedNumbers::of` does.
     fn of(
         alloc: Global,
         run: &RunRequest<'w>,
         feeds: &NamedFeeds<'w>,
-        names: bool,
-        json: bool,
+        format: OutputFormat,
     ) -> Result<Query<'w>, ProgramError<'w>> {
         let files = FeedFiles::of(run.files)?;
-        let style = style_of(alloc, names, json, files)?;
+        let style = style_of(alloc, format, files)?;
         let feeds = FeedNumbers::of(alloc, feeds, files)?;
         Ok(Query { feeds, style })
     }

@@ -1,34 +1,35 @@
-//! The style of printed routes: with feeds' numbers, with their names, or as JSON.
+//! The style of printed routes: with feeds' numbers, with their names, as JSON, or as CSV.
 
 use super::ProgramError;
 use super::feed_choice::FeedFiles;
-use command_line::{ComparedBy, DiffRequest, DifferenceOutput};
+use command_line::{ComparedBy, DiffRequest, DifferenceOutput, OutputFormat};
 use rt_diff::CompareBy;
 use rt_print::{DiffOptions, DiffOutput, Format, Style};
 use std::alloc::Global;
 
-/// Returns the format of printed routes with these options of the command line.
-fn format_of(names: bool, json: bool) -> Format {
-    match (json, names) {
-        (false, false) => Format::Numbers,
-        (false, true) => Format::Names,
-        (true, false) => Format::Json,
-        (true, true) => Format::JsonWithNames,
+/// Returns the format of printed routes that the command line asks for.
+fn format_of(format: OutputFormat) -> Format {
+    match format {
+        OutputFormat::Numbers => Format::Numbers,
+        OutputFormat::Names => Format::Names,
+        OutputFormat::Json => Format::Json,
+        OutputFormat::JsonWithNames => Format::JsonWithNames,
+        OutputFormat::Csv => Format::Csv,
+        OutputFormat::CsvWithNames => Format::CsvWithNames,
     }
 }
 
-/// Returns the style for the feeds of these files, with these options of the command line. Stops if, with `--names`, a file has
+/// Returns the style for the feeds of these files, in the format of the command line. Stops if, with `--names`, a file has
 /// no valid feed name or two files have the same.
 pub(super) fn style_of<'w>(
     alloc: Global,
-    names: bool,
-    json: bool,
+    format: OutputFormat,
     files: FeedFiles<'w>,
 ) -> Result<Style, ProgramError<'w>> {
-    if names {
+    if format.has_names() {
         files.check_names()?;
     }
-    Ok(Style::new(alloc, format_of(names, json), files.names)?)
+    Ok(Style::new(alloc, format_of(format), files.names)?)
 }
 
 /// Returns what `diff` compares, and how it prints.
@@ -46,7 +47,7 @@ pub(super) fn diff_options<'w>(
         DifferenceOutput::Prefixes => DiffOutput::Prefixes,
         DifferenceOutput::Ranges | DifferenceOutput::Counts => DiffOutput::Ranges,
     };
-    let format = format_of(request.names, request.json);
+    let format = format_of(request.format);
     Ok(DiffOptions::new(alloc, by, output, format, old.names, new.names)?)
 }
 
@@ -56,7 +57,7 @@ pub(super) fn sides_of<'w>(
 ) -> Result<(FeedFiles<'w>, FeedFiles<'w>), ProgramError<'w>> {
     let old = FeedFiles::of(request.run.files)?;
     let new = FeedFiles::of(request.new_files)?;
-    if request.names {
+    if request.format.has_names() {
         old.check_names()?;
         new.check_names()?;
     }

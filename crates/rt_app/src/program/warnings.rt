@@ -79,9 +79,9 @@ fn report_each<E: Write>(err: &mut E, files: FeedTexts<'_>, tallies: &[RejectedI
 
 /// Returns for each text whether it has a line end after its last line. Its error: memory ran out.
 pub(super) fn ends_of_line(alloc: Global, texts: &[Vec<u8>]) -> Result<Vec<bool>, AllocError> {
-    let mut ends = Vec::with_capacity(alloc, texts.len())?;
+    let mut ends = Vec::new(alloc);
     for text in texts {
-        ends.push_reserved(has_line_end(text.as_slice()));
+        ends.push(has_line_end(text.as_slice()))?;
     }
     Ok(ends)
 }

@@ -1,5 +1,5 @@
-use Rattle.std.proofs.Common.{◌≡◌, ◌==◌, length, drop, ◌∙◌, rules}
-use Rattle.rt_print.specs.DifferenceText.{differences_as}
+use Rattle.std.proofs.Common.{◌≡◌, ◌==◌, ◌++◌, length, drop, ◌∙◌, rules}
+use Rattle.rt_print.specs.DifferenceText.{differences_as, differences_header}
 use Rattle.rt_run.specs.DiffText.{IsDiffText}
 use Rattle.rt_run.specs.declared.tallies.RunSummary.{RunSummary}
 use Rattle.rt_run.specs.RunText.{in_batches}
@@ -26,10 +26,12 @@ returns-clause-text g c old_batch new_batch old_some new_some =
 
 pub returns-clause-old_given_back : goal.returns-clause-old_given_back
 returns-clause-old_given_back g c =
-    if_written (λ (given : RunSummary). IsGivenBack c.args.old_input.now given.tallies.items c.run_both.new.old_input) (differences_as c.args.options.now c.as_slice-list.result.now) _ _ _ c.write_differences.result c.in_ok-old_table.ensures.old_given_back
-    c.write_differences.ensures
+    if_written (λ (given : RunSummary). IsGivenBack c.args.old_input.now given.tallies.items c.run_both.new.old_input)
+    (differences_header c.args.options.now ++ differences_as c.args.options.now c.as_slice-list.result.now) _ _ _ c.write_differences.result
+    c.in_ok-old_table.ensures.old_given_back c.write_differences.ensures
 
 pub returns-clause-new_given_back : goal.returns-clause-new_given_back
 returns-clause-new_given_back g c =
-    if_written (λ (given : RunSummary). IsGivenBack c.args.new_input.now (drop (length c.args.old_input.now.texts) given.tallies.items) c.run_both.new.new_input) (differences_as c.args.options.now c.as_slice-list.result.now) _ _ _ c.write_differences.result c.in_ok-old_table.ensures.new_given_back
-    c.write_differences.ensures
+    if_written (λ (given : RunSummary). IsGivenBack c.args.new_input.now (drop (length c.args.old_input.now.texts) given.tallies.items) c.run_both.new.new_input)
+    (differences_header c.args.options.now ++ differences_as c.args.options.now c.as_slice-list.result.now) _ _ _ c.write_differences.result
+    c.in_ok-old_table.ensures.new_given_back c.write_differences.ensures

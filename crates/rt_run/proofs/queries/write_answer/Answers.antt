@@ -19,7 +19,7 @@ returns-in-Best g c rows is =
     let these : AreOfRows (keeps_invalid c.args.question.now) rows addresses invalid =
     record { addressed = c.as_slice-addresses.ensures.value ∙ is.addressed; kept = c.as_slice-invalid.ensures.value ∙ is.kept } in
     let one : Addr → List ℕ = λ addr. found_as style.syntax (label_of style.labels) addr (look_up addr table) in
-    rw (c.in-Best.is, ← (rows_text style one _ rows addresses invalid (rw c.in-Best.is at these))) c.write_rows_through.ensures
+    rw (c.in-Best.is, ← (rows_text style one _ rows addresses invalid (rw c.in-Best.is at these))) c.write_best.ensures
 
 pub returns-in_ok-all-in-All : goal.returns-in_ok-all-in-All
 returns-in_ok-all-in-All g c rows is =
@@ -32,11 +32,12 @@ returns-in_ok-all-in-All g c rows is =
     let one : Addr → List ℕ = λ addr. all_found_as style.syntax (label_of style.labels) addr (look_up_all addr table) in
     let all = c.in_ok-all-in-All.all.items in
     let found : matches_found all ≡ matches_in table addresses = c.in_ok-all-in-All.ensures {u = tt} in
-    rw (c.in-All.is, ← (rows_text style one _ rows addresses invalid (rw c.in-All.is at these)), ← (matches_rows style table addresses invalid all found), ← c.as_slice-all.ensures.value) c.write_rows_through-in-All.ensures
+    rw (c.in-All.is, ← (rows_text style one _ rows addresses invalid (rw c.in-All.is at these)), ← (matches_rows style table addresses invalid all found), ← c.as_slice-all.ensures.value, ← c.all_found_header-header.ensures)
+    c.write_rows_through.ensures
 
 pub returns-in_ok-routes-in-Routes : goal.returns-in_ok-routes-in-Routes
 returns-in_ok-routes-in-Routes g c rows is =
-    rw (c.in-Routes.is, ← (c.in_ok-routes-in-Routes.ensures {u = tt}), ← c.as_slice-routes.ensures.value) c.write_rows_through-in-Routes.ensures
+    rw (c.in-Routes.is, ← (c.in_ok-routes-in-Routes.ensures {u = tt}), ← c.as_slice-routes.ensures.value, ← c.rows_header-header.ensures) c.write_rows_through-in-Routes.ensures
 
 pub returns-in_ok-routes-in-RoutesAndTotal : goal.returns-in_ok-routes-in-RoutesAndTotal
 returns-in_ok-routes-in-RoutesAndTotal g c rows is =
@@ -52,15 +53,6 @@ returns-in_ok-routes-in-Counts g c rows is =
 
 pub write_rows_through-requires-clause-empty : goal.write_rows_through-requires-clause-empty
 write_rows_through-requires-clause-empty g c lifetimes outlive =
-    let style = c.args.style.now in
-    let table = c.args.tables.now in
-    let addresses = c.as_slice-addresses.result.now in
-    let one : Addr → List ℕ = λ addr. found_as style.syntax (label_of style.labels) addr (look_up addr table) in
-    c.are_empty-is_empty.ensures ∙ with_invalid-empty style.syntax (flat_map one) addresses c.as_slice-invalid.result.now
-    (answers-empty style (length addresses == 0) table addresses refl)
-
-pub write_rows_through-requires-in-All-clause-empty : goal.write_rows_through-requires-in-All-clause-empty
-write_rows_through-requires-in-All-clause-empty g c lifetimes outlive =
     let style = c.args.style.now in
     let table = c.args.tables.now in
     let addresses = c.as_slice-addresses.result.now in
