@@ -95,7 +95,7 @@ def tell_radix(old, new):
 def timed(words):
     """The seconds of wall-clock and processor time of a call, and how it ended."""
     before, start = resource.getrusage(resource.RUSAGE_CHILDREN), time.monotonic()
-    ended = subprocess.run(words, capture_output=True, text=True)
+    ended = subprocess.run(words, capture_output=True, text=True, env=figures.environment(words[1]))
     clock, after = time.monotonic() - start, resource.getrusage(resource.RUSAGE_CHILDREN)
     processor = after.ru_utime + after.ru_stime - before.ru_utime - before.ru_stime
     return clock, processor, (ended.returncode, ended.stdout, ended.stderr)

@@ -2,7 +2,8 @@
 """Draws what the benches measured, out of bench/figures/.
 
 Usage: bench/draw_figures.py [--check]. Writes time_by_prefixes.svg, time_by_feeds.svg, time_beside_others.svg,
-lock_by_threads.svg and trie_by_size.svg into docs/pictures/, or with --check compares them with what it would write.
+time_by_processors.svg, lock_by_threads.svg and trie_by_size.svg into docs/pictures/, or with --check compares them with
+what it would write.
 Each axis begins at zero, but for the lower ones, which have one place for each number that was measured.
 """
 import html
@@ -172,6 +173,16 @@ def busy_lines(rows):
     return lines
 
 
+def time_by_processors():
+    kept = figures.kept("queries")
+    kinds = [("table --best", BLUE, False), ("lookup", GREEN, False), ("diff without a peer", ORANGE, False),
+             ("diff of two tables", QUIET, True)]
+    lines = [[(row["on"], row["clock"][0]) for row in kept["rows"] if row["query"] == query]
+             for query in ("table --best", "lookup", "diff without a peer", "diff")]
+    return charts("Queries of 8 full tables in 16 files", "seconds, wall-clock time", "processors", kinds,
+                  [("1,050,000 prefixes each", lines)], kept)
+
+
 def lock_by_threads():
     kept = figures.kept("lock")
     rows = [row for row in kept["rows"] if row["levels"] == 6]
@@ -198,7 +209,7 @@ def trie_by_size():
 
 def main():
     stale = []
-    for draw in (time_by_prefixes, time_by_feeds, time_beside_others, lock_by_threads, trie_by_size):
+    for draw in (time_by_prefixes, time_by_feeds, time_beside_others, time_by_processors, lock_by_threads, trie_by_size):
         path, drawn = FOLDER / f"{draw.__name__}.svg", draw().svg()
         if "--check" not in sys.argv:
             path.write_text(drawn)

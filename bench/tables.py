@@ -56,6 +56,12 @@ def busy(row):
     return cells + [ratio(several[0], one[0]), ratio(several[0], plain[0]), ratio(*row["processors"][:2])]
 
 
+def query(row):
+    """The time and memory of a query; with another program, the ratios to it."""
+    cells = [f"`{row['query']}`" if " a " not in row["query"] else row["query"], row["on"]]
+    return cells + [f"{row['clock'][0]:.2f}", f"{row['processors'][0]:.2f}", f"{row['memory'][0]:,.0f}"]
+
+
 CALLERS = ("Rattle", "C", "Rust", "Python", "py-radix", "Net::Patricia", "rte_lpm")
 
 
@@ -112,6 +118,7 @@ TABLES = {
         ["Files", "Processors", "Batch", *TO_PLAIN],
         lambda row: [row["files"], row["on"], row["batch"], *program(row)],
     ),
+    "queries": (["Query", "Processors", "Clock", "Processor time", "Memory"], query),
     "lock": (
         ["Levels", "Threads", "Lock", "C", "Mutex", "Lock to C", "Processors to C"],
         lock,

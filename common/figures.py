@@ -61,6 +61,11 @@ def begun(words):
     return asked
 
 
+def environment(subcommand):
+    """The environment of a program that is started with this subcommand, with the memory that is measured."""
+    return os.environ | (checks.launched(subcommand) if memory() == "launcher" else {})
+
+
 def built_peer(folder, source):
     """The path of a program in plain Rust, built in the directory from its source in bench/."""
     subprocess.run(["rustc", "--edition", "2024", "-C", "opt-level=3", "-o", folder / "peer", TOP / "bench" / source],

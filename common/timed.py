@@ -33,10 +33,10 @@ def passed(words, **how):
     return seconds, usage.ru_utime + usage.ru_stime, usage.ru_maxrss * 1024
 
 
-def measure(words, whole):
+def measure(words, whole, **how):
     """The same of one run, and the digest of its output."""
     with tempfile.TemporaryFile() as output:
-        measures = passed(words, stdout=output)
+        measures = passed(words, stdout=output, **how)
         output.seek(0)
         return *measures, digest(output, whole)
 

@@ -31,7 +31,7 @@ PATHS = [" ".join(["1"] * length) for length in range(1, 6)]
 def measured(words):
     """Seconds, peak bytes, status and the end of the output of one run."""
     with tempfile.TemporaryFile() as output:
-        seconds, usage, child = taken(words, stdout=output)
+        seconds, usage, child = taken(words, stdout=output, env=figures.environment(words[1]))
         size = output.seek(0, os.SEEK_END)
         output.seek(max(0, size - 60))
         return seconds, usage.ru_maxrss * 1024, child.returncode, output.read().decode()
@@ -96,7 +96,8 @@ def full_tables(program):
         feeds = converted(prefixes, peers)
         best = [f"192.0.2.{best_peer(place, peers)}" for place in range(len(prefixes))]
         with open("table.txt", "w+") as output:
-            seconds, usage, child = taken([program, "table", "--best", *feeds], stdout=output)
+            seconds, usage, child = taken([program, "table", "--best", *feeds], stdout=output,
+                                          env=figures.environment("table"))
             output.seek(0)
             differing = sum(1 for line, (base, length), hop in itertools.zip_longest(output, prefixes, best)
                             if (line.split()[0], line.split()[-1]) != (f"{dotted(base)}/{length}", hop))

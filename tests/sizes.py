@@ -24,7 +24,7 @@ import os
 import pathlib
 import subprocess
 
-from common.checks import LAUNCHED, Program, chosen, compare, end, expect, run_each
+from common.checks import LAUNCHED, Program, chosen, compare, end, expect, launched, run_each
 from common.table_model import (MAX_FEEDS, all_answers_text, answers_text, csv_of, dotted, json_text, members, ran, row,
                                 run_text, told_text)
 from texts import FORWARDED, many_routes
@@ -509,8 +509,15 @@ CASES = (batches, purges, feeds, many_offers, at_limit, at_greatest_limit, cover
 OF_MEMORY = (feeds, many_offers, in_all, million)
 
 
-class Twice(Program):
-    """The program. A `run` is called twice: with the launchers' memory settings, and with the C library's default."""
+class Launched(Program):
+    """The program, with the memory settings that the launchers make for each subcommand."""
+
+    def __call__(self, *words, **how):
+        return super().__call__(*words, **{"env": os.environ | launched(words[0])} | how)
+
+
+class Twice(Launched):
+    """The same. A `run` is called twice: with these settings, and with the C library's default."""
 
     def __call__(self, *words, **how):
         ended = super().__call__(*words, **how)
@@ -525,7 +532,7 @@ def main():
     words = chosen(__doc__, CASES)
     os.environ |= LAUNCHED
     for case in words.cases:
-        run_each([case], Twice(words.program) if case in OF_MEMORY else words.program)
+        run_each([case], (Twice if case in OF_MEMORY else Launched)(words.program))
     end()
 
 
