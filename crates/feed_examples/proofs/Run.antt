@@ -70,7 +70,8 @@ use Rattle.rt_run.specs.ChosenFeeds.{is_selected, is_left_out, texts_kept, route
 use Rattle.rt_run.specs.ChosenFeeds.{AreWithout}
 use Rattle.rt_run.specs.SameTable.{LosesLeftOut}
 use Rattle.rt_run.specs.Shares.{share_with, is_of_other, share_of, AreTalliesOfShares}
-use Rattle.rt_run.proofs.KeptTexts.{are_without}
+use Rattle.rt_run.proofs.KeptTexts.{kept_length, kept_at}
+use Rattle.std.proofs.lemmas.Bool.{cond-true, cond-false}
 use Rattle.rt_rib.specs.declared.selection.PrefixFilter.TheVariants as part
 
 -- table_alone
@@ -185,18 +186,25 @@ not_if_the_third_becomes_the_second h = let count = h.as_many in cc
 abbrev the_three : List (List ℕ)
 the_three = north ∷ south ∷ east ∷ []
 
+the_three_without_south : AreWithout only_two the_three (texts_kept only_two 1 the_three)
+the_three_without_south = record {
+  as_many = kept_length only_two 1 the_three;
+  others = λ k stays. kept_at only_two 1 the_three k ∙ cond-false (only_two (k + 1)) [] (get_or the_three k []) stays;
+  empty = λ k leaves. kept_at only_two 1 the_three k ∙ cond-true (only_two (k + 1)) [] (get_or the_three k []) leaves;
+}
+
 -- LosesLeftOut
 south_is_gone : LosesLeftOut → (union rest : List Route) → IsUnion the_three 65536 union → IsUnion (texts_kept only_two 1 the_three) 65536 rest
     → ¬ Contains rest (route_via ten_8 2 30 (via_192_0_2 2))
 south_is_gone law union rest of_all of_rest has =
-    let both = (law only_two the_three (texts_kept only_two 1 the_three) 65536 union rest (are_without only_two the_three) of_all of_rest
+    let both = (law only_two the_three (texts_kept only_two 1 the_three) 65536 union rest the_three_without_south of_all of_rest
     (route_via ten_8 2 30 (via_192_0_2 2))).0 has in
     cc
 
 north_stays : LosesLeftOut → (union rest : List Route) → IsUnion the_three 65536 union → IsUnion (texts_kept only_two 1 the_three) 65536 rest
     → Contains rest (route_via ten_8 1 50 (via_192_0_2 1))
 north_stays law union rest of_all of_rest =
-    (law only_two the_three (texts_kept only_two 1 the_three) 65536 union rest (are_without only_two the_three) of_all of_rest
+    (law only_two the_three (texts_kept only_two 1 the_three) 65536 union rest the_three_without_south of_all of_rest
     (route_via ten_8 1 50 (via_192_0_2 1))).1 ((of_all.contains (route_via ten_8 1 50 (via_192_0_2 1))).1 (0, a_route_of_north), refl)
 
 -- IsAnsweredAlone
@@ -535,7 +543,7 @@ the_history_of_a_dump = record {
         lines = text;
         read = lines;
         body = (of_version_1, refl);
-        become = (codes "dump", [], cut_after_dump, (tt, refl), refl);
+        become = (codes "dump", [], cut_after_dump, (refl, refl), refl);
         joined = refl;
       };
       pieces = commands_of lines ∷ [];
