@@ -176,9 +176,9 @@ def busy_lines(rows):
 def time_by_processors():
     kept = figures.kept("queries")
     kinds = [("table --best", BLUE, False), ("lookup", GREEN, False), ("diff without a peer", ORANGE, False),
-             ("diff of two tables", QUIET, True)]
+             ("diff of two tables", QUIET, False)]
     lines = [[(row["on"], row["clock"][0]) for row in kept["rows"] if row["query"] == query]
-             for query in ("table --best", "lookup", "diff without a peer", "diff")]
+             for query, _, _ in kinds]
     return charts("Queries of 8 full tables in 16 files", "seconds, wall-clock time", "processors", kinds,
                   [("1,050,000 prefixes each", lines)], kept)
 

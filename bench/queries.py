@@ -1,12 +1,12 @@
 #!/usr/bin/env python3
 """Times queries of full tables by the number of processors.
 
-The tables have 1,050,000 prefixes each, with the lengths of a real table, in rising order; every table is distributed over
-two files. `table --best`, `table` and `lookup` of 300,000 addresses read all of them, `diff without a peer` compares all
-of them with all but the last, and `diff` compares two. Each query runs on each number of processors in turn, in each round.
-With --beside another program does the same in turn with this one. Prints the minimum of the wall-clock time, of the
-processor time and of the peak memory. It fails if an output depends on the number of processors, or if the other program's
-differs.
+The tables have the same 1,050,000 prefixes, with the lengths of a real table, in rising order, and different next hops; every
+table is distributed over two files. `table --best`, `table` and `lookup` of 300,000 addresses read all of them, `diff
+without a peer` compares all of them with all but the last, and `diff of two tables` compares two, which differ in each
+prefix. Each query runs on each number of processors. With --beside another program does the same in turn with this one. Prints the
+minimum of the wall-clock time and of the processor time. It fails if an output depends on the number of processors, or if
+the other program's differs.
 """
 import os
 import pathlib
@@ -51,7 +51,7 @@ def queries(files, addresses):
     yield "table", ["table", *LIMIT, *every]
     yield "lookup", ["lookup", *LIMIT, "--addresses", addresses, *every]
     yield "diff without a peer", ["diff", *LIMIT, *every, "--", *every[:-2]]
-    yield "diff", ["diff", *LIMIT, *files[0], "--", *files[1]]
+    yield "diff of two tables", ["diff", *LIMIT, *files[0], "--", *files[1]]
 
 
 def run(program, words, processors):
@@ -72,8 +72,8 @@ def row_of(name, words, programs, on, rounds):
     if len(digests) != 1:
         sys.exit(f"{name}, {on} processors: the outputs differ")
     row = {"query": name, "on": on}
-    for title, field, scale in (("clock", 0, 1), ("processors", 1, 1), ("memory", 2, 1e-6)):
-        row[title] = [round(min(pair[which][field] for pair in runs) * scale, 3) for which in range(len(programs))]
+    for title, field in (("clock", 0), ("processors", 1)):
+        row[title] = [round(min(pair[which][field] for pair in runs), 3) for which in range(len(programs))]
     print(f"{name:20} {on} processors"
           + "".join(f" | {title} {' / '.join(f'{value:.2f}' for value in row[title])}" for title in list(row)[2:]), flush=True)
     return row, digests

@@ -57,9 +57,8 @@ def busy(row):
 
 
 def query(row):
-    """The time and memory of a query; with another program, the ratios to it."""
-    cells = [f"`{row['query']}`" if " a " not in row["query"] else row["query"], row["on"]]
-    return cells + [f"{row['clock'][0]:.2f}", f"{row['processors'][0]:.2f}", f"{row['memory'][0]:,.0f}"]
+    """The seconds of a query on this number of processors."""
+    return [f"`{row['query']}`", row["on"], f"{row['clock'][0]:.1f}", f"{row['processors'][0]:.1f}"]
 
 
 CALLERS = ("Rattle", "C", "Rust", "Python", "py-radix", "Net::Patricia", "rte_lpm")
@@ -118,7 +117,7 @@ TABLES = {
         ["Files", "Processors", "Batch", *TO_PLAIN],
         lambda row: [row["files"], row["on"], row["batch"], *program(row)],
     ),
-    "queries": (["Query", "Processors", "Clock", "Processor time", "Memory"], query),
+    "queries": (["Query", "Processors", "Clock", "Processor time"], query),
     "lock": (
         ["Levels", "Threads", "Lock", "C", "Mutex", "Lock to C", "Processors to C"],
         lock,
@@ -150,6 +149,7 @@ SHOWN = {
     "fib": is_compared,
     "instructions": lambda row: row["one_prefix"] > 110,
     "library": lambda row: row["call"] != "forwarding_4096" and len(callers(row)) > 1,
+    "queries": lambda row: row["on"] in (1, 4),
     "lock": lambda row: (row["levels"], row["threads"]) in {(1, 1), (1, 2), (2, 4), (6, 1), (6, 2), (6, 16), (6, 64)},
     "route_server": lambda row: row["files"] == 64 or row["files"] != 16 and row["on"] == 4,
     "run": lambda row: "order" not in row["input"],
