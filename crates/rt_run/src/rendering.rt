@@ -25,6 +25,10 @@ pub(crate) struct Workers<'r, R> {
     pub(crate) threads: usize,
 }
 
+/// The text of each piece of a list, or `None` for a piece for which memory ran out; or an error: memory ran out for the list of
+/// texts.
+type PieceTexts = Result<Vec<Option<Vec<u8>>>, AllocError>;
+
 /// A way to write the items of a list: each has a row of its own, which doesn't depend on the others.
 pub(crate) trait Rows<X> {
     ghost use Rattle.std.specs.Prelude.{ℕ, List};
@@ -39,8 +43,8 @@ pub(crate) trait Rows<X> {
         ensures { WritesText (W.contents w.old) (W.contents w.new) (flat_map (row_of self.now) items.now) result };
 }
 
-/// Writes the row of each item, in order. Each worker renders a piece and allocates its text. If memory runs out, a piece is
-/// rendered while it is written.
+/// Writes the row of each item, in order. Each worker renders a piece and allocates its text; a group of pieces is written
+/// while the next group is rendered. If memory runs out, a piece is rendered while it is written.
 pub(crate) fn write_on_threads<R: Threads + Sync, W: Write, X: Sync, P: Rows<X> + Sync>(
     workers: &Workers<'_, R>,
     w: &mut W,
@@ -52,38 +56,69 @@ pub(crate) fn write_on_threads<R: Threads + Sync, W: Write, X: Sync, P: Rows<X> 
     if workers.threads < 2 || items.len() <= PIECE_ITEMS {
         return rows.write_rows(w, items);
     }
-    let mut rest = items;
+    let most = workers.threads.saturating_mul(PIECE_ITEMS);
+    let (mut group, mut rest) = items.split_at(items.len().min(most));
+    let mut texts = render_pieces(workers, rows, group);
     while !rest.is_empty() {
-        let most = workers.threads.saturating_mul(PIECE_ITEMS);
-        let (group, behind) = rest.split_at(rest.len().min(most));
-        write_group(workers, w, rows, group)?;
+        let (next, behind) = rest.split_at(rest.len().min(most));
+        let (written, next_texts) = write_and_render(workers, w, rows, group, &texts, next);
+        written?;
+        group = next;
+        texts = next_texts;
         rest = behind;
     }
-    Ok(())
+    write_group(w, rows, group, &texts)
 }
 
-/// Writes the rows of the items; each thread renders a piece of them.
-fn write_group<R: Threads + Sync, W: Write, X: Sync, P: Rows<X> + Sync>(
+/// Writes the rows of the items, whose texts these are, and meanwhile renders the next items on other threads, if they can be
+/// created. Returns the result of the write, and the texts of the next items.
+fn write_and_render<R: Threads + Sync, W: Write, X: Sync, P: Rows<X> + Sync>(
     workers: &Workers<'_, R>,
     w: &mut W,
     rows: &P,
     items: &[X],
+    texts: &PieceTexts,
+    next: &[X],
+) -> (io::Result<()>, PieceTexts)
+    requires { IfOk texts.now (λ texts. ArePieceTexts (P.row_of rows.now) items.now texts.items) }
+    ensures written { WritesText (W.contents w.old) (W.contents w.new) (flat_map (P.row_of rows.now) items.now) result.0 }
+    ensures rendered { IfOk result.1 (λ texts. ArePieceTexts (P.row_of rows.now) next.now texts.items) }
+{
+    let (next_texts, written) = thread::join_mut(
+        workers.rt,
+        &mut || -> PieceTexts
+            ensures { IfOk result (λ texts. ArePieceTexts (P.row_of rows.entry.now) next.entry.now texts.items) }
+        { render_pieces(workers, rows, next) },
+        &mut || -> io::Result<()>
+            requires { IfOk texts.now (λ texts. ArePieceTexts (P.row_of rows.now) items.now texts.items) }
+            ensures { WritesText (W.contents w.entry.now) (W.contents w.exit.now) (flat_map (P.row_of rows.entry.now) items.entry.now) result }
+        { write_group(w, rows, items, texts) },
+    );
+    (written, next_texts)
+}
+
+/// Writes the rows of the items: their texts, if there are any.
+fn write_group<W: Write, X, P: Rows<X>>(
+    w: &mut W,
+    rows: &P,
+    items: &[X],
+    texts: &PieceTexts,
 ) -> io::Result<()>
+    requires { IfOk texts.now (λ texts. ArePieceTexts (P.row_of rows.now) items.now texts.items) }
     ensures { WritesText (W.contents w.old) (W.contents w.new) (flat_map (P.row_of rows.now) items.now) result }
 {
-    match render_pieces(workers, rows, items) {
+    match texts {
         Ok(texts) => write_texts(w, rows, items, texts.as_slice()),
         Err(_) => rows.write_rows(w, items),
     }
 }
 
-/// Returns the text of each piece of the items, or `None` for a piece if memory ran out. Its error: memory ran out for the
-/// list of texts.
+/// Returns the text of each piece of the items. Each is rendered on a thread of its own, if one can be created.
 fn render_pieces<R: Threads + Sync, X: Sync, P: Rows<X> + Sync>(
     workers: &Workers<'_, R>,
     rows: &P,
     items: &[X],
-) -> Result<Vec<Option<Vec<u8>>>, AllocError>
+) -> PieceTexts
     ensures { IfOk result (λ texts. ArePieceTexts (P.row_of rows.now) items.now texts.items) }
 {
     let alloc = workers.alloc;
