@@ -71,22 +71,16 @@ pub struct RunRequest<'a> {
     pub ghost batched: { 1 ≤ batch },
 }
 
-/// Feeds that the command line identifies, each by its number or its name, not yet resolved.
-#[derive(Clone, Copy)]
-pub struct NamedFeeds<'a> {
-    /// The selected feeds; if there are none, every feed is selected.
-    pub only: &'a [&'a str],
-    /// The feeds that are left out.
-    pub without: &'a [&'a str],
-}
-
-/// The addresses to look up, and the feed files.
+/// The addresses to look up, and the feed files. A feed is identified by its number or its name, not yet resolved, as in
+/// [`TableRequest`] and [`DiffRequest`].
 #[derive(Clone, Copy)]
 pub struct LookupRequest<'a> {
     /// The feed files.
     pub run: RunRequest<'a>,
-    /// The feeds that are executed.
-    pub feeds: NamedFeeds<'a>,
+    /// The feeds that are executed; if there are none, every feed is.
+    pub only: &'a [&'a str],
+    /// The feeds that are left out.
+    pub without: &'a [&'a str],
     /// The arguments of `--address`, not yet parsed.
     pub addresses: &'a [&'a str],
     /// The name of the file with further addresses.
@@ -104,8 +98,10 @@ pub struct LookupRequest<'a> {
 pub struct TableRequest<'a> {
     /// The feed files.
     pub run: RunRequest<'a>,
-    /// The feeds whose routes are listed, and those that are left out.
-    pub feeds: NamedFeeds<'a>,
+    /// The feeds whose routes are listed, though every feed is executed; if there are none, the routes of every feed are.
+    pub listed: &'a [&'a str],
+    /// The feeds that are left out.
+    pub without: &'a [&'a str],
     /// List only the best route of each prefix.
     pub only_best: bool,
     /// The prefixes whose routes are listed.
@@ -162,12 +158,16 @@ pub enum PrefixFilterArg<'a> {
 pub struct DiffRequest<'a> {
     /// The old feed files, and the limit and the batch of both runs.
     pub run: RunRequest<'a>,
-    /// The old feeds that are executed.
-    pub old_feeds: NamedFeeds<'a>,
+    /// The old feeds that are executed; if there are none, every old feed is.
+    pub old_only: &'a [&'a str],
+    /// The old feeds that are left out.
+    pub old_without: &'a [&'a str],
     /// The names of the new feed files.
     pub new_files: &'a [&'a str],
-    /// The new feeds that are executed.
-    pub new_feeds: NamedFeeds<'a>,
+    /// The new feeds that are executed; if there are none, every new feed is.
+    pub new_only: &'a [&'a str],
+    /// The new feeds that are left out.
+    pub new_without: &'a [&'a str],
     /// The part of an answer that is compared.
     pub by: ComparedBy,
     /// What is printed of the differences.
@@ -313,7 +313,8 @@ fn lookup_request<'a>(matches: &'a ArgMatches<'_>) -> Result<Request<'a>, Reques
     }
     Ok(Request::Lookup(LookupRequest {
         run: run_request(matches)?,
-        feeds: feeds_of(matches, "feed", "without"),
+        only: texts_of(matches, "feed"),
+        without: texts_of(matches, "without"),
         addresses: texts_of(matches, "address"),
         more: matches.get_str("addresses"),
         keep_invalid,
@@ -333,7 +334,8 @@ fn table_request<'a>(matches: &'a ArgMatches<'_>) -> Result<Request<'a>, Request
     }
     Ok(Request::Table(TableRequest {
         run: run_request(matches)?,
-        feeds: feeds_of(matches, "feed", "without"),
+        listed: texts_of(matches, "feed"),
+        without: texts_of(matches, "without"),
         only_best: matches.get_flag("best"),
         part,
         output,
@@ -372,9 +374,11 @@ fn diff_request<'a>(matches: &'a ArgMatches<'_>) -> Result<Request<'a>, RequestF
     }
     Ok(Request::Diff(DiffRequest {
         run: run_request(matches)?,
-        old_feeds: feeds_of(matches, "old-feed", "old-without"),
+        old_only: texts_of(matches, "old-feed"),
+        old_without: texts_of(matches, "old-without"),
         new_files: texts_of(matches, "new"),
-        new_feeds: feeds_of(matches, "new-feed", "new-without"),
+        new_only: texts_of(matches, "new-feed"),
+        new_without: texts_of(matches, "new-without"),
         by,
         output,
         format,
@@ -431,14 +435,6 @@ impl OutputFormat {
 /// Returns the values of the argument, in order.
 fn texts_of<'a>(matches: &'a ArgMatches<'_>, name: &str) -> &'a [&'a str] {
     matches.get_strs(name).unwrap_or(&[])
-}
-
-/// Returns the feeds that two options identify: the selected ones, and those that are left out.
-fn feeds_of<'a>(matches: &'a ArgMatches<'_>, only: &str, without: &str) -> NamedFeeds<'a> {
-    NamedFeeds {
-        only: texts_of(matches, only),
-        without: texts_of(matches, without),
-    }
 }
 
 /// Returns the feed files, the limit and the batch, whose bounds `clap` has checked.

@@ -15,7 +15,7 @@ ghost use Rattle.rt_rib.specs.declared.limits.TheConstants.{MAX_FEEDS};
 ghost use Rattle.rt_run.specs.ChosenFeeds.{is_left_out, AreWithout};
 
 use command_line::{Arguments, Refusal, ReplayRequest, Request, RequestFault, RunRequest};
-use feed_choice::FeedFiles;
+use feed_choice::NamedFeeds;
 pub(crate) use program_error::ProgramError;
 use program_error::{ArgumentFault, NO_MEMORY};
 use rt_cidr::put;
@@ -105,8 +105,8 @@ impl<R: Files + Threads + Wait + Sync + AllocGlobal, O: Write, E: Write> Program
 
     /// Writes the replies to the commands of the files and the table, and returns the exit status.
     fn run_files<'w>(&mut self, request: &RunRequest<'w>) -> Result<u8, ProgramError<'w>> {
-        let files = FeedFiles::of(request.files)?;
-        let texts = self.read_feeds(files, &[], &[])?;
+        let feeds = NamedFeeds::of(self.alloc, request.files)?;
+        let texts = self.read_feeds(&feeds, &[], &[])?;
         let (texts, batch) = (texts.as_slice(), request.batch as usize);
         let mut out = self.screen.beside(texts.len(), self.out);
         Ok(run_texts(self.rt, self.alloc, texts, request.limit, batch, &mut out)?)
@@ -133,7 +133,7 @@ impl<R: Files + Wait + AllocGlobal, O: Write, E: Write> Program<'_, R, O, E> {
     /// are one of `without`, or, if `only` has feeds, none of these.
     fn read_feeds<'w>(
         &mut self,
-        files: FeedFiles<'w>,
+        files: &NamedFeeds<'w>,
         only: &[u32],
         without: &[u32],
     ) -> Result<Vec<Vec<u8>>, ProgramError<'w>>

@@ -1,6 +1,6 @@
 //! `diff`: the addresses for which the tables of two sets of feed files differ, and reports of rejected input.
 
-use super::feed_choice::FeedNumbers;
+use super::feed_choice::NamedFeeds;
 use super::styles::{diff_options, sides_of};
 use super::threads::threads_to_compare;
 use super::warnings::{FeedTexts, ends_of_line, report_sides};
@@ -31,14 +31,9 @@ impl<R: Files + Threads + Wait + Sync + AllocGlobal, O: Write, E: Write> Program
     fn read_side<'w>(
         &mut self,
         request: &DiffRequest<'_>,
-        feeds: &FeedNumbers<'w>,
+        feeds: &NamedFeeds<'w>,
     ) -> Result<RunInput, ProgramError<'w>> {
-        let FeedNumbers {
-            files,
-            only,
-            without,
-        } = feeds;
-        let texts = self.read_feeds(*files, only.as_slice(), without.as_slice())?;
+        let texts = self.read_feeds(feeds, feeds.only.as_slice(), feeds.without.as_slice())?;
         Ok(RunInput::new(texts, request.run.limit))
     }
 
@@ -100,19 +95,19 @@ impl<R: Files + Threads + Wait + Sync + AllocGlobal, O: Write, E: Write> Program
 /// The feeds of both sides of a comparison, and what is compared and printed.
 #[derive(Drop)]
 struct Sides<'w> {
-    old: FeedNumbers<'w>,
-    new: FeedNumbers<'w>,
+    old: NamedFeeds<'w>,
+    new: NamedFeeds<'w>,
     options: DiffOptions,
 }
 
 impl<'w> Sides<'w> {
-    /// Returns what the command line asks to compare. Stops as `sides_of` does, and then as `FeedNumbers::of` does for the old
-    /// feeds and for the new ones.
+    /// Returns what the command line asks to compare. Stops as `sides_of` does, and then as `NamedFeeds::choose` does for the
+    /// old feeds and for the new ones.
     fn of(alloc: Global, request: &DiffRequest<'w>) -> Result<Sides<'w>, ProgramError<'w>> {
-        let (old_files, new_files) = sides_of(request)?;
-        let old = FeedNumbers::of(alloc, &request.old_feeds, old_files)?;
-        let new = FeedNumbers::of(alloc, &request.new_feeds, new_files)?;
-        let options = diff_options(alloc, request, old_files, new_files)?;
+        let (mut old, mut new) = sides_of(alloc, request)?;
+        old.choose(alloc, request.old_only, request.old_without)?;
+        new.choose(alloc, request.new_only, request.new_without)?;
+        let options = diff_options(alloc, request, &old, &new)?;
         Ok(Sides { old, new, options })
     }
 }

@@ -4,25 +4,51 @@ ghost use Rattle.std.specs.Prelude.{◌≤◌, length};
 ghost use Rattle.rt_rib.specs.declared.limits.TheConstants.{MAX_FEEDS};
 
 use super::{ArgumentFault, ProgramError};
-use command_line::NamedFeeds;
 use rt_print::{NameFault, check_names, feed_name};
 use rt_run::MAX_FEED_FILES;
 use std::alloc::Global;
 
-/// The names of the feed files of a run or of a side of a comparison: as many as a run accepts.
-#[derive(Clone, Copy)]
-pub(super) struct FeedFiles<'w> {
+/// The feed files of a run or of a side of a comparison, as many as a run accepts, and the numbers of the feeds that the
+/// command line names.
+#[derive(Drop)]
+pub(super) struct NamedFeeds<'w> {
+    /// The names of the files.
     pub(super) names: &'w [&'w str],
+    /// The selected feeds; if there are none, every feed is selected.
+    pub(super) only: Vec<u32>,
+    /// The feeds that are left out.
+    pub(super) without: Vec<u32>,
     ghost few: { length names.now ≤ MAX_FEEDS },
 }
 
-impl<'w> FeedFiles<'w> {
-    /// Returns these files. Stops if there are more than a run accepts.
-    pub(super) fn of(names: &'w [&'w str]) -> Result<FeedFiles<'w>, ProgramError<'w>> {
+impl<'w> NamedFeeds<'w> {
+    /// Returns the feeds of these files, of which the command line names none. Stops if there are more files than a run
+    /// accepts.
+    pub(super) fn of(
+        alloc: Global,
+        names: &'w [&'w str],
+    ) -> Result<NamedFeeds<'w>, ProgramError<'w>> {
         if names.len() > MAX_FEED_FILES {
             return Err(ProgramError::TooMany);
         }
-        Ok(FeedFiles { names })
+        Ok(NamedFeeds {
+            names,
+            only: Vec::new(alloc),
+            without: Vec::new(alloc),
+        })
+    }
+
+    /// Selects the feeds that the first arguments identify, and leaves out those that the others identify. Stops if an argument
+    /// identifies no feed, or several, or if a selected feed is also left out.
+    pub(super) fn choose(
+        &mut self,
+        alloc: Global,
+        only: &[&'w str],
+        without: &[&'w str],
+    ) -> Result<(), ProgramError<'w>> {
+        self.only = self.numbers_of(alloc, only)?;
+        self.without = self.numbers_of(alloc, without)?;
+        check_selected(without, self.without.as_slice(), self.only.as_slice())
     }
 
     /// Stops if a file has no valid feed name, or the same feed name as an earlier file. A name isn't valid either if it would
@@ -45,6 +71,15 @@ impl<'w> FeedFiles<'w> {
                 files[file],
             )),
         }
+    }
+
+    /// Returns the number of the feed that each argument identifies, in order.
+    fn numbers_of(&self, alloc: Global, words: &[&'w str]) -> Result<Vec<u32>, ProgramError<'w>> {
+        let mut numbers = Vec::new(alloc);
+        for word in words {
+            numbers.push(self.number_of(word)?)?;
+        }
+        Ok(numbers)
     }
 
     /// Returns the number of the feed that the argument identifies: the one feed that has this number or this name.
@@ -92,33 +127,6 @@ fn is_identified(word: &str, feed: u32, file: &str) -> bool {
     is_name || word.parse() == Ok(feed)
 }
 
-/// The feed files, and the numbers of the feeds that the command line names.
-#[derive(Drop)]
-pub(super) struct FeedNumbers<'w> {
-    pub(super) files: FeedFiles<'w>,
-    pub(super) only: Vec<u32>,
-    pub(super) without: Vec<u32>,
-}
-
-impl<'w> FeedNumbers<'w> {
-    /// Returns the numbers of feeds that are read from these files. Stops if an argument identifies no feed, or several, or if a
-    /// selected feed is also left out.
-    pub(super) fn of(
-        alloc: Global,
-        feeds: &NamedFeeds<'w>,
-        files: FeedFiles<'w>,
-    ) -> Result<FeedNumbers<'w>, ProgramError<'w>> {
-        let only = numbers_of(alloc, feeds.only, files)?;
-        let without = numbers_of(alloc, feeds.without, files)?;
-        check_selected(feeds.without, without.as_slice(), only.as_slice())?;
-        Ok(FeedNumbers {
-            files,
-            only,
-            without,
-        })
-    }
-}
-
 /// Stops if a feed that is left out is also selected. The words are the arguments that identify the feeds that are left out.
 fn check_selected<'w>(
     words: &[&'w str],
@@ -131,17 +139,4 @@ fn check_selected<'w>(
         }
     }
     Ok(())
-}
-
-/// Returns the number of the feed that each argument identifies, in order.
-fn numbers_of<'w>(
-    alloc: Global,
-    words: &[&'w str],
-    files: FeedFiles<'w>,
-) -> Result<Vec<u32>, ProgramError<'w>> {
-    let mut numbers = Vec::new(alloc);
-    for word in words {
-        numbers.push(files.number_of(word)?)?;
-    }
-    Ok(numbers)
 }

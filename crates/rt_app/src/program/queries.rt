@@ -1,14 +1,12 @@
 //! `lookup` and `table`: queries of the final table of feed files, and reports of rejected input.
 
-use super::feed_choice::{FeedFiles, FeedNumbers};
+use super::feed_choice::NamedFeeds;
 use super::prefixes::prefix_of;
 use super::styles::style_of;
 use super::threads::threads_for;
 use super::warnings::{FeedTexts, ends_of_line, report_query};
 use super::{ArgumentFault, Program, ProgramError};
-use command_line::{
-    LookupRequest, NamedFeeds, OutputFormat, PrefixFilterArg, RunRequest, TableOutput, TableRequest,
-};
+use command_line::{LookupRequest, OutputFormat, PrefixFilterArg, TableOutput, TableRequest};
 use rt_cidr::Addr;
 use rt_print::Style;
 use rt_rib::{PrefixFilter, Selection};
@@ -27,7 +25,10 @@ impl<R: Files + Threads + Wait + Sync + AllocGlobal, O: Write, E: Write> Program
         request: &LookupRequest<'w>,
     ) -> Result<u8, ProgramError<'w>> {
         let named = named_addresses(self.alloc, request)?;
-        let query = Query::of(self.alloc, &request.run, &request.feeds, request.format)?;
+        let mut query = Query::of(self.alloc, request.run.files, request.format)?;
+        query
+            .feeds
+            .choose(self.alloc, request.only, request.without)?;
         self.look_up(request, named.as_slice(), &query)
     }
 
@@ -38,12 +39,8 @@ impl<R: Files + Threads + Wait + Sync + AllocGlobal, O: Write, E: Write> Program
         named: &[Addr],
         query: &Query<'w>,
     ) -> Result<u8, ProgramError<'w>> {
-        let FeedNumbers {
-            files,
-            only,
-            without,
-        } = &query.feeds;
-        let texts = self.read_feeds(*files, only.as_slice(), without.as_slice())?;
+        let feeds = &query.feeds;
+        let texts = self.read_feeds(feeds, feeds.only.as_slice(), feeds.without.as_slice())?;
         let text = self.read_more(request.more)?;
         let question = addresses_question(request, named, text.as_slice());
         let input = RunInput::new(texts, request.run.limit);
@@ -64,7 +61,10 @@ impl<R: Files + Threads + Wait + Sync + AllocGlobal, O: Write, E: Write> Program
         request: &TableRequest<'w>,
     ) -> Result<u8, ProgramError<'w>> {
         let selection = selection_of(request)?;
-        let query = Query::of(self.alloc, &request.run, &request.feeds, request.format)?;
+        let mut query = Query::of(self.alloc, request.run.files, request.format)?;
+        query
+            .feeds
+            .choose(self.alloc, request.listed, request.without)?;
         self.list(request, selection, &query)
     }
 
@@ -76,7 +76,7 @@ impl<R: Files + Threads + Wait + Sync + AllocGlobal, O: Write, E: Write> Program
         query: &Query<'w>,
     ) -> Result<u8, ProgramError<'w>> {
         // The feeds that aren't selected take part too: which of their routes are best may depend on them.
-        let texts = self.read_feeds(query.feeds.files, &[], query.feeds.without.as_slice())?;
+        let texts = self.read_feeds(&query.feeds, &[], query.feeds.without.as_slice())?;
         let question = question_of(request.output, selection, query.feeds.only.as_slice());
         let input = RunInput::new(texts, request.run.limit);
         self.show(input, query, &question, None, &[])
@@ -106,7 +106,7 @@ impl<R: Files + Threads + Wait + Sync + AllocGlobal, O: Write, E: Write> Program
             &mut out,
         )?;
         let files = FeedTexts {
-            names: query.feeds.files.names,
+            names: query.feeds.names,
             texts: input.texts(),
             ends: ends.as_slice(),
         };
@@ -124,22 +124,20 @@ impl<R: Files + Threads + Wait + Sync + AllocGlobal, O: Write, E: Write> Program
 /// The feeds of a query, and the style of its output.
 #[derive(Drop)]
 struct Query<'w> {
-    feeds: FeedNumbers<'w>,
+    feeds: NamedFeeds<'w>,
     style: Style,
 }
 
 impl<'w> Query<'w> {
-    /// Returns the feeds that the command line names, and the style in this format. Stops if there are more files than a
-    /// run accepts, then as `style_of` does, and then as `FeedNumbers::of` does.
+    /// Returns the feeds of these files, and the style in this format. Stops if there are more files than a run accepts, and
+    /// then as `style_of` does.
     fn of(
         alloc: Global,
-        run: &RunRequest<'w>,
-        feeds: &NamedFeeds<'w>,
+        files: &'w [&'w str],
         format: OutputFormat,
     ) -> Result<Query<'w>, ProgramError<'w>> {
-        let files = FeedFiles::of(run.files)?;
-        let style = style_of(alloc, format, files)?;
-        let feeds = FeedNumbers::of(alloc, feeds, files)?;
+        let feeds = NamedFeeds::of(alloc, files)?;
+        let style = style_of(alloc, format, &feeds)?;
         Ok(Query { feeds, style })
     }
 }

@@ -1,7 +1,7 @@
 //! The style of printed routes: with feeds' numbers, with their names, as JSON, or as CSV.
 
 use super::ProgramError;
-use super::feed_choice::FeedFiles;
+use super::feed_choice::NamedFeeds;
 use command_line::{ComparedBy, DiffRequest, DifferenceOutput, OutputFormat};
 use rt_diff::CompareBy;
 use rt_print::{DiffOptions, DiffOutput, Format, Style};
@@ -24,20 +24,20 @@ fn format_of(format: OutputFormat) -> Format {
 pub(super) fn style_of<'w>(
     alloc: Global,
     format: OutputFormat,
-    files: FeedFiles<'w>,
+    feeds: &NamedFeeds<'w>,
 ) -> Result<Style, ProgramError<'w>> {
     if format.has_names() {
-        files.check_names()?;
+        feeds.check_names()?;
     }
-    Ok(Style::new(alloc, format_of(format), files.names)?)
+    Ok(Style::new(alloc, format_of(format), feeds.names)?)
 }
 
 /// Returns what `diff` compares, and how it prints.
 pub(super) fn diff_options<'w>(
     alloc: Global,
     request: &DiffRequest<'w>,
-    old: FeedFiles<'w>,
-    new: FeedFiles<'w>,
+    old: &NamedFeeds<'w>,
+    new: &NamedFeeds<'w>,
 ) -> Result<DiffOptions, ProgramError<'w>> {
     let by = match request.by {
         ComparedBy::Hop => CompareBy::Hop,
@@ -51,12 +51,14 @@ pub(super) fn diff_options<'w>(
     Ok(DiffOptions::new(alloc, by, output, format, old.names, new.names)?)
 }
 
-/// Returns the old files and the new ones. Stops as `style_of` does, on either side; also if there are too many files on a side.
+/// Returns the feeds of the old files and of the new ones. Stops as `style_of` does, on either side; also if there are too
+/// many files on a side.
 pub(super) fn sides_of<'w>(
+    alloc: Global,
     request: &DiffRequest<'w>,
-) -> Result<(FeedFiles<'w>, FeedFiles<'w>), ProgramError<'w>> {
-    let old = FeedFiles::of(request.run.files)?;
-    let new = FeedFiles::of(request.new_files)?;
+) -> Result<(NamedFeeds<'w>, NamedFeeds<'w>), ProgramError<'w>> {
+    let old = NamedFeeds::of(alloc, request.run.files)?;
+    let new = NamedFeeds::of(alloc, request.new_files)?;
     if request.format.has_names() {
         old.check_names()?;
         new.check_names()?;
