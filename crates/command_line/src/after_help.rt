@@ -120,7 +120,8 @@ empty. With --all, reason is the last column; it is empty for the best route.
 
 --without F leaves out a feed: its file isn't read, and the output is that of a
 run in which this file is empty. The other feeds keep their numbers. --feed F
-leaves out every feed that isn't given. Here F is a number or a feed's name.
+executes only feed F: every feed that isn't given is left out. Here F is a
+number or a feed's name.
 
 ",
     "  0 done   2 invalid line, or add over the limit   3 invalid command line\n",
@@ -147,8 +148,9 @@ then the lowest F. Only one of --within, --covering and --exact may be given.
 
 --without F leaves out a feed: its file isn't read, and the output is that of a
 run in which this file is empty. The other feeds keep their numbers. --feed F
-prints the routes of feed F in the table of all feeds; with --best, those of
-them that are the best to their prefix. Here F is a number or a feed's name.
+prints only routes of feed F, but every feed is executed: with --best, those of
+its routes are printed that are the best of all feeds to their prefix. Here F is
+a number or a feed's name.
 
 With --count the number of these routes and of their prefixes is printed
 instead, then the number for each feed and for each prefix length that has any:
