@@ -54,12 +54,14 @@ use Rattle.rt_print.specs.ReplayText.{inside_text}
 use Rattle.rt_run.specs.Replayed.{IsReplayText, LeavesReplay}
 use Rattle.rt_run.specs.declared.tallies.RejectedInput.{RejectedInput}
 use Rattle.rt_run.specs.declared.tallies.RejectedLines.{RejectedLines}
-use Rattle.rt_feed.specs.Addresses.{address_row, invalid_row}
+use Rattle.rt_feed.specs.Addresses.{AddressRow, address_row, invalid_row}
+use Rattle.rt_feed.specs.declared.faulty.FaultyLines.{FaultyLines}
 use Rattle.rt_print.specs.Csv.{csv_field, route_record}
 use Rattle.rt_print.specs.Styles.{StyleContents, row_as, rows_header, found_as, found_header, all_found_as, all_found_header, reason_text, invalid_as}
 use Rattle.rt_print.specs.Counts.{totals_as, count_as, counts_as, total_as}
-use Rattle.rt_run.specs.TableText.{line_answer_text, answers_text, all_answers_text, keeps_invalid, was_full, was_existing, was_missing, faults_of, lines_where, rejected_lines, tally_of}
-use Rattle.rt_run.specs.TableText.{has_refused, has_rejected, tallies_status, faulty_tally, NoneRefused, LeavesTable, question_text, named_in, said_in, IsQueryOutput, IsAnswer}
+use Rattle.rt_run.specs.TableText.{line_answer_text, answers_text, all_answers_text, was_full, was_existing, was_missing, faults_of, lines_where, rejected_lines, tally_of}
+use Rattle.rt_run.specs.TableText.{has_refused, has_rejected, tallies_status, faulty_tally, NoneRefused, LeavesTable, question_text, AsksAbout, IsQueryOutput, IsAnswer}
+use Rattle.rt_run.specs.Asked.{AddressContents, SaysRows}
 use Rattle.rt_rib.specs.declared.selection.Selection.{Selection}
 use Rattle.rt_run.specs.declared.question.Question.{Question}
 use Rattle.rt_run.specs.declared.question.Question.TheVariants as ask
@@ -804,12 +806,16 @@ no_route_of_no_text tallies h =
     let no_entries = nobody_asks h.leaves.journal h.leaves.history.no_other in
     let none : ◌≡◌ {A = List ℕ} (1 ∷ []) (0 ∷ []) = h.shown ∙ ap length_text (h.leaves.left ∙ ap (table_of_journal 1) no_entries) in cc
 
+-- one named address and those of the text
+abbrev one_and_a_text : Bool → AddressContents
+one_and_a_text keeps = record { named = at_10_9_0_1 ∷ []; text = asked_text; keeps_invalid = keeps }
+
 -- the best route of one named address and of those of the text; and all their routes
 abbrev the_best_of_one_and_a_text : Question
-the_best_of_one_and_a_text = ask.Best (record { ref_ptr = (0, 0); now = at_10_9_0_1 ∷ [] }) (record { ref_ptr = (0, 0); now = asked_text }) true
+the_best_of_one_and_a_text = ask.Best (record { ref_ptr = (0, 0); now = one_and_a_text true })
 
 abbrev all_of_one_and_a_text : Question
-all_of_one_and_a_text = ask.All (record { ref_ptr = (0, 0); now = at_10_9_0_1 ∷ [] }) (record { ref_ptr = (0, 0); now = asked_text }) false
+all_of_one_and_a_text = ask.All (record { ref_ptr = (0, 0); now = one_and_a_text false })
 
 -- every route of the table, and their number
 abbrev every_route : Question
@@ -821,23 +827,30 @@ every_route_and_the_number = ask.RoutesAndTotal (record { part = part.All; only_
 abbrev the_number_of_all : Question
 the_number_of_all = ask.Counts (record { part = part.All; only_best = false; feed = None; hop = None }) (record { ref_ptr = (0, 0); now = [] })
 
--- named_in
-only_look_ups_have_addresses :
-    (named_in the_best_of_one_and_a_text ≡ at_10_9_0_1 ∷ []) × (named_in all_of_one_and_a_text ≡ at_10_9_0_1 ∷ []) × (named_in every_route ≡ [])
-    × (named_in every_route_and_the_number ≡ []) × (named_in the_number_of_all ≡ [])
-only_look_ups_have_addresses = (refl, refl, refl, refl, refl)
+-- SaysRows
+the_named_one_and_then_those_of_the_text :
+    (keeps : Bool) → SaysRows (one_and_a_text keeps) (address_row at_10_9_0_1 ∷ asked_rows) (record { count = 1; first = Some (3, fault.Text) })
+the_named_one_and_then_those_of_the_text keeps = record { said = asked_rows; says = two_are_asked_and_a_line_is_faulty; in_order = refl }
 
--- said_in
-only_look_ups_have_a_text :
-    (said_in the_best_of_one_and_a_text ≡ asked_text) × (said_in all_of_one_and_a_text ≡ asked_text) × (said_in every_route ≡ [])
-    × (said_in every_route_and_the_number ≡ []) × (said_in the_number_of_all ≡ [])
-only_look_ups_have_a_text = (refl, refl, refl, refl, refl)
+no_rows_without_the_named_one : (keeps : Bool) (told : FaultyLines) → ¬ SaysRows (one_and_a_text keeps) [] told
+no_rows_without_the_named_one keeps told h = let none : ◌≡◌ {A = ℕ} 0 (suc (length h.said)) = ap length h.in_order in cc
 
--- keeps_invalid
-only_if_they_are_asked_for :
-    (keeps_invalid the_best_of_one_and_a_text ≡ true) × (keeps_invalid all_of_one_and_a_text ≡ false) × (keeps_invalid every_route ≡ false)
-    × (keeps_invalid every_route_and_the_number ≡ false) × (keeps_invalid the_number_of_all ≡ false)
-only_if_they_are_asked_for = (refl, refl, refl, refl, refl)
+-- AsksAbout
+look_ups_have_rows_and_a_tally :
+    AsksAbout the_best_of_one_and_a_text (address_row at_10_9_0_1 ∷ asked_rows) (faulty_tally (record { count = 1; first = Some (3, fault.Text) }) ∷ [])
+    × AsksAbout all_of_one_and_a_text (address_row at_10_9_0_1 ∷ asked_rows) (faulty_tally (record { count = 1; first = Some (3, fault.Text) }) ∷ [])
+look_ups_have_rows_and_a_tally =
+    let one : FaultyLines = record { count = 1; first = Some (3, fault.Text) } in
+    ((one, the_named_one_and_then_those_of_the_text true, refl), (one, the_named_one_and_then_those_of_the_text false, refl))
+
+routes_have_neither : AsksAbout every_route [] [] × AsksAbout every_route_and_the_number [] [] × AsksAbout the_number_of_all [] []
+routes_have_neither = ((refl, refl), (refl, refl), (refl, refl))
+
+no_tally_of_no_addresses : (tally : RejectedInput) → ¬ AsksAbout every_route [] (tally ∷ [])
+no_tally_of_no_addresses tally h = let none : ◌≡◌ {A = List RejectedInput} (tally ∷ []) [] = h.1 in cc
+
+no_look_up_without_a_tally : (rows : List AddressRow) → ¬ AsksAbout the_best_of_one_and_a_text rows []
+no_look_up_without_a_tally rows h = let none : ◌≡◌ {A = List RejectedInput} [] (faulty_tally h.0 ∷ []) = h.2 in cc
 
 -- question_text
 routes_and_their_numbers :
@@ -881,9 +894,9 @@ the_named_one_before_the_two_of_the_text :
     (record { status = 2; tallies = tallies })
 unfolding found_header
 the_named_one_before_the_two_of_the_text tallies tallied = record {
-  said = asked_rows;
-  faulty = record { count = 1; first = Some (3, fault.Text) };
-  says = two_are_asked_and_a_line_is_faulty;
+  rows = address_row at_10_9_0_1 ∷ asked_rows;
+  others = faulty_tally (record { count = 1; first = Some (3, fault.Text) }) ∷ [];
+  asks = (record { count = 1; first = Some (3, fault.Text) }, the_named_one_and_then_those_of_the_text true, refl);
   tallies = map tally_of (reports_of the_tutorials_outcomes);
   shown = what_is_told_of_the_tutorial (answers_text plain true (address_row at_10_9_0_1 ∷ asked_rows)) (map tally_of (reports_of the_tutorials_outcomes)) refl;
   tallied = tallied;

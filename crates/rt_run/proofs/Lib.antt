@@ -11,6 +11,7 @@ pub mod SeveralFeeds
 pub mod SameTables
 pub mod LeftOut
 pub mod Alone
+pub mod Asked
 pub mod Shares
 pub mod TakenTexts
 pub mod GivenBack

@@ -23,7 +23,7 @@ use Rattle.rt_run.specs.declared.tallies.RejectedInput.{RejectedInput}
 use Rattle.rt_run.specs.declared.tallies.RunSummary.{RunSummary}
 use Rattle.rt_run.specs.declared.question.Question.{Question}
 use Rattle.rt_run.specs.RunText.{RunContents, WritesOrFails}
-use Rattle.rt_run.specs.TableText.{question_text, named_in, said_in, faulty_tally, tallies_status, LeavesTable, IsAnswer}
+use Rattle.rt_run.specs.TableText.{question_text, tallies_status, LeavesTable, AsksAbout, IsAnswer}
 use Rattle.rt_run.specs.Replayed.{IsReplayText, LeavesReplay}
 use Rattle.rt_feed.specs.Addresses.{AddressRow, address_row, SaysAddresses}
 use Rattle.rt_run.specs.inside.Outputs.{Writes, found_text, matches_text}
@@ -53,13 +53,13 @@ leaves_replay levels picks text old new (Err Write) is only wrote = (text, is, w
 
 -- the text for the question's rows is the answer
 pub is_answer : (asked : RunContents) (style : StyleContents) (question : Question) (table : List Route) (tallies : List RejectedInput)
-    (said : List AddressRow) (faulty : FaultyLines) (given : RunSummary) → SaysAddresses (said_in question) said faulty
-    → LeavesTable asked table tallies → given.tallies.items ≡ tallies ++ faulty_tally faulty ∷ [] → given.status ≡ tallies_status given.tallies.items
-    → IsAnswer asked style question (question_text style question (map address_row (named_in question) ++ said) table) given
-is_answer asked style question table tallies said faulty given says leaves tallied status = record {
-  said = said;
-  faulty = faulty;
-  says = says;
+    (rows : List AddressRow) (others : List RejectedInput) (given : RunSummary) → AsksAbout question rows others
+    → LeavesTable asked table tallies → given.tallies.items ≡ tallies ++ others → given.status ≡ tallies_status given.tallies.items
+    → IsAnswer asked style question (question_text style question rows table) given
+is_answer asked style question table tallies rows others given asks leaves tallied status = record {
+  rows = rows;
+  others = others;
+  asks = asks;
   tallies = tallies;
   shown = record { table = table; leaves = leaves; shown = refl };
   tallied = tallied;

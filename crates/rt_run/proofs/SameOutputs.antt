@@ -2,10 +2,10 @@
 use Rattle.std.proofs.Common.{List, ◌++◌, map, Bool, true, false, ◌||◌, refl, ap, sym, subst, ◌∙◌, ◌≡◌}
 use Rattle.std.specs.List.{list_any}
 use Rattle.std.proofs.lemmas.List.Folds.{list_any-append}
-use Rattle.rt_feed.specs.Addresses.{AddressRow, address_row}
+use Rattle.rt_feed.specs.Addresses.{AddressRow}
 use Rattle.rt_feed.specs.Laws.{AddressTextHasOneReading}
 use Rattle.rt_run.specs.declared.tallies.RejectedInput.{RejectedInput}
-use Rattle.rt_run.specs.TableText.{question_text, named_in, said_in, has_refused, NoneRefused, IsQueryOutput}
+use Rattle.rt_run.specs.TableText.{question_text, has_refused, NoneRefused, IsQueryOutput}
 use Rattle.rt_run.specs.SameTable.{ShowOneTable, AnswerOnce, LeavesUnion, HaveOneUnion, HaveSameTallies, HaveSameInput, TellsUnions, DiffsUnions, CountsUnions, DiffOnce, CountOnce}
 use Rattle.rt_diff.specs.Answers.{own_numbers}
 use Rattle.rt_diff.specs.Differences.{AreDifferences}
@@ -16,6 +16,7 @@ use Rattle.rt_print.specs.ChangeCounts.{AreChangeCounts, HaveOneCountList, chang
 use Rattle.rt_run.specs.declared.tallies.RunSummary.{RunSummary}
 use Rattle.rt_run.specs.RunText.{RunContents}
 use Rattle.rt_run.specs.DiffText.{renumbered_new, diff_text, IsComparison}
+use Rattle.rt_run.proofs.Asked.{asks_about_the_same}
 use Rattle.rt_run.proofs.SameTables.{left_union, say_the_same}
 
 both_false : (a b : Bool) → (a || b) ≡ false → (a ≡ false) × (b ≡ false)
@@ -28,10 +29,10 @@ none_of_either one other none = both_false (list_any has_refused one) (list_any 
 
 pub answers_are_deterministic : ShowOneTable → AddressTextHasOneReading → AnswerOnce
 answers_are_deterministic shows once one one' style question bytes bytes' given given' same is is' none none' =
-    let text_of = λ (said : List AddressRow). question_text style question (map address_row (named_in question) ++ said) in
-    let read = once (said_in question) is.said is'.said is.faulty is'.faulty is.says is'.says in
-    let also = subst (λ (said : List AddressRow). IsQueryOutput one' (text_of said) bytes' is'.tallies) (sym read.0) is'.shown in
-    let both = shows one one' (text_of is.said) bytes bytes' is.tallies is'.tallies same is.shown also
+    let text_of = question_text style question in
+    let read = asks_about_the_same once question is.rows is'.rows is.others is'.others is.asks is'.asks in
+    let also = subst (λ (rows : List AddressRow). IsQueryOutput one' (text_of rows) bytes' is'.tallies) (sym read.0) is'.shown in
+    let both = shows one one' (text_of is.rows) bytes bytes' is.tallies is'.tallies same is.shown also
     (none_of_either is.tallies _ (subst NoneRefused is.tallied none)).0 (none_of_either is'.tallies _ (subst NoneRefused is'.tallied none')).0 in
     let tallied : given.tallies.items ≡ given'.tallies.items = cc (is.tallied, is'.tallied, both.1, read.1) in
     (both.0, cc (is.is_status, is'.is_status, tallied), tallied)

@@ -1,3 +1,4 @@
+pub mod Asked
 pub mod ChosenFeeds
 pub mod RunText
 pub mod SameTable

@@ -14,7 +14,7 @@ use Rattle.rt_feed.specs.declared.faulty.FaultyLines.{FaultyLines}
 use Rattle.rt_feed.specs.declared.report.Answer.{Answer}
 use Rattle.rt_feed.specs.declared.report.Answer.TheVariants.{Did, Refused, Fault}
 use Rattle.rt_feed.specs.Lines.{LineOutcome}
-use Rattle.rt_feed.specs.Addresses.{AddressRow, address_row, invalid_row, faulty_lines, SaysAddresses}
+use Rattle.rt_feed.specs.Addresses.{AddressRow, address_row, invalid_row, faulty_lines}
 use Rattle.rt_feed.specs.Reports.{is_refusal}
 use Rattle.rt_print.specs.Counts.{counts_as, rows_and_total_as}
 use Rattle.rt_print.specs.Styles.{StyleContents, label_of, rows_header, rows_as, found_header, found_as, all_found_header, all_found_as, invalid_as}
@@ -24,6 +24,7 @@ use Rattle.rt_run.specs.declared.tallies.RunSummary.{RunSummary}
 use Rattle.rt_run.specs.declared.question.Question.{Question}
 use Rattle.rt_run.specs.declared.question.Question.TheVariants as ask
 use Rattle.rt_run.specs.RunText.{InputContents, RunContents, IsJournalOfRun, reports_of, status_where}
+use Rattle.rt_run.specs.Asked.{SaysRows}
 use Rattle.rt_run.specs.ChosenFeeds.{routes_of_selected}
 
 -- what is printed for a row: the answer for its address; for an invalid line its number, if such lines are kept, or else nothing
@@ -43,35 +44,11 @@ all_answers_text style keeps rows table =
 -- the text that answers a question about a table, in the style; the rows have the addresses to look up. If there are feeds,
 -- only their routes among the selected ones are printed or counted. Answers and routes follow their header, which only CSV has
 abbrev pub question_text : StyleContents → Question → List AddressRow → List Route → List ℕ
-question_text style (ask.Best named text keeps) rows table = found_header style.syntax ++ answers_text style keeps rows table
-question_text style (ask.All named text keeps) rows table = all_found_header style.syntax ++ all_answers_text style keeps rows table
+question_text style (ask.Best addresses) rows table = found_header style.syntax ++ answers_text style addresses.now.keeps_invalid rows table
+question_text style (ask.All addresses) rows table = all_found_header style.syntax ++ all_answers_text style addresses.now.keeps_invalid rows table
 question_text style (ask.Routes selection feeds) rows table = rows_header style.syntax ++ rows_as style (routes_of_selected feeds.now (selected selection table))
 question_text style (ask.RoutesAndTotal selection feeds) rows table = rows_and_total_as style (routes_of_selected feeds.now (selected selection table))
 question_text style (ask.Counts selection feeds) rows table = counts_as style (routes_of_selected feeds.now (selected selection table))
-
--- the named addresses of a question
-abbrev pub named_in : Question → List Addr
-named_in (ask.Best named text keeps) = named.now
-named_in (ask.All named text keeps) = named.now
-named_in (ask.Routes selection feeds) = []
-named_in (ask.RoutesAndTotal selection feeds) = []
-named_in (ask.Counts selection feeds) = []
-
--- its text of addresses
-abbrev pub said_in : Question → List ℕ
-said_in (ask.Best named text keeps) = text.now
-said_in (ask.All named text keeps) = text.now
-said_in (ask.Routes selection feeds) = []
-said_in (ask.RoutesAndTotal selection feeds) = []
-said_in (ask.Counts selection feeds) = []
-
--- true if the invalid lines of this text are kept, each in its place
-abbrev pub keeps_invalid : Question → Bool
-keeps_invalid (ask.Best named text keeps) = keeps
-keeps_invalid (ask.All named text keeps) = keeps
-keeps_invalid (ask.Routes selection feeds) = false
-keeps_invalid (ask.RoutesAndTotal selection feeds) = false
-keeps_invalid (ask.Counts selection feeds) = false
 
 -- an `add` was over the limit
 abbrev pub was_full : Answer → Bool
@@ -162,13 +139,21 @@ pub record IsQueryOutput (asked : RunContents) (text_of : List Route → List �
   pub leaves : LeavesTable asked table tallies
   pub shown : bytes ≡ text_of table
 
--- the bytes are the answer to the question, in the style, from the table that some run of this input left. The rows are the
--- named addresses and after them the lines of the text of addresses. The tallies are the run's and, last, that of this text
+-- the rows that a question asks about, and the tally of its text of addresses; a question about routes has neither
+abbrev pub AsksAbout : Question → List AddressRow → List RejectedInput → Type 0
+AsksAbout (ask.Best addresses) rows tallies = (faulty : FaultyLines) × SaysRows addresses.now rows faulty × (tallies ≡ faulty_tally faulty ∷ [])
+AsksAbout (ask.All addresses) rows tallies = (faulty : FaultyLines) × SaysRows addresses.now rows faulty × (tallies ≡ faulty_tally faulty ∷ [])
+AsksAbout (ask.Routes selection feeds) rows tallies = (rows ≡ []) × (tallies ≡ [])
+AsksAbout (ask.RoutesAndTotal selection feeds) rows tallies = (rows ≡ []) × (tallies ≡ [])
+AsksAbout (ask.Counts selection feeds) rows tallies = (rows ≡ []) × (tallies ≡ [])
+
+-- the bytes are the answer to the question, in the style, from the table that some run of this input left. The tallies are
+-- the run's and, last, that of the question's text of addresses, if it has addresses
 pub record IsAnswer (asked : RunContents) (style : StyleContents) (question : Question) (bytes : List ℕ) (given : RunSummary) : Type 0 where
-  pub said : List AddressRow
-  pub faulty : FaultyLines
-  pub says : SaysAddresses (said_in question) said faulty
+  pub rows : List AddressRow
+  pub others : List RejectedInput
+  pub asks : AsksAbout question rows others
   pub tallies : List RejectedInput
-  pub shown : IsQueryOutput asked (question_text style question (map address_row (named_in question) ++ said)) bytes tallies
-  pub tallied : given.tallies.items ≡ tallies ++ faulty_tally faulty ∷ []
+  pub shown : IsQueryOutput asked (question_text style question rows) bytes tallies
+  pub tallied : given.tallies.items ≡ tallies ++ others
   pub is_status : given.status ≡ tallies_status given.tallies.items

@@ -7,6 +7,8 @@
 //! - [`show`] executes the texts, each thread a share of them, and stores neither journal nor reports. It writes the answer to a
 //!   [`Question`] about the final table: the best route of each address, all routes that cover it, the selected routes, or
 //!   their number. It returns a tally of the rejected input of each text.
+//! - [`Addresses`] are read before, from a list and from a text. Contracts see that list and that text, so that the clause of
+//!   `show` is one from bytes to bytes.
 //! - [`diff_texts`] executes two sets of texts this way, both at the same time if a thread can be created. It writes the
 //!   addresses for which their final tables differ.
 //! - [`count_diff_texts`] writes the number of these ranges and of their addresses instead.
@@ -51,7 +53,7 @@ pub use comparisons::{count_diff_texts, diff_texts};
 pub use faults::AppFault;
 pub use input::RunInput;
 pub use queries::show;
-pub use question::Question;
+pub use question::{Addresses, Question};
 pub use replays::replay_text;
 pub use runs::{MAX_FEED_FILES, run_texts};
 pub use status::Status;

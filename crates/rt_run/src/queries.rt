@@ -1,12 +1,13 @@
 //! Queries: a question to the finished table of a run, and the output of the answer.
 ghost use Rattle.std.specs.Prelude.{◌≡◌, ◌↔◌, ◌≤◌, ◌==◌, ◌&&◌, ◌++◌, ℕ, [], List, IfOk, length};
-ghost use Rattle.rt_feed.specs.Addresses.{AddressRow, AreOfRows};
-ghost use Rattle.rt_print.specs.Styles.{found_header};
+ghost use Rattle.rt_feed.specs.Addresses.{AddressRow};
+ghost use Rattle.rt_print.specs.Styles.{found_header, all_found_header};
 ghost use Rattle.rt_rib.specs.Selection.{selected};
 ghost use Rattle.rt_run.specs.ChosenFeeds.{routes_of_selected};
 ghost use Rattle.rt_run.specs.RunText.{WritesOrFails, in_batches};
-ghost use Rattle.rt_run.specs.TableText.{question_text, keeps_invalid, IsAnswer, IsGivenBack};
-ghost use Rattle.rt_run.specs.inside.Outputs.{found_text, matches_found, matches_in, with_invalid, Writes};
+ghost use Rattle.rt_run.specs.TableText.{question_text, AsksAbout, IsAnswer, IsGivenBack};
+ghost use Rattle.rt_run.specs.declared.tallies.RejectedInput.{RejectedInput};
+ghost use Rattle.rt_run.specs.inside.Outputs.{found_text, all_found_text, matches_found, matches_in, with_invalid, Writes, AddsTally};
 
 use crate::chosen::is_selected;
 use crate::faults::AppFault;
@@ -19,11 +20,12 @@ use crate::rendering::Workers;
 use crate::rows::LookupTables;
 use crate::tallies::{RejectedInput, RunSummary, tallies_status};
 use rt_cidr::Addr;
-use rt_feed::{AddressText, InvalidLine, RunFault, read_addresses};
+use rt_feed::laws::one_address_text;
+use rt_feed::{AddressText, InvalidLine, RunFault};
 use rt_print::{OutputRoom, Style, write_counts, write_routes_and_total};
 use rt_rib::{Refused, Route, Selection};
 use rt_tables::TableUnion;
-use std::alloc::Global;
+use std::alloc::{AllocError, Global};
 use std::io::Write;
 use std::mem;
 use std::thread::Threads;
@@ -35,8 +37,8 @@ use std::thread::Threads;
 ///   (`write_lookup`);
 /// - for `Question::All` also a line, `ADDR also` with the route and its reason, for each further route
 ///   (`write_all_matches`). All routes are stored before the first is written;
-/// - for both, if `keep_invalid` is true, for each invalid line of the text a line in its place: `LINE invalid` with the line's
-///   number, or a JSON object (`write_invalid_line`);
+/// - for both, if invalid lines are kept, for each invalid line of the text of addresses a line in its place: `LINE invalid` with
+///   the line's number, or a JSON object (`write_invalid_line`);
 /// - for `Question::Routes` the selected routes, without the table's first line;
 /// - for `Question::RoutesAndTotal` the same and a last line with their number (`write_routes_and_total`);
 /// - for `Question::Counts` their numbers (`write_counts`).
@@ -46,7 +48,7 @@ use std::thread::Threads;
 ///
 /// Hence, if no command ran out of memory, the bytes are a function of only the texts, the limit and the question
 /// (`laws::query_output`). Returns the summary if everything was written. Its errors are those of `run_texts`; F3 also if
-/// there is no memory for the addresses, the selected routes or the tallies. Gives back the memory of each text once it is
+/// there is no memory for the selected routes or the tallies. Gives back the memory of each text once it is
 /// executed, unless it has a faulty line; after an error some texts may be empty. Leaks the tables, as `run_texts` does.
 pub fn show<R: Threads + Sync, W: Write>(
     rt: &R,
@@ -61,48 +63,57 @@ pub fn show<R: Threads + Sync, W: Write>(
     ensures given_back { IfOk result (λ given. IsGivenBack input.old given.tallies.items input.new) }
     ensures no_text { (result ≡ Err (AppFault.Run RunFault.NoText)) ↔ (input.old.texts ≡ []) }
 {
-    let (tables, mut tallies) = run_on_threads(rt, alloc, input, threads)?;
-    let (named, text, keep_invalid) = question.addresses();
-    let read = read_addresses(alloc, named, text, keep_invalid)?;
-    tallies.try_reserve(1)?;
-    tallies.push_reserved(RejectedInput::of(read.faulty));
+    let (tables, tallies) = run_on_threads(rt, alloc, input, threads)?;
+    let tallies = with_addresses(tallies, question)?;
     let status = tallies_status(tallies.as_slice());
     let given = RunSummary { status, tallies };
     let workers = Workers { rt, alloc, threads };
-    let told = write_answer(&workers, &tables, style, question, &read, given, w);
+    let told = write_answer(&workers, &tables, style, question, given, w);
     mem::forget(tables);
     told
 }
 
-/// Writes the answer to the question from the tables, in few large writes, and returns `given`; `read` has the addresses to look
-/// up, and the invalid lines that are kept.
+/// Returns the tallies, and last that of the question's text of addresses, if it has addresses. Its error: memory ran out.
+fn with_addresses(
+    tallies: Vec<RejectedInput>,
+    question: &Question<'_>,
+) -> Result<Vec<RejectedInput>, AllocError>
+    ensures { IfOk result (λ all. AddsTally question.now tallies.items all.items) }
+{
+    match question {
+        Question::Best(addresses) | Question::All(addresses) => {
+            let mut tallies = tallies;
+            tallies.try_reserve(1)?;
+            tallies.push_reserved(RejectedInput::of(addresses.parts().faulty));
+            Ok(tallies)
+        }
+        Question::Routes { .. } | Question::RoutesAndTotal { .. } | Question::Counts { .. } => {
+            Ok(tallies)
+        }
+    }
+}
+
+/// Writes the answer to the question from the tables, in few large writes, and returns `given`.
 fn write_answer<R: Threads + Sync, W: Write>(
     workers: &Workers<'_, R>,
     tables: &TableUnion<Global>,
     style: &Style,
     question: &Question<'_>,
-    read: &AddressText,
     given: RunSummary,
     w: &mut W,
 ) -> Result<RunSummary, AppFault>
-    ensures { (rows : List AddressRow) → AreOfRows (keeps_invalid question.now) rows read.now.addresses.items read.now.invalid.items
+    ensures { (rows : List AddressRow) (others : List RejectedInput) → AsksAbout question.now rows others
         → Writes (question_text style.now question.now rows tables.now) given (W.contents w.old) (W.contents w.new) result }
 {
     let (rt, alloc) = (workers.rt, workers.alloc);
     let room = OutputRoom::new(alloc)?;
-    let (addresses, invalid) = (read.addresses.as_slice(), read.invalid.as_slice());
-    let is_empty = are_empty(addresses, invalid);
+    one_address_text();
     match question {
-        Question::Best { .. } => {
-            write_best(workers, w, room, style, tables, addresses, invalid, given)
+        Question::Best(addresses) => {
+            write_best(workers, w, room, style, tables, addresses.parts(), given)
         }
-        Question::All { .. } => {
-            let all = matches_of(alloc, tables, addresses)?;
-            let all = all.as_slice();
-            let header = style.all_found_header();
-            write_rows_through(
-                workers, w, room, header, style, style, all, invalid, is_empty, given,
-            )
+        Question::All(addresses) => {
+            write_all(workers, w, room, style, tables, addresses.parts(), given)
         }
         Question::Routes { selection, feeds } => {
             let routes = routes_asked(rt, alloc, tables, selection, feeds)?;
@@ -144,14 +155,15 @@ fn write_best<R: Threads + Sync, W: Write>(
     room: OutputRoom,
     style: &Style,
     tables: &TableUnion<Global>,
-    addresses: &[Addr],
-    invalid: &[InvalidLine],
+    read: &AddressText,
     given: RunSummary,
 ) -> Result<RunSummary, AppFault>
     requires new { room ≡ [] }
-    ensures { Writes (found_header style.now.syntax ++ with_invalid style.now.syntax (λ list. found_text style.now list tables.now) 0 addresses.now invalid.now)
+    ensures { Writes (found_header style.now.syntax
+        ++ with_invalid style.now.syntax (λ list. found_text style.now list tables.now) 0 read.now.addresses.items read.now.invalid.items)
         given (W.contents w.old) (W.contents w.new) result }
 {
+    let (addresses, invalid) = (read.addresses.as_slice(), read.invalid.as_slice());
     let fib = fib_for(workers.alloc, tables, addresses.len());
     let rows = LookupTables {
         style,
@@ -162,6 +174,32 @@ fn write_best<R: Threads + Sync, W: Write>(
     let header = style.found_header();
     write_rows_through(
         workers, w, room, header, style, &rows, addresses, invalid, no_rows, given,
+    )
+}
+
+/// Writes all routes that cover each address after the header, with the invalid lines in their places, as
+/// `write_rows_through` does. Stores all routes before it writes the first.
+fn write_all<R: Threads + Sync, W: Write>(
+    workers: &Workers<'_, R>,
+    w: &mut W,
+    room: OutputRoom,
+    style: &Style,
+    tables: &TableUnion<Global>,
+    read: &AddressText,
+    given: RunSummary,
+) -> Result<RunSummary, AppFault>
+    requires new { room ≡ [] }
+    ensures { Writes (all_found_header style.now.syntax
+        ++ with_invalid style.now.syntax (λ list. all_found_text style.now list tables.now) 0 read.now.addresses.items read.now.invalid.items)
+        given (W.contents w.old) (W.contents w.new) result }
+{
+    let (addresses, invalid) = (read.addresses.as_slice(), read.invalid.as_slice());
+    let all = matches_of(workers.alloc, tables, addresses)?;
+    let all = all.as_slice();
+    let no_rows = are_empty(addresses, invalid);
+    let header = style.all_found_header();
+    write_rows_through(
+        workers, w, room, header, style, style, all, invalid, no_rows, given,
     )
 }
 

@@ -97,8 +97,8 @@ pub struct RunSummary {
     /// The exit status: 5 if some command ran out of memory, else 2 if some line was faulty or some `add` was over the limit,
     /// else 1 if two tables were compared and differ for some address, else 0.
     pub status: u8,
-    /// The rejected input of each text: of a query's feeds, in order, and last of its text of addresses; or of the old feeds
-    /// of a comparison and then of the new ones.
+    /// The rejected input of each text: of a query's feeds, in order, and last of its text of addresses if it looks addresses
+    /// up; or of the old feeds of a comparison and then of the new ones.
     pub tallies: Vec<RejectedInput>,
 }
 

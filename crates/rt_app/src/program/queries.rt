@@ -10,7 +10,7 @@ use command_line::{LookupRequest, OutputFormat, PrefixFilterArg, TableOutput, Ta
 use rt_cidr::Addr;
 use rt_print::Style;
 use rt_rib::{PrefixFilter, Selection};
-use rt_run::{Question, RunInput, show};
+use rt_run::{Addresses, Question, RunInput, show};
 use std::alloc::Global;
 use std::io::Write;
 use std::rt::Files;
@@ -42,7 +42,13 @@ impl<R: Files + Threads + Wait + Sync + AllocGlobal, O: Write, E: Write> Program
         let feeds = &query.feeds;
         let texts = self.read_feeds(feeds, feeds.only.as_slice(), feeds.without.as_slice())?;
         let text = self.read_more(request.more)?;
-        let question = addresses_question(request, named, text.as_slice());
+        let keep_invalid = request.keep_invalid;
+        let addresses = Addresses::read(self.alloc, named, text.as_slice(), keep_invalid)?;
+        let question = if request.all {
+            Question::All(&addresses)
+        } else {
+            Question::Best(&addresses)
+        };
         let input = RunInput::new(texts, request.run.limit);
         self.show(input, query, &question, request.more, text.as_slice())
     }
@@ -139,28 +145,6 @@ impl<'w> Query<'w> {
         let feeds = NamedFeeds::of(alloc, files)?;
         let style = style_of(alloc, format, &feeds)?;
         Ok(Query { feeds, style })
-    }
-}
-
-/// Returns the question about these addresses and about those of the text.
-fn addresses_question<'t>(
-    request: &LookupRequest<'_>,
-    named: &'t [Addr],
-    text: &'t [u8],
-) -> Question<'t> {
-    let keep_invalid = request.keep_invalid;
-    if request.all {
-        Question::All {
-            named,
-            text,
-            keep_invalid,
-        }
-    } else {
-        Question::Best {
-            named,
-            text,
-            keep_invalid,
-        }
     }
 }
 

@@ -39,8 +39,8 @@ pub(super) fn report_sides<E: Write>(
     report_each(err, new, new_tallies);
 }
 
-/// Reports the rejected input of a query: of the file with further addresses, if there is one, whose tally is the last, and of
-/// the feed files.
+/// Reports the rejected input of a query: of the file with further addresses, if there is one, whose tally follows those of the
+/// feed files, and of the feed files.
 pub(super) fn report_query<E: Write>(
     err: &mut E,
     files: FeedTexts<'_>,
@@ -48,17 +48,16 @@ pub(super) fn report_query<E: Write>(
     text: &[u8],
     tallies: &[RejectedInput],
 ) {
-    if let Some((addresses, feeds)) = tallies.split_last() {
-        if let Some(name) = more {
-            report_rejected(
-                err,
-                InputFile { name, text },
-                FileKind::Addresses,
-                addresses,
-            );
-        }
-        report_each(err, files, feeds);
+    let (feeds, others) = tallies.split_at(files.names.len().min(tallies.len()));
+    if let (Some(name), Some(addresses)) = (more, others.first()) {
+        report_rejected(
+            err,
+            InputFile { name, text },
+            FileKind::Addresses,
+            addresses,
+        );
     }
+    report_each(err, files, feeds);
 }
 
 /// Reports the rejected input of each feed file, and whether it ends within a line.

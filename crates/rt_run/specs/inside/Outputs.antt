@@ -5,6 +5,7 @@ use Rattle.std.specs.List.{flat_map, All, sum_by}
 use Rattle.std.specs.Io.KnownBytes.{Appends}
 use Rattle.rt_cidr.specs.Output.{AppendsBeginning}
 use Rattle.rt_feed.specs.declared.addresses.InvalidLine.{InvalidLine}
+use Rattle.rt_feed.specs.Addresses.{AddressRow}
 use Rattle.rt_feed.specs.declared.faults.RunFault.TheVariants as fault
 use Rattle.rt_print.specs.declared.format.Syntax.{Syntax}
 use Rattle.rt_print.specs.Styles.{StyleContents, label_of, found_as, all_found_as, invalid_as}
@@ -23,13 +24,20 @@ use Rattle.rt_diff.proofs.Promised.{differences_of}
 use Rattle.rt_print.specs.declared.change_counts.ChangeCount.{ChangeCount}
 use Rattle.rt_print.specs.ChangeCounts.{range_size, AreChangeCounts}
 use Rattle.rt_print.specs.DifferenceText.{DiffContents, differences_as}
+use Rattle.rt_run.specs.declared.question.Question.{Question}
+use Rattle.rt_run.specs.declared.tallies.RejectedInput.{RejectedInput}
 use Rattle.rt_run.specs.DiffText.{renumbered_new}
+use Rattle.rt_run.specs.TableText.{AsksAbout}
 
 -- for each address, in order, the result of looking it up in the table, in the style
 abbrev pub found_text : StyleContents → List Addr → List Route → List ℕ
 found_text style addresses table = flat_map (λ addr. found_as style.syntax (label_of style.labels) addr (look_up addr table)) addresses
 
--- for each address, in order, the routes that cover it, the best first
+-- for each address, in order, all routes of the table that cover it, the best first
+abbrev pub all_found_text : StyleContents → List Addr → List Route → List ℕ
+all_found_text style addresses table = flat_map (λ addr. all_found_as style.syntax (label_of style.labels) addr (look_up_all addr table)) addresses
+
+-- the same, of the routes that were found for each address
 abbrev pub matches_text : StyleContents → List (Addr × Vec Route Global) → List ℕ
 matches_text style all = flat_map (λ one. all_found_as style.syntax (label_of style.labels) one.0 one.1.items) all
 
@@ -54,6 +62,13 @@ Writes text given old new (Ok done) = (done ≡ given) × Appends old new text
 Writes text given old new (Err (Run refusal)) = (refusal ≡ fault.Memory) × (new ≡ old)
 Writes text given old new (Err (Replay fault)) = ⊥
 Writes text given old new (Err Write) = AppendsBeginning old new text
+
+-- these tallies, and behind them that of the question's text of addresses, if it has addresses
+pub record AddsTally (question : Question) (tallies all : List RejectedInput) : Type 0 where
+  pub rows : List AddressRow
+  pub others : List RejectedInput
+  pub asks : AsksAbout question rows others
+  pub added : all ≡ tallies ++ others
 
 -- all differences of the two tables
 abbrev pub list_of : DiffContents → List Route → List Route → List Difference
