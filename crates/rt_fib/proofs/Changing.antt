@@ -10,8 +10,8 @@ use Rattle.rt_fib.specs.declared.slabs.Slabs.{Slabs}
 use Rattle.rt_fib.specs.declared.following.Change.{Change}
 use Rattle.rt_fib.specs.declared.spans.Span.{Span}
 use Rattle.rt_fib.specs.inside.Slab.{SlabState, Has, with_value}
-use Rattle.rt_fib.specs.inside.Entries.{at, HasRoute, Leads, IsEntry, AreUpTo, AreMarked}
-use Rattle.rt_fib.specs.inside.Changes.{AnswerAlike, IsChange, HasNumber, IsNumberAfter, AreNumbersAfter, KeepsOthers, LeadsAfter, AreUntil}
+use Rattle.rt_fib.specs.inside.Entries.{at, HasRoute, IsSince, Leads, IsEntry, AreMarked}
+use Rattle.rt_fib.specs.inside.Changes.{AnswerAlike, IsChange, IsNumberAfter, AreNumbersAfter, KeepsOthers, LeadsAfter, AreUntil}
 use Rattle.rt_fib.proofs.Placing.{value_set}
 use Rattle.rt_fib.proofs.Reading.{short_number, long_group, group_is}
 
@@ -56,7 +56,7 @@ module _ {A : Type 0} where
   pub entry_goes : (slabs : Slabs A) (epoch i entry next : ℕ) (change : Change) → entry < 2 ^ 31 → next < 2 ^ 31
       → IsNumberAfter slabs epoch change entry next → LeadsAfter slabs slabs epoch change i entry next
   entry_goes slabs epoch i entry next change short low goes t k answer within before leads =
-      inl (record { short = low; number = goes t answer before (short_number slabs t i entry k answer leads short) })
+      inl (record { short = low; has = goes t answer before (short_number slabs t i entry k answer leads short) })
 
   -- and the entry that names it
   pub group_goes : (old new : Slabs A) (epoch i entry : ℕ) (change : Change) (group : Group) (numbers : List ℕ)
@@ -85,7 +85,7 @@ module _ {A : Type 0} where
   leads_others : (old new : Slabs A) (i t j entry k : ℕ) (answer : Option Route)
       → KeepsOthers i old new → j ≢ i → Leads old t j entry k answer → Leads new t j entry k answer
   leads_others old new i t j entry k answer keeps other leads = elim leads [
-    | inl whole ↦ inl (record { short = whole.short; number = rw keeps.routes whole.number })
+    | inl whole ↦ inl (record { short = whole.short; has = rw keeps.routes whole.has })
     | inr names ↦ inr (record {
       place = names.place;
       group = names.group;
@@ -98,25 +98,31 @@ module _ {A : Type 0} where
   ]
 
   -- one more entry is changed
-  pub until_more : (entries : List ℕ) (slabs more : Slabs A) (epoch t entry next place count : ℕ) (change : Change)
-      → (span : Span) (old new : List Route) → IsChange change.len change.answer span old new → span.first ≤ place → place < span.end → t ≤ epoch + 1
-      → KeepsOthers place slabs more → place < length entries → entry ≡ get_or entries place 0 → LeadsAfter slabs more epoch change place entry next
-      → AreUntil entries slabs t old new place count → AreUntil (set entries place next) more t old new (place + 1) count
-  until_more entries slabs more epoch t entry next place count change span old new is from below low keeps within e goes are =
-      let others : (table : List Route) (i : ℕ) → i ≢ place → IsEntry table slabs t i (get_or entries i 0)
+  pub until_more : (entries : List ℕ) (slabs more : Slabs A) (epoch marked entry next place : ℕ) (change : Change) (span : Span) (old new : List Route)
+      → IsChange change.len change.answer span old new → span.first ≤ place → place < span.end → KeepsOthers place slabs more → place < length entries
+      → entry ≡ get_or entries place 0 → LeadsAfter slabs more epoch change place entry next
+      → AreUntil entries slabs epoch marked old new place → AreUntil (set entries place next) more epoch marked old new (place + 1)
+  until_more entries slabs more epoch marked entry next place change span old new is from below keeps within e goes are =
+      let others : (table : List Route) (t i : ℕ) → i ≢ place → IsEntry table slabs t i (get_or entries i 0)
       → IsEntry table more t i (get_or (set entries place next) i 0) =
-      λ table i other entry_is k small.
+      λ table t i other entry_is k small.
       subst (λ (x : ℕ). Leads more t i x k (look_up (at (i * 256 + k)) table)) (sym (get_or-set_other entries place i next 0 other))
       (leads_others slabs more place t i (get_or entries i 0) k (look_up (at (i * 256 + k)) table) keeps other (entry_is k small)) in
       record {
-        before = below_more (λ (i : ℕ). i < count → IsEntry new more t i (get_or (set entries place next) i 0)) place
-            (λ i earlier here. others new i (omega (arith, earlier)) (are.before i earlier here))
-            (λ here k small.
-            subst (λ (x : ℕ). Leads more t place x k (look_up (at (place * 256 + k)) new)) (sym (get_or-set_same entries place next 0 within))
-            (subst (λ (a : Option Route). Leads more t place next k a) (sym (is.within place k from below small))
-            (goes t k (look_up (at (place * 256 + k)) old) small low
-            (subst (λ (x : ℕ). Leads slabs t place x k (look_up (at (place * 256 + k)) old)) (sym e) (are.behind place (omega arith) here k small)))));
-        behind = λ i later here. others old i (omega (arith, later)) (are.behind i (omega (arith, later)) here);
+        size = length-set entries place next ∙ are.size;
+        before = λ t i earlier here since. elim (cases_eq i place) [
+          | inl same ↦
+              let fits : place < 2 ^ 24 = omega (arith, within, are.size) in
+              let still = subst (λ (j : ℕ). IsSince epoch marked j t) same since in
+              subst (λ (j : ℕ). IsEntry new more t j (get_or (set entries place next) j 0)) (sym same)
+              (λ k small.
+              subst (λ (x : ℕ). Leads more t place x k (look_up (at (place * 256 + k)) new)) (sym (get_or-set_same entries place next 0 within))
+              (subst (λ (a : Option Route). Leads more t place next k a) (sym (is.within place k from below small))
+              (goes t k (look_up (at (place * 256 + k)) old) small since.upto
+              (subst (λ (x : ℕ). Leads slabs t place x k (look_up (at (place * 256 + k)) old)) (sym e) (are.behind t place (omega arith) fits still k small)))))
+          | inr other ↦ others new t i other (are.before t i (omega (arith, earlier, other)) here since)
+        ];
+        behind = λ t i later here since. others old t i (omega (arith, later)) (are.behind t i (omega (arith, later)) here since);
       }
 
   -- one more number of a group
@@ -132,22 +138,12 @@ module _ {A : Type 0} where
         (subst (λ (n : ℕ). IsNumberAfter slabs epoch change (get_or old k 0) n) (sym (get_or-set_same new k number 0 (omega (arith, below, are.size)))) goes);
   }
 
-  -- the number of the new answer stays, where routes stay
-  pub number_stays : (old new : Slabs A) (epoch : ℕ) (change : Change) → new.routes ≡ old.routes → HasNumber old epoch change → HasNumber new epoch change
-  number_stays old new epoch change routes has = record { short = has.short; there = rw routes has.there }
-
   -- the entries of one table are those of another that answers alike
-  upto_alike : (entries : List ℕ) (slabs : Slabs A) (t count : ℕ) (old new : List Route) → AnswerAlike old new → count ≤ 2 ^ 24
-      → AreUpTo entries slabs t old count → AreUpTo entries slabs t new count
-  upto_alike entries slabs t count old new alike fits are = record {
-    each = λ i here k small.
-        subst (λ (a : Option Route). Leads slabs t i (get_or entries i 0) k a) (alike i k (omega (arith, here, fits)) small) (are.each i here k small);
-  }
-
   pub all_alike : (entries : List ℕ) (slabs : Slabs A) (epoch marked : ℕ) (old new : List Route) → AnswerAlike old new
       → AreMarked entries slabs epoch marked old → AreMarked entries slabs epoch marked new
   all_alike entries slabs epoch marked old new alike are = record {
-    all = record { size = are.all.size; all = upto_alike entries slabs epoch (2 ^ 24) old new alike (omega arith) are.all.all };
-    first = upto_alike entries slabs (epoch + 1) marked old new alike are.within are.first;
+    size = are.size;
     within = are.within;
+    each = λ t i here since k small.
+        subst (λ (a : Option Route). Leads slabs t i (get_or entries i 0) k a) (alike i k here small) (are.each t i here since k small);
   }

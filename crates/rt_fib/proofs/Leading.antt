@@ -8,7 +8,7 @@ use Rattle.rt_rib.specs.LookUp.{look_up}
 use Rattle.rt_fib.specs.declared.filling.Piece.{Piece}
 use Rattle.rt_fib.specs.declared.slabs.Slabs.{Slabs}
 use Rattle.rt_fib.specs.inside.Slabs.{KeepsBoth}
-use Rattle.rt_fib.specs.inside.Entries.{at, HasRoute, Leads, IsEntry, AreFrom, AreUpTo, AreMarked, LeadsOn}
+use Rattle.rt_fib.specs.inside.Entries.{at, HasRoute, IsSince, Leads, IsEntry, AreFrom, AreMarked, LeadsOn}
 use Rattle.rt_fib.specs.inside.Pieces.{IsNumberedFrom, AreNumbers}
 use Rattle.rt_fib.proofs.Placing.{weaker}
 
@@ -39,7 +39,7 @@ module _ {A : Type 0} where
   pub leads_keeps : (old new : Slabs A) (epoch t i entry k : ℕ) (answer : Option Route)
       → KeepsBoth epoch old new → epoch ≤ t → Leads old t i entry k answer → Leads new t i entry k answer
   leads_keeps old new epoch t i entry k answer keeps lo leads = elim leads [
-    | inl whole ↦ inl (record { short = whole.short; number = keeps.routes.each t entry answer lo whole.number })
+    | inl whole ↦ inl (record { short = whole.short; has = keeps.routes.each t entry answer lo whole.has })
     | inr names ↦ inr (record {
       place = names.place;
       group = names.group;
@@ -55,7 +55,7 @@ module _ {A : Type 0} where
   pub leads_weaker : (slabs : Slabs A) (s t i entry k : ℕ) (answer : Option Route)
       → s ≤ t → Leads slabs t i entry k answer → Leads slabs s i entry k answer
   leads_weaker slabs s t i entry k answer before leads = elim leads [
-    | inl whole ↦ inl (record { short = whole.short; number = weaker slabs.routes.places s t entry answer before whole.number })
+    | inl whole ↦ inl (record { short = whole.short; has = weaker slabs.routes.places s t entry answer before whole.has })
     | inr names ↦ inr (record {
       place = names.place;
       group = names.group;
@@ -90,35 +90,20 @@ module _ {A : Type 0} where
   pub all_from : (entries : List ℕ) (slabs : Slabs A) (table : List Route)
       → AreFrom 0 entries slabs 1 table (2 ^ 24) → AreMarked entries slabs 0 0 table
   all_from entries slabs table are = record {
-    all = record {
-      size = are.size;
-      all = record {
-        each = λ i here. subst (λ (n : ℕ). IsEntry table slabs 0 n (get_or entries i 0)) (zero-add i)
-            (λ k within. leads_weaker slabs 0 1 (0 + i) (get_or entries i 0) k (look_up (at ((0 + i) * 256 + k)) table) (omega arith)
-            (are.each i here k within));
-      };
-    };
-    first = record { each = λ i here. absurd (omega (arith, here)) };
+    size = are.size;
     within = omega arith;
+    each = λ t i here since k within. leads_weaker slabs t 1 i (get_or entries i 0) k (look_up (at (i * 256 + k)) table) (omega (arith, since.upto))
+        (subst (λ (n : ℕ). Leads slabs 1 n (get_or entries i 0) k (look_up (at (n * 256 + k)) table)) (zero-add i) (are.each i here k within));
   }
 
   -- the same entries lead where they led
-  upto_keeps : (entries : List ℕ) (old new : Slabs A) (epoch t count : ℕ) (table : List Route)
-      → KeepsBoth epoch old new → epoch ≤ t → AreUpTo entries old t table count → AreUpTo entries new t table count
-  upto_keeps entries old new epoch t count table keeps lo are = record {
-    each = λ i here k within. leads_keeps old new epoch t i (get_or entries i 0) k (look_up (at (i * 256 + k)) table) keeps lo
-        (are.each i here k within);
-  }
-
   pub all_keep : (entries : List ℕ) (old new : Slabs A) (epoch marked : ℕ) (table : List Route)
       → KeepsBoth epoch old new → AreMarked entries old epoch marked table → AreMarked entries new epoch marked table
   all_keep entries old new epoch marked table keeps are = record {
-    all = record {
-      size = are.all.size;
-      all = upto_keeps entries old new epoch epoch (2 ^ 24) table keeps (omega arith) are.all.all;
-    };
-    first = upto_keeps entries old new epoch (epoch + 1) marked table keeps (omega arith) are.first;
+    size = are.size;
     within = are.within;
+    each = λ t i here since k within. leads_keeps old new epoch t i (get_or entries i 0) k (look_up (at (i * 256 + k)) table) keeps since.from
+        (are.each t i here since k within);
   }
 
   -- one more of them is marked
@@ -127,28 +112,17 @@ module _ {A : Type 0} where
       → AreMarked entries old epoch marked table → AreMarked (set entries marked next) new epoch (marked + 1) table
   marked_more entries old new epoch marked entry next table keeps below is on are =
       let kept = all_keep entries old new epoch marked table keeps are in
-      let there : get_or (set entries marked next) marked 0 ≡ next = get_or-set_same entries marked next 0 (omega (arith, below, are.all.size)) in
-      let here : IsEntry table new (epoch + 1) marked (get_or (set entries marked next) marked 0) =
-      subst (λ (e : ℕ). IsEntry table new (epoch + 1) marked e) (sym there)
-      (λ k within. on marked k (look_up (at (marked * 256 + k)) table) within
-      (subst (λ (e : ℕ). Leads old epoch marked e k (look_up (at (marked * 256 + k)) table)) (sym is) (are.all.all.each marked below k within))) in
-      let others : (t i : ℕ) → i ≢ marked → IsEntry table new t i (get_or entries i 0) → IsEntry table new t i (get_or (set entries marked next) i 0) =
-      λ t i other entry. subst (λ (e : ℕ). IsEntry table new t i e) (sym (get_or-set_other entries marked i next 0 other)) entry in
+      let first : IsSince epoch marked marked epoch = record { from = omega arith; upto = omega arith; unmarked = λ _. omega arith } in
       record {
-        all = record {
-          size = length-set entries marked next ∙ kept.all.size;
-          all = record {
-            each = λ i fits. elim (cases_eq i marked) [
-              | inl same ↦ subst (λ (j : ℕ). IsEntry table new epoch j (get_or (set entries marked next) j 0)) (sym same)
-                  (λ k within. leads_weaker new epoch (epoch + 1) marked (get_or (set entries marked next) marked 0) k
-                  (look_up (at (marked * 256 + k)) table) (omega arith) (here k within))
-              | inr other ↦ others epoch i other (kept.all.all.each i fits)
-            ];
-          };
-        };
-        first = record {
-          each = below_more (λ (i : ℕ). IsEntry table new (epoch + 1) i (get_or (set entries marked next) i 0)) marked
-              (λ i before. others (epoch + 1) i (omega (arith, before)) (kept.first.each i before)) here;
-        };
+        size = length-set entries marked next ∙ are.size;
         within = omega (arith, below);
+        each = λ t i here since. elim (cases_eq i marked) [
+          | inl same ↦ subst (λ (j : ℕ). IsEntry table new t j (get_or (set entries marked next) j 0)) (sym same)
+              (subst (λ (e : ℕ). IsEntry table new t marked e) (sym (get_or-set_same entries marked next 0 (omega (arith, below, are.size))))
+              (λ k within. leads_weaker new t (epoch + 1) marked next k (look_up (at (marked * 256 + k)) table) since.upto
+              (on marked k (look_up (at (marked * 256 + k)) table) within
+              (subst (λ (e : ℕ). Leads old epoch marked e k (look_up (at (marked * 256 + k)) table)) (sym is) (are.each epoch marked below first k within)))))
+          | inr other ↦ subst (λ (e : ℕ). IsEntry table new t i e) (sym (get_or-set_other entries marked i next 0 other))
+              (kept.each t i here (record { from = since.from; upto = since.upto; unmarked = λ after. since.unmarked (omega (arith, after, other)) }))
+        ];
       }

@@ -27,7 +27,7 @@ module _ {A : Type 0} where
   pub whole_on : (old new : Slabs A) (epoch entry next : ℕ) → entry < 2 ^ 31 → next < 2 ^ 31
       → ((answer : Option Route) → HasRoute old epoch entry answer → HasRoute new (epoch + 1) next answer) → LeadsOn old new epoch entry next
   whole_on old new epoch entry next short low marked i k answer within leads =
-      inl (record { short = low; number = marked answer (short_number old epoch i entry k answer leads short) })
+      inl (record { short = low; has = marked answer (short_number old epoch i entry k answer leads short) })
 
   -- a group's number
   pub group_on : (old new : Slabs A) (epoch entry : ℕ) (read : Group)

@@ -21,7 +21,7 @@ use Rattle.rt_fib.specs.Laws.{PreservesOtherRoutes, KeepsOtherRoutes}
 use Rattle.rt_fib.specs.inside.Entries.{at}
 use Rattle.rt_fib.specs.inside.Spans.{PreservesLookupsOutside, AreEntriesOf, IsWholly}
 use Rattle.rt_fib.specs.inside.Changes.{is_longer, answer_after, AnswerAlike, IsChange}
-use Rattle.rt_fib.proofs.Outside.{either, not_both, second_part, same_covers, found_alike, CoverAlike}
+use Rattle.rt_fib.proofs.Outside.{either, not_both, second_part, same_covers, found_alike}
 
 -- a prefix is the same as itself
 same_itself : (p : Prefix) → same_prefix p p ≡ true
@@ -92,16 +92,16 @@ another_length p q differ = elim (either (same_prefix p q)) [
 ]
 
 module _ (prefix : Prefix) (t u : List Route) (finds : LookUpFindsBest) (of_t : IsTable t) (of_u : IsTable u) (others : PreservesOtherRoutes prefix t u) where
-  -- the same routes cover an address that the prefix doesn't
-  outside_alike : (addr : Addr) → covers prefix addr ≡ false → CoverAlike addr t u
-  outside_alike addr misses x covering = elim (either (same_prefix x.prefix prefix)) [
-    | inl same ↦ absurd (not_both misses (sym (same_covers x.prefix prefix addr same) ∙ covering))
-    | inr other ↦ others x other
-  ]
-
-  -- so its answer stays
+  -- an address that the prefix doesn't cover has the same answer
   pub outside_stays : PreservesLookupsOutside prefix t u
-  outside_stays addr misses = found_alike addr t u finds of_t of_u (outside_alike addr misses)
+  outside_stays addr misses =
+      let other : (x : Route) → covers x.prefix addr ≡ true → same_prefix x.prefix prefix ≡ false =
+      λ x covering. elim (either (same_prefix x.prefix prefix)) [
+        | inl same ↦ absurd (not_both misses (sym (same_covers x.prefix prefix addr same) ∙ covering))
+        | inr apart ↦ apart
+      ] in
+      found_alike addr addr t u finds of_t of_u
+      (λ x. ((λ is. ((others x (other x is.1)).0 is.0, is.1)), (λ is. ((others x (other x is.1)).1 is.0, is.1))))
 
   -- a best match that is longer than the prefix
   best_stays : (addr : Addr) (r : Route) → prefix.len < r.prefix.len → IsBestMatch addr t r → IsBestMatch addr u r
@@ -158,24 +158,9 @@ module _ (prefix : Prefix) (t : List Route) (finds : LookUpFindsBest) (of_t : Is
   pub own_alike : (a b : Addr) → a.0 < 2 ^ 32 → b.0 < 2 ^ 32 → covers prefix a ≡ true → covers prefix b ≡ true
       → is_longer prefix.len (look_up a t) ≡ false → is_longer prefix.len (look_up b t) ≡ false → look_up a t ≡ look_up b t
   own_alike a b fits_a fits_b of_a of_b own_a own_b =
-      let to_b = covers_both a b fits_b of_a of_b own_a in
-      let to_a = covers_both b a fits_a of_b of_a own_b in
-      let P : Option Route → Type 0 = λ v. look_up a t ≡ v → v ≡ look_up b t in
-      let at_each : (v : Option Route) → look_up a t ≡ v → v ≡ look_up b t = λ v. elim v as P [
-        | Some r ↦ λ e.
-            let is = ((finds a t of_t).0 r).0 e in
-            sym (((finds b t of_t).0 r).1 (record {
-              contained = is.contained;
-              covering = to_b r is.contained is.covering;
-              longest = λ s there covering. is.longest s there (to_a s there covering);
-              best = λ s there covering alike. is.best s there (to_a s there covering) alike;
-            }))
-        | None ↦ λ e. sym ((finds b t of_t).1.1 (λ s there. elim (either (covers s.prefix b)) [
-          | inl covering ↦ absurd (not_both ((finds a t of_t).1.0 e s there) (to_a s there covering))
-          | inr misses ↦ misses
-        ]))
-      ] in
-      at_each (look_up a t) refl
+      found_alike a b t t finds of_t of_t
+      (λ x.
+      ((λ is. (is.0, covers_both a b fits_b of_a of_b own_a x is.0 is.1)), (λ is. (is.0, covers_both b a fits_a of_b of_a own_b x is.0 is.1))))
 
 -- the answer to each of the prefix's addresses after the change
 after_is : (prefix : Prefix) (t u : List Route) → LookUpFindsBest → CoveringAreNested → ContainsWhatItCovers → IsTable t → IsTable u

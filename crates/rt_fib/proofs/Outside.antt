@@ -33,30 +33,32 @@ same_covers p q addr same =
     let len : p.len ≡ q.len = eqb-true _ _ (second_part (p.base == q.base) (p.len == q.len) same) in
     ap (λ (b : ℕ). (addr.0 / size_of p.len) == (b / size_of p.len)) base ∙ ap (λ (l : ℕ). (addr.0 / size_of l) == (q.base / size_of l)) len
 
--- both tables contain the same of the routes whose prefix covers the address
-abbrev pub CoverAlike : Addr → List Route → List Route → Type 0
-CoverAlike addr t u = (x : Route) → covers x.prefix addr ≡ true → Contains t x ↔ Contains u x
+-- the routes of one table that cover one address are those of the other that cover the other one
+abbrev pub CoverAlike : Addr → Addr → List Route → List Route → Type 0
+CoverAlike a b t u = (x : Route) → (Contains t x × (covers x.prefix a ≡ true)) ↔ (Contains u x × (covers x.prefix b ≡ true))
 
 -- so what is best in one is best in the other
-best_in_both : (addr : Addr) (t u : List Route) (r : Route) → CoverAlike addr t u → IsBestMatch addr t r → IsBestMatch addr u r
-best_in_both addr t u r alike is = record {
-  contained = (alike r is.covering).0 is.contained;
-  covering = is.covering;
-  longest = λ s there covering. is.longest s ((alike s covering).1 there) covering;
-  best = λ s there covering long. is.best s ((alike s covering).1 there) covering long;
-}
+best_in_both : (a b : Addr) (t u : List Route) (r : Route) → CoverAlike a b t u → IsBestMatch a t r → IsBestMatch b u r
+best_in_both a b t u r alike is =
+    let here = (alike r).0 (is.contained, is.covering) in
+    record {
+      contained = here.0;
+      covering = here.1;
+      longest = λ s there covering. let was = (alike s).1 (there, covering) in is.longest s was.0 was.1;
+      best = λ s there covering long. let was = (alike s).1 (there, covering) in is.best s was.0 was.1 long;
+    }
 
--- and a look-up finds the same
-pub found_alike : (addr : Addr) (t u : List Route) → LookUpFindsBest → IsTable t → IsTable u → CoverAlike addr t u → look_up addr t ≡ look_up addr u
-found_alike addr t u finds of_t of_u alike =
-    let in_t = finds addr t of_t in
-    let in_u = finds addr u of_u in
-    let P : Option Route → Type 0 = λ v. look_up addr t ≡ v → v ≡ look_up addr u in
-    let at_each : (v : Option Route) → look_up addr t ≡ v → v ≡ look_up addr u = λ v. elim v as P [
-      | Some r ↦ λ e. sym ((in_u.0 r).1 (best_in_both addr t u r alike ((in_t.0 r).0 e)))
-      | None ↦ λ e. sym (in_u.1.1 (λ s there. elim (either (covers s.prefix addr)) [
-        | inl covering ↦ absurd (not_both (in_t.1.0 e s ((alike s covering).1 there)) covering)
+-- and look-ups find the same
+pub found_alike : (a b : Addr) (t u : List Route) → LookUpFindsBest → IsTable t → IsTable u → CoverAlike a b t u → look_up a t ≡ look_up b u
+found_alike a b t u finds of_t of_u alike =
+    let in_t = finds a t of_t in
+    let in_u = finds b u of_u in
+    let P : Option Route → Type 0 = λ v. look_up a t ≡ v → v ≡ look_up b u in
+    let at_each : (v : Option Route) → look_up a t ≡ v → v ≡ look_up b u = λ v. elim v as P [
+      | Some r ↦ λ e. sym ((in_u.0 r).1 (best_in_both a b t u r alike ((in_t.0 r).0 e)))
+      | None ↦ λ e. sym (in_u.1.1 (λ s there. elim (either (covers s.prefix b)) [
+        | inl covering ↦ let was = (alike s).1 (there, covering) in absurd (not_both (in_t.1.0 e s was.0) was.1)
         | inr misses ↦ misses
       ]))
     ] in
-    at_each (look_up addr t) refl
+    at_each (look_up a t) refl

@@ -5,7 +5,7 @@ use Rattle.rt_rib.specs.LookUp.{look_up}
 use Rattle.rt_fib.specs.declared.slabs.Group.{Group}
 use Rattle.rt_fib.specs.declared.slabs.Slabs.{Slabs}
 use Rattle.rt_fib.specs.inside.Slab.{Places, Has}
-use Rattle.rt_fib.specs.inside.Entries.{at, AreAll, HasRoute, Leads, NamesGroup}
+use Rattle.rt_fib.specs.inside.Entries.{at, AreMarked, HasRoute, IsSince, Leads, NamesGroup}
 
 -- what stands at the number is the answer
 pub value_read : {T : Type 0} → (places : Places T) (epoch n : ℕ) (value read : T)
@@ -14,21 +14,21 @@ value_read places epoch n value read has is = is ∙ has.there read
 
 module _ {A : Type 0} where
   -- an address's entry leads to its answer
-  pub entry_leads : (entries : List ℕ) (slabs : Slabs A) (epoch : ℕ) (table : List Route) (n entry : ℕ)
-      → AreAll entries slabs epoch table → n < 2 ^ 32 → entry ≡ get_or entries (n / 256) 0
+  pub entry_leads : (entries : List ℕ) (slabs : Slabs A) (epoch marked : ℕ) (table : List Route) (n entry : ℕ)
+      → AreMarked entries slabs epoch marked table → n < 2 ^ 32 → entry ≡ get_or entries (n / 256) 0
       → Leads slabs epoch (n / 256) entry (n % 256) (look_up (at n) table)
-  entry_leads entries slabs epoch table n entry all fits is =
+  entry_leads entries slabs epoch marked table n entry are fits is =
       let whole : n / 256 * 256 + n % 256 ≡ n = omega arith in
-      let leads : Leads slabs epoch (n / 256) (get_or entries (n / 256) 0) (n % 256) (look_up (at (n / 256 * 256 + n % 256)) table) =
-      all.all.each (n / 256) (omega arith) (n % 256) (omega arith) in
+      let since : IsSince epoch marked (n / 256) epoch = record { from = omega arith; upto = omega arith; unmarked = λ _. omega arith } in
       subst (λ (m : ℕ). Leads slabs epoch (n / 256) entry (n % 256) (look_up (at m) table)) whole
-      (subst (λ (m : ℕ). Leads slabs epoch (n / 256) m (n % 256) (look_up (at (n / 256 * 256 + n % 256)) table)) (sym is) leads)
+      (subst (λ (m : ℕ). Leads slabs epoch (n / 256) m (n % 256) (look_up (at (n / 256 * 256 + n % 256)) table)) (sym is)
+      (are.each epoch (n / 256) (omega arith) since (n % 256) (omega arith)))
 
   -- a short entry is the number of the answer
   pub short_number : (slabs : Slabs A) (epoch i entry k : ℕ) (answer : Option Route)
       → Leads slabs epoch i entry k answer → entry < 2 ^ 31 → HasRoute slabs epoch entry answer
   short_number slabs epoch i entry k answer leads short = elim leads [
-    | inl whole ↦ whole.number
+    | inl whole ↦ whole.has
     | inr names ↦ absurd (omega (arith, names.long))
   ]
 

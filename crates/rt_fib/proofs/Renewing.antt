@@ -8,7 +8,7 @@ use Rattle.rt_rib.specs.LookUp.{look_up}
 use Rattle.rt_fib.specs.declared.slabs.Slabs.{Slabs}
 use Rattle.rt_fib.specs.declared.spans.Span.{Span}
 use Rattle.rt_fib.specs.inside.Slabs.{KeepsBoth}
-use Rattle.rt_fib.specs.inside.Entries.{at, Leads, IsEntry, AreFrom, AreUpTo, AreMarked}
+use Rattle.rt_fib.specs.inside.Entries.{at, IsSince, Leads, IsEntry, AreFrom, AreMarked}
 use Rattle.rt_fib.specs.inside.Spans.{PreservesLookupsOutside, AreEntriesOf, ArePut}
 use Rattle.rt_fib.proofs.Leading.{leads_keeps, leads_weaker}
 
@@ -30,39 +30,28 @@ module _ {A : Type 0} (prefix : Prefix) (span : Span) (old new fresh : List ℕ)
       subst (λ (n : ℕ). IsEntry next more (epoch + 1) n (get_or new n 0)) whole
       (subst (λ (m : ℕ). IsEntry next more (epoch + 1) (span.first + (i - span.first)) m) (sym placed) (are.each (i - span.first) within))
 
-  -- the first `count` entries, once those of the prefix are renewed
-  renewed_upto : AreEntriesOf prefix span → KeepsBoth epoch slabs more → ArePut old new fresh span.first (length fresh)
-      → AreFrom span.first fresh more (epoch + 1) next (span.end - span.first) → PreservesLookupsOutside prefix table next
-      → (t count : ℕ) → epoch ≤ t → t ≤ epoch + 1 → count ≤ 2 ^ 24 → AreUpTo old slabs t table count → AreUpTo new more t next count
-  renewed_upto of_prefix keeps put are kept t count lo hi fits upto =
-      let stays : (i : ℕ) → i < count → (i < span.first) ⊎ (span.end ≤ i) → get_or new i 0 ≡ get_or old i 0 → IsEntry next more t i (get_or new i 0) =
-      λ i here out same k within.
-      let lead = leads_keeps slabs more epoch t i (get_or old i 0) k (look_up (at (i * 256 + k)) table) keeps lo (upto.each i here k within) in
-      let alike : look_up (at (i * 256 + k)) table ≡ look_up (at (i * 256 + k)) next =
-      kept (at (i * 256 + k)) (of_prefix.outside i k (omega (arith, here, fits)) within out) in
-      subst (λ (e : ℕ). Leads more t i e k (look_up (at (i * 256 + k)) next)) (sym same)
-      (subst (λ (a : Option Route). Leads more t i (get_or old i 0) k a) alike lead) in
-      record {
-        each = λ i here. elim (cases_lt i span.first) [
-          | inl before ↦ stays i here (inl before) (put.before i before)
-          | inr from ↦ elim (cases_lt i span.end) [
-            | inl below ↦ λ k within. leads_weaker more t (epoch + 1) i (get_or new i 0) k (look_up (at (i * 256 + k)) next) hi
-                (entry_put put are i from below k within)
-            | inr behind ↦ stays i here (inr behind) (put.behind i (omega (arith, are.size, behind, of_prefix.ordered)))
-          ]
-        ];
-      }
-
-  -- and so all entries
+  -- all entries, once those of the prefix are renewed
   pub renewed_all : (marked : ℕ) → AreEntriesOf prefix span → AreMarked old slabs epoch marked table
       → KeepsBoth epoch slabs more → ArePut old new fresh span.first (length fresh)
       → AreFrom span.first fresh more (epoch + 1) next (span.end - span.first) → PreservesLookupsOutside prefix table next
       → AreMarked new more epoch marked next
-  renewed_all marked of_prefix was keeps put are kept = record {
-    all = record {
-      size = put.size ∙ was.all.size;
-      all = renewed_upto of_prefix keeps put are kept epoch (2 ^ 24) (omega arith) (omega arith) (omega arith) was.all.all;
-    };
-    first = renewed_upto of_prefix keeps put are kept (epoch + 1) marked (omega arith) (omega arith) was.within was.first;
-    within = was.within;
-  }
+  renewed_all marked of_prefix was keeps put are kept =
+      let stays : (t i : ℕ) → i < 2 ^ 24 → IsSince epoch marked i t → (i < span.first) ⊎ (span.end ≤ i) → get_or new i 0 ≡ get_or old i 0
+      → IsEntry next more t i (get_or new i 0) =
+      λ t i here since out same k within.
+      let lead = leads_keeps slabs more epoch t i (get_or old i 0) k (look_up (at (i * 256 + k)) table) keeps since.from (was.each t i here since k within) in
+      let alike : look_up (at (i * 256 + k)) table ≡ look_up (at (i * 256 + k)) next = kept (at (i * 256 + k)) (of_prefix.outside i k here within out) in
+      subst (λ (e : ℕ). Leads more t i e k (look_up (at (i * 256 + k)) next)) (sym same)
+      (subst (λ (a : Option Route). Leads more t i (get_or old i 0) k a) alike lead) in
+      record {
+        size = put.size ∙ was.size;
+        within = was.within;
+        each = λ t i here since. elim (cases_lt i span.first) [
+          | inl before ↦ stays t i here since (inl before) (put.before i before)
+          | inr from ↦ elim (cases_lt i span.end) [
+            | inl below ↦ λ k within. leads_weaker more t (epoch + 1) i (get_or new i 0) k (look_up (at (i * 256 + k)) next) since.upto
+                (entry_put put are i from below k within)
+            | inr behind ↦ stays t i here since (inr behind) (put.behind i (omega (arith, are.size, behind, of_prefix.ordered)))
+          ]
+        ];
+      }

@@ -9,7 +9,7 @@ use Rattle.rt_rib.specs.LookUp.{look_up}
 use Rattle.rt_fib.specs.Views.{IsHopNumber, IsAnswerNumber, IsNumber, ViewShows}
 use Rattle.rt_fib.specs.declared.slabs.Group.{Group}
 use Rattle.rt_fib.specs.declared.slabs.Slabs.{Slabs}
-use Rattle.rt_fib.specs.inside.Entries.{AreAll}
+use Rattle.rt_fib.specs.inside.Entries.{AreMarked}
 use Rattle.rt_fib.specs.inside.Shown.{Extends, IsHopOf, AreHopsOf, AreShownEntries, IsShownBlock, AreShownBlocks}
 use Rattle.rt_fib.specs.inside.Spans.{ArePut}
 use Rattle.rt_fib.proofs.Reading.{entry_leads}
@@ -68,12 +68,12 @@ put_extends old new list fits put = record {
 }
 
 -- what is written leads each address to the number of its answer
-pub view_shows : {A : Type 0} → (entries shown old more numbers list routers : List ℕ) (slabs : Slabs A) (epoch : ℕ) (table : List Route)
-    → AreAll entries slabs epoch table → AreHopsOf list numbers slabs.routes.places.values (length slabs.routes.places.values) → Extends list routers
+pub view_shows : {A : Type 0} → (entries shown old more numbers list routers : List ℕ) (slabs : Slabs A) (epoch marked : ℕ) (table : List Route)
+    → AreMarked entries slabs epoch marked table → AreHopsOf list numbers slabs.routes.places.values (length slabs.routes.places.values) → Extends list routers
     → AreShownEntries numbers entries shown (length entries)
     → AreShownBlocks numbers slabs.groups.places.values old more (length slabs.groups.places.values)
     → length slabs.groups.places.values * 256 ≤ length old → ViewShows shown more routers table
-view_shows entries shown old more numbers list routers slabs epoch table all hops longer are put fits = record {
+view_shows entries shown old more numbers list routers slabs epoch marked table all hops longer are put fits = record {
   size = are.size ∙ all.size;
   each = λ addr within.
       let i = addr.0 / 256 in
@@ -91,10 +91,10 @@ view_shows entries shown old more numbers list routers slabs epoch table all hop
         is = subst (λ (a : Option Route). IsAnswerNumber routers (get_or numbers n 0) a) (found answer)
             (answer_extends list routers (get_or numbers n 0) (get_or answers n answer) longer hop.is);
       } in
-      elim (entry_leads entries slabs epoch table addr.0 (get_or entries i 0) all within (omega arith)) [
+      elim (entry_leads entries slabs epoch marked table addr.0 (get_or entries i 0) all within (omega arith)) [
         | inl whole ↦
             let same : get_or shown i 0 ≡ get_or numbers (get_or entries i 0) 0 = there.short whole.short in
-            let hop = number (get_or entries i 0) whole.number.is_used.within whole.number.there in
+            let hop = number (get_or entries i 0) whole.has.is_used.within whole.has.there in
             inl (subst (λ (e : ℕ). IsNumber routers e answer) (sym same) (record { short = hop.short; number = hop.is }))
         | inr names ↦
             let same : get_or shown i 0 ≡ get_or entries i 0 = there.long (omega (arith, names.long)) in

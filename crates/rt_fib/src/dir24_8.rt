@@ -1,14 +1,13 @@
 //! The table DIR-24-8: an entry for each value of the first 24 bits of an address (`tbl24`), groups for the last 8 (`tbl8`), and a
 //! list of answers.
-ghost use Rattle.std.specs.Prelude.{◌≡◌, ℕ, ◌+◌, ◌<◌, ◌≤◌, ◌^◌, IfOk, get_or, length, map, take};
+ghost use Rattle.std.specs.Prelude.{◌≡◌, ℕ, ◌+◌, ◌<◌, ◌≤◌, ◌^◌, get_or, length, map, take};
 ghost use Rattle.rt_rib.specs.LookUp.{look_up};
-ghost use Rattle.rt_fib.specs.Hops.{next_hop};
 ghost use Rattle.rt_fib.specs.inside.Entries.{at, entry_at, HasRoute, IsForwarding};
 
 use crate::epochs::Epoch;
 use crate::slabs::{Counts, GROUP_FLAG, GROUP_SIZE, Slabs};
 use rt_cidr::Addr;
-use rt_rib::{Hop, Refused, Route, Table};
+use rt_rib::{Route, Table};
 use std::alloc::Allocator;
 use std::snapshot::Snapshot;
 
@@ -60,7 +59,7 @@ pub(crate) struct Dir24_8<A: Allocator + Copy, B: Allocator + Copy> {
 }
 
 /// Says for how many addresses the entries are read before the first answer.
-const AT_ONCE: usize = 16;
+pub(crate) const AT_ONCE: usize = 16;
 
 impl<A: Allocator + Copy, B: Allocator + Copy> Dir24_8<A, B> {
     /// Looks up the address.
@@ -69,15 +68,6 @@ impl<A: Allocator + Copy, B: Allocator + Copy> Dir24_8<A, B> {
         ensures { result ≡ look_up addr self.now.table.value.routes }
     {
         self.answer_by(self.tbl24[addr.0 as usize / GROUP_SIZE], addr)
-    }
-
-    /// Looks up the address's next hop.
-    pub(crate) fn look_up_hop(&self, addr: Addr) -> Option<Hop>
-        requires { IsForwarding self.now }
-        ensures { result ≡ next_hop (look_up addr self.now.table.value.routes) }
-    {
-        let number = self.number_by(self.tbl24[addr.0 as usize / GROUP_SIZE], addr);
-        self.slabs.routes.hop(number)
     }
 
     /// Looks up the address, by its entry.
@@ -90,7 +80,7 @@ impl<A: Allocator + Copy, B: Allocator + Copy> Dir24_8<A, B> {
     }
 
     /// Returns the number of the address's answer, by its entry.
-    fn number_by(&self, entry: u32, addr: Addr) -> u32
+    pub(crate) fn number_by(&self, entry: u32, addr: Addr) -> u32
         requires right { IsForwarding self.now }
         requires entry { entry ≡ entry_at self.now.tbl24.items addr }
         ensures { HasRoute self.now.slabs self.now.epoch.number result (look_up addr self.now.table.value.routes) }
@@ -102,23 +92,9 @@ impl<A: Allocator + Copy, B: Allocator + Copy> Dir24_8<A, B> {
         group.numbers[addr.0 as usize % GROUP_SIZE]
     }
 
-    /// Looks up each address, in order.
-    pub(crate) fn look_up_each(&self, addresses: &[Addr], answers: &mut [Option<Route>])
-        requires right { IsForwarding self.now }
-        requires size { length answers.old ≡ length addresses.now }
-        ensures { answers.new ≡ map (λ addr. look_up addr self.now.table.value.routes) addresses.now }
-    {
-        let mut start = 0usize;
-        'each: while start < addresses.len() {
-            let size = (addresses.len() - start).min(AT_ONCE);
-            self.look_up_some(addresses, answers, start, size);
-            start += size;
-        }
-    }
-
     /// Looks up this number of the addresses, from this place on. Their entries are read first: no read waits for another, so the
     /// memory fetches all of them at once.
-    fn look_up_some(
+    pub(crate) fn look_up_some(
         &self,
         addresses: &[Addr],
         answers: &mut [Option<Route>],
@@ -153,25 +129,5 @@ impl<A: Allocator + Copy, B: Allocator + Copy> Dir24_8<A, B> {
             entries[k] = self.tbl24[addresses[start + k].0 as usize / GROUP_SIZE];
         }
         entries
-    }
-
-    /// Copies it into memory of the allocator. The table is one with the same routes.
-    pub(crate) fn copy(&self, alloc: A, table: &Table<B>) -> Result<Dir24_8<A, B>, Refused>
-        requires right { IsForwarding self.now }
-        requires same { self.now.table.value.routes ≡ table.now.routes }
-        ensures right { IfOk result (λ copy. IsForwarding copy) }
-        ensures table { IfOk result (λ copy. copy.table.value ≡ table.now) }
-    {
-        let tbl24 = Vec::from_slice(alloc, &self.tbl24)?;
-        let slabs = self.slabs.copy(alloc)?;
-        Ok(Dir24_8 {
-            tbl24,
-            slabs,
-            epoch: self.epoch,
-            marked: self.marked,
-            seen: self.seen,
-            is_wasteful: self.is_wasteful,
-            table: Snapshot::of(table),
-        })
     }
 }

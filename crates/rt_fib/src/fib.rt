@@ -9,12 +9,13 @@ ghost use Rattle.rt_fib.specs.Laws.{KeepsOtherRoutes, PreservesOtherRoutes};
 ghost use Rattle.rt_fib.specs.Views.{ViewShows};
 ghost use Rattle.rt_fib.specs.inside.Spans.{PreservesLookupsOutside};
 
-use crate::dir24_8::Dir24_8;
-use crate::filling::put_entries;
+use crate::dir24_8::{AT_ONCE, Dir24_8, Seen};
+use crate::epochs::Epoch;
+use crate::filling::{groups_gone, put_entries};
 use crate::following::Change;
 use crate::purging::{prefixes_to_withdraw, purge_rest, withdraw_each};
-use crate::slabs::{Counts, GROUP_SIZE};
-use crate::spans::{ENTRIES, span_of};
+use crate::slabs::{Counts, GROUP_SIZE, Slabs};
+use crate::spans::{ENTRIES, Span, span_of};
 use crate::views::{ViewSizes, hop_numbers, show_blocks, show_entries};
 use rt_cidr::{Addr, Prefix};
 use rt_rib::laws::look_up_finds_best;
@@ -60,9 +61,24 @@ impl<A: Allocator + Copy, B: Allocator + Copy> Fib<A, B> {
     pub fn new(alloc: A, table: &Table<B>) -> Result<Fib<A, B>, Refused>
         ensures { IfOk result (λ fib. fib ≡ table.now.routes) }
     {
-        Ok(Fib {
-            dir: Dir24_8::new(alloc, table)?,
-        })
+        let all = Span {
+            first: 0,
+            end: ENTRIES,
+        };
+        let epoch = Epoch { number: 0 };
+        let mut slabs = Slabs::empty(alloc);
+        let tbl24 = slabs.fresh_entries(alloc, table, &[], epoch, all)?;
+        slabs.reserve_waste();
+        let dir = Dir24_8 {
+            tbl24,
+            slabs,
+            epoch,
+            marked: 0,
+            seen: Seen::none(),
+            is_wasteful: false,
+            table: Snapshot::of(table),
+        };
+        Ok(Fib { dir })
     }
 
     /// Copies it into memory of the allocator, while the table is the one that it answers by. The copy is one to publish, while this
@@ -72,9 +88,18 @@ impl<A: Allocator + Copy, B: Allocator + Copy> Fib<A, B> {
         requires { self.now ≡ table.now.routes }
         ensures { IfOk result (λ copy. copy ≡ self.now) }
     {
-        Ok(Fib {
-            dir: self.dir.copy(alloc, table)?,
-        })
+        let tbl24 = Vec::from_slice(alloc, &self.dir.tbl24)?;
+        let slabs = self.dir.slabs.copy(alloc)?;
+        let dir = Dir24_8 {
+            tbl24,
+            slabs,
+            epoch: self.dir.epoch,
+            marked: self.dir.marked,
+            seen: self.dir.seen,
+            is_wasteful: self.dir.is_wasteful,
+            table: Snapshot::of(table),
+        };
+        Ok(Fib { dir })
     }
 
     /// Looks up the address: returns the best route of the longest prefix that covers it, or `None` if no prefix
@@ -90,7 +115,12 @@ impl<A: Allocator + Copy, B: Allocator + Copy> Fib<A, B> {
         requires { length answers.old ≡ length addresses.now }
         ensures { answers.new ≡ map (λ addr. look_up addr self.now) addresses.now }
     {
-        self.dir.look_up_each(addresses, answers);
+        let mut start = 0usize;
+        'each: while start < addresses.len() {
+            let size = (addresses.len() - start).min(AT_ONCE);
+            self.dir.look_up_some(addresses, answers, start, size);
+            start += size;
+        }
     }
 
     /// Looks up the address's next hop: that of the route that `look_up` returns, or `None` if no prefix covers the address. It reads 4
@@ -98,7 +128,9 @@ impl<A: Allocator + Copy, B: Allocator + Copy> Fib<A, B> {
     pub fn look_up_hop(&self, addr: Addr) -> Option<Hop>
         ensures { result ≡ next_hop (look_up addr self.now) }
     {
-        self.dir.look_up_hop(addr)
+        let entry = self.dir.tbl24[addr.0 as usize / GROUP_SIZE];
+        let number = self.dir.number_by(entry, addr);
+        self.dir.slabs.routes.hop(number)
     }
 
     /// Follows the last command that the table has answered. After an `add`, a `replace` or a `withdraw` it renews the answers of the
@@ -163,7 +195,8 @@ impl<A: Allocator + Copy, B: Allocator + Copy> Fib<A, B> {
         Ok(())
     }
 
-    /// Fills the entries of the prefix's addresses anew. The table must answer all other addresses as this one does.
+    /// Fills the entries of the prefix's addresses anew. The table must answer all other addresses as this one does. Groups and answers
+    /// are made before an entry changes. If memory runs out, no entry changed.
     fn refill(&mut self, table: &Table<B>, prefix: Prefix) -> Result<(), Refused>
         requires { PreservesLookupsOutside prefix self.old table.now.routes }
         ensures ok { OnOk result (self.new ≡ table.now.routes) }
@@ -172,7 +205,20 @@ impl<A: Allocator + Copy, B: Allocator + Copy> Fib<A, B> {
         if self.dir.is_wasteful {
             return self.rebuild(table);
         }
-        self.dir.refill(table, &prefix)
+        let span = span_of(&prefix);
+        let alloc = *self.dir.tbl24.allocator();
+        let first = span.first as usize;
+        let count = self.dir.slabs.routes.len();
+        let fresh = self
+            .dir
+            .slabs
+            .fresh_entries(alloc, table, &self.dir.tbl24, self.dir.epoch, span)?;
+        let groups = groups_gone(&self.dir.tbl24, &fresh, first);
+        let routes = self.dir.slabs.routes.filled_since(count);
+        put_entries(self.dir.tbl24.as_mut_slice(), fresh.as_slice(), first);
+        self.dir.table = Snapshot::of(table);
+        self.dir.keep_pace(Counts { groups, routes });
+        Ok(())
     }
 
     /// Replaces itself by a new one.

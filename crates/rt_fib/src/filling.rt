@@ -2,24 +2,22 @@
 //! addresses with one answer, as far as the routing table's lookup cursor returns it.
 ghost use Rattle.std.specs.Prelude.{◌≡◌, ℕ, ◌≤◌, ◌<◌, ◌+◌, ◌*◌, ◌-◌, ◌^◌, IfOk, OnOk, OnErr, length};
 ghost use Rattle.rt_fib.specs.inside.Slabs.{AreBack, FillsBoth, KeepsBoth};
-ghost use Rattle.rt_fib.specs.inside.Entries.{AreFrom, IsEntry, IsForwarding};
+ghost use Rattle.rt_fib.specs.inside.Entries.{AreFrom, IsEntry};
 ghost use Rattle.rt_fib.specs.inside.Pieces.{AreNumbers, Continues, IsFrom};
-ghost use Rattle.rt_fib.specs.inside.Spans.{ArePut, PreservesLookupsOutside};
+ghost use Rattle.rt_fib.specs.inside.Spans.{ArePut};
 
-use crate::dir24_8::{Dir24_8, Seen};
 use crate::epochs::Epoch;
-use crate::slabs::{Counts, GROUP_FLAG, GROUP_SIZE, Group, Slabs};
-use crate::spans::{ENTRIES, Span, span_of};
-use rt_cidr::{Addr, Prefix};
+use crate::slabs::{GROUP_FLAG, GROUP_SIZE, Group, Slabs};
+use crate::spans::Span;
+use rt_cidr::Addr;
 use rt_rib::{LookupCursor, Refused, Table};
 use std::alloc::Allocator;
-use std::snapshot::Snapshot;
 
-/// Holds the number of an answer, and the last address that is known to have this answer.
+/// Holds the number of an answer, and the end of the addresses that are known to have this answer.
 #[derive(Clone, Copy)]
 pub(crate) struct Piece {
     pub(crate) number: u32,
-    pub(crate) last: Addr,
+    pub(crate) end: u64,
 }
 
 /// Holds an entry that is repeated up to the end.
@@ -39,24 +37,6 @@ pub(crate) struct Filling<'a, B: Allocator + Copy> {
 }
 
 impl<'a, B: Allocator + Copy> Filling<'a, B> {
-    /// Goes to the table's piece at the address.
-    fn go_to<A: Allocator + Copy>(
-        &mut self,
-        slabs: &mut Slabs<A>,
-        addr: Addr,
-    ) -> Result<(), Refused>
-        ensures continues { Continues self.old self.new }
-        ensures fills { FillsBoth self.old.epoch.number slabs.old slabs.new }
-        ensures reaches { OnOk result (addr.0 ≤ self.new.piece.last.0) }
-        ensures piece { OnOk result (IsFrom self.new slabs.new addr.0) }
-    {
-        let (answer, last) = self.table.lookup_range(addr);
-        let previous = slabs.previous_number(self.previous, addr);
-        let number = slabs.routes.number_of(self.epoch, previous, answer)?;
-        self.piece = Piece { number, last };
-        Ok(())
-    }
-
     /// Goes on to the table's piece at the address, unless this piece reaches it.
     fn go_on_to<A: Allocator + Copy>(
         &mut self,
@@ -66,13 +46,18 @@ impl<'a, B: Allocator + Copy> Filling<'a, B> {
         requires { IsFrom self.old slabs.old addr.0 }
         ensures continues { Continues self.old self.new }
         ensures fills { FillsBoth self.old.epoch.number slabs.old slabs.new }
-        ensures reaches { OnOk result (addr.0 ≤ self.new.piece.last.0) }
+        ensures reaches { OnOk result (addr.0 < self.new.piece.end) }
         ensures piece { OnOk result (IsFrom self.new slabs.new addr.0) }
     {
-        if addr.0 <= self.piece.last.0 {
+        if u64::from(addr.0) < self.piece.end {
             return Ok(());
         }
-        self.go_to(slabs, addr)
+        let (answer, last) = self.table.lookup_range(addr);
+        let previous = slabs.previous_number(self.previous, addr);
+        let number = slabs.routes.number_of(self.epoch, previous, answer)?;
+        let end = u64::from(last.0) + 1;
+        self.piece = Piece { number, end };
+        Ok(())
     }
 
     /// Returns the numbers of the table's answers to the 256 addresses from this one on.
@@ -117,11 +102,10 @@ impl<'a, B: Allocator + Copy> Filling<'a, B> {
     {
         let first = i * 256;
         self.go_on_to(slabs, Addr(first))?;
-        if first + 255 <= self.piece.last.0 {
-            let whole = (u64::from(self.piece.last.0) + 1) / 256;
+        if u64::from(first) + 256 <= self.piece.end {
             return Ok(Run {
                 entry: self.piece.number,
-                end: end.min(whole as u32),
+                end: u64::from(end).min(self.piece.end / 256) as u32,
             });
         }
         let numbers = self.numbers_from(slabs, first)?;
@@ -143,14 +127,13 @@ impl<'a, B: Allocator + Copy> Filling<'a, B> {
     ) -> Result<Vec<u32, A>, Refused>
         requires ordered { span.first < span.end }
         requires fits { span.end ≤ 2 ^ 24 }
+        requires piece { IsFrom self.old slabs.old (span.first * 256) }
         ensures fills { FillsBoth self.old.epoch.number slabs.old slabs.new }
         ensures entries { IfOk result (λ fresh.
             AreFrom span.first fresh.items slabs.new (self.old.epoch.number + 1) self.old.table (span.end - span.first)) }
     {
         let mut entries = Vec::with_capacity(alloc, (span.end - span.first) as usize)?;
-        let first = Addr(span.first * 256);
-        slabs.keep_left_number(self.previous, first);
-        self.go_to(slabs, first)?;
+        slabs.keep_left_number(self.previous, Addr(span.first * 256));
         let mut i = span.first;
         'entries: while i < span.end {
             let run = self.run(slabs, i, span.end)?;
@@ -173,7 +156,7 @@ fn group_named(entries: &[u32], i: u32) -> u32 {
 impl<A: Allocator + Copy> Slabs<A> {
     /// Returns the span's entries by the table, and puts the groups and answers that they lead to into the slabs. If memory runs out,
     /// they are removed: all places that were free are free again.
-    fn fresh_entries<B: Allocator + Copy>(
+    pub(crate) fn fresh_entries<B: Allocator + Copy>(
         &mut self,
         alloc: A,
         table: &Table<B>,
@@ -193,10 +176,7 @@ impl<A: Allocator + Copy> Slabs<A> {
             table: table.lookup_cursor(),
             previous,
             epoch,
-            piece: Piece {
-                number: GROUP_FLAG,
-                last: Addr(0),
-            },
+            piece: Piece { number: 0, end: 0 },
         };
         match filling.entries(self, alloc, span) {
             Ok(fresh) => Ok(fresh),
@@ -219,7 +199,7 @@ pub(crate) fn put_entries(entries: &mut [u32], fresh: &[u32], first: usize)
 }
 
 /// Counts the entries that named a group and are replaced by another entry.
-fn groups_gone(entries: &[u32], fresh: &[u32], first: usize) -> usize
+pub(crate) fn groups_gone(entries: &[u32], fresh: &[u32], first: usize) -> usize
     requires { first + length fresh.now ≤ length entries.now }
 {
     let mut gone = 0usize;
@@ -229,54 +209,4 @@ fn groups_gone(entries: &[u32], fresh: &[u32], first: usize) -> usize
         }
     }
     gone
-}
-
-impl<A: Allocator + Copy, B: Allocator + Copy> Dir24_8<A, B> {
-    /// Returns one with the table's answers to all addresses.
-    pub(crate) fn new(alloc: A, table: &Table<B>) -> Result<Dir24_8<A, B>, Refused>
-        ensures right { IfOk result (λ dir. IsForwarding dir) }
-        ensures table { IfOk result (λ dir. dir.table.value ≡ table.now) }
-    {
-        let all = Span {
-            first: 0,
-            end: ENTRIES,
-        };
-        let epoch = Epoch::first();
-        let mut slabs = Slabs::empty(alloc);
-        let tbl24 = slabs.fresh_entries(alloc, table, &[], epoch, all)?;
-        slabs.reserve_waste();
-        Ok(Dir24_8 {
-            tbl24,
-            slabs,
-            epoch,
-            marked: 0,
-            seen: Seen::none(),
-            is_wasteful: false,
-            table: Snapshot::of(table),
-        })
-    }
-
-    /// Fills the entries of the prefix's addresses anew. The table must answer all other addresses as before. Groups and answers are
-    /// made before an entry changes. If memory runs out, no entry changed.
-    pub(crate) fn refill(&mut self, table: &Table<B>, prefix: &Prefix) -> Result<(), Refused>
-        requires right { IsForwarding self.old }
-        requires others { PreservesLookupsOutside prefix.now self.old.table.value.routes table.now.routes }
-        ensures right { IsForwarding self.new }
-        ensures ok { OnOk result (self.new.table.value ≡ table.now) }
-        ensures err { OnErr result (self.new.table.value ≡ self.old.table.value) }
-    {
-        let span = span_of(prefix);
-        let alloc = *self.tbl24.allocator();
-        let first = span.first as usize;
-        let count = self.slabs.routes.len();
-        let fresh = self
-            .slabs
-            .fresh_entries(alloc, table, &self.tbl24, self.epoch, span)?;
-        let groups = groups_gone(&self.tbl24, &fresh, first);
-        let routes = self.slabs.routes.filled_since(count);
-        put_entries(self.tbl24.as_mut_slice(), fresh.as_slice(), first);
-        self.table = Snapshot::of(table);
-        self.keep_pace(Counts { groups, routes });
-        Ok(())
-    }
 }

@@ -3,8 +3,9 @@
 ghost use Rattle.std.specs.Prelude.{◌≡◌, ◌+◌, ◌<◌, ◌≤◌, ◌^◌, IfOk, IfSome, IsTrue, OnErr};
 ghost use Rattle.rt_rib.specs.Table.{IsTable};
 ghost use Rattle.rt_fib.specs.Laws.{PreservesOtherRoutes};
+ghost use Rattle.rt_fib.specs.inside.Slab.{IsNumberOf};
 ghost use Rattle.rt_fib.specs.inside.Slabs.{AreBack, KeepsBoth};
-ghost use Rattle.rt_fib.specs.inside.Entries.{HasRoute, IsForwarding};
+ghost use Rattle.rt_fib.specs.inside.Entries.{IsForwarding};
 ghost use Rattle.rt_fib.specs.inside.Spans.{AreEntriesOf};
 ghost use Rattle.rt_fib.specs.inside.Changes.{is_longer, AnswerAlike, AreNumbersAfter, HasNumber, IsChange, IsLast, IsNumberAfter, KeepsOthers, LeadsAfter};
 
@@ -56,10 +57,7 @@ fn is_longer(answer: Option<Route>, len: u8) -> bool
 impl<A: Allocator + Copy> Slabs<A> {
     /// Returns true if the number is of an answer that is no route to a prefix longer than this.
     fn is_uncovered(&self, len: u8, number: u32) -> bool {
-        if number as usize >= self.routes.len() {
-            return false;
-        }
-        !is_longer(self.routes.answer(number), len)
+        (number as usize) < self.routes.len() && !is_longer(self.routes.answer(number), len)
     }
 
     /// Returns which of the entry's addresses has an answer that is no route to a prefix longer than this.
@@ -96,8 +94,7 @@ impl<A: Allocator + Copy> Slabs<A> {
         own: &UncoveredAnswer,
     ) -> Result<u32, Refused>
         ensures keeps { KeepsBoth epoch.number self.old self.new }
-        ensures short { IfOk result (λ number. number < 2 ^ 31) }
-        ensures number { IfOk result (λ number. HasRoute self.new (epoch.number + 1) number own.now.answer) }
+        ensures number { IfOk result (λ number. IsNumberOf self.new.routes.places (epoch.number + 1) number own.now.answer) }
         ensures back { OnErr result (AreBack epoch.number self.old self.new) }
     {
         let counts = self.begin();

@@ -95,14 +95,13 @@ impl<A: Allocator + Copy, B: Allocator + Copy> Dir24_8<A, B> {
             left = left.saturating_sub(if last < GROUP_FLAG { 1 } else { GROUP_SIZE });
             self.marked += 1;
         }
-        let Some(next) = self.epoch.next() else {
-            return;
-        };
-        if self.marked == ENTRIES {
+        if self.marked == ENTRIES && epoch.number < u32::MAX - 1 {
             self.slabs.trim();
             self.is_wasteful = self.has_waste();
             self.seen = Seen::none();
-            self.epoch = next;
+            self.epoch = Epoch {
+                number: epoch.number + 1,
+            };
             self.marked = 0;
         }
     }

@@ -50,26 +50,6 @@ pub(crate) fn prefixes_to_withdraw<A: Allocator + Copy, B: Allocator + Copy>(
     prefixes
 }
 
-/// Withdraws the feed's route to the prefix from the table, and follows. Error M1 (`Refused`) if memory runs out.
-fn withdraw<A: Allocator + Copy, B: Allocator + Copy>(
-    fib: &mut Fib<A, B>,
-    table: &mut Table<B>,
-    feed: u32,
-    prefix: Prefix,
-) -> Result<(), Refused>
-    requires feed { IsFeed feed }
-    requires same { fib.old ≡ table.old.routes }
-    ensures followed { OnOk result (fib.new ≡ table.new.routes) }
-    ensures limit { table.new.limit ≡ table.old.limit }
-    ensures rest { purge feed table.new.routes ≡ purge feed table.old.routes }
-{
-    let cmd = Cmd::Withdraw { prefix };
-    commands_preserve_other_routes();
-    table.holds();
-    table.apply(feed, cmd)?;
-    fib.follow(table, &cmd)
-}
-
 /// Withdraws the feed's routes to the prefixes from the table, and follows. Error M1 (`Refused`) if memory runs out.
 pub(crate) fn withdraw_each<A: Allocator + Copy, B: Allocator + Copy>(
     fib: &mut Fib<A, B>,
@@ -83,8 +63,14 @@ pub(crate) fn withdraw_each<A: Allocator + Copy, B: Allocator + Copy>(
     ensures limit { table.new.limit ≡ table.old.limit }
     ensures rest { purge feed table.new.routes ≡ purge feed table.old.routes }
 {
+    commands_preserve_other_routes();
     'each: for k in 0..prefixes.len() {
-        withdraw(fib, table, feed, prefixes[k])?;
+        let cmd = Cmd::Withdraw {
+            prefix: prefixes[k],
+        };
+        table.holds();
+        table.apply(feed, cmd)?;
+        fib.follow(table, &cmd)?;
     }
     Ok(())
 }

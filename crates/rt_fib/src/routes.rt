@@ -3,7 +3,7 @@ ghost use Rattle.std.specs.Prelude.{◌≡◌, ◌≢◌, ◌↔◌, ℕ, ◌+�
 ghost use Rattle.rt_rib.specs.declared.routes.Route.{Route};
 ghost use Rattle.rt_fib.specs.Hops.{next_hop};
 ghost use Rattle.rt_fib.specs.inside.HopCodes.{hop_code};
-ghost use Rattle.rt_fib.specs.inside.Slab.{with_value, Begins, Fills, Has, IsBack, Keeps, SlabState};
+ghost use Rattle.rt_fib.specs.inside.Slab.{with_value, Begins, Fills, Has, IsBack, IsNumberOf, Keeps, SlabState};
 
 use crate::epochs::Epoch;
 use crate::slab::Slab;
@@ -219,8 +219,7 @@ impl<A: Allocator + Copy> RouteSlab<A> {
     /// Puts the answer into a free place, or at the end, and writes the code of its next hop. The place is in use in the next epoch too.
     fn put(&mut self, epoch: Epoch, answer: Option<Route>) -> Result<u32, Refused>
         ensures fills { Fills epoch.number self.old self.new }
-        ensures short { IfOk result (λ n. n < 2 ^ 31) }
-        ensures there { IfOk result (λ n. Has self.new.places (epoch.number + 1) n answer) }
+        ensures number { IfOk result (λ n. IsNumberOf self.new.places (epoch.number + 1) n answer) }
     {
         self.codes.reserve(1)?;
         let n = self.slab.put(epoch, answer)?;
@@ -239,8 +238,7 @@ impl<A: Allocator + Copy> RouteSlab<A> {
     /// Returns true if this is the number of that answer: then it is in use from the next epoch on.
     pub(crate) fn reuse_if_same(&mut self, epoch: Epoch, number: u32, answer: Option<Route>) -> bool
         ensures fills { Fills epoch.number self.old self.new }
-        ensures short { IsTrue result → number < 2 ^ 31 }
-        ensures number { IsTrue result → Has self.new.places (epoch.number + 1) number answer }
+        ensures number { IsTrue result → IsNumberOf self.new.places (epoch.number + 1) number answer }
     {
         if number >= GROUP_FLAG {
             return false;
@@ -253,11 +251,6 @@ impl<A: Allocator + Copy> RouteSlab<A> {
         }
         self.slab.mark_used(epoch, number);
         true
-    }
-
-    /// Returns the number that such an answer got last.
-    fn last_number(&self, answer: Option<Route>) -> u32 {
-        self.last_numbers[length_of(answer)]
     }
 
     /// Keeps the number as that which such an answer got last.
@@ -286,10 +279,9 @@ impl<A: Allocator + Copy> RouteSlab<A> {
         answer: Option<Route>,
     ) -> Result<u32, Refused>
         ensures fills { Fills epoch.number self.old self.new }
-        ensures short { IfOk result (λ number. number < 2 ^ 31) }
-        ensures number { IfOk result (λ number. Has self.new.places (epoch.number + 1) number answer) }
+        ensures number { IfOk result (λ number. IsNumberOf self.new.places (epoch.number + 1) number answer) }
     {
-        let last = self.last_number(answer);
+        let last = self.last_numbers[length_of(answer)];
         if self.reuse_if_same(epoch, last, answer) {
             return Ok(last);
         }

@@ -1,7 +1,7 @@
 //! Lists whose places are used again. Each place has the epoch in which it was last marked as used. Whatever is in use has at least
 //! the epoch that the round began with, so a place with a lower one is free.
 ghost use Rattle.std.specs.Prelude.{◌≡◌, ℕ, ◌+◌, ◌<◌, ◌≤◌, ◌^◌, IfOk, IfSome, IsTrue, OnErr, [], length, get_or, take};
-ghost use Rattle.rt_fib.specs.inside.Slab.{with_value, AreCleared, Begins, Fills, Has, IsBack, IsFree, IsUsed, Keeps, SlabState};
+ghost use Rattle.rt_fib.specs.inside.Slab.{with_value, AreCleared, Begins, Fills, Has, IsBack, IsNumberOf, IsUsed, Keeps, SlabState};
 
 use crate::epochs::Epoch;
 use crate::slabs::GROUP_FLAG;
@@ -119,74 +119,31 @@ impl<T: Copy, A: Allocator + Copy> Slab<T, A> {
         ensures { IsTrue result → IsUsed self.now.places epoch.number n }
     {
         let i = n as usize;
-        if i >= self.values.len() {
-            return false;
-        }
-        if i >= self.epochs.len() {
-            return false;
-        }
-        self.epochs[i] >= epoch.number
-    }
-
-    /// Returns a free place, if one is near where the last search ended.
-    fn find_free(&mut self, epoch: Epoch) -> Option<u32>
-        ensures same { self.new ≡ self.old }
-        ensures short { IfSome result (λ n. n < 2 ^ 31) }
-        ensures free { IfSome result (λ n. IsFree self.old.places epoch.number n) }
-    {
-        let count = self.values.len();
-        free_place(self.epochs.as_slice(), count, &mut self.next, epoch)
-    }
-
-    /// Puts the value into the free place, which is in use in the next epoch too.
-    fn put_at(&mut self, epoch: Epoch, n: u32, value: T) -> Result<(), Refused>
-        requires { IsFree self.old.places epoch.number n }
-        ensures fills { Fills epoch.number self.old self.new }
-        ensures there { IfOk result (λ _. Has self.new.places (epoch.number + 1) n value) }
-        ensures put { IfOk result (λ _. self.new.places.values ≡ with_value self.old.places.values n value) }
-        ensures kept { OnErr result (self.new.places.values ≡ self.old.places.values) }
-    {
-        self.undo_log.push(n)?;
-        self.values[n as usize] = value;
-        self.epochs[n as usize] = epoch.next_number();
-        Ok(())
-    }
-
-    /// Puts the value at the end of the list, at a place that is in use in the next epoch too.
-    fn append(&mut self, epoch: Epoch, value: T) -> Result<u32, Refused>
-        ensures fills { Fills epoch.number self.old self.new }
-        ensures short { IfOk result (λ n. n < 2 ^ 31) }
-        ensures there { IfOk result (λ n. Has self.new.places (epoch.number + 1) n value) }
-        ensures within { IfOk result (λ n. n ≤ length self.old.places.values) }
-        ensures put { IfOk result (λ n. self.new.places.values ≡ with_value self.old.places.values n value) }
-        ensures kept { OnErr result (self.new.places.values ≡ self.old.places.values) }
-    {
-        let n = self.values.len();
-        if n >= GROUP_FLAG as usize {
-            return Err(Refused);
-        }
-        self.epochs.truncate(n);
-        self.epochs.resize(n + 1, epoch.next_number())?;
-        self.values.push(value)?;
-        Ok(n as u32)
+        i < self.values.len() && i < self.epochs.len() && self.epochs[i] >= epoch.number
     }
 
     /// Puts the value into a free place, or at the end of the list. The place is in use in the next epoch too.
     pub(crate) fn put(&mut self, epoch: Epoch, value: T) -> Result<u32, Refused>
         ensures fills { Fills epoch.number self.old self.new }
-        ensures short { IfOk result (λ n. n < 2 ^ 31) }
-        ensures there { IfOk result (λ n. Has self.new.places (epoch.number + 1) n value) }
+        ensures number { IfOk result (λ n. IsNumberOf self.new.places (epoch.number + 1) n value) }
         ensures within { IfOk result (λ n. n ≤ length self.old.places.values) }
         ensures put { IfOk result (λ n. self.new.places.values ≡ with_value self.old.places.values n value) }
         ensures kept { OnErr result (self.new.places.values ≡ self.old.places.values) }
     {
-        match self.find_free(epoch) {
-            Some(n) => {
-                self.put_at(epoch, n, value)?;
-                Ok(n)
-            }
-            None => self.append(epoch, value),
+        let count = self.values.len();
+        if let Some(n) = free_place(self.epochs.as_slice(), count, &mut self.next, epoch) {
+            self.undo_log.push(n)?;
+            self.values[n as usize] = value;
+            self.epochs[n as usize] = epoch.number + 1;
+            return Ok(n);
         }
+        if count >= GROUP_FLAG as usize {
+            return Err(Refused);
+        }
+        self.epochs.truncate(count);
+        self.epochs.resize(count + 1, epoch.number + 1)?;
+        self.values.push(value)?;
+        Ok(count as u32)
     }
 
     /// Replaces the value at the place.
@@ -212,7 +169,7 @@ impl<T: Copy, A: Allocator + Copy> Slab<T, A> {
         if self.epochs[i] > epoch.number {
             return;
         }
-        self.epochs[i] = epoch.next_number();
+        self.epochs[i] = epoch.number + 1;
     }
 
     /// Begins a change. Returns how many places there are.

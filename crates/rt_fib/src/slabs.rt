@@ -1,7 +1,7 @@
 //! The groups and the routes: what the entries lead to.
 ghost use Rattle.std.specs.Prelude.{◌≡◌, ℕ, ◌+◌, ◌<◌, ◌^◌, IfOk, IsTrue};
 ghost use Rattle.rt_fib.specs.declared.slabs.Slabs.{Slabs};
-ghost use Rattle.rt_fib.specs.inside.Slab.{Fills, Has};
+ghost use Rattle.rt_fib.specs.inside.Slab.{Fills, IsNumberOf};
 ghost use Rattle.rt_fib.specs.inside.Slabs.{AreBack, BeginsBoth, FillsBoth};
 
 use crate::epochs::Epoch;
@@ -173,8 +173,7 @@ impl<A: Allocator + Copy> Slabs<A> {
     fn reuse_if_same_group(&mut self, epoch: Epoch, place: u32, group: &Group) -> bool
         ensures routes { self.new.routes ≡ self.old.routes }
         ensures fills { Fills epoch.number self.old.groups self.new.groups }
-        ensures short { IsTrue result → place < 2 ^ 31 }
-        ensures group { IsTrue result → Has self.new.groups.places (epoch.number + 1) place group.now }
+        ensures group { IsTrue result → IsNumberOf self.new.groups.places (epoch.number + 1) place group.now }
     {
         if place >= GROUP_FLAG {
             return false;
@@ -198,8 +197,7 @@ impl<A: Allocator + Copy> Slabs<A> {
     ) -> Result<u32, Refused>
         ensures routes { self.new.routes ≡ self.old.routes }
         ensures fills { Fills epoch.number self.old.groups self.new.groups }
-        ensures short { IfOk result (λ place. place < 2 ^ 31) }
-        ensures there { IfOk result (λ place. Has self.new.groups.places (epoch.number + 1) place group) }
+        ensures group { IfOk result (λ place. IsNumberOf self.new.groups.places (epoch.number + 1) place group) }
     {
         if self.reuse_if_same_group(epoch, previous, &group) {
             return Ok(previous);

@@ -7,8 +7,8 @@ use Rattle.rt_fib.specs.declared.following.Last.{Last}
 use Rattle.rt_fib.specs.declared.slabs.Group.{Group}
 use Rattle.rt_fib.specs.declared.slabs.Slabs.{Slabs}
 use Rattle.rt_fib.specs.declared.spans.Span.{Span}
-use Rattle.rt_fib.specs.inside.Slab.{Has}
-use Rattle.rt_fib.specs.inside.Entries.{at, HasRoute, Leads, IsEntry}
+use Rattle.rt_fib.specs.inside.Slab.{Has, IsNumberOf}
+use Rattle.rt_fib.specs.inside.Entries.{at, HasRoute, IsSince, Leads, IsEntry}
 
 -- the answer is a route to a prefix longer than this
 abbrev pub is_longer : ℕ → Option Route → Bool
@@ -32,9 +32,8 @@ AnswerAlike old new = (i k : ℕ) → i < 2 ^ 24 → k < 256 → look_up (at (i 
 
 module _ {A : Type 0} where
   -- the number is that of the new answer
-  pub record HasNumber (slabs : Slabs A) (epoch : ℕ) (change : Change) : Type 0 where
-    pub short : change.number < 2 ^ 31
-    pub there : HasRoute slabs (epoch + 1) change.number change.answer
+  abbrev pub HasNumber : Slabs A → ℕ → Change → Type 0
+  HasNumber slabs epoch change = IsNumberOf slabs.routes.places (epoch + 1) change.number change.answer
 
   -- the number of any answer became that of the answer after the change
   abbrev pub IsNumberAfter : Slabs A → ℕ → Change → ℕ → ℕ → Type 0
@@ -62,7 +61,8 @@ module _ {A : Type 0} where
       (t k : ℕ) (answer : Option Route) → k < 256 → t ≤ epoch + 1
       → Leads old t i entry k answer → Leads new t i next k (answer_after change.len change.answer answer)
 
-  -- the first `count` entries: those before this place lead to the new table's answers, the others to the old table's
-  pub record AreUntil (entries : List ℕ) (slabs : Slabs A) (epoch : ℕ) (old new : List Route) (place count : ℕ) : Type 0 where
-    pub before : (i : ℕ) → i < place → i < count → IsEntry new slabs epoch i (get_or entries i 0)
-    pub behind : (i : ℕ) → place ≤ i → i < count → IsEntry old slabs epoch i (get_or entries i 0)
+  -- the entries before this place lead to the new table's answers, the others to the old table's
+  pub record AreUntil (entries : List ℕ) (slabs : Slabs A) (epoch marked : ℕ) (old new : List Route) (place : ℕ) : Type 0 where
+    pub size : length entries ≡ 2 ^ 24
+    pub before : (t i : ℕ) → i < place → i < 2 ^ 24 → IsSince epoch marked i t → IsEntry new slabs t i (get_or entries i 0)
+    pub behind : (t i : ℕ) → place ≤ i → i < 2 ^ 24 → IsSince epoch marked i t → IsEntry old slabs t i (get_or entries i 0)

@@ -6,7 +6,7 @@ use Rattle.rt_rib.specs.LookUp.{look_up}
 use Rattle.rt_fib.specs.declared.dir24_8.Dir24_8.{Dir24_8}
 use Rattle.rt_fib.specs.declared.slabs.Group.{Group}
 use Rattle.rt_fib.specs.declared.slabs.Slabs.{Slabs}
-use Rattle.rt_fib.specs.inside.Slab.{Has}
+use Rattle.rt_fib.specs.inside.Slab.{Has, IsNumberOf}
 
 -- the address of this number
 abbrev pub at : ℕ → Addr
@@ -16,15 +16,16 @@ at n = record { 0 = n }
 abbrev pub entry_at : List ℕ → Addr → ℕ
 entry_at entries addr = get_or entries (addr.0 / 256) 0
 
+-- what the i-th entry leads to is in use since the epoch t, which is the next one only for the first `marked` entries
+pub record IsSince (epoch marked i t : ℕ) : Type 0 where
+  pub from : epoch ≤ t
+  pub upto : t ≤ epoch + 1
+  pub unmarked : marked ≤ i → t ≤ epoch
+
 module _ {A : Type 0} where
   -- the number is that of the answer's place
   abbrev pub HasRoute : Slabs A → ℕ → ℕ → Option Route → Type 0
   HasRoute slabs epoch number answer = Has slabs.routes.places epoch number answer
-
-  -- the entry is the number of an answer
-  pub record IsWhole (slabs : Slabs A) (epoch entry : ℕ) (answer : Option Route) : Type 0 where
-    pub short : entry < 2 ^ 31
-    pub number : HasRoute slabs epoch entry answer
 
   -- the i-th entry names its own group, which has the number of the answer at this place
   pub record NamesGroup (slabs : Slabs A) (epoch i entry k : ℕ) (answer : Option Route) : Type 0 where
@@ -38,7 +39,7 @@ module _ {A : Type 0} where
 
   -- the i-th entry leads to the answer at this place
   abbrev pub Leads : Slabs A → ℕ → ℕ → ℕ → ℕ → Option Route → Type 0
-  Leads slabs epoch i entry k answer = IsWhole slabs epoch entry answer ⊎ NamesGroup slabs epoch i entry k answer
+  Leads slabs epoch i entry k answer = IsNumberOf slabs.routes.places epoch entry answer ⊎ NamesGroup slabs epoch i entry k answer
 
   -- the entry leads to the table's answer to each of the 256 addresses whose first 24 bits are i
   abbrev pub IsEntry : List Route → Slabs A → ℕ → ℕ → ℕ → Type 0
@@ -50,20 +51,11 @@ module _ {A : Type 0} where
     pub size : length entries ≡ count
     pub each : (i : ℕ) → i < count → IsEntry table slabs epoch (first + i) (get_or entries i 0)
 
-  -- the first `count` entries lead to what has been in use since this epoch
-  pub record AreUpTo (entries : List ℕ) (slabs : Slabs A) (epoch : ℕ) (table : List Route) (count : ℕ) : Type 0 where
-    pub each : (i : ℕ) → i < count → IsEntry table slabs epoch i (get_or entries i 0)
-
-  -- the entries are those of all addresses
-  pub record AreAll (entries : List ℕ) (slabs : Slabs A) (epoch : ℕ) (table : List Route) : Type 0 where
-    pub size : length entries ≡ 2 ^ 24
-    pub all : AreUpTo entries slabs epoch table (2 ^ 24)
-
-  -- and this epoch's round has marked what the first `marked` lead to
+  -- the entries lead each address to the table's answer, and the first `marked` of them to what is in use in the next epoch too
   pub record AreMarked (entries : List ℕ) (slabs : Slabs A) (epoch marked : ℕ) (table : List Route) : Type 0 where
-    pub all : AreAll entries slabs epoch table
-    pub first : AreUpTo entries slabs (epoch + 1) table marked
+    pub size : length entries ≡ 2 ^ 24
     pub within : marked ≤ 2 ^ 24
+    pub each : (t i : ℕ) → i < 2 ^ 24 → IsSince epoch marked i t → IsEntry table slabs t i (get_or entries i 0)
 
   -- `next` leads to every answer to which `entry` led, in use in the next epoch too
   abbrev pub LeadsOn : Slabs A → Slabs A → ℕ → ℕ → ℕ → Type 0

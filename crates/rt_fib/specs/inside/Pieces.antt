@@ -8,10 +8,10 @@ use Rattle.rt_fib.specs.declared.slabs.Slabs.{Slabs}
 use Rattle.rt_fib.specs.inside.Entries.{at, HasRoute}
 
 module _ {A : Type 0} where
-  -- each address from this number to the piece's last has the answer of the piece's number
+  -- each address from this number to the piece's end has the answer of the piece's number
   pub record IsNumberedFrom (table : List Route) (slabs : Slabs A) (epoch from : ℕ) (piece : Piece) : Type 0 where
     pub short : piece.number < 2 ^ 31
-    pub each : (n : ℕ) → from ≤ n → n ≤ piece.last.0 → HasRoute slabs epoch piece.number (look_up (at n) table)
+    pub each : (n : ℕ) → from ≤ n → n < piece.end → HasRoute slabs epoch piece.number (look_up (at n) table)
 
   -- the first `count` numbers are those of the table's answers to the addresses from `first` on
   pub record AreNumbers (table : List Route) (numbers : List ℕ) (slabs : Slabs A) (epoch first count : ℕ) : Type 0 where

@@ -1,5 +1,5 @@
 -- A slab: a list whose places are used again once nothing leads to them.
-use Rattle.std.specs.Prelude.{◌≡◌, ℕ, ◌+◌, ◌<◌, ◌≤◌, ◌⊎◌, List, [], ◌∷◌, ◌++◌, length, get_or, take, drop}
+use Rattle.std.specs.Prelude.{◌≡◌, ℕ, ◌+◌, ◌^◌, ◌<◌, ◌≤◌, ◌⊎◌, List, [], ◌∷◌, ◌++◌, length, get_or, take, drop}
 
 -- the value at each place, and the epoch in which the place was last seen in use
 pub record Places (T : Type 0) : Type 0 where
@@ -43,6 +43,11 @@ module _ {T : Type 0} where
   pub record Has (places : Places T) (epoch n : ℕ) (value : T) : Type 0 where
     pub is_used : IsUsed places epoch n
     pub there : (d : T) → get_or places.values n d ≡ value
+
+  -- the number of such a place is no group's
+  pub record IsNumberOf (places : Places T) (epoch n : ℕ) (value : T) : Type 0 where
+    pub short : n < 2 ^ 31
+    pub has : Has places epoch n value
 
   -- the place is there, and not in use since this epoch
   pub record IsFree (places : Places T) (epoch n : ℕ) : Type 0 where

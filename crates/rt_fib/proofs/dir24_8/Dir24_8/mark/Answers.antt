@@ -9,7 +9,7 @@ mark-preserved g c =
     let made = c.mark_entry-last.ensures in
     let tbl24 = c.mark.self.tbl24.items in
     let read : c.index-entry.result.now ≡ get_or tbl24 c.mark.self.marked 0 =
-    get_or_read tbl24 c.mark.self.marked c.index-entry.result.now (omega (arith, v.right.all.size, c.if-self-lt-ENTRIES.true)) c.index-entry.ensures 0 in
+    get_or_read tbl24 c.mark.self.marked c.index-entry.result.now (omega (arith, v.right.size, c.if-self-lt-ENTRIES.true)) c.index-entry.ensures 0 in
     record {
       right = rw v.epoch (marked_more _ _ _ _ _ _ _ _ made.keeps c.if-self-lt-ENTRIES.true read made.leads (rw v.epoch at v.right));
       epoch = v.epoch;

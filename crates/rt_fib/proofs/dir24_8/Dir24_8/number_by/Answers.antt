@@ -4,17 +4,17 @@ use Rattle.rt_fib.proofs.dir24_8.Dir24_8.number_by.Goals as goal
 
 pub returns-then-entry-lt-GROUP_FLAG : goal.returns-then-entry-lt-GROUP_FLAG
 returns-then-entry-lt-GROUP_FLAG g c =
-    let leads = entry_leads _ _ _ _ c.args.addr.0 c.args.entry c.requires.right.all (omega arith) c.requires.entry in
+    let leads = entry_leads _ _ _ _ _ c.args.addr.0 c.args.entry c.requires.right (omega arith) c.requires.entry in
     short_number _ _ _ _ _ _ leads c.if-entry-lt-GROUP_FLAG.true
 
 pub get-group-requires : goal.get-group-requires
 get-group-requires g c =
-    let leads = entry_leads _ _ _ _ c.args.addr.0 c.args.entry c.requires.right.all (omega arith) c.requires.entry in
+    let leads = entry_leads _ _ _ _ _ c.args.addr.0 c.args.entry c.requires.right (omega arith) c.requires.entry in
     let names = long_group _ _ _ _ _ _ leads c.if-entry-lt-GROUP_FLAG.false in
     omega (arith, names.long, names.named.is_used.within)
 
 pub returns : goal.returns
 returns g c =
-    let leads = entry_leads _ _ _ _ c.args.addr.0 c.args.entry c.requires.right.all (omega arith) c.requires.entry in
+    let leads = entry_leads _ _ _ _ _ c.args.addr.0 c.args.entry c.requires.right (omega arith) c.requires.entry in
     let names = long_group _ _ _ _ _ _ leads c.if-entry-lt-GROUP_FLAG.false in
     (group_read _ _ _ _ _ _ c.get-group.result.now names c.get-group.ensures).1

@@ -12,5 +12,5 @@ returns-clause-shown g c = λ _.
     let put = rw c.deref-4.ensures.value at c.put_entries.ensures in
     let size : c.len-3.result ≡ length list = omega arith in
     rw (size, ← c.self.view_is)
-    (view_shows _ _ _ _ _ list _ dir.slabs dir.epoch.number _ c.self.invariant.all hops
+    (view_shows _ _ _ _ _ list _ dir.slabs dir.epoch.number _ _ c.self.invariant hops
     (put_extends c.args.routers.now c.put_entries.new.entries list (omega arith) put) shown more (omega arith))

@@ -7,10 +7,10 @@ pub entries-init : goal.entries-init
 entries-init g c = record {
   onward = omega arith;
   within = omega arith;
-  continues = c.go_to.ensures.continues;
-  fills = rw c.keep_left_number.ensures at c.go_to.ensures.fills;
+  continues = record { table = refl; epoch = refl };
+  fills = rw c.keep_left_number.ensures (both_fill_same _ _);
   made = record { size = omega (arith, c.in_ok-entries.ensures.len); each = λ i below. absurd (omega (arith, below)) };
-  piece = c.in_ok-go_to.ensures.piece;
+  piece = rw c.keep_left_number.ensures c.requires.piece;
 }
 
 pub entries-preserved : goal.entries-preserved
@@ -41,9 +41,6 @@ returns-in_err-run-clause-fills g c =
 pub returns-in_err-resize-clause-fills : goal.returns-in_err-resize-clause-fills
 returns-in_err-resize-clause-fills g c =
     both_fill_twice _ _ _ _ c.entries.invariant.fills (rw c.entries.invariant.continues.epoch at c.run.ensures.fills)
-
-pub returns-in_err-go_to-clause-fills : goal.returns-in_err-go_to-clause-fills
-returns-in_err-go_to-clause-fills g c = rw c.keep_left_number.ensures at c.go_to.ensures.fills
 
 pub returns-in_err-entries-clause-fills : goal.returns-in_err-entries-clause-fills
 returns-in_err-entries-clause-fills g c = both_fill_same _ _

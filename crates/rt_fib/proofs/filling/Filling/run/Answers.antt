@@ -5,14 +5,14 @@ use Rattle.rt_fib.proofs.Leading.{piece_keeps}
 use Rattle.rt_fib.proofs.Marks.{group_entry}
 use Rattle.rt_fib.proofs.filling.Filling.run.Goals as goal
 
-pub returns-then-first-self-clause-entry : goal.returns-then-first-self-clause-entry
-returns-then-first-self-clause-entry g c = λ j from below k within.
+pub returns-then-from-self-clause-entry : goal.returns-then-from-self-clause-entry
+returns-then-from-self-clause-entry g c = λ j from below k within.
     let on = c.go_on_to.ensures.continues in
     let there = rw (on.table, on.epoch) at c.in_ok-go_on_to.ensures.piece in
-    inl (record { short = there.short; number = there.each (j * 256 + k) (omega (arith, from)) (omega (arith, below, within)) })
+    inl (record { short = there.short; has = there.each (j * 256 + k) (omega (arith, from)) (omega (arith, below, within)) })
 
-pub returns-then-first-self-clause-piece : goal.returns-then-first-self-clause-piece
-returns-then-first-self-clause-piece g c =
+pub returns-then-from-self-clause-piece : goal.returns-then-from-self-clause-piece
+returns-then-from-self-clause-piece g c =
     piece_keeps _ _ _ 0 _ (c.args.i * 256) (c.min.result * 256) _ (both_keep_same _ _) (omega arith) (omega arith) c.in_ok-go_on_to.ensures.piece
 
 pub returns-in_err-numbers-clause-fills : goal.returns-in_err-numbers-clause-fills
@@ -42,7 +42,7 @@ returns-clause-entry g c = λ j from below.
     let same : j ≡ c.args.i = omega (arith, from, below) in
     let on = c.go_on_to.ensures.continues in
     let epoch = c.numbers_from.ensures.continues.epoch ∙ on.epoch in
-    let there = rw epoch at c.in_ok-place.ensures.there in
+    let there = rw epoch at c.in_ok-place.ensures.group.has in
     let numbers = rw (on.table, on.epoch) at c.in_ok-numbers.ensures.numbers in
     group_entry _ _ _ c.args.i j _ _ same refl there
     (record { size = numbers.size; each = λ k low. rw c.place_of_group.ensures.routes (numbers.each k low) })

@@ -1,10 +1,10 @@
 use Rattle.std.proofs.Common.{Option, None, ap, ◌∙◌}
 use Rattle.rt_rib.specs.declared.routes.Route.{Route}
 use Rattle.rt_fib.specs.Hops.{next_hop}
-use Rattle.rt_fib.proofs.dir24_8.Dir24_8.look_up_hop.Goals as goal
+use Rattle.rt_fib.proofs.fib.Fib.look_up_hop.Goals as goal
 
 pub hop-requires : goal.hop-requires
 hop-requires g c = c.number_by-number.ensures.is_used.within
 
 pub returns : goal.returns
-returns g c = c.hop.ensures ∙ ap (λ (a : Option Route). next_hop a) (c.number_by-number.ensures.there None)
+returns g c = rw (← c.self.view_is) (c.hop.ensures ∙ ap (λ (a : Option Route). next_hop a) (c.number_by-number.ensures.there None))
