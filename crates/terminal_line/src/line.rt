@@ -54,6 +54,12 @@ impl LineState {
         self.stage = Some(stage);
     }
 
+    fn add_read(&mut self) {
+        if let Some(Stage::Reading(read, files)) = self.stage {
+            self.set(Stage::Reading(read.saturating_add(1), files));
+        }
+    }
+
     /// Writes the line over its previous text; returns false if it has ended.
     fn write<E: Write>(&mut self, err: &mut E) -> bool {
         if self.has_ended {
@@ -123,8 +129,14 @@ impl ProgressLine {
         }
     }
 
-    pub(crate) fn set<R: Wait>(&self, rt: &R, stage: Stage) {
+    /// Sets the line's text.
+    pub fn set<R: Wait>(&self, rt: &R, stage: Stage) {
         self.now.lock(rt).set(stage);
+    }
+
+    /// Has the line count one more file, if it says how many files are read.
+    pub fn add_read<R: Wait>(&self, rt: &R) {
+        self.now.lock(rt).add_read();
     }
 
     /// Erases the line, which isn't written again.

@@ -27,6 +27,11 @@ impl<'a, R, E> Screen<'a, R, E> {
     pub fn new(rt: &'a R, line: &'a ProgressLine, err: &'a mut E) -> Screen<'a, R, E> {
         Screen { rt, line, err }
     }
+
+    /// Returns the line, whose text other threads may set.
+    pub fn line(&self) -> &'a ProgressLine {
+        self.line
+    }
 }
 
 impl<'a, R: Wait, E: Write> Screen<'a, R, E> {
