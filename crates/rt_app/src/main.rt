@@ -11,11 +11,10 @@ mod arguments;
 mod program;
 
 use arguments::read_arguments;
-use program::{Program, ProgramError, run_words};
+use program::{FileReader, Program, ProgramError, run_words};
 pub use rt_run::{AppFault, replay_text, run_texts};
 use std::io::{self, IsTerminal, Write};
 use std::process::ExitCode;
-use std::rt::Files;
 use std::sync::Wait;
 use std::thread::{self, Threads};
 use terminal_line::ProgressLine;
@@ -50,7 +49,7 @@ fn run_on_terminal<R, T, O, E>(
     err: &mut E,
 ) -> u8
 where
-    R: Files + Threads + Wait + Sync + AllocGlobal,
+    R: FileReader + Threads + Wait + Sync + AllocGlobal,
     T: Print + Sync,
     O: Write,
     E: Write,

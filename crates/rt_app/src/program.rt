@@ -6,6 +6,7 @@ mod hints;
 mod prefixes;
 mod program_error;
 mod queries;
+mod reading;
 mod styles;
 mod threads;
 mod warnings;
@@ -18,12 +19,12 @@ use command_line::{Arguments, Refusal, ReplayRequest, Request, RequestFault, Run
 use feed_choice::NamedFeeds;
 pub(crate) use program_error::ProgramError;
 use program_error::{ArgumentFault, NO_MEMORY};
+pub(crate) use reading::FileReader;
+use reading::{FeedSide, TextsAhead, read_ahead};
 use rt_cidr::put;
 use rt_run::{AppFault, MAX_FEED_FILES, Status, is_left_out, replay_text, run_texts};
 use std::alloc::Global;
-use std::fs;
 use std::io::Write;
-use std::rt::Files;
 use std::sync::Wait;
 use std::thread::Threads;
 use terminal_line::{ProgressLine, Screen, Stage};
@@ -35,7 +36,7 @@ const _: () = prove!(command_line::MAX_ROUTES_PER_FEED == rt_rib::MAX_ROUTES_PER
 
 /// Runs the program with its arguments, of which the first is its name. Writes results to `out` and messages to `err`, and
 /// returns the exit status. Errors of `err` itself are ignored.
-pub fn run_words<R: Files + Threads + Wait + Sync + AllocGlobal, O: Write, E: Write>(
+pub fn run_words<R: FileReader + Threads + Wait + Sync + AllocGlobal, O: Write, E: Write>(
     rt: &R,
     alloc: Global,
     words: &[String],
@@ -73,7 +74,7 @@ impl<'a, R, O, E> Program<'a, R, O, E> {
     }
 }
 
-impl<R: Files + Threads + Wait + Sync + AllocGlobal, O: Write, E: Write> Program<'_, R, O, E> {
+impl<R: FileReader + Threads + Wait + Sync + AllocGlobal, O: Write, E: Write> Program<'_, R, O, E> {
     /// Parses the arguments, does what they ask for, and returns the exit status, as `run_words` does.
     pub(crate) fn run(&mut self, words: &[String]) -> u8 {
         let status = match Arguments::parse(self.alloc, words) {
@@ -111,9 +112,33 @@ impl<R: Files + Threads + Wait + Sync + AllocGlobal, O: Write, E: Write> Program
         let mut out = self.screen.beside(texts.len(), self.out);
         Ok(run_texts(self.rt, self.alloc, texts, request.limit, batch, &mut out)?)
     }
+
+    /// Returns the texts of the feed files, and an empty text for each feed that is left out, whose file isn't read: feeds that
+    /// are one of `without`, or, if `only` has feeds, none of these.
+    fn read_feeds<'w>(
+        &mut self,
+        files: &NamedFeeds<'w>,
+        only: &[u32],
+        without: &[u32],
+    ) -> Result<Vec<Vec<u8>>, ProgramError<'w>>
+        ensures few { IfOk result (λ texts. vec_len texts ≤ MAX_FEEDS) }
+        ensures left_out { IfOk result (λ texts. AreWithout (is_left_out only.now without.now) (map (λ text. text.items) texts.items) (map (λ text. text.items) texts.items)) }
+    {
+        let mut ahead = self.read_ahead(&[FeedSide {
+            names: files.names,
+            only,
+            without,
+        }]);
+        self.texts_of(files, only, without, &mut ahead)
+    }
+
+    /// Reads feed files of these sides on several threads, as `read_ahead` of `reading` says.
+    fn read_ahead(&self, sides: &[FeedSide<'_, '_>]) -> TextsAhead {
+        read_ahead(self.rt, self.alloc, self.screen.line(), sides)
+    }
 }
 
-impl<R: Files + Wait + AllocGlobal, O: Write, E: Write> Program<'_, R, O, E> {
+impl<R: FileReader + Wait + AllocGlobal, O: Write, E: Write> Program<'_, R, O, E> {
     /// Writes the text that there is in place of arguments, and returns the exit status.
     fn refuse(&mut self, refusal: &Refusal) -> u8 {
         match refusal {
@@ -129,45 +154,53 @@ impl<R: Files + Wait + AllocGlobal, O: Write, E: Write> Program<'_, R, O, E> {
         }
     }
 
-    /// Returns the texts of the feed files, and an empty text for each feed that is left out, whose file isn't read: feeds that
-    /// are one of `without`, or, if `only` has feeds, none of these.
-    fn read_feeds<'w>(
+    /// Returns the texts of the next side's feed files, as `read_feeds` says: reads the files that weren't read ahead, one after
+    /// another.
+    fn texts_of<'w>(
         &mut self,
         files: &NamedFeeds<'w>,
         only: &[u32],
         without: &[u32],
+        ahead: &mut TextsAhead,
     ) -> Result<Vec<Vec<u8>>, ProgramError<'w>>
         ensures few { IfOk result (λ texts. vec_len texts ≤ MAX_FEEDS) }
         ensures left_out { IfOk result (λ texts. AreWithout (is_left_out only.now without.now) (map (λ text. text.items) texts.items) (map (λ text. text.items) texts.items)) }
     {
         let mut texts = Vec::new(self.alloc);
         for (index, name) in files.names.iter().enumerate() {
-            self.screen.set(Stage::Reading(index, files.names.len()));
-            let text = self.read_feed(name, index as u32 + 1, only, without)?;
+            let read = ahead.take_next();
+            if read.is_none() {
+                self.screen.set(Stage::Reading(index, files.names.len()));
+            }
+            let text = self.text_of(name, index as u32 + 1, only, without, read)?;
             texts.push(text)?;
         }
         Ok(texts)
     }
 
-    /// Returns the text of the feed of this number, from the file of this name, or an empty text if the feed is left out.
-    fn read_feed<'w>(
+    /// Returns the text of the feed of this number, from the file of this name unless it was read before, or an empty text if
+    /// the feed is left out.
+    fn text_of<'w>(
         &self,
         name: &'w str,
         feed: u32,
         only: &[u32],
         without: &[u32],
+        read: Option<Vec<u8>>,
     ) -> Result<Vec<u8>, ProgramError<'w>>
         ensures { IfOk result (λ text. is_left_out only.now without.now feed ≡ true → text.items ≡ []) }
     {
         if is_left_out(only, without, feed) {
-            Ok(Vec::new(self.alloc))
-        } else {
-            self.read_file(name)
+            return Ok(Vec::new(self.alloc));
+        }
+        match read {
+            Some(text) => Ok(text),
+            None => self.read_file(name),
         }
     }
 
     fn read_file<'w>(&self, name: &'w str) -> Result<Vec<u8>, ProgramError<'w>> {
-        match fs::read(self.rt, name) {
+        match self.rt.contents(name, 0) {
             Ok(text) => Ok(text),
             Err(fault) => Err(ProgramError::of_system(&fault, ProgramError::Unreadable(name))),
         }

@@ -1,20 +1,20 @@
 //! `diff`: the addresses for which the tables of two sets of feed files differ, and reports of rejected input.
 
 use super::feed_choice::NamedFeeds;
+use super::reading::{FeedSide, TextsAhead};
 use super::styles::{diff_options, sides_of};
 use super::threads::threads_to_compare;
 use super::warnings::{FeedTexts, ends_of_line, report_sides};
-use super::{Program, ProgramError};
+use super::{FileReader, Program, ProgramError};
 use command_line::{DiffRequest, DifferenceOutput};
 use rt_print::DiffOptions;
 use rt_run::{RunInput, count_diff_texts, diff_texts};
 use std::alloc::Global;
 use std::io::Write;
-use std::rt::Files;
 use std::sync::Wait;
 use std::thread::Threads;
 
-impl<R: Files + Threads + Wait + Sync + AllocGlobal, O: Write, E: Write> Program<'_, R, O, E> {
+impl<R: FileReader + Threads + Wait + Sync + AllocGlobal, O: Write, E: Write> Program<'_, R, O, E> {
     /// Writes the ranges of addresses for which the tables of the old and the new files differ, or their numbers. Reports
     /// rejected input, and returns the exit status.
     pub(super) fn compare<'w>(
@@ -22,18 +22,30 @@ impl<R: Files + Threads + Wait + Sync + AllocGlobal, O: Write, E: Write> Program
         request: &DiffRequest<'w>,
     ) -> Result<u8, ProgramError<'w>> {
         let sides = Sides::of(self.alloc, request)?;
-        let old_input = self.read_side(request, &sides.old)?;
-        let new_input = self.read_side(request, &sides.new)?;
+        let mut ahead = self.read_both(&sides);
+        let old_input = self.input_of(request, &sides.old, &mut ahead)?;
+        let new_input = self.input_of(request, &sides.new, &mut ahead)?;
         self.show_differences(request, &sides, old_input, new_input)
     }
 
-    /// Reads the files of a side.
-    fn read_side<'w>(
+    /// Reads feed files of both sides on several threads, as `read_ahead` of `reading` says.
+    fn read_both(&self, sides: &Sides<'_>) -> TextsAhead {
+        self.read_ahead(&[side_of(&sides.old), side_of(&sides.new)])
+    }
+
+    /// Returns the texts of the next side, and reads those that weren't read ahead.
+    fn input_of<'w>(
         &mut self,
         request: &DiffRequest<'_>,
         feeds: &NamedFeeds<'w>,
+        ahead: &mut TextsAhead,
     ) -> Result<RunInput, ProgramError<'w>> {
-        let texts = self.read_feeds(feeds, feeds.only.as_slice(), feeds.without.as_slice())?;
+        let texts = self.texts_of(
+            feeds,
+            feeds.only.as_slice(),
+            feeds.without.as_slice(),
+            ahead,
+        )?;
         Ok(RunInput::new(texts, request.run.limit))
     }
 
@@ -89,6 +101,14 @@ impl<R: Files + Threads + Wait + Sync + AllocGlobal, O: Write, E: Write> Program
         };
         report_sides(&mut self.screen, old, new, summary.tallies.as_slice());
         Ok(summary.status)
+    }
+}
+/// Returns the names of the feed files, and which feeds are left out.
+fn side_of<'s, 'w>(feeds: &'s NamedFeeds<'w>) -> FeedSide<'s, 'w> {
+    FeedSide {
+        names: feeds.names,
+        only: feeds.only.as_slice(),
+        without: feeds.without.as_slice(),
     }
 }
 

@@ -5,7 +5,7 @@ use super::prefixes::prefix_of;
 use super::styles::style_of;
 use super::threads::threads_for;
 use super::warnings::{FeedTexts, ends_of_line, report_query};
-use super::{ArgumentFault, Program, ProgramError};
+use super::{ArgumentFault, FileReader, Program, ProgramError};
 use command_line::{LookupRequest, OutputFormat, PrefixFilterArg, TableOutput, TableRequest};
 use rt_cidr::Addr;
 use rt_print::Style;
@@ -13,11 +13,10 @@ use rt_rib::{PrefixFilter, Selection};
 use rt_run::{Addresses, Question, RunInput, show};
 use std::alloc::Global;
 use std::io::Write;
-use std::rt::Files;
 use std::sync::Wait;
 use std::thread::Threads;
 
-impl<R: Files + Threads + Wait + Sync + AllocGlobal, O: Write, E: Write> Program<'_, R, O, E> {
+impl<R: FileReader + Threads + Wait + Sync + AllocGlobal, O: Write, E: Write> Program<'_, R, O, E> {
     /// Writes, for each address of the command line and then for each address of the file, all routes that cover it, or only
     /// the best one. Reports rejected input, and returns the exit status.
     pub(super) fn show_answers<'w>(

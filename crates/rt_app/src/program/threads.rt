@@ -1,6 +1,10 @@
-//! The number of threads on which a query executes its feed files, and on which two tables are compared.
+//! The number of threads on which files are read, a query executes its feed files, and two tables are compared.
 
 use std::thread::{self, Threads};
+
+/// The bytes of files for which a further thread pays when they are read: with fewer, it takes longer to create the thread than
+/// to read them.
+const BYTES_PER_READING_THREAD: u64 = 1 << 20;
 
 /// The bytes of feed files for which a further thread pays: with fewer, it takes longer to create the thread than to
 /// execute them.
@@ -13,6 +17,13 @@ const BYTES_PER_ADDRESS_BYTE: usize = 4;
 /// The bytes of the feed files of both sides for which a further thread pays when their tables are compared: with fewer, it
 /// takes longer to create the threads than to compare.
 const BYTES_PER_COMPARING_THREAD: usize = 1 << 20;
+
+/// Returns the number of threads on which this number of files, with this number of bytes in all, are read, at least one: at
+/// most one for each processor and for each file, and no further thread that doesn't pay.
+pub(super) fn threads_to_read<R: Threads>(rt: &R, files: usize, bytes: u64) -> usize {
+    let paying = usize::try_from(bytes / BYTES_PER_READING_THREAD).unwrap_or(usize::MAX);
+    processors_for(rt, files.min(paying))
+}
 
 /// Returns the number of threads on which these texts of feeds are executed, at least one: at most one for each processor
 /// and for each text that isn't empty, and no further thread that doesn't pay. The text of addresses, which are looked up

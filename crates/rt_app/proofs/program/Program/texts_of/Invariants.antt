@@ -1,6 +1,6 @@
 use Rattle.std.proofs.Common.{◌≡◌, ◌+◌, ℕ, true, [], map, get_or, vec_len}
 use Rattle.rt_run.specs.ChosenFeeds.{is_left_out}
-use Rattle.rt_app.proofs.program.Program.read_feeds.Given as goal
+use Rattle.rt_app.proofs.program.Program.texts_of.Given as goal
 
 -- each file so far has a text, and the text of a feed that is left out is empty
 abbrev pub invariant-loop-index : goal.invariant-loop-index

@@ -1,7 +1,7 @@
 use Rattle.std.proofs.Common.{◌≡◌, ℕ, length, refl, arith}
 use Rattle.rt_run.specs.ChosenFeeds.{is_left_out}
 use Rattle.rt_app.proofs.EmptyTexts.{empty_more}
-use Rattle.rt_app.proofs.program.Program.read_feeds.Goals as goal
+use Rattle.rt_app.proofs.program.Program.texts_of.Goals as goal
 
 pub returns-clause-left_out : goal.returns-clause-left_out
 returns-clause-left_out g c = record { as_many = refl; others = λ k stays. refl; empty = c.loop-index.invariant.empty }
