@@ -15,6 +15,7 @@ import re
 import resource
 import signal
 import subprocess
+import time
 
 from common.checks import chosen, close_all, end, expect, launched, run, run_each
 from common.table_model import MAX_FEEDS, row, run_text
@@ -210,6 +211,94 @@ def pipes(yarib):
     feeder.wait()
 
 
+# A comment that makes three files, or two, as long as it takes for a second thread to read them.
+LONG = f"# {'-' * 100}\n" * 11_000
+
+
+def write_only():
+    """A regular file that has a length and can't be read, or None."""
+    if os.geteuid() != 0:
+        locked = pathlib.Path("locked.feed").resolve()
+        locked.write_text(LONG)
+        locked.chmod(0)
+        return locked
+    return next((path for path in sorted(pathlib.Path("/sys/bus").glob("*/drivers_probe")) if path.stat().st_size), None)
+
+
+# Catches texts that are given to other files than theirs: `long files`.
+# Catches a file that is reported in place of an earlier one, and one that is read although an earlier one can't be: `..
+# the first`, `the pipe behind ..`.
+def long_files(yarib):
+    """Files that are read on several threads, if there are several processors."""
+    feeds = written("long", [f"add 10.0.{feed}.0/24 {feed} 192.0.2.{feed}\n{LONG * (feed % 3)}" for feed in range(1, 10)])
+    rows = [row(f"10.0.{feed}.0/24", feed, feed, f"192.0.2.{feed}") for feed in range(1, 10)]
+    expect("long files", yarib("table", *feeds), (0, "".join(rows), ""))
+    expect("long files of a run", yarib("run", *feeds)[1].splitlines(True)[-9:], rows)
+    two_left_out = yarib("table", "--without", "2", "--without", "9", *feeds)
+    expect("long files, two left out", two_left_out, (0, "".join(rows[:1] + rows[2:8]), ""))
+    left_out = yarib("table", "--without", "2", feeds[0], "missing", *feeds[2:])
+    expect("long files, and a missing one left out", left_out, (0, "".join(rows[:1] + rows[2:]), ""))
+    told = yarib("diff", *feeds[:2], "--", *feeds[:3])
+    expect("long files of both sides", told, (1, "10.0.3.0-10.0.3.255 no route -> via 192.0.2.3\n", ""))
+    folder = pathlib.Path.cwd()
+    for locked, what in ((folder, "folder"), (write_only(), "file that can't be read")):
+        if locked is None:
+            print("left out: a file that can't be read", flush=True)
+            continue
+        for words, named in (([*feeds[:4], locked, *feeds[4:], "missing"], f"a {what} the first"),
+                             (["--without", "3", *feeds[:4], locked, *feeds[4:], "missing"], f"a {what} the first, a feed left out")):
+            expect(named, yarib("table", *words), unreadable(locked))
+        missing = yarib("table", *feeds[:4], "missing", locked, *feeds[4:])
+        expect(f"a missing file before a {what} the first", missing, unreadable("missing"))
+        old = yarib("diff", *feeds[:4], locked, "--", "missing", *feeds[4:])
+        expect(f"a {what} of the old side the first", old, unreadable(locked))
+        new = yarib("diff", *feeds[:4], "--", *feeds[4:], locked, "missing")
+        expect(f"a {what} of the new side the first", new, unreadable(locked))
+        asked = yarib("lookup", "--addresses", "missing", *feeds[:4], locked)
+        expect(f"a {what} and no file of addresses, the first", asked, unreadable(locked))
+
+
+# Catches files that are read out of order around a pipe: `a pipe among long files`, `.. in their order`.
+# Catches a pipe that is opened although an earlier file can't be read: `the pipe behind ..`.
+def pipes_and_long_files(yarib):
+    long, other, later = written("long", [LONG, LONG + ROW, LONG])
+    pipe, second = pathlib.Path("pipe"), pathlib.Path("second")
+    for name in (pipe, second):
+        os.mkfifo(name)
+
+    def fed(script, *words):
+        feeder = subprocess.Popen(["sh", "-c", script, pipe, second, later, long])
+        ended = yarib(*words)
+        time.sleep(0.2)
+        still_waits = feeder.poll() is None
+        feeder.kill()
+        feeder.wait()
+        return ended, still_waits
+
+    listed = lambda *feeds: (0, "".join(row("10.0.0.0/8", feed, 100) for feed in feeds), "")
+    # What is behind the pipe is read after its end: its writer changes that.
+    writes_later = f'exec 3>"$0"; sleep 0.2; {{ cat "$3"; printf "{ROW}"; }} >"$2"; printf "{ROW}" >&3'
+    ended, _ = fed(writes_later, "table", long, other, pipe, later)
+    expect("a pipe among long files", ended, listed(2, 3, 4))
+    later.write_text(LONG)
+    ended, _ = fed(writes_later, "diff", long, pipe, "--", long, later)
+    expect("a pipe among long files of the old side", ended, (0, "", ""))
+    one_by_one = f'printf "{ROW}" >"$0"; printf "{ROW}" >"$1"'
+    for words, feeds in ((["table", pipe, long, other, second], (1, 3, 4)), (["table", long, other, pipe, second], (2, 3, 4)),
+                         (["table", pipe, second, long, other], (1, 2, 4))):
+        ended, _ = fed(one_by_one, *words)
+        expect(f"two pipes among {' '.join(map(str, words[1:]))}, in their order", ended, listed(*feeds))
+    for locked in (pathlib.Path.cwd(), "missing", write_only()):
+        if locked is not None:
+            found = fed(one_by_one, "table", long, other, locked, pipe)
+            expect(f"the pipe behind {locked}", found, (unreadable(locked), True))
+    twice = yarib("table", long, other, "/dev/stdin", "/dev/stdin", input=ROW.encode())
+    expect("standard input twice behind long files", twice, listed(2, 3))
+    with open(other) as text:
+        twice = yarib("table", long, "/dev/stdin", "/dev/stdin", stdin=text)
+    expect("a long file as standard input, twice", twice, listed(2, 3))
+
+
 def odd_names(yarib):
     odd = pathlib.Path.cwd() / "a name\nof two lines"
     odd.write_text(ROW)
@@ -281,7 +370,10 @@ def disc_fills(yarib, large, folder):
         expect(f"what stands in {size} bytes", target.read_text() == whole[:size], True)
 
 
-CASES = (files, one_file_over_and_over, pipes, odd_names, outputs, little_memory, refused_commands, refused_forwarding)
+CASES = (
+    files, one_file_over_and_over, pipes, long_files, pipes_and_long_files, odd_names, outputs, little_memory, refused_commands,
+    refused_forwarding,
+)
 
 
 def main():

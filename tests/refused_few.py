@@ -8,8 +8,9 @@ number comes. Each is refused first by itself, then with all later ones. A run r
 SharedRib (new, and apply or with batches apply_batch), in run_feed and in run_texts. tests/refused_calls.py refuses each
 request of the libraries' calls, and tests/refused_growth.py each of more runs.
 
-A comparison of two tables executes its sides on two threads, and a query of two large files each on its own. Both are run
-with each request refused, by itself and with all later ones, with a second thread and without one.
+A comparison of two tables executes its sides on two threads, and a query of two large files each on its own. Longer files are
+read on several threads. All are run with each request refused, by itself and with all later ones, with a second thread and
+without one.
 """
 import itertools
 import os
@@ -118,6 +119,21 @@ def a_query(called):
         checks.expect("its threads", ends_alike(called, words, happenings), threads)
 
 
+# Catches files that are read on one thread: `its threads`.
+# Catches files that aren't read if no thread can be created: `without a thread`.
+# Catches a program that goes on without the file that a thread had no memory for: `with a request refused`.
+def a_reading(called):
+    """Feeds that are so long that several threads read them. A comparison reads those of both sides together."""
+    if len(os.sched_getaffinity(0)) < 2:
+        return print("left out: files are read on one thread on one processor", flush=True)
+    feeds = written("own", [text + COMMENTS * 4 for text in OLD])
+    happenings = {text: HAPPENINGS[text] for text in ("nothing", "the run")}
+    # A comparison lists its differences on up to 63 further threads.
+    for form, threads in ((["lookup", "--address", "1.2.3.4", *feeds], [1, 2]),
+                          (["diff", "--count", feeds[0], "--", feeds[1]], [1, 2, 64, 65])):
+        checks.expect("its threads", ends_alike(called, [called.yarib, *form], happenings), threads)
+
+
 def is_foreseen(ending, ample):
     """Whether a call printed all, or nothing and F3, or what is left without the commands that it reports."""
     if ending[1:3] == ("", "yarib: fault F3\n"):
@@ -134,6 +150,7 @@ CASES = [
     Few("a replay", lambda called: ["replay", "--levels", "6", "5"], check_same, itertools.count),
     a_comparison,
     a_query,
+    a_reading,
 ]
 
 KINDS = {"run_texts", "a line of a run", "fault P3"}
