@@ -72,16 +72,17 @@ abbrev pub answers_of : List Addr → List (List Route) → List (Option Route)
 answers_of addresses tables = map (λ addr. look_up addr (union_of tables)) addresses
 
 -- without tables there is no answer
+pub no_answer : (addr : Addr) → look_up addr (union_of []) ≡ None
+no_answer addr =
+    (look_up_finds_best addr (union_of []) (union_is_table [] (All-nil IsTable) (AllPairs-nil HaveNoFeedInCommon))).1.1
+    (λ s c. absurd (let t = (union_has_their_routes [] s).0 c in Contains-none t.0 t.1))
+
 pub no_answers : (addresses : List Addr) (answers : List (Option Route)) → length answers ≡ length addresses
     → ((k : ℕ) → k < length answers → route_at answers k ≡ None) → answers ≡ answers_of addresses []
 no_answers addresses answers long none =
     let answer = λ (addr : Addr). look_up addr (union_of []) in
     ext_get_or None answers (map answer addresses) (long ∙ sym (length-map addresses answer)) (λ k l.
-    none k l ∙ sym (nothing (address_at addresses k)) ∙ sym (get_or-map answer addresses k (record { 0 = 0 }) None (omega (arith, long)))) where
-      nothing : (addr : Addr) → look_up addr (union_of []) ≡ None
-      nothing addr =
-          (look_up_finds_best addr (union_of []) (union_is_table [] (All-nil IsTable) (AllPairs-nil HaveNoFeedInCommon))).1.1
-          (λ s c. absurd (let t = (union_has_their_routes [] s).0 c in Contains-none t.0 t.1))
+    none k l ∙ sym (no_answer (address_at addresses k)) ∙ sym (get_or-map answer addresses k (record { 0 = 0 }) None (omega (arith, long))))
 
 -- improved by a further table, they are those of the tables with this one
 pub answers_more : (addresses : List Addr) (tables : List (List Route)) (table : List Route) (old new : List (Option Route))

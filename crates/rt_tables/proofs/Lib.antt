@@ -9,3 +9,4 @@ pub mod Improving
 pub mod Halves
 pub mod Lengths
 pub mod Filtering
+pub mod Ranges

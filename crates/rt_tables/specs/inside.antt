@@ -2,3 +2,4 @@
 pub mod Tables
 pub mod Merging
 pub mod Answers
+pub mod Cursors

@@ -8,14 +8,17 @@
 //!
 //! A program that executes its feeds on several threads, each with a table of its own, asks these tables as one. Their
 //! union is the table of all their routes (`specs/Unions.antt`). It isn't built: each query asks every table and merges
-//! the answers: [`TableUnion::select`], [`TableUnion::look_up_each`], [`TableUnion::look_up_all`]. A contract sees the tables as their union, so each query has the clause of the same query of a
-//! [`Table`](rt_rib::Table). [`laws`] has theorems about the union.
+//! the answers: [`TableUnion::select`], [`TableUnion::look_up_each`], [`TableUnion::look_up_all`],
+//! [`TableUnion::lookup_cursor`]. A contract sees the tables as their union, so each query has the clause of the same query of
+//! a [`Table`](rt_rib::Table). [`laws`] has theorems about the union.
 #![tactic(auto)]
 
+mod cursor;
 pub mod laws;
 mod lookups;
 mod merge;
 mod selection;
 mod tables;
 
+pub use cursor::UnionCursor;
 pub use tables::TableUnion;

@@ -14,7 +14,7 @@ use std::alloc::Allocator;
 const PIECE: usize = 256;
 
 /// Returns the better of the answers of two tables to one address.
-fn better_of(first: Option<Route>, second: Option<Route>) -> Option<Route>
+pub(crate) fn better_of(first: Option<Route>, second: Option<Route>) -> Option<Route>
     ensures { result ≡ better_of first second }
 {
     match (first, second) {

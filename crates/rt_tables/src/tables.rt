@@ -7,11 +7,12 @@ ghost use Rattle.rt_rib.specs.LookUp.{look_up, look_up_all};
 ghost use Rattle.rt_rib.specs.Selection.{selected};
 ghost use Rattle.rt_tables.specs.Unions.{union_of, AreOfDifferentFeeds};
 
+use crate::cursor::UnionCursor;
 use crate::lookups::{best_of_each, matches_in};
 use crate::selection::{keep_feed, keep_hop, select_from};
 use rt_cidr::Addr;
 use rt_rib::{Refused, Route, Selection, Table};
-use std::alloc::{Allocator, Global};
+use std::alloc::{AllocError, Allocator, Global};
 use std::fmt;
 use std::marker::Model;
 use std::thread::Threads;
@@ -96,6 +97,17 @@ impl<A: Allocator + Copy> TableUnion<A> {
         ensures { IfOk result (λ routes. routes.items ≡ look_up_all addr self.now) }
     {
         matches_in(&self.tables, alloc, addr)
+    }
+
+    /// Returns a cursor for look-ups of successive addresses, each with how far its answer holds. Allocates with the given
+    /// allocator, unless there is just one table. Its error: memory ran out.
+    pub fn lookup_cursor(&self, alloc: A) -> Result<UnionCursor<'_, A>, AllocError>
+        ensures { IfOk result (λ cursor. cursor ≡ self.now) }
+    {
+        match self.single() {
+            Some(table) => Ok(UnionCursor::of_table(table)),
+            None => UnionCursor::of_tables(alloc, &self.tables),
+        }
     }
 }
 

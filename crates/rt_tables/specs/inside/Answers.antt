@@ -24,3 +24,7 @@ pub record AreImproved (addresses : List Addr) (table : List Route) (old new : L
   pub inside : (k : ℕ) → start ≤ k → k < end → route_at new k ≡ better_of (route_at old k) (look_up (address_at addresses k) table)
   pub below : (k : ℕ) → k < start → route_at new k ≡ route_at old k
   pub above : (k : ℕ) → end ≤ k → route_at new k ≡ route_at old k
+
+-- every address from the first to the last has this answer in the table
+abbrev pub HoldsFromTo : List Route → Addr → Addr → Option Route → Type 0
+HoldsFromTo table first last answer = (b : Addr) → first.0 ≤ b.0 → b.0 ≤ last.0 → look_up b table ≡ answer
