@@ -1,5 +1,5 @@
 //! Ranges of addresses that have different answers in two tables.
-ghost use Rattle.std.specs.Prelude.{◌≡◌, ◌+◌, ◌↔◌, IsTrue};
+ghost use Rattle.std.specs.Prelude.{◌≡◌, ◌+◌, ◌↔◌, IsTrue, IfOk};
 ghost use Rattle.rt_diff.specs.Answers.{own_numbers};
 ghost use Rattle.rt_diff.specs.Differences.{IsAlike, IsFirstDifference, IsFirstUpTo};
 
@@ -8,7 +8,8 @@ use crate::renumbered::RenumberedLookups;
 use crate::table_answers::{CompareBy, TableAnswer};
 use rt_cidr::Addr;
 use rt_rib::Table;
-use std::alloc::Allocator;
+use rt_tables::{TableUnion, UnionCursor};
+use std::alloc::{AllocError, Allocator};
 use std::fmt;
 use std::marker::Model;
 
@@ -59,9 +60,26 @@ impl<'a, A: Allocator + Copy> Comparison<'a, A> {
     {
         Comparison {
             by,
-            old_table: RenumberedLookups::new(old.lookup_cursor()),
-            new_table: RenumberedLookups::new(new.lookup_cursor()),
+            old_table: RenumberedLookups::new(UnionCursor::of_table(old)),
+            new_table: RenumberedLookups::new(UnionCursor::of_table(new)),
         }
+    }
+
+    /// Returns a comparison of the answers of two unions of tables. Allocates with the given allocator, unless each is of just one
+    /// table. Its error: memory ran out.
+    pub fn of_unions(
+        alloc: A,
+        old: &'a TableUnion<A>,
+        new: &'a TableUnion<A>,
+        by: CompareBy,
+    ) -> Result<Comparison<'a, A>, AllocError>
+        ensures { IfOk result (λ tables. tables ≡ record { by = by; old_table = own_numbers old.now; new_table = own_numbers new.now }) }
+    {
+        Ok(Comparison {
+            by,
+            old_table: RenumberedLookups::new(old.lookup_cursor(alloc)?),
+            new_table: RenumberedLookups::new(new.lookup_cursor(alloc)?),
+        })
     }
 
     /// From now on, renumbers the feeds of the new table: feed k gets the k-th number, or keeps its own if the list is

@@ -8,7 +8,7 @@ ghost use Rattle.rt_diff.specs.inside.Parts.{CanEndWith, AreOfPart, BeginsPart, 
 use crate::comparison::{Comparison, Difference};
 use crate::table_answers::CompareBy;
 use rt_cidr::Addr;
-use rt_rib::Table;
+use rt_tables::TableUnion;
 use std::alloc::{AllocError, Allocator, Global};
 use std::marker::Model;
 use std::thread::{self, Threads};
@@ -23,12 +23,12 @@ const BLOCK_SIZE: u32 = 1 << 26;
 /// The list of a part's ranges, unless memory ran out.
 type BlockList = Result<Vec<Difference>, AllocError>;
 
-/// Two tables, and how their answers are compared. Contracts see what they see of a [`Comparison`].
+/// Two tables, each the union of one or more, and how their answers are compared. Contracts see what they see of a [`Comparison`].
 #[derive(Drop)]
 pub struct ComparedTables<'a, A: Allocator + Copy> {
     by: CompareBy,
-    old: &'a Table<A>,
-    new: &'a Table<A>,
+    old: &'a TableUnion<A>,
+    new: &'a TableUnion<A>,
     numbers: &'a [u32],
 }
 
@@ -40,8 +40,8 @@ impl<'a, A: Allocator + Copy> Model for ComparedTables<'a, A> {
 
     ghost view = { λ c. record {
       by = c.by;
-      old_table = own_numbers c.old.now.routes;
-      new_table = record { routes = c.new.now.routes; numbers = c.numbers.now };
+      old_table = own_numbers c.old.now;
+      new_table = record { routes = c.new.now; numbers = c.numbers.now };
     } };
 }
 
@@ -49,15 +49,15 @@ impl<'a, A: Allocator + Copy> ComparedTables<'a, A> {
     /// Returns these tables, to be compared in this way. The feeds of the new table get these numbers
     /// ([`Comparison::renumber_new_feeds`]).
     pub fn new(
-        old: &'a Table<A>,
-        new: &'a Table<A>,
+        old: &'a TableUnion<A>,
+        new: &'a TableUnion<A>,
         by: CompareBy,
         numbers: &'a [u32],
     ) -> ComparedTables<'a, A>
         ensures { result ≡ record {
           by = by;
-          old_table = own_numbers old.now.routes;
-          new_table = record { routes = new.now.routes; numbers = numbers.now };
+          old_table = own_numbers old.now;
+          new_table = record { routes = new.now; numbers = numbers.now };
         } }
     {
         ComparedTables {
@@ -68,13 +68,14 @@ impl<'a, A: Allocator + Copy> ComparedTables<'a, A> {
         }
     }
 
-    /// Returns a comparison of the tables. Doesn't allocate.
-    pub fn comparison(&self) -> Comparison<'a, A>
-        ensures { result ≡ self.now }
+    /// Returns a comparison of the tables. Allocates with the given allocator, unless each is the union of just one. Its error:
+    /// memory ran out.
+    pub fn comparison(&self, alloc: A) -> Result<Comparison<'a, A>, AllocError>
+        ensures { IfOk result (λ tables. tables ≡ self.now) }
     {
-        let mut tables = Comparison::new(self.old, self.new, self.by);
+        let mut tables = Comparison::of_unions(alloc, self.old, self.new, self.by)?;
         tables.renumber_new_feeds(self.numbers);
-        tables
+        Ok(tables)
     }
 }
 
@@ -142,7 +143,7 @@ fn joined(
 fn list_block(alloc: Global, tables: &ComparedTables<'_, Global>, block: usize) -> BlockList
     ensures { ListsBlock tables.now block result }
 {
-    let mut comparison = tables.comparison();
+    let mut comparison = tables.comparison(alloc)?;
     if block >= BLOCKS || !begins_part(&mut comparison, block) {
         return Ok(Vec::new(alloc));
     }
@@ -196,7 +197,7 @@ fn list_in_turn(
     requires ends { CanEndWith tables.now last }
     ensures { IfOk result (λ list. AreOfPart tables.now first.0 (last.0 + 1) list.items) }
 {
-    let mut comparison = tables.comparison();
+    let mut comparison = tables.comparison(alloc)?;
     let mut list = Vec::new(alloc);
     let mut next = comparison.first_difference_up_to(first, last);
     while let Some(difference) = next {

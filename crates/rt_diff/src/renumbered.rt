@@ -4,7 +4,8 @@ ghost use Rattle.rt_cidr.specs.declared.address.Addr.{Addr};
 ghost use Rattle.rt_diff.specs.Answers.{own_numbers, renumbered, renumbered_route, renumbered_look_up};
 
 use rt_cidr::Addr;
-use rt_rib::{LookupCursor, Route};
+use rt_rib::Route;
+use rt_tables::UnionCursor;
 use std::alloc::Allocator;
 use std::marker::Model;
 
@@ -12,7 +13,7 @@ use std::marker::Model;
 /// list is shorter. Contracts see its routes and the numbers.
 #[derive(Drop)]
 pub(crate) struct RenumberedLookups<'a, A: Allocator + Copy> {
-    answers: LookupCursor<'a, A>,
+    answers: UnionCursor<'a, A>,
     numbers: &'a [u32],
 }
 
@@ -26,7 +27,7 @@ impl<'a, A: Allocator + Copy> Model for RenumberedLookups<'a, A> {
 
 impl<'a, A: Allocator + Copy> RenumberedLookups<'a, A> {
     /// Returns the answers with each feed's own number.
-    pub(crate) fn new(answers: LookupCursor<'a, A>) -> RenumberedLookups<'a, A>
+    pub(crate) fn new(answers: UnionCursor<'a, A>) -> RenumberedLookups<'a, A>
         ensures { result ≡ own_numbers answers.entry }
     {
         RenumberedLookups {
@@ -42,7 +43,7 @@ impl<'a, A: Allocator + Copy> RenumberedLookups<'a, A> {
         self.numbers = numbers;
     }
 
-    /// Does the same as `LookupCursor::lookup_range`, with the route's feed renumbered.
+    /// Does the same as `UnionCursor::lookup_range`, with the route's feed renumbered.
     pub(crate) fn lookup_range(&mut self, addr: Addr) -> (Option<Route>, Addr)
         ensures kept { self.new ≡ self.old }
         ensures onward { addr.0 ≤ result.1.0 }

@@ -10,6 +10,7 @@ use crate::labels::pair_feeds_by_name;
 use crate::style::Style;
 use rt_diff::{CompareBy, ComparedTables, Comparison};
 use rt_rib::Table;
+use rt_tables::TableUnion;
 use std::alloc::{AllocError, Global};
 use std::marker::Model;
 
@@ -102,16 +103,17 @@ impl DiffOptions {
         tables.renumber_new_feeds(self.numbers.as_slice());
         tables
     }
+
     /// Returns these two tables with the way in which they are compared.
     pub fn compared_tables<'a>(
         &'a self,
-        old: &'a Table<Global>,
-        new: &'a Table<Global>,
+        old: &'a TableUnion<Global>,
+        new: &'a TableUnion<Global>,
     ) -> ComparedTables<'a, Global>
         ensures { result ≡ record {
           by = self.now.by;
-          old_table = own_numbers old.now.routes;
-          new_table = record { routes = new.now.routes; numbers = self.now.numbers };
+          old_table = own_numbers old.now;
+          new_table = record { routes = new.now; numbers = self.now.numbers };
         } }
     {
         ComparedTables::new(old, new, self.by, self.numbers.as_slice())

@@ -19,8 +19,8 @@ use std::io::Write;
 use std::mem;
 use std::thread::Threads;
 
-/// Executes the old texts and the new ones at the same time, each side over its own table: two threads are at work if a
-/// second one can be created, or else one. Then compares the tables on several threads, if `threads` is more than one, and
+/// Executes the old texts and the new ones at the same time, if a thread can be created: both sides share up to `threads`
+/// threads, and each has at least one. Then compares both sides' tables on several threads, if `threads` is more than one, and
 /// writes to `w` each range of addresses for which the two tables give different answers, in ascending order and with the
 /// given options: a line `FIRST-LAST OLD -> NEW`, a line `PREFIX OLD -> NEW` for each prefix of the range, or a JSON object
 /// instead of a line (`write_difference`). Before them it writes the header, which only CSV has (`DiffOptions::header`). Writes
@@ -44,10 +44,10 @@ pub fn diff_texts<R: Threads + Sync, W: Write>(
     ensures new_given_back { IfOk result (λ given. IsGivenBack new_input.old (drop (length old_input.old.texts) given.tallies.items) new_input.new) }
     ensures no_text { (result ≡ Err (AppFault.Run RunFault.NoText)) ↔ ((old_input.old.texts ≡ []) ⊎ (new_input.old.texts ≡ [])) }
 {
-    let (old_table, new_table, tallies) = run_both(rt, alloc, old_input, new_input)?;
+    let (old_tables, new_tables, tallies) = run_both(rt, alloc, threads, old_input, new_input)?;
     let workers = Workers { rt, alloc, threads };
-    let differences = differences_of(&workers, options, &old_table, &new_table)?;
-    mem::forget((old_table, new_table));
+    let differences = differences_of(&workers, options, &old_tables, &new_tables)?;
+    mem::forget((old_tables, new_tables));
     let list = differences.as_slice();
     let room = OutputRoom::new(alloc)?;
     let status = status_with(tallies.as_slice(), list);
@@ -73,10 +73,10 @@ pub fn count_diff_texts<R: Threads + Sync, W: Write>(
     ensures new_given_back { IfOk result (λ given. IsGivenBack new_input.old (drop (length old_input.old.texts) given.tallies.items) new_input.new) }
     ensures no_text { (result ≡ Err (AppFault.Run RunFault.NoText)) ↔ ((old_input.old.texts ≡ []) ⊎ (new_input.old.texts ≡ [])) }
 {
-    let (old_table, new_table, tallies) = run_both(rt, alloc, old_input, new_input)?;
+    let (old_tables, new_tables, tallies) = run_both(rt, alloc, threads, old_input, new_input)?;
     let workers = Workers { rt, alloc, threads };
-    let differences = differences_of(&workers, options, &old_table, &new_table)?;
-    mem::forget((old_table, new_table));
+    let differences = differences_of(&workers, options, &old_tables, &new_tables)?;
+    mem::forget((old_tables, new_tables));
     let list = differences.as_slice();
     let counts = count_changes(alloc, list)?;
     let room = OutputRoom::new(alloc)?;

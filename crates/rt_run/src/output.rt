@@ -21,7 +21,8 @@ use rt_print::{
     ChangeCount, DiffOptions, OutputBuffer, OutputRoom, Style, write_change_counts,
     write_difference, write_invalid_line, write_table,
 };
-use rt_rib::{Route, Table};
+use rt_rib::Route;
+use rt_tables::TableUnion;
 use std::alloc::{AllocError, Global};
 use std::io::{self, Write};
 use std::thread::Threads;
@@ -227,10 +228,10 @@ fn write_headed_ranges<R: Threads + Sync, W: Write>(
 pub(crate) fn differences_of<R: Threads + Sync>(
     workers: &Workers<'_, R>,
     options: &DiffOptions,
-    old: &Table<Global>,
-    new: &Table<Global>,
+    old: &TableUnion<Global>,
+    new: &TableUnion<Global>,
 ) -> Result<Vec<Difference>, AllocError>
-    ensures { IfOk result (λ list. list.items ≡ list_of options.now old.now.routes new.now.routes) }
+    ensures { IfOk result (λ list. list.items ≡ list_of options.now old.now new.now) }
 {
     let tables = options.compared_tables(old, new);
     tables.differences(workers.rt, workers.alloc, workers.threads)

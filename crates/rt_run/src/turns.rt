@@ -1,6 +1,6 @@
 //! Runs for callers that print neither journal nor reports: all texts, or some of them, are executed one after another, on
 //! the caller's thread. Only the table and a tally of each text are stored.
-ghost use Rattle.std.specs.Prelude.{◌≡◌, ◌≢◌, ◌↔◌, [], IfOk};
+ghost use Rattle.std.specs.Prelude.{◌≡◌, IfOk};
 ghost use Rattle.rt_rib.specs.Book.{IsFeed, table_state};
 ghost use Rattle.rt_run.specs.TableText.{IsGivenBack};
 ghost use Rattle.rt_run.specs.inside.Runs.{ExecutesText, ExecutesLine, LeavesInAnyBatches};
@@ -8,33 +8,14 @@ ghost use Rattle.rt_run.specs.inside.Runs.{ExecutesText, ExecutesLine, LeavesInA
 use crate::ahead::{CommandOrder, read_ahead};
 use crate::input::RunInput;
 use crate::tallies::RejectedInput;
-use rt_feed::{Answer, FaultyLines, RunFault, Version, next_line, parse_line, text_body};
+use rt_feed::{Answer, FaultyLines, Version, next_line, parse_line, text_body};
 use rt_rib::{Refused, Table};
 use std::alloc::{AllocError, Global};
 
-/// Executes the texts one after another over one table, the k-th for feed k. This is one of the runs that threads could have
-/// made. Returns the table that all texts leave, and the tally of each. Gives back the memory of each text once it is executed,
-/// unless it has a faulty line. Callers leak the table: freeing it node by node would take a tenth of a run, and the system takes
-/// its pages back at once. Errors: F1 if there is no text; F3 if memory ran out outside of a command.
-pub(crate) fn run_in_turn(
-    alloc: Global,
-    input: &mut RunInput,
-) -> Result<(Table<Global>, Vec<RejectedInput>), RunFault>
-    ensures ran { IfOk result (λ run. LeavesInAnyBatches input.old run.0.routes run.1.items) }
-    ensures given_back { IfOk result (λ run. IsGivenBack input.old run.1.items input.new) }
-    ensures refused { result ≢ Err RunFault.FeedCount }
-    ensures no_text { (result ≡ Err RunFault.NoText) ↔ (input.old.texts ≡ []) }
-{
-    if input.count() == 0 {
-        return Err(RunFault::NoText);
-    }
-    let Ok(run) = execute_texts(alloc, input) else {
-        return Err(RunFault::Memory);
-    };
-    Ok(run)
-}
-
-/// Executes the texts as [`run_in_turn`] does; there may be none. Its error: memory ran out outside of a command.
+/// Executes the texts one after another over one table, the k-th for feed k; there may be none. This is one of the runs that
+/// threads could have made. Returns the table that all texts leave, and the tally of each. Gives back the memory of each text
+/// once it is executed, unless it has a faulty line. Callers leak the table: freeing it node by node would take a tenth of a run,
+/// and the system takes its pages back at once. Its error: memory ran out outside of a command.
 pub(crate) fn execute_texts(
     alloc: Global,
     input: &mut RunInput,

@@ -1,4 +1,4 @@
-//! The number of threads on which files are read, a query executes its feed files, and two tables are compared.
+//! The number of threads on which files are read, a query or a comparison executes its feed files, and tables are compared.
 
 use std::thread::{self, Threads};
 
@@ -14,8 +14,8 @@ const BYTES_PER_THREAD: usize = 1 << 18;
 /// long as the file of addresses, for each thread.
 const BYTES_PER_ADDRESS_BYTE: usize = 4;
 
-/// The bytes of the feed files of both sides for which a further thread pays when their tables are compared: with fewer, it
-/// takes longer to create the threads than to compare.
+/// The bytes of the feed files of both sides for which a further thread pays in a comparison: with fewer, it takes longer to
+/// create the threads than to compare.
 const BYTES_PER_COMPARING_THREAD: usize = 1 << 20;
 
 /// Returns the number of threads on which this number of files, with this number of bytes in all, are read, at least one: at
@@ -40,8 +40,8 @@ pub(super) fn threads_for<R: Threads>(rt: &R, texts: &[Vec<u8>], address_bytes: 
     processors_for(rt, count.min(bytes / bytes_per_thread))
 }
 
-/// Returns the number of threads on which the tables of these old and new texts are compared, at least one: at most one for
-/// each processor, and no further thread that doesn't pay.
+/// Returns the number of threads which share these old and new texts, and on which their tables are compared, at least one: at
+/// most one for each processor, and no further thread that doesn't pay.
 pub(super) fn threads_to_compare<R: Threads>(rt: &R, old: &[Vec<u8>], new: &[Vec<u8>]) -> usize {
     let bytes = bytes_of(old).saturating_add(bytes_of(new));
     processors_for(rt, bytes / BYTES_PER_COMPARING_THREAD)

@@ -75,14 +75,14 @@ pub record IsBelow (number : ℕ) (tally : RejectedInput) : Type 0 where
 abbrev pub LeavesInAnyBatches : InputContents → List Route → List RejectedInput → Type 0
 LeavesInAnyBatches input table tallies = (batch : ℕ) → 1 ≤ batch → LeavesTable (in_batches batch input) table tallies
 
--- the table that texts left and the tally of each, or the reason why there is none
+-- the table that the texts of a side left and the tally of each, or the reason why there is none
 abbrev pub SideRun : Type 0
-SideRun = Result (TableContents × Vec RejectedInput Global) RunFault
+SideRun = Result (List Route × Vec RejectedInput Global) RunFault
 
--- the texts were executed one after another: some run of them left this table with these tallies, and their memory was given
--- back; or there is no text, or memory ran out
-pub record EndsInTurn (old : InputContents) (run : SideRun) (new : InputContents) : Type 0 where
-  pub ran : IfOk run (λ left. LeavesInAnyBatches old left.0.routes left.1.items)
+-- the texts of a side were executed: some run of them left this table with these tallies, and their memory was given back; or
+-- there is no text, or memory ran out
+pub record EndsSide (old : InputContents) (run : SideRun) (new : InputContents) : Type 0 where
+  pub ran : IfOk run (λ left. LeavesInAnyBatches old left.0 left.1.items)
   pub given_back : IfOk run (λ left. IsGivenBack old left.1.items new)
   pub refused : run ≢ Err FeedCount
   pub no_text : (run ≡ Err NoText) ↔ (old.texts ≡ [])

@@ -6,9 +6,9 @@ use Rattle.rt_diff.proofs.listing.list_in_turn.Goals as goal
 
 pub loop-next-init : goal.loop-next-init
 loop-next-init c = record {
-  same = c.first_difference_up_to-next.ensures.kept ∙ c.comparison-comparison.ensures;
+  same = c.first_difference_up_to-next.ensures.kept ∙ c.in_ok-comparison.ensures;
   far = rw c.new-list.ensures.items (listing_begun c.args.tables.now c.args.first.0 c.args.last c.args.first c.first_difference_up_to-next.result refl (omega (arith, c.requires.some))
-      (subst (λ t. IsFirstUpTo t.by t.old_table t.new_table c.args.first c.args.last c.first_difference_up_to-next.result) c.comparison-comparison.ensures c.first_difference_up_to-next.ensures.first));
+      (subst (λ t. IsFirstUpTo t.by t.old_table t.new_table c.args.first c.args.last c.first_difference_up_to-next.result) c.in_ok-comparison.ensures c.first_difference_up_to-next.ensures.first));
 }
 
 -- the next range after one that was listed

@@ -36,7 +36,7 @@ returns-clause-text g c old_batch new_batch old_some new_some =
     let old_asked = in_batches old_batch c.args.old_input.now in
     let new_asked = in_batches new_batch c.args.new_input.now in
     let list : c.as_slice-list.result.now ≡ c.in_ok-differences.differences.items = c.as_slice-list.ensures.value in
-    let both = c.in_ok-old_table.ensures.ran old_batch new_batch old_some new_some in
+    let both = c.in_ok-old_tables.ensures.ran old_batch new_batch old_some new_some in
     let is = is_count c.args.options.now old_asked new_asked _ _ _ _ _ c.as_slice-list.result.now _ both.old_left both.new_left both.tallied (list ∙ c.in_ok-differences.ensures)
     (subst (AreChangeCounts c.as_slice-list.result.now) (sym c.as_slice-numbers.ensures.value) c.in_ok-counts.ensures)
     (rw (c.as_slice.ensures.value) at c.status_with-status.ensures) in
@@ -45,12 +45,12 @@ returns-clause-text g c old_batch new_batch old_some new_some =
 
 pub returns-clause-old_given_back : goal.returns-clause-old_given_back
 returns-clause-old_given_back g c =
-    if_written (λ (given : RunSummary). IsGivenBack c.args.old_input.now given.tallies.items c.run_both.new.old_input) (change_counts_as c.args.options.now c.as_slice-numbers.result.now) _ _ _ c.write_through.result c.in_ok-old_table.ensures.old_given_back
+    if_written (λ (given : RunSummary). IsGivenBack c.args.old_input.now given.tallies.items c.run_both.new.old_input) (change_counts_as c.args.options.now c.as_slice-numbers.result.now) _ _ _ c.write_through.result c.in_ok-old_tables.ensures.old_given_back
     (c.write_through.ensures.text (change_counts_as c.args.options.now c.as_slice-numbers.result.now)
     (has_byte _ (changes-some c.args.options.now c.as_slice-numbers.result.now)) (λ old written new called. search rules))
 
 pub returns-clause-new_given_back : goal.returns-clause-new_given_back
 returns-clause-new_given_back g c =
-    if_written (λ (given : RunSummary). IsGivenBack c.args.new_input.now (drop (length c.args.old_input.now.texts) given.tallies.items) c.run_both.new.new_input) (change_counts_as c.args.options.now c.as_slice-numbers.result.now) _ _ _ c.write_through.result c.in_ok-old_table.ensures.new_given_back
+    if_written (λ (given : RunSummary). IsGivenBack c.args.new_input.now (drop (length c.args.old_input.now.texts) given.tallies.items) c.run_both.new.new_input) (change_counts_as c.args.options.now c.as_slice-numbers.result.now) _ _ _ c.write_through.result c.in_ok-old_tables.ensures.new_given_back
     (c.write_through.ensures.text (change_counts_as c.args.options.now c.as_slice-numbers.result.now)
     (has_byte _ (changes-some c.args.options.now c.as_slice-numbers.result.now)) (λ old written new called. search rules))
