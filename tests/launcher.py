@@ -69,7 +69,7 @@ cp "$STARTED" "$2"
 # The settings that the launcher makes for glibc's memory.
 TUNABLES = "glibc.malloc.arena_max=1:glibc.malloc.hugetlb=1"
 TUNABLES_OF = {word: f"glibc.malloc.arena_max={arenas}:glibc.malloc.hugetlb=1"
-               for word, arenas in (("diff", 2), ("lookup", 64), ("table", 64))}
+               for word, arenas in (("diff", 64), ("lookup", 64), ("table", 64))}
 
 
 class Copy:
