@@ -1,6 +1,7 @@
 """The pages of statements: public clauses, and below them the definitions that they rest on (tools/statement). Their
 sentences are in statement_pages.toml. A chapter has one fence of clauses and one of definitions. A line in a fence names the
-file of what is below it; there are no numbers of lines, since a page changes only if what it says does."""
+files of what is below it; there are no numbers of lines, since a page changes only if what it says does."""
+import itertools
 import pathlib
 import re
 import sys
@@ -10,7 +11,9 @@ import tomllib
 from . import prover
 from .crates import CRATES, TOP, all_crates
 from .definition_reader import Definition, imports, parse_module, rests_on, rust_named, type_of, unique, words_of
+from .implied_clauses import implied
 from .rust_sources import source, sources
+from .statement_forms import contract_lines, count, shown_parts, with_comment
 
 
 class Chapter:
@@ -71,9 +74,10 @@ class Tie:
 
 
 class Clause:
-    """The contract of a public function: its comment, what is said of it, and what that rests on."""
+    """The contract of a public function: its comment, its clauses, and what they rest on. A page leaves out what
+    common/implied_clauses.py computes."""
 
-    def __init__(self, said):
+    def __init__(self, said, is_whole=True):
         path, _, label = said.partition(".")
         parts = path.split("::")
         if len(parts) < 3 or parts[0] not in all_crates():
@@ -88,7 +92,9 @@ class Clause:
             self.clauses = [one for one in self.clauses if re.match(rf"\s*(requires\b|ensures\*? {label}\b)", one[0])]
             if not any("ensures" in clause[0] for clause in self.clauses):
                 sys.exit(f"tools/statement: {said}: no such label")
-        self.lines = self.head + [line for clause in self.clauses for line in clause]
+        self.implied = [] if label or is_whole else implied(self.file, self.head, self.clauses)
+        printed = [one for one in self.clauses if not is_labelled(one, self.implied)]
+        self.lines = contract_lines(self.head, printed) + [f"    // also: {', '.join(self.implied)}"] * bool(self.implied)
 
     def rests_on(self):
         ghosts = imports(source(self.file).text)
@@ -103,6 +109,10 @@ class Clause:
         for word in rust:
             found += rust_named(self.file, word)
         return unique(found)
+
+
+def is_labelled(clause, labels):
+    return any(re.match(rf"\s*ensures\*? {label}\b", clause[0]) for label in labels)
 
 
 def parts_of_contract(function):
@@ -121,8 +131,7 @@ def parts_of_contract(function):
 
 def contract_of(function):
     """The lines of a function's head and of its clauses."""
-    head, clauses = parts_of_contract(function)
-    return head + [line for clause in clauses for line in clause]
+    return contract_lines(*parts_of_contract(function))
 
 
 def public_function(crate, owner, name):
@@ -156,17 +165,23 @@ def in_order(speakers, known, brief=()):
 
 
 def by_file(order, brief):
-    """The definitions, each below all that speak of it, those of a file together as far as that
-    allows."""
+    """The definitions, each below all that speak of it, those of a crate together as far as that allows, and in it those
+    of a file."""
     uses = {one.key: () if one.key in brief else {used.key for used in speaks_of(one) if isinstance(used, Definition)}
             for one in order}
     found, waiting = [], list(order)
     while waiting:
         ready = [one for one in waiting if not any(one.key in uses[other.key] for other in waiting if other is not one)]
         ready = ready or waiting[:1]
-        found.append(next((one for one in ready if found and one.file == found[-1].file), ready[0]))
+        near = [one for one in ready if found and place_of(one) == place_of(found[-1])]
+        found.append(next((one for one in near if one.file == found[-1].file), (near or ready)[0]))
         waiting.remove(found[-1])
     return found
+
+
+def place_of(one):
+    """Returns the crate of a definition, or that of the toolchain."""
+    return name_of_file(one.file).parts[0]
 
 
 def speaks_of(one):
@@ -176,13 +191,13 @@ def speaks_of(one):
 def shown(definition, brief=()):
     """The lines of a definition in a fence: its comment, the parameters around it, and itself."""
     is_spec = definition.file.suffix == ".antt"
-    mark, lines, comment = "--" if is_spec else "///", definition.lines, list(definition.comment)
+    mark, (comment, lines) = "--" if is_spec else "///", shown_parts(definition)
     if definition.key in brief:
-        lines = [re.sub(r" (where|\{)$", "", lines[0])]
+        lines = [re.sub(r" (where|\{)$", "", definition.lines[0])]
         comment += wrapped(f"Only its first line: {brief[definition.key]}", width=116)
     if definition.context and is_spec:
         comment.append(f"for every {' '.join(definition.context)}")
-    return [*commented(mark, comment), *lines]
+    return with_comment(commented(mark, comment), lines)
 
 
 # A link of a comment to another part of the sources, which leads nowhere on a page.
@@ -199,15 +214,34 @@ def shown_clause(clause):
     return [*commented("///", said + clause.comment), *clause.lines]
 
 
-def headings(mark, ones, lines_of):
-    """Yields the lines of each of these, with a line above the first of each file, or of each type's functions in a file."""
-    last = None
-    for one in ones:
-        place = str(name_of_file(one.file)) + (f", {one.type}" if getattr(one, "type", None) else "")
-        if place != last:
-            yield from [*[""] * bool(last), f"{mark}{mark} {place}"]
-        last = place
-        yield from lines_of(one)
+def below_files(mark, ones, lines_of):
+    """Returns the lines of each of these, with a line above the first of each file, or of each type's functions in a file."""
+    return below_heads(mark, ones, lines_of, lambda one: (one.file, getattr(one, "type", None)),
+                       lambda group: str(name_of_file(group[0].file)) + (f", {group[0].type}" if group[0].type else ""))
+
+
+def below_crates(mark, ones, lines_of):
+    """Returns the lines of each of these, with a line above the first of each crate that names the files, in order."""
+    return below_heads(mark, ones, lines_of, place_of, files_of)
+
+
+def below_heads(mark, ones, lines_of, key, head):
+    lines = []
+    for _, group in itertools.groupby(ones, key):
+        group = list(group)
+        lines += [*[""] * bool(lines), *wrapped(f"{mark}{mark} {head(group)}", f"{mark}{mark}   "),
+                  *(line for one in group for line in lines_of(one))]
+    return lines
+
+
+def files_of(group):
+    """Returns the files of definitions of a crate, as the line above them names these."""
+    files = unique_files(name_of_file(one.file) for one in group)
+    return f"{files[0].parts[0]}: " + ", ".join("/".join(file.parts[1:]) for file in files)
+
+
+def unique_files(files):
+    return list(dict.fromkeys(files))
 
 
 def name_of_file(file):
@@ -237,26 +271,26 @@ class Written:
         self.definitions = self.lines = 0
 
     def turn_to(self, page):
-        self.page, self.library, self.definitions, self.lines = page, {}, 0, 0
+        self.page, self.library, self.definitions, self.lines, self.has_implied = page, {}, 0, 0, False
 
     def has(self, definition, brief):
         self.home[definition.key] = None if definition.key in brief else self.page
-        self.counts(1, 1 if definition.key in brief else definition.count())
+        self.counts(1, 1 if definition.key in brief else count(definition))
 
     def counts(self, definitions, lines):
         self.definitions += definitions
         self.lines += lines
 
 
-def from_above(old, spoken_of, written):
-    """Yields the lines that name definitions further up that are used here, with the name of another page."""
+def from_others(old, spoken_of, written):
+    """Yields the lines that name definitions of other pages that are used here, with the name of the page."""
     pages = {}
     for one in old:
         if one.key in spoken_of:
             pages.setdefault(written.home[one.key] or written.page, []).append(one)
     for page, definitions in pages.items():
-        place = "above" if page is written.page else f"[{page.title}]({page.name})"
-        yield from [*wrapped(f"From {place}: {named(definitions)}, and what they rest on."), ""]
+        if page is not written.page:
+            yield from [*wrapped(f"From [{page.title}]({page.name}): {named(definitions)}, and what they rest on."), ""]
 
 
 def definitions_of(speakers, written, brief):
@@ -267,8 +301,8 @@ def definitions_of(speakers, written, brief):
     if bare:
         sys.exit("tools/statement: no comment says what this is: " + ", ".join(bare))
     spoken_of = {one.key for speaker in speakers + new for one in speaks_of(speaker) if isinstance(one, Definition)}
-    out = list(from_above(old, spoken_of, written))
-    out += fenced("agda", [*headings("--", new, lambda definition: shown(definition, brief))])
+    out = list(from_others(old, spoken_of, written))
+    out += fenced("agda", below_crates("--", new, lambda definition: shown(definition, brief)))
     for definition in new:
         written.has(definition, brief)
     for module, names in words.items():
@@ -278,9 +312,10 @@ def definitions_of(speakers, written, brief):
 
 def chapter(one, written):
     """A chapter: its sentence and its premises, its clauses, and what they rest on."""
-    speakers = [*map(Clause, one.clauses), *(Tie(**tie) for tie in one.ties)]
+    speakers = [*(Clause(said, is_whole=False) for said in one.clauses), *(Tie(**tie) for tie in one.ties)]
+    written.has_implied |= any(isinstance(one, Clause) and one.implied for one in speakers)
     out = [f"## {one.title}", "", *wrapped(one.said), "", *wrapped(f"*Premises:* {one.premises}"), ""]
-    out += fenced("rust", [*headings("//", speakers, shown_clause)])
+    out += fenced("rust", below_files("//", speakers, shown_clause))
     for said in one.kit:
         out += of_kit(written=written, **said)
     return out + definitions_of(speakers, written, BRIEF)
@@ -291,7 +326,7 @@ def lines_in_all(one):
     speakers = [*map(Clause, one.clauses), *(Tie(**tie) for tie in one.ties)]
     rest, _, _ = in_order(speakers, (), BRIEF)
     of_toolchain = [part for said in one.kit for parts in kit_parts(**said) for part in parts]
-    return sum(1 if part.key in BRIEF else part.count() for part in rest) + sum(part.count() for part in of_toolchain)
+    return sum(1 if part.key in BRIEF else count(part) for part in rest) + sum(map(count, of_toolchain))
 
 
 def kit_parts(types, definitions, **_):
@@ -304,16 +339,16 @@ def of_kit(said, types, functions, definitions, written):
     """What the toolchain says of a chapter: its types and the contracts of its functions, and the definitions in these.
     Each table has files, with the names to show from each."""
     kinds, terms = kit_parts(types, definitions)
-    written.counts(len(kinds + terms), sum(one.count() for one in kinds + terms))
+    written.counts(len(kinds + terms), sum(map(count, kinds + terms)))
     calls = [call for file, names in functions.items() for call in kit_functions(file, names)]
-    code = [*headings("//", kinds, shown_of_kit), "", *headings("//", calls, shown_function)]
-    return [*wrapped(said), "", *fenced("rust", code), *fenced("agda", [*headings("--", terms, shown_of_kit)])]
+    code = [*below_crates("//", kinds, shown_of_kit), "", *below_crates("//", calls, shown_function)]
+    return [*wrapped(said), "", *fenced("rust", code), *fenced("agda", below_crates("--", terms, shown_of_kit))]
 
 
 def shown_of_kit(definition):
     """The lines of a definition of the toolchain, below its comment."""
-    mark = "--" if definition.file.suffix == ".antt" else "///"
-    return [*(f"{mark} {line}" for line in wrapped(" ".join(definition.comment), width=116)), *definition.lines]
+    mark, (comment, lines) = "--" if definition.file.suffix == ".antt" else "///", shown_parts(definition)
+    return [*(f"{mark} {line}" for line in wrapped(" ".join(comment), width=116)), *lines]
 
 
 def shown_function(function):
@@ -347,7 +382,7 @@ def signs_page():
     """The page that explains the signs and the kit's words of the other pages, with a list of these."""
     return page_text([
         f"# {SIGNS['title']}", "", *wrapped(SIGNS["said"]), "", *(f"- [{page.title}]({page.name})" for page in PAGES), "",
-        "## Signs", "", "| Sign | How to read it |", "|---|---|", *rows(LEGEND), "",
+        "## Form", "", *wrapped(SIGNS["form"]), "", "## Signs", "", "| Sign | How to read it |", "|---|---|", *rows(LEGEND), "",
         "## Words of the kit's library", "", "| Word | What it says |", "|---|---|",
         *rows({f"`{word}`": said for word, said in {**KIT, **KIT_TYPES}.items()})])
 
@@ -358,14 +393,11 @@ def rows(table):
 
 def head_of(page, table, written):
     return [f"# {page.title}", "", *wrapped(page.said), "", *wrapped(
-        "Each clause is proved. To judge what it says, read it and the definitions below it: "
-        f"{written.lines} lines on this page in {written.definitions} definitions and types, without comments, the clauses themselves "
-        "and what ties these to the sources (impls, and contracts of the toolchain). "
-        f"[{SIGNS['title']}]({SIGNS['file']}) explains the signs and the words of the kit. A definition is printed once, below "
-        "all that use it; a line with its file's name is above it, or above others of that file. Proofs and the bodies of "
-        "functions need not be read. `tools/statement --write` generates this page from the sources."), "",
-        "*Lines in all* counts what the chapter's clauses rest on, wherever it is printed.", "",
-        "| Chapter | New definitions | Their lines | Lines in all |", "|---|---|---|---|", *table, ""]
+        f"To judge the clauses, read them and the definitions below them, on this page {written.lines} lines in "
+        f"{written.definitions} definitions and types. [{SIGNS['title']}]({SIGNS['file']}) explains the form of the page, the "
+        "signs and the words of the kit."), "",
+        "| Chapter | New definitions | Their lines | Lines in all |", "|---|---|---|---|", *table, "",
+        *[*wrapped(WORDS["implied"]["said"]), ""] * written.has_implied]
 
 
 def anchor(title):
@@ -439,7 +471,7 @@ def write():
 def print_clauses(said):
     """Any clauses and what they rest on, on standard output."""
     speakers, written = [Clause(one) for one in said], Written(PAGES[0])
-    out = fenced("rust", [*headings("//", speakers, shown_clause)]) + definitions_of(speakers, written, BRIEF)
+    out = fenced("rust", below_files("//", speakers, shown_clause)) + definitions_of(speakers, written, BRIEF)
     library = [f"- `{module}`: " + ", ".join(f"`{name}`" for name in sorted(name for name in names if name))
                for module, names in sorted(written.library.items())]
     counts = f"{written.definitions} definitions, {written.lines} lines"

@@ -2,7 +2,7 @@
 """Changes laws and pages in a copy of the repository, and checks that `tools/statement --check` refuses each change that
 means something, and no other.
 
-tests/statements.py [CASE..], or --list for the names of the cases. Needs the toolchain and python3, and about fifteen seconds.
+tests/statements.py [CASE..], or --list for the names of the cases. Needs the toolchain and python3, and about a minute.
 """
 import pathlib
 import re
@@ -10,6 +10,9 @@ import shutil
 import tempfile
 
 from common.checks import TOP, chosen, end, expect, run, run_case
+from common.crates import CRATES, crate_of
+from common.definition_reader import parse_module, uncommented
+from common.statement_forms import definition_lines
 
 # Weaker laws of the routing table, each about nothing or nearly nothing: the old and the new text.
 LAWS = "crates/rt_rib/specs/Laws.antt"
@@ -19,6 +22,25 @@ WEAKER = {
         "IsTable table → look_up addr (best_routes table)", "IsTable table → table ≡ [] → look_up addr (best_routes table)"),
     "the first match is the answer in the empty table": (
         "× (slice_get (look_up_all addr table) 0", "× (table ≡ [] → slice_get (look_up_all addr table) 0"),
+}
+
+
+# Clauses of the C library that say less than the page says of every call, so that it has to print them: old and new.
+VIEWS = "crates/yarib_c/src/views.rt"
+OF_SIZES = "result ≢ DONE → (blocks.new ≡ blocks.old) × (routers.new ≡ routers.old)"
+LESS = {
+    "an argument that may change": (OF_SIZES, "result ≢ DONE → blocks.new ≡ blocks.old"),
+    "arguments of which one may change": (OF_SIZES, OF_SIZES.replace(" × ", " ⊎ ")),
+    "a condition that never holds": (OF_SIZES, OF_SIZES.replace("DONE", "result")),
+    "a handle that changes": ("ensures same { held_in table.new ≡ held_in table.old }", "ensures same { held_in table.old ≡ held_in table.old }"),
+    "a status of an empty handle": ("result ≡ NOTHING → held_in table.old ≡ None", "result ≡ NOTHING → held_in table.new ≡ None"),
+    "the reason of another status": ("result ≡ BAD_SIZE → length numbers.old ≢", "result ≡ DONE → length numbers.old ≢"),
+    "a reason that isn't that of `order`": ("result ≡ WRONG_KIND → HandleHolds table.old (λ held. ¬ HasFib held)",
+                                            "result ≡ WRONG_KIND → HandleHolds table.old (λ held. HasFib held)"),
+    "one more status": ("ensures known { IsOneOf (DONE ∷ NOTHING ∷ WRONG_KIND ∷ []) result }",
+                        "ensures known { IsOneOf (DONE ∷ NOTHING ∷ WRONG_KIND ∷ BAD_SIZE ∷ []) result }"),
+    "an order that doesn't give the status": ("(λ held. Check (¬ HasFib held) WRONG_KIND (IsOneOf (DONE ∷ [])))",
+                                              "(λ held. IsOneOf (DONE ∷ WRONG_KIND ∷ []))"),
 }
 
 
@@ -92,6 +114,53 @@ def another_number_of_lines(copy):
         copy.change("README.md", f"[9{lines}", f"[{lines}")
 
 
+# Catches a clause of the C library that is left out as if it said what every call's clause says.
+def a_clause_that_says_less(copy):
+    for what, (old, new) in LESS.items():
+        kept = (copy.top / VIEWS).read_text()
+        copy.change(VIEWS, old, new)
+        copy.expect_check(what, 1, "docs/STATEMENT-LIBRARIES.md is not what tools/statement --write would write")
+        (copy.top / VIEWS).write_text(kept)
+
+
+# Catches a clause that is gone, and one whose status has the number of another one.
+def a_clause_that_is_gone(copy):
+    kept = (copy.top / VIEWS).read_text()
+    copy.change(VIEWS, f"    ensures silent {{ {OF_SIZES} }}\n", "")
+    copy.expect_check("a clause that is gone", 1, "docs/STATEMENT-LIBRARIES.md is not what tools/statement --write would write")
+    (copy.top / VIEWS).write_text(kept)
+    copy.change("crates/yarib_c/src/status.rt", "pub const NOTHING: u32 = 1;", "pub const NOTHING: u32 = 0;")
+    copy.expect_check("two statuses with one number", 1, "two statuses of yarib_c have the same number")
+
+
+def words(lines):
+    """Returns the words and signs of a definition, without those that pages leave out."""
+    text = re.sub(r"\b(pub|abbrev|unfoldable) |(: Type 0 )?\bwhere\b", "", uncommented("\n".join(lines)))
+    return re.findall(r"[\w'?]+|[^\s\w;]", text)
+
+
+def lost_words(definition, lines):
+    """Returns the words of a definition in specs/ that lines on a page lack, or None if they have other ones in an equation."""
+    source, shown = words(definition.lines), words(lines)
+    if source == shown:
+        return set()
+    case = source.index(definition.name, 1) if definition.name in source[1:] else 0
+    body = source[source.index("=", case) + 1:] if "=" in source else None
+    return set(source) - set(shown) - {*": → Type 0".split()} if body and shown[-len(body):] == body else None
+
+
+# Catches a form that leaves out a word of a definition or changes their order.
+def every_word_of_a_definition(copy):
+    found = [one for file in sorted(CRATES.glob("*/specs/**/*.antt"))
+             for one in parse_module(f"Rattle.{crate_of(file)}.specs.{file.stem}", file).values()]
+    expect("more than a thousand definitions", len(found) > 1000, True)
+    for one in found:
+        lines = definition_lines(one.lines)
+        expect(f"words that {one.key} lacks on a page", lost_words(one, lines), set())
+        if len(lines) > 1:
+            expect(f"{one.key} without a line has all words", lost_words(one, lines[:-1]) == set(), False)
+
+
 # Catches a page that is refused because of a definition's place, not of its text.
 def a_definition_that_moved(copy):
     text = (copy.top / LAWS).read_text()
@@ -101,7 +170,8 @@ def a_definition_that_moved(copy):
 
 CASES = (
     the_pages_as_they_are, a_weaker_law, a_law_on_no_page, a_definition_on_no_page, a_table_of_another_type,
-    a_tie_that_is_gone, another_number_of_lines, a_definition_that_moved)
+    a_tie_that_is_gone, another_number_of_lines, a_clause_that_says_less, a_clause_that_is_gone, every_word_of_a_definition,
+    a_definition_that_moved)
 
 
 def main():

@@ -1,0 +1,234 @@
+"""The form in which the statement pages print definitions, types and contracts: the words of the sources on fewer lines.
+
+- The words that only say how far a proof sees through a definition are left out, and so is `: Type 0` after a statement's
+  arguments: a definition without a type is a statement.
+- A definition with one case is printed as one equation, whose arguments have their types.
+- What is broken in the sources, but fits into a line, is joined. Short cases, fields and clauses share a line.
+- A comment of one line is printed after a field, a case of an `enum` or a definition, if both fit into a line."""
+import re
+
+WIDTH = 120
+# Between two cases, fields or clauses on one line.
+GAP = ";  "
+KEYWORDS = re.compile(r"^(\s*)(?:(?:pub|abbrev|unfoldable) )+")
+VARIABLE = re.compile(r"[^\W\d][\w']*")
+OPEN, CLOSED = "([{⟦", ")]}⟧"
+# Where a term is broken rather than elsewhere: in front of these, between as few brackets as possible.
+OPERATORS = ("→", "↔", "⊎", "×", "then", "else", "in", "++", "≡")
+
+
+def joined(lines):
+    """Returns the text of lines, on one line."""
+    return re.sub(r"(?<=\() | (?=\))|;(?= \})", "", " ".join(line.strip() for line in lines))
+
+
+def broken(text, margin="", indent="    "):
+    """Returns the lines of a term, the first below `margin` and the others below `indent`."""
+    lines = []
+    while len(margin + text) > WIDTH:
+        places = [(rank, -at) for at, rank in breaks(text) if len(margin) + at <= WIDTH and at > (WIDTH - len(margin)) // 3]
+        if not places:
+            break
+        at = -min(places)[1]
+        lines.append(margin + text[:at])
+        text, margin = text[at + 1:], indent
+    return [*lines, margin + text]
+
+
+def breaks(text):
+    """Yields each space of a term, with the number of brackets around it and the rank of what follows it."""
+    depth = 0
+    for at, sign in enumerate(text):
+        depth += (sign in OPEN) - (sign in CLOSED)
+        if sign == " ":
+            word = text[at + 1:].partition(" ")[0]
+            rank = OPERATORS.index(word) if word in OPERATORS else len(OPERATORS)
+            yield at, (depth, 0 if text[at - 1] == ";" else rank)
+
+
+def packed(parts, gap=GAP):
+    """Returns the lines of these parts, each of which has its lines: parts of one line share a line as far as they fit."""
+    out, is_open = [], False
+    for part in parts:
+        line = part[0].strip()
+        if is_open and len(part) == 1 and len(out[-1] + gap + line) <= WIDTH:
+            out[-1] += gap + line
+        else:
+            out += part
+        is_open = len(part) == 1
+    return out
+
+
+def split_at(text, sign):
+    """Returns the parts of a term between the signs that no bracket encloses."""
+    parts, depth, start = [], 0, 0
+    for at, one in enumerate(text):
+        depth += (one in OPEN) - (one in CLOSED)
+        if not depth and text.startswith(sign, at):
+            parts.append(text[start:at])
+            start = at + len(sign)
+    return [*parts, text[start:]]
+
+
+def blocks_of(lines, margin):
+    """Returns what begins at this margin, each with its further lines and its closing bracket."""
+    found = []
+    for line in lines:
+        if found and (len(line) - len(line.lstrip()) > margin or line.strip()[0] in CLOSED):
+            found[-1].append(line)
+        else:
+            found.append([line])
+    return found
+
+
+# -- definitions
+
+def definition_lines(lines):
+    """Returns the lines of a definition of specs/."""
+    lines = [KEYWORDS.sub(r"\1", line) for line in lines]
+    if re.match(r"(record|data) ", lines[0]):
+        return record_lines(lines)
+    if any(re.search(r"(^|\s)(--|let) ", line) for line in lines):
+        return lines
+    signature, *cases = [joined(block) for block in blocks_of(lines, 0)]
+    plain = [*broken(signature), *case_lines([shortest(*case.split(" = ", 1)) for case in cases])]
+    merged = one_equation(signature, cases[0]) if len(cases) == 1 else None
+    return merged if merged and len(merged) <= len(plain) else plain
+
+
+def one_equation(signature, case):
+    """Returns the lines of a definition whose only case is given, with the types of its arguments; None if they can't be
+    given there."""
+    name, _, kind = signature.partition(" : ")
+    head, _, body = case.partition(" = ")
+    arguments = with_types(split_at(kind, " → "), split_at(head, " ")[1:])
+    if arguments is None:
+        return None
+    typed, rest = arguments
+    return shortest(" ".join([name, *typed]) + ("" if rest == "Type 0" else f" : {rest}"), body)
+
+
+def shortest(head, body):
+    """Returns the lines of an equation: broken after `=`, unless another place makes fewer lines."""
+    whole = broken(f"{head} = {body}")
+    return whole if len(whole) == 1 else min([*broken(f"{head} ="), *broken(body, "    ", "      ")], whole, key=len)
+
+
+def case_lines(cases):
+    """Returns the lines of cases: several on a line if that halves their number, so that others stay below one another."""
+    lines = packed(cases)
+    return lines if 2 * len(lines) <= sum(map(len, cases)) + 1 else [line for case in cases for line in case]
+
+
+def with_types(types, names):
+    """Returns arguments with their types, equal types together, and the type of what they give; None if an argument isn't
+    a variable, or has another name in the type."""
+    found, types, names = [], list(types), list(names)
+    while types and (names or types[0].startswith("{")):
+        kind = types.pop(0)
+        if kind.startswith("{"):
+            found.append((None, kind))
+            if names and names[0] == "{" + kind[1:].partition(" :")[0] + "}":
+                names.pop(0)
+            continue
+        bound = re.fullmatch(r"\(([^():]*) : (.*)\)", kind)
+        for said in bound[1].split() if bound else [None]:
+            if not names or not (VARIABLE.fullmatch(names[0]) or names[0] == "_") or said not in (None, names[0]):
+                return None
+            found.append((names.pop(0), bound[2] if bound else unbracketed(kind)))
+    return (grouped(found), " → ".join(types)) if types and not names else None
+
+
+def unbracketed(kind):
+    return kind[1:-1] if kind.startswith("(") and len(split_at(kind, " ")) == 1 else kind
+
+
+def grouped(arguments):
+    """Returns arguments as a head has them: those with the same type share a bracket."""
+    out, last = [], None
+    for name, kind in arguments:
+        if name and kind == last:
+            out[-1] = out[-1].replace(" : ", f" {name} : ", 1)
+        else:
+            out.append(f"({name} : {kind})" if name else kind)
+        last = kind if name else None
+    return out
+
+
+def record_lines(lines):
+    """Returns the lines of a `record` or a `data`: its head, and its fields or cases between its comments."""
+    end = next((at for at, line in enumerate(lines) if line.rstrip().endswith(" where")), None)
+    if end is None:
+        return lines
+    head = joined(lines[:end + 1]).replace(" : Type 0 where", " where")
+    blocks = blocks_of([KEYWORDS.sub(r"\1", line) for line in lines[end + 1:]], 2)
+    out, waiting, has_comments = broken(head), [], False
+    for block in [*blocks, None]:
+        if block and not block[0].strip().startswith("--"):
+            waiting.append(broken(joined(block), "  ", "      "))
+            continue
+        out += packed(waiting)
+        waiting = []
+        out += block or []
+        has_comments |= bool(block)
+    whole = " ".join(line.strip() for line in out)
+    return [whole] if len(out) == 2 and len(whole) <= WIDTH and not has_comments else out
+
+
+# -- types in src/
+
+def type_lines(comment, lines):
+    """Returns the comment and the lines of a type or a constant in src/."""
+    if not re.match(r"(pub )?(struct|enum) ", lines[0]) or lines[-1] != "}":
+        return comment, lines
+    members, above = [], []
+    for line in lines[1:-1]:
+        text = line.strip()
+        if text.startswith("//"):
+            above.append(text)
+        elif not re.fullmatch(r" {4}\S.*,", line):
+            return comment, lines
+        else:
+            members.append((above, text))
+            above = []
+    return comment, member_lines(lines[0], members)
+
+
+def member_lines(head, members):
+    """Returns the lines of a struct or an enum with these members, each with its comment."""
+    if not any(above for above, _ in members):
+        whole = f"{head} {' '.join(text for _, text in members)}".rstrip(",") + " }"
+        if len(whole) <= WIDTH:
+            return [whole]
+    parts = []
+    for above, text in members:
+        behind = f"    {text} // " + " ".join(line.lstrip("/ ") for line in above)
+        fits = above and len(behind) <= WIDTH
+        parts.append([behind] if fits else [*(f"    {line}" for line in above), f"    {text}"])
+    return [head, *(line for part in parts for line in part), "}"]
+
+
+def shown_parts(definition):
+    """Returns the comment and the lines of a definition or a type as a page prints them."""
+    if definition.file.suffix == ".antt":
+        return list(definition.comment), definition_lines(definition.lines)
+    return type_lines(list(definition.comment), definition.lines)
+
+
+def with_comment(comment, lines):
+    """Returns a definition below its comment, or before it if each is one line and both fit into one."""
+    whole = "  ".join([*lines, *(line.replace("///", "//", 1) for line in comment)])
+    is_short = len(lines) == len(comment) == 1 and len(whole) <= WIDTH and "//" not in lines[0]
+    return [whole] if is_short else [*comment, *lines]
+
+
+def count(definition):
+    """Returns the number of lines of a definition on a page, without those of comments."""
+    return sum(not line.strip().startswith(("--", "//")) for line in shown_parts(definition)[1])
+
+
+# -- contracts
+
+def contract_lines(head, clauses):
+    """Returns the lines of a function's head and clauses: short clauses share a line."""
+    return [*head, *packed([broken(joined(clause), "    ", "        ") for clause in clauses], gap="  ")]
