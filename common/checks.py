@@ -222,6 +222,13 @@ def run_each(cases, *given, files={}):
             os.chdir("/")
 
 
+def run_on_program(about, cases):
+    """Runs the chosen cases of a script on the program, each in an empty directory, and exits."""
+    words = chosen(about, cases)
+    run_each(words.cases, words.program)
+    end()
+
+
 def end():
     """Exits with an error that names the cases if some comparison failed."""
     cases = ", ".join(dict.fromkeys(name for name, _ in failures))

@@ -17,7 +17,7 @@ import signal
 import subprocess
 import time
 
-from common.checks import chosen, close_all, end, expect, launched, run, run_each
+from common.checks import close_all, expect, launched, run, run_on_program
 from common.table_model import MAX_FEEDS, row, run_text
 from refusing import Wrong, answered_addresses, check_shown, refuse_each, refuser, run_refused
 from texts import AGAIN, FORWARDED, ROW, ROW_OUT, many_routes, own_text, written
@@ -376,11 +376,5 @@ CASES = (
 )
 
 
-def main():
-    words = chosen(__doc__, CASES)
-    run_each(words.cases, words.program)
-    end()
-
-
 if __name__ == "__main__":
-    main()
+    run_on_program(__doc__, CASES)

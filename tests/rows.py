@@ -21,7 +21,7 @@ import sys
 import time
 from typing import NamedTuple
 
-from common.checks import chosen, compare, end, expect, is_unproved, run_each
+from common.checks import compare, expect, is_unproved, run_on_program
 from common.table_model import (E1, E3, E8, HAS_CR, MAX_FEEDS, ROUTE_COLUMNS, TOO_MANY_FILES, Table, command_of, csv_of, dotted, json_text,
                                 members, route_text, run_text, table_text)
 from common.worked import REPLAYS, SIX, WORKED, report
@@ -926,11 +926,5 @@ CASES = (
 )
 
 
-def main():
-    words = chosen(__doc__, CASES)
-    run_each(words.cases, words.program)
-    end()
-
-
 if __name__ == "__main__":
-    main()
+    run_on_program(__doc__, CASES)

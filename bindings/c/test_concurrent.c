@@ -2,6 +2,7 @@
  * or hold a reading call where it is: so it is known which calls run at the same time. */
 #define _POSIX_C_SOURCE 200809L
 #include "check.h"
+#include "meeting.h"
 #include "own_heap.h"
 #include "routes.h"
 
@@ -19,21 +20,13 @@ static yarib_concurrent table = YARIB_CONCURRENT_EMPTY;
 /* The same routes as the published table, by a table of its own. */
 static yarib model = YARIB_EMPTY;
 
-/* What this thread does during its next call for memory, and whether that is refused. */
-static __thread void (*inside)(void);
+/* Whether this thread's next call for memory is refused. */
 static __thread bool is_refused;
 static int entered;
 
 /* The block of this size or a larger one that was given last, until it is given back. */
 enum { LARGE = 100000 };
 static void *large;
-
-static void meet(void)
-{
-    void (*call)(void) = inside;
-    inside = NULL;
-    if (call) call();
-}
 
 struct tried rattle_alloc(size_t size, size_t alignment)
 {

@@ -3,6 +3,7 @@
  * which may refuse. So nothing depends on when a thread runs. */
 #define _GNU_SOURCE
 #include "check.h"
+#include "meeting.h"
 #include "own_heap.h"
 #include "routes.h"
 
@@ -26,16 +27,8 @@
 
 enum { LIMIT = 1000, ROUTES = 50 };
 
-/* What this thread does during its next call for memory, and how far its blocks are from the begin of a cache line. */
-static __thread void (*inside)(void);
+/* How far this thread's blocks are from the beginning of a cache line. */
 static __thread size_t offset;
-
-static void meet(void)
-{
-    void (*call)(void) = inside;
-    inside = NULL;
-    if (call) call();
-}
 
 struct tried rattle_alloc(size_t size, size_t alignment)
 {
