@@ -65,7 +65,7 @@ def changed_by(mutant, text):
 
 
 def may_copy(folder, mutant):
-    """Returns whether a mutant can be a function beside the one that it changes: a function of a module or of a type, and not
+    """Returns true if a mutant can be a function next to the one that it changes: a function of a module or of a type, and not
     of a trait, that doesn't call itself, and whose proof is its own."""
     *path, name = mutant.function.split("::")
     text = (folder / mutant.file).read_text()

@@ -1,4 +1,4 @@
-/* In the place of the heap's object: the call of this number finds no memory, and those behind it do. */
+/* Instead of the heap's object: the call of this number finds no memory, and later calls do. */
 #include "own_heap.h"
 #include "refusing_heap.h"
 

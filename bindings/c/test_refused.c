@@ -203,8 +203,8 @@ static int apply_concurrent(yarib_concurrent *table, yarib_command command, uint
     return is_late;
 }
 
-/* A concurrent table from its making on: a change that is refused isn't made. One that is refused in the second side alone is kept, and
- * made there before the next change. */
+/* A concurrent table from its creation on: a change that is refused isn't made. A change that is refused only in the second side is
+ * kept, and made there before the next change. */
 static int refuse_concurrent(long number, int is_attached, int *late)
 {
     yarib_concurrent table = YARIB_CONCURRENT_EMPTY;

@@ -27,7 +27,7 @@ static int is_done(enum yarib_status status)
     return status == YARIB_DONE;
 }
 
-/* Asks in each way. `last` is the highest next hop seen. */
+/* Queries in each way. `last` is the highest next hop seen. */
 static void read_once(int way, uint32_t *last)
 {
     static const uint32_t asked[] = {0x0a010203, 0x0b000001, 0xc0000200};

@@ -2,7 +2,7 @@
 
 package yarib
 
-// This links the library that bindings/build leaves beside this directory.
+// This links the library that bindings/build leaves next to this directory.
 
 // #cgo CFLAGS: -I${SRCDIR}/../c
 // #cgo LDFLAGS: ${SRCDIR}/../out/libyarib.a

@@ -147,7 +147,7 @@ func TestGoroutinesMeetOnOneTable(t *testing.T) {
 	}
 }
 
-// readOneTable asks in each way until the end. No next hop is before one that was seen.
+// readOneTable queries in each way until the end. No next hop is before one that was seen.
 func readOneTable(t *testing.T, table, other *Table, address netip.Addr, ended chan struct{}) {
 	last := addressOf(0)
 	for {
