@@ -13,7 +13,7 @@ from .crates import CRATES, TOP, all_crates
 from .definition_reader import Definition, imports, parse_module, rests_on, rust_named, type_of, unique, words_of
 from .implied_clauses import implied
 from .rust_sources import source, sources
-from .statement_forms import contract_lines, count, shown_parts, with_comment
+from .statement_forms import contract_lines, count, joined, shown_parts, with_comment
 
 
 class Chapter:
@@ -63,7 +63,7 @@ class Tie:
         if missing := set(members) - set(parts):
             sys.exit(f"tools/statement: {head}: no " + ", ".join(sorted(missing)))
         kept = [line for name in members for line in parts[name]]
-        self.type, self.comment, self.lines = None, [], [item.lines[0], *kept, "}"]
+        self.comment, self.lines = [], [item.lines[0], *kept, "}"]
 
     def rests_on(self):
         ghosts, text = imports(source(self.file).text), "\n".join(self.lines[1:-1])
@@ -85,9 +85,9 @@ class Clause:
         function = public_function(parts[0], *parts[-2:])
         if not function:
             sys.exit(f"tools/statement: no public function {said}")
-        self.name, self.owner, self.type = said, parts[-2], function.owner
+        self.name, self.owner = said, parts[-2]
         self.file, self.comment = function.file, function.comment()
-        self.head, self.clauses = parts_of_contract(function)
+        self.head, self.clauses = parts_of_contract(function, function.owner)
         if label:
             self.clauses = [one for one in self.clauses if re.match(rf"\s*(requires\b|ensures\*? {label}\b)", one[0])]
             if not any("ensures" in clause[0] for clause in self.clauses):
@@ -115,17 +115,18 @@ def is_labelled(clause, labels):
     return any(re.match(rf"\s*ensures\*? {label}\b", clause[0]) for label in labels)
 
 
-def parts_of_contract(function):
-    """The lines of a function's head and those of each clause, without its margin. The arguments of a head that is broken
-    before each are filled into lines."""
+def parts_of_contract(function, owner=None):
+    """The lines of a function's head and those of each clause, without its margin. The head has the type of a method, if it
+    is given, and is filled into lines."""
     head, clauses = [], []
     for line in function.written()[:function.clauses_end()]:
         if re.match(r"\s*(requires|ensures)\b", line):
             clauses.append([])
         (clauses[-1] if clauses else head).append(line[function.margin:])
-    if head[0].endswith("(") and not any("//" in line for line in head):
-        whole = head[0] + " ".join(line.strip() for line in head[1:]).replace(", )", ")", 1)
-        head = [line.replace("->_", "-> ") for line in wrapped(whole.replace("-> ", "->_"), "        ")]
+    if not any("//" in line for line in head):
+        whole = joined(head).replace(",)", ")", 1).replace("-> ", "->_")
+        whole = whole.replace(f"fn {function.name}", f"fn {owner}::{function.name}", 1) if owner else whole
+        head = [line.replace("->_", "-> ") for line in wrapped(whole, "        ")]
     return head, clauses
 
 
@@ -214,34 +215,20 @@ def shown_clause(clause):
     return [*commented("///", said + clause.comment), *clause.lines]
 
 
-def below_files(mark, ones, lines_of):
-    """Returns the lines of each of these, with a line above the first of each file, or of each type's functions in a file."""
-    return below_heads(mark, ones, lines_of, lambda one: (one.file, getattr(one, "type", None)),
-                       lambda group: str(name_of_file(group[0].file)) + (f", {group[0].type}" if group[0].type else ""))
-
-
 def below_crates(mark, ones, lines_of):
     """Returns the lines of each of these, with a line above the first of each crate that names the files, in order."""
-    return below_heads(mark, ones, lines_of, place_of, files_of)
-
-
-def below_heads(mark, ones, lines_of, key, head):
     lines = []
-    for _, group in itertools.groupby(ones, key):
+    for _, group in itertools.groupby(ones, place_of):
         group = list(group)
-        lines += [*[""] * bool(lines), *wrapped(f"{mark}{mark} {head(group)}", f"{mark}{mark}   "),
+        lines += [*[""] * bool(lines), *wrapped(f"{mark}{mark} {files_of(group)}", f"{mark}{mark}   "),
                   *(line for one in group for line in lines_of(one))]
     return lines
 
 
 def files_of(group):
     """Returns the files of definitions of a crate, as the line above them names these."""
-    files = unique_files(name_of_file(one.file) for one in group)
-    return f"{files[0].parts[0]}: " + ", ".join("/".join(file.parts[1:]) for file in files)
-
-
-def unique_files(files):
-    return list(dict.fromkeys(files))
+    files = dict.fromkeys(name_of_file(one.file) for one in group)
+    return f"{place_of(group[0])}: " + ", ".join("/".join(file.parts[1:]) for file in files)
 
 
 def name_of_file(file):
@@ -315,7 +302,7 @@ def chapter(one, written):
     speakers = [*(Clause(said, is_whole=False) for said in one.clauses), *(Tie(**tie) for tie in one.ties)]
     written.has_implied |= any(isinstance(one, Clause) and one.implied for one in speakers)
     out = [f"## {one.title}", "", *wrapped(one.said), "", *wrapped(f"*Premises:* {one.premises}"), ""]
-    out += fenced("rust", below_files("//", speakers, shown_clause))
+    out += fenced("rust", below_crates("//", speakers, shown_clause))
     for said in one.kit:
         out += of_kit(written=written, **said)
     return out + definitions_of(speakers, written, BRIEF)
@@ -471,7 +458,7 @@ def write():
 def print_clauses(said):
     """Any clauses and what they rest on, on standard output."""
     speakers, written = [Clause(one) for one in said], Written(PAGES[0])
-    out = fenced("rust", below_files("//", speakers, shown_clause)) + definitions_of(speakers, written, BRIEF)
+    out = fenced("rust", below_crates("//", speakers, shown_clause)) + definitions_of(speakers, written, BRIEF)
     library = [f"- `{module}`: " + ", ".join(f"`{name}`" for name in sorted(name for name in names if name))
                for module, names in sorted(written.library.items())]
     counts = f"{written.definitions} definitions, {written.lines} lines"
