@@ -13,7 +13,7 @@ from .crates import CRATES, TOP, all_crates
 from .definition_reader import Definition, imports, parse_module, rests_on, rust_named, type_of, unique, words_of
 from .implied_clauses import implied
 from .rust_sources import source, sources
-from .statement_forms import contract_lines, count, joined, shown_parts, with_comment
+from .statement_forms import WIDTH, contract_lines, count, joined, shown_parts, with_comment
 
 
 class Chapter:
@@ -197,7 +197,9 @@ def shown(definition, brief=()):
         lines = [re.sub(r" (where|\{)$", "", definition.lines[0])]
         comment += wrapped(f"Only its first line: {brief[definition.key]}", width=116)
     if definition.context and is_spec:
-        comment.append(f"for every {' '.join(definition.context)}")
+        said = f"for every {' '.join(definition.context)}"
+        fits = comment and len(f"-- {comment[-1]}; {said}") <= WIDTH
+        comment[-1:] = [f"{comment[-1]}; {said}"] if fits else [*comment[-1:], said]
     return with_comment(commented(mark, comment), lines)
 
 
