@@ -182,11 +182,11 @@ def type_lines(comment, lines):
     if not re.match(r"(pub )?(struct|enum) ", lines[0]) or lines[-1] != "}":
         return comment, lines
     members, above = [], []
-    for line in lines[1:-1]:
-        text = line.strip()
+    for block in blocks_of(lines[1:-1], 4):
+        text = joined(block).replace(", }", " }")
         if text.startswith("//"):
             above.append(text)
-        elif not re.fullmatch(r" {4}\S.*,", line):
+        elif not text.endswith(",") or "//" in text:
             return comment, lines
         else:
             members.append((above, text))

@@ -11,8 +11,10 @@ import tempfile
 
 from common.checks import TOP, chosen, end, expect, run, run_case
 from common.crates import CRATES, crate_of
-from common.definition_reader import parse_module, uncommented
-from common.statement_forms import definition_lines
+from common.definition_reader import parse_module, type_of, uncommented
+from common.rust_sources import source
+from common.statement_forms import definition_lines, type_lines
+from common.statement_pages import contract_of
 
 # Weaker laws of the routing table, each about nothing or nearly nothing: the old and the new text.
 LAWS = "crates/rt_rib/specs/Laws.antt"
@@ -161,6 +163,30 @@ def every_word_of_a_definition(copy):
             expect(f"{one.key} without a line has all words", lost_words(one, lines[:-1]) == set(), False)
 
 
+# Catches a form that leaves out a word of a type or of its comments, or a field.
+def every_word_of_a_type(copy):
+    found = [type_of(one.name, item) for one in sorted(CRATES.iterdir()) for file in sorted(one.glob("src/**/*.rt"))
+             for item in source(file).items if item.kind in ("struct", "enum", "const")]
+    expect("more than a hundred types", len(found) > 100, True)
+    for one in found:
+        comment, lines = type_lines(one.comment, one.lines)
+        expect(f"words of {one.key} on a page", type_words([*comment, *lines]), type_words([*one.comment, *one.lines]))
+
+
+# Catches a form that leaves out a word of a clause, or a clause.
+def every_word_of_a_clause(copy):
+    found = [one for folder in sorted(CRATES.iterdir()) for file in sorted(folder.glob("src/**/*.rt"))
+             for one in source(file).functions if one.is_pub]
+    expect("more than three hundred functions", len(found) > 300, True)
+    for one in found:
+        written = one.written()[:one.clauses_end()]
+        expect(f"words of {one.name} in {one.file.name} on a page", type_words(contract_of(one)), type_words(written))
+
+
+def type_words(lines):
+    return sorted(re.findall(r"[\w'`]+|[^\s\w,;/`']", "\n".join(lines)))
+
+
 # Catches a page that is refused because of a definition's place, not of its text.
 def a_definition_that_moved(copy):
     text = (copy.top / LAWS).read_text()
@@ -171,7 +197,7 @@ def a_definition_that_moved(copy):
 CASES = (
     the_pages_as_they_are, a_weaker_law, a_law_on_no_page, a_definition_on_no_page, a_table_of_another_type,
     a_tie_that_is_gone, another_number_of_lines, a_clause_that_says_less, a_clause_that_is_gone, every_word_of_a_definition,
-    a_definition_that_moved)
+    every_word_of_a_type, every_word_of_a_clause, a_definition_that_moved)
 
 
 def main():
