@@ -12,9 +12,10 @@ WIDTH = 120
 GAP = ";  "
 KEYWORDS = re.compile(r"^(\s*)(?:(?:pub|abbrev|unfoldable) )+")
 VARIABLE = re.compile(r"[^\W\d][\w']*")
+LITERAL = re.compile(r'"(?:[^"\\]|\\.)*"')
 OPEN, CLOSED = "([{⟦", ")]}⟧"
 # Where a term is broken rather than elsewhere: in front of these, between as few brackets as possible.
-OPERATORS = ("→", "↔", "⊎", "×", "then", "else", "in", "++", "≡")
+OPERATORS = ("→", "↔", "⊎", "×", "then", "else", "in", "++", "∷", "≡")
 
 
 def joined(lines):
@@ -35,11 +36,23 @@ def broken(text, margin="", indent="    "):
     return [*lines, margin + text]
 
 
-def breaks(text):
-    """Yields each space of a term, with the number of brackets around it and the rank of what follows it."""
+def masked(text):
+    """Returns a term whose literals have no spaces, brackets and operators any more, of the same length."""
+    return LITERAL.sub(lambda literal: "_" * len(literal[0]), text)
+
+
+def depths(text):
+    """Yields each sign of a term, with its place and the number of brackets around it."""
     depth = 0
     for at, sign in enumerate(text):
         depth += (sign in OPEN) - (sign in CLOSED)
+        yield at, sign, depth
+
+
+def breaks(text):
+    """Yields each space of a term, with the number of brackets around it and the rank of what follows it."""
+    text = masked(text)
+    for at, sign, depth in depths(text):
         if sign == " ":
             word = text[at + 1:].partition(" ")[0]
             rank = OPERATORS.index(word) if word in OPERATORS else len(OPERATORS)
@@ -61,10 +74,9 @@ def packed(parts, gap=GAP):
 
 def split_at(text, sign):
     """Returns the parts of a term between the signs that no bracket encloses."""
-    parts, depth, start = [], 0, 0
-    for at, one in enumerate(text):
-        depth += (one in OPEN) - (one in CLOSED)
-        if not depth and text.startswith(sign, at):
+    parts, start, hidden = [], 0, masked(text)
+    for at, _, depth in depths(hidden):
+        if not depth and hidden.startswith(sign, at):
             parts.append(text[start:at])
             start = at + len(sign)
     return [*parts, text[start:]]

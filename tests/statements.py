@@ -138,7 +138,7 @@ def a_clause_that_is_gone(copy):
 def words(lines):
     """Returns the words and signs of a definition, without those that pages leave out."""
     text = re.sub(r"\b(pub|abbrev|unfoldable) |(: Type 0 )?\bwhere\b", "", uncommented("\n".join(lines)))
-    return re.findall(r"[\w'?]+|[^\s\w;]", text)
+    return re.findall(r'"(?:[^"\\]|\\.)*"|[\w\'?]+|[^\s\w;]', text)
 
 
 def lost_words(definition, lines):
