@@ -113,7 +113,7 @@ int main(int count, char **words)
     look_up("look_up_256", &table, 256);
     look_up("look_up_4096", &table, CHUNK);
     double from = seconds();
-    need(yarib_forward(&table, &forwarding) == YARIB_DONE);
+    need(yarib_fib_new(&table, &forwarding) == YARIB_DONE);
     say("forward", from, prefixes);
     look_up("forwarding_1", &forwarding, 1);
     look_up("forwarding_256", &forwarding, 256);

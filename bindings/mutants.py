@@ -417,6 +417,10 @@ C = {f"{file.partition('.')[0]}: {name}": (file, *texts) for file, wrong in {
             "if (status == YARIB_DONE && (feed < 1"),
         "load accepts feed 0": ("(feed < 1 || feed > YARIB_MAX_FEED)", "(feed > YARIB_MAX_FEED)"),
         "load says nothing after an error": ("    *loaded = (yarib_loaded){0};\n", ""),
+        **{f"the old name of {new} is gone": (f'enum yarib_status yarib_{old}({parameters}) __attribute__((alias("yarib_{new}")));\n', "")
+           for old, new, parameters in (("forward", "fib_new", "const yarib *table, yarib *forwarding"),
+                                        ("share", "fib_clone", "const yarib *forwarding, yarib *other"), ("follow", "fib_attach", "yarib *table"))},
+        "two calls have one old name": ('alias("yarib_fib_clone")', 'alias("yarib_fib_new")'),
     },
     "layer.h": {
         "the sizes are exchanged": ("CALL(view_sizes, (size_t *blocks, size_t *routers), (blocks, routers))",
@@ -920,6 +924,10 @@ C = noticed_by({
     ),
     "test_changed": (
         "readers: a change of a best route is forgotten", "readers: a change of a best route is that of the side that readers use",
+    ),
+    "test_old_names": (
+        "handles: the old name of fib_new is gone", "handles: the old name of fib_clone is gone",
+        "handles: the old name of fib_attach is gone", "handles: two calls have one old name",
     ),
     "test_followed": (
         "handles: attach leaves its memory to changes", "handles: attach fills for good",

@@ -136,6 +136,8 @@ enum yarib_status yarib_fib_clone(const yarib *forwarding, yarib *other)
     READ(enter_reading, leave_place, forwarding, fill(&own.table, other, proved_yarib_fib_clone));
 }
 
+/* The names that three calls had in version 0.1. No header declares them: they are exported for programs that were linked with
+ * libyarib.so.0 and call them. */
 enum yarib_status yarib_forward(const yarib *table, yarib *forwarding) __attribute__((alias("yarib_fib_new")));
 enum yarib_status yarib_share(const yarib *forwarding, yarib *other) __attribute__((alias("yarib_fib_clone")));
 enum yarib_status yarib_follow(yarib *table) __attribute__((alias("yarib_fib_attach")));

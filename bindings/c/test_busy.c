@@ -75,7 +75,7 @@ static enum yarib_status reading(void)
     CHECK(yarib_journal(&table, 0, &entry, 1, &total) == status);
     compared = yarib_first_difference(&table, &other, 0, 0, &range);
     CHECK(compared == status && yarib_first_difference(&other, &table, 0, 0, &range) == status);
-    CHECK(yarib_forward(&table, &forwarding) == status);
+    CHECK(yarib_fib_new(&table, &forwarding) == status);
     return status;
 }
 
@@ -88,8 +88,8 @@ static void changes_are_busy(void)
     CHECK(yarib_new(&table, 1, YARIB_PLAIN) == YARIB_BUSY && yarib_new(&table, 0, YARIB_PLAIN) == YARIB_BUSY);
     CHECK(yarib_apply(&table, &add_eight, &reply) == YARIB_BUSY && yarib_apply(&table, &dump, &reply) == YARIB_BUSY);
     CHECK(yarib_apply_each(&table, &add_eight, 1, &reply, 1) == YARIB_BUSY && reply.code == 99);
-    CHECK(yarib_reserve(&table, 1000) == YARIB_BUSY && yarib_follow(&table) == YARIB_BUSY);
-    CHECK(yarib_forward(&other, &table) == YARIB_BUSY && yarib_share(&forwarding, &table) == YARIB_BUSY);
+    CHECK(yarib_reserve(&table, 1000) == YARIB_BUSY && yarib_fib_attach(&table) == YARIB_BUSY);
+    CHECK(yarib_fib_new(&other, &table) == YARIB_BUSY && yarib_fib_clone(&forwarding, &table) == YARIB_BUSY);
     CHECK(yarib_free(&table) == YARIB_BUSY);
 }
 
@@ -129,7 +129,7 @@ static void during_share(void)
     yarib_route route;
     CHECK(yarib_free(&forwarding) == YARIB_BUSY && yarib_look_up_one(&other, address, &route) == YARIB_BUSY);
     CHECK(yarib_hops(&forwarding, &address, 1, 0, 1, &hop, 1) == YARIB_DONE && hop == 7);
-    CHECK(yarib_share(&forwarding, &third) == YARIB_DONE && yarib_free(&third) == YARIB_DONE);
+    CHECK(yarib_fib_clone(&forwarding, &third) == YARIB_DONE && yarib_free(&third) == YARIB_DONE);
 }
 
 /* The table has the one route, and nothing is under way. */
@@ -176,13 +176,13 @@ int main(void)
     CHECK(yarib_routes(&other, 0, &route, 1, &total) == YARIB_DONE && entered == 2);
     whole();
     /* One handle twice is busy with itself. */
-    CHECK(yarib_first_difference(&table, &table, 0, 0, &range) == YARIB_BUSY && yarib_forward(&table, &table) == YARIB_BUSY);
-    CHECK(yarib_share(&forwarding, &forwarding) == YARIB_BUSY);
+    CHECK(yarib_first_difference(&table, &table, 0, 0, &range) == YARIB_BUSY && yarib_fib_new(&table, &table) == YARIB_BUSY);
+    CHECK(yarib_fib_clone(&forwarding, &forwarding) == YARIB_BUSY);
     /* A call inside another one has a place lent to it, which it gives back. */
     for (int k = 0; k < 3000; k++) CHECK(yarib_first_difference(&table, &other, 0, 0, &range) == YARIB_DONE);
     inside = during_share;
     entered = 0;
-    CHECK(yarib_share(&forwarding, &other) == YARIB_DONE && entered == 1);
+    CHECK(yarib_fib_clone(&forwarding, &other) == YARIB_DONE && entered == 1);
     /* A table that is freed or replaced by a new one is in use until then. */
     inside = during_change;
     entered = 0;

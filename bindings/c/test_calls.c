@@ -57,10 +57,10 @@ static void nothing(yarib *empty)
     CHECK(yarib_select_by_hop(empty, &all, YARIB_VIA, 1, 0, &route, 1, &total) == YARIB_NOTHING && is_marked(&route, sizeof route));
     CHECK(yarib_select_by_hop(empty, &all, YARIB_DISCARD + 1, 1, 0, &route, 1, &total) == YARIB_NOTHING);
     CHECK(yarib_hop_counts(empty, 0, &count, 1, &total) == YARIB_NOTHING && is_marked(&count, sizeof count));
-    CHECK(yarib_count(empty, &total) == YARIB_NOTHING && yarib_follow(empty) == YARIB_NOTHING);
+    CHECK(yarib_count(empty, &total) == YARIB_NOTHING && yarib_fib_attach(empty) == YARIB_NOTHING);
     CHECK(yarib_journal(empty, 0, &entry, 1, &total) == YARIB_NOTHING);
     CHECK(yarib_first_difference(empty, &other, 0, 0, &range) == YARIB_NOTHING);
-    CHECK(yarib_forward(empty, &other) == YARIB_NOTHING && yarib_share(empty, &other) == YARIB_NOTHING);
+    CHECK(yarib_fib_new(empty, &other) == YARIB_NOTHING && yarib_fib_clone(empty, &other) == YARIB_NOTHING);
     CHECK(yarib_memory(empty, &total) == YARIB_NOTHING && is_marked(&total, sizeof total));
     CHECK(yarib_free(empty) == YARIB_DONE && yarib_free(empty) == YARIB_DONE);
 }
@@ -119,10 +119,10 @@ static void kinds(void)
     CHECK(yarib_reserve(&table, 1000) == YARIB_DONE && yarib_reserve(&table, (size_t)-1) == YARIB_NO_MEMORY);
     CHECK(yarib_journal(&table, 0, &entry, 1, &total) == YARIB_DONE && total == 1);
     CHECK(memcmp(&entry.command, &add_eight, sizeof(uint32_t) * 5 + 2) == 0 && entry.reply.code == YARIB_ADDED);
-    CHECK(yarib_forward(&table, &forwarding) == YARIB_DONE && yarib_share(&forwarding, &other) == YARIB_DONE);
-    CHECK(yarib_share(&table, &other) == YARIB_WRONG_KIND);
+    CHECK(yarib_fib_new(&table, &forwarding) == YARIB_DONE && yarib_fib_clone(&forwarding, &other) == YARIB_DONE);
+    CHECK(yarib_fib_clone(&table, &other) == YARIB_WRONG_KIND);
     CHECK(yarib_memory(&table, &total) == YARIB_DONE && total == 62 + 56);
-    CHECK(yarib_follow(&table) == YARIB_WRONG_KIND && yarib_follow(&forwarding) == YARIB_WRONG_KIND);
+    CHECK(yarib_fib_attach(&table) == YARIB_WRONG_KIND && yarib_fib_attach(&forwarding) == YARIB_WRONG_KIND);
     CHECK(yarib_memory(&forwarding, &total) == YARIB_DONE && total >= (size_t)1 << 26);
     CHECK(yarib_apply(&forwarding, &add_eight, &reply) == YARIB_WRONG_KIND);
     CHECK(yarib_count(&forwarding, &total) == YARIB_WRONG_KIND);
@@ -135,7 +135,7 @@ static void kinds(void)
     CHECK(yarib_hop_counts(&forwarding, 0, &count, 1, &total) == YARIB_WRONG_KIND);
     CHECK(yarib_look_up_all(&forwarding, address, 0, &route, 1, &total) == YARIB_WRONG_KIND);
     CHECK(yarib_journal(&forwarding, 0, &entry, 1, &total) == YARIB_WRONG_KIND);
-    CHECK(yarib_forward(&forwarding, &other) == YARIB_WRONG_KIND);
+    CHECK(yarib_fib_new(&forwarding, &other) == YARIB_WRONG_KIND);
     CHECK(yarib_first_difference(&table, &forwarding, 0, 0, &range) == YARIB_WRONG_KIND);
     yarib_free(&table);
     CHECK(yarib_look_up(&other, &address, 1, &route, 1) == YARIB_DONE && route.via == 7 && route.len == 8);
@@ -286,7 +286,7 @@ static void followed(void)
     size_t bytes;
     CHECK(yarib_new(&one, 50, YARIB_PLAIN) == YARIB_DONE && yarib_new(&other, 50, YARIB_PLAIN) == YARIB_DONE);
     CHECK(yarib_memory(&one, &bytes) == YARIB_DONE && bytes == 0);
-    CHECK(yarib_follow(&one) == YARIB_DONE && yarib_follow(&one) == YARIB_DONE);
+    CHECK(yarib_fib_attach(&one) == YARIB_DONE && yarib_fib_attach(&one) == YARIB_DONE);
     CHECK(yarib_memory(&one, &bytes) == YARIB_DONE && bytes >= (size_t)1 << 26);
     for (int k = 0; k < 2000; k++) {
         yarib_reply replies[2];
@@ -364,11 +364,6 @@ static void names(void)
     snprintf(version, sizeof version, "%d.%d.", YARIB_VERSION_MAJOR, YARIB_VERSION_MINOR);
     CHECK(strcmp(yarib_version(), YARIB_VERSION) == 0 && strncmp(YARIB_VERSION, version, strlen(version)) == 0);
     CHECK(strncmp(yarib_build(), "sources ", 8) == 0 && strstr(yarib_build(), " logic "));
-    yarib table = YARIB_EMPTY, other = YARIB_EMPTY;
-    CHECK(yarib_new(&table, 1, YARIB_PLAIN) == YARIB_DONE && yarib_fib_new(&table, &handle) == YARIB_DONE);
-    CHECK(yarib_fib_clone(&handle, &other) == YARIB_DONE && yarib_fib_attach(&table) == YARIB_DONE);
-    CHECK(yarib_fib_clone(&table, &other) == YARIB_WRONG_KIND && yarib_fib_attach(&other) == YARIB_WRONG_KIND);
-    CHECK(yarib_free(&table) == YARIB_DONE && yarib_free(&handle) == YARIB_DONE && yarib_free(&other) == YARIB_DONE);
     CHECK(strcmp(yarib_status_text(YARIB_DONE), "done") == 0 && strcmp(yarib_status_text(YARIB_BUSY), "busy") == 0);
     CHECK(strcmp(yarib_status_text(YARIB_WRONG_KIND), "wrong kind") == 0);
     CHECK(strcmp(yarib_status_text(YARIB_BAD_FILE), "bad file") == 0 && strcmp(yarib_status_text(YARIB_NOT_ADDED), "not added") == 0);

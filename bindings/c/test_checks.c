@@ -117,13 +117,10 @@ static int fault(int number)
     FAULT(yarib_fib_new(NULL, &u));
     FAULT(yarib_fib_new(&t, NULL));
     FAULT(yarib_fib_new(&t, &t));
-    FAULT(yarib_forward(&t, NULL));
     FAULT(yarib_fib_clone(NULL, &u));
     FAULT(yarib_fib_clone(&t, NULL));
     FAULT(yarib_fib_clone(&t, &t));
-    FAULT(yarib_share(&t, NULL));
     FAULT(yarib_fib_attach(NULL));
-    FAULT(yarib_follow(NULL));
     FAULT(yarib_fib_is_attached(NULL, &hop));
     FAULT(yarib_fib_is_attached(&t, NULL));
     FAULT(yarib_view_sizes(NULL, &size, &other));

@@ -192,12 +192,12 @@ static void measure_forwarding(enum shape shape, enum who who, uint32_t count, u
     choose(shape, count);
     fill(&table, YARIB_PLAIN, who, count, feeds);
     size_t before = given(true), plain = memory_of(&table);
-    CHECK(yarib_forward(&table, &forwarding) == YARIB_DONE);
+    CHECK(yarib_fib_new(&table, &forwarding) == YARIB_DONE);
     size_t taken = given(true) - before, said = memory_of(&forwarding);
     printf("a forwarding table: told %zu, given %zu\n", said, taken);
     CHECK(said <= taken && taken <= said + said / 100);
     yarib_free(&forwarding);
-    CHECK(yarib_follow(&table) == YARIB_DONE);
+    CHECK(yarib_fib_attach(&table) == YARIB_DONE);
     taken = given(true) - before;
     said = memory_of(&table) - plain;
     printf("one beside a table: told %zu, given %zu\n", said, taken);

@@ -1,5 +1,5 @@
 /* Calls that read a handle write nothing through its pointer. The library gets the memory of its tables from one range, which is
- * then made read-only: a write there ends this program by a signal. The one exception is yarib_share, which counts the handles of
+ * then made read-only: a write there ends this program by a signal. The one exception is yarib_fib_clone, which counts the handles of
  * a forwarding table atomically. */
 #define _GNU_SOURCE
 #include "check.h"
@@ -127,7 +127,7 @@ static void ask(const yarib *table, const yarib *other, bool is_journaled)
         CHECK(yarib_first_difference(table, other, by, 0, &range_of) == YARIB_DONE);
         CHECK(yarib_first_difference(other, table, by, range_of.last + 1, &range_of) == YARIB_DONE);
     }
-    CHECK(yarib_forward(table, &made) == YARIB_DONE && yarib_free(&made) == YARIB_DONE);
+    CHECK(yarib_fib_new(table, &made) == YARIB_DONE && yarib_free(&made) == YARIB_DONE);
 }
 
 /* A change does write there: this program would notice. */
@@ -152,7 +152,7 @@ int main(void)
     fill(&plain, YARIB_PLAIN);
     fill(&journaled, YARIB_JOURNALED);
     fill(&followed, YARIB_PLAIN);
-    CHECK(yarib_follow(&followed) == YARIB_DONE && yarib_forward(&plain, &forwarding) == YARIB_DONE);
+    CHECK(yarib_fib_attach(&followed) == YARIB_DONE && yarib_fib_new(&plain, &forwarding) == YARIB_DONE);
     freeze(true);
     ask(&plain, &journaled, false);
     ask(&journaled, &followed, true);

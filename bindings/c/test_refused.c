@@ -86,11 +86,11 @@ static void forward(yarib *table)
     const yarib_command fifth = add(5);
     uint32_t address = 5u << 24, status;
     yarib_route answer;
-    while ((status = yarib_forward(table, &forwarding)) != YARIB_DONE) {
+    while ((status = yarib_fib_new(table, &forwarding)) != YARIB_DONE) {
         CHECK(status == YARIB_NO_MEMORY && forwarding.inside == NULL);
         refused++;
     }
-    while ((status = yarib_share(&forwarding, &other)) != YARIB_DONE) {
+    while ((status = yarib_fib_clone(&forwarding, &other)) != YARIB_DONE) {
         CHECK(status == YARIB_NO_MEMORY && other.inside == NULL);
         refused++;
     }
@@ -136,7 +136,7 @@ static int refuse_followed(long number)
     refused_call = 0;
     CHECK(yarib_new(&table, 100, YARIB_PLAIN) == YARIB_DONE);
     refused_call = number;
-    while ((status = yarib_follow(&table)) != YARIB_DONE) {
+    while ((status = yarib_fib_attach(&table)) != YARIB_DONE) {
         CHECK(status == YARIB_NO_MEMORY && yarib_memory(&table, &bytes) == YARIB_DONE && bytes == 0);
         refused++;
     }
@@ -152,7 +152,7 @@ static int refuse_followed(long number)
         ask_followed(&table, k + 1);
         if (bytes < (size_t)1 << 26) {
             refused++;
-            while ((status = yarib_follow(&table)) != YARIB_DONE) CHECK(status == YARIB_NO_MEMORY);
+            while ((status = yarib_fib_attach(&table)) != YARIB_DONE) CHECK(status == YARIB_NO_MEMORY);
         }
         ask_followed(&table, k + 1);
     }

@@ -66,7 +66,7 @@ static void ask(const yarib_route *routes, size_t size)
     yarib forwarding = YARIB_EMPTY, other = YARIB_EMPTY;
     for (uint32_t k = 0; k < ASKED; k++) asked[k] = k % 3 && size ? routes[k * 7 % size].base + k : k * 4294967u;
     CHECK(yarib_look_up(&table, asked, ASKED, answers, ASKED) == YARIB_DONE);
-    CHECK(yarib_forward(&table, &forwarding) == YARIB_DONE && yarib_share(&forwarding, &other) == YARIB_DONE);
+    CHECK(yarib_fib_new(&table, &forwarding) == YARIB_DONE && yarib_fib_clone(&forwarding, &other) == YARIB_DONE);
     CHECK(yarib_look_up(&forwarding, asked, ASKED, forwarded, ASKED) == YARIB_DONE);
     CHECK(yarib_hops(&forwarding, asked, ASKED, 0, 1, forwarded_hops, ASKED) == YARIB_DONE);
     CHECK(yarib_hops(&table, asked, ASKED, 0, 1, hops, ASKED) == YARIB_DONE);

@@ -43,7 +43,7 @@ static void change(yarib *table, uint32_t count)
 static size_t compare(yarib *table)
 {
     yarib fresh = YARIB_EMPTY;
-    CHECK(yarib_forward(table, &fresh) == YARIB_DONE);
+    CHECK(yarib_fib_new(table, &fresh) == YARIB_DONE);
     for (uint32_t k = 0; k < PREFIXES; k++) {
         uint32_t first = prefixes[k].base, last = first | (prefixes[k].len == 32 ? 0 : UINT32_MAX >> prefixes[k].len);
         uint32_t edges[4] = {first - 1, first, last, last + 1};
@@ -83,7 +83,7 @@ int main(void)
         if (len < 16) prefixes[k].len = 24; /* seldom a prefix that covers many entries */
         apply(&table, YARIB_ADD, &prefixes[k]);
     }
-    CHECK(yarib_follow(&table) == YARIB_DONE);
+    CHECK(yarib_fib_attach(&table) == YARIB_DONE);
     change(&table, FIRST);
     compare(&table);
     size_t first = memory_of(&table), fresh;

@@ -89,7 +89,7 @@ static void round_of(int is_followed)
         if (k == ROUTES + 1) one = add(1, 0xc0000200, 24, 9);
         CHECK(yarib_apply(&table, &one, &reply) == YARIB_DONE && reply.code == YARIB_ADDED);
     }
-    if (is_followed) CHECK(yarib_follow(&table) == YARIB_DONE);
+    if (is_followed) CHECK(yarib_fib_attach(&table) == YARIB_DONE);
     for (int k = 0; k < READERS; k++) CHECK(pthread_create(&threads[k], NULL, reader, NULL) == 0);
     change_all();
     atomic_store(&ended, 1);

@@ -416,11 +416,6 @@ YARIB_STATUS yarib_fib_attach(yarib *table);
  * Errors: YARIB_NOTHING. */
 YARIB_STATUS yarib_fib_is_attached(const yarib *table, uint32_t *attached);
 
-/* The names that yarib_fib_new, yarib_fib_clone and yarib_fib_attach had in version 0.1. */
-YARIB_STATUS yarib_forward(const yarib *table, yarib *forwarding);
-YARIB_STATUS yarib_share(const yarib *forwarding, yarib *other);
-YARIB_STATUS yarib_follow(yarib *table);
-
 /* A view: the next hops of a forwarding table as numbers, in three arrays of yours. A look-up in a view is the fastest: it reads one
  * number or two, and takes no handle, so it is never busy. A view is a snapshot: later changes of the table don't change it, and it
  * stays valid after yarib_free, until you free or change its arrays. Look-ups only read it, in any number of threads at once.

@@ -181,7 +181,6 @@ static inline YARIB_STATUS yarib_fib_new_checked(const yarib *table, yarib *forw
     return yarib_fib_new(table, forwarding);
 }
 #define yarib_fib_new yarib_fib_new_checked
-#define yarib_forward yarib_fib_new_checked
 
 static inline YARIB_STATUS yarib_fib_clone_checked(const yarib *forwarding, yarib *other)
 {
@@ -189,7 +188,6 @@ static inline YARIB_STATUS yarib_fib_clone_checked(const yarib *forwarding, yari
     return yarib_fib_clone(forwarding, other);
 }
 #define yarib_fib_clone yarib_fib_clone_checked
-#define yarib_share yarib_fib_clone_checked
 
 static inline YARIB_STATUS yarib_fib_attach_checked(yarib *table)
 {
@@ -197,7 +195,6 @@ static inline YARIB_STATUS yarib_fib_attach_checked(yarib *table)
     return yarib_fib_attach(table);
 }
 #define yarib_fib_attach yarib_fib_attach_checked
-#define yarib_follow yarib_fib_attach_checked
 
 static inline YARIB_STATUS yarib_fib_is_attached_checked(const yarib *table, uint32_t *attached)
 {
