@@ -5,6 +5,7 @@ ghost use Rattle.rt_run.specs.RunText.{in_batches};
 ghost use Rattle.rt_run.specs.TableText.{IsGivenBack};
 ghost use Rattle.rt_run.specs.inside.Runs.{EndsSide, LeavesBoth};
 
+use crate::dealing::bytes_of;
 use crate::input::RunInput;
 use crate::parallel::run_on_threads;
 use crate::tallies::RejectedInput;
@@ -79,15 +80,6 @@ fn run_sides<R: Threads + Sync>(
             ensures { EndsSide new_input.entry.now result new_input.exit.now }
         { run_on_threads(rt, alloc, new_input, new) },
     )
-}
-
-/// Returns the number of bytes of the texts.
-fn bytes_of(input: &RunInput) -> usize {
-    let mut bytes = 0usize;
-    for text in input.texts() {
-        bytes = bytes.saturating_add(text.len());
-    }
-    bytes
 }
 
 /// Returns the number of threads that execute each side: in proportion to the bytes of its texts, and at least one.

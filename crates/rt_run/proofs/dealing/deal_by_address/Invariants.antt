@@ -1,5 +1,5 @@
 use Rattle.std.proofs.Common.{◌≡◌, ◌<◌, length, All, vec_len}
-use Rattle.rt_run.proofs.dealing.deal.Given as goal
+use Rattle.rt_run.proofs.dealing.deal_by_address.Given as goal
 
 -- each text so far has a share, and there is a length for each share
 abbrev pub invariant-loop-index : goal.invariant-loop-index

@@ -1,5 +1,5 @@
 use Rattle.std.proofs.Common.{◌≡◌, ◌<◌, ◌≤◌, length, All, vec_len, vec_capacity}
-use Rattle.rt_run.proofs.dealing.longest_first.Given as goal
+use Rattle.rt_run.proofs.dealing.all_places.Given as goal
 
 -- the places so far are those of texts, and there is capacity for the others
 abbrev pub invariant-loop-index : goal.invariant-loop-index
