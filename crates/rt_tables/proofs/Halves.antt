@@ -11,11 +11,11 @@ use Rattle.rt_rib.specs.LookUp.{beats, look_up_all, best_routes}
 use Rattle.rt_rib.specs.Selection.{selected}
 use Rattle.rt_rib.specs.Table.{precedes, IsTable}
 use Rattle.rt_tables.specs.Unions.{union_of}
-use Rattle.rt_tables.specs.inside.Merging.{merged}
+use Rattle.rt_tables.specs.inside.Merging.{merged, AreInDumpOrder}
 use Rattle.rt_tables.specs.inside.Tables.{AreTables, IsBeforeFilters}
 use Rattle.rt_tables.proofs.Answering.{look_up_all_two}
 use Rattle.rt_tables.proofs.Merging.{merged_union}
-use Rattle.rt_tables.proofs.Pairs.{two, two_union, front_tables, back_tables, union_tables, union_append, union_of_one}
+use Rattle.rt_tables.proofs.Pairs.{two, first_table, second_table, two_union, front_tables, back_tables, union_tables, union_append, union_of_one}
 use Rattle.rt_tables.proofs.Selecting.{selected_tables, selected_of_two, best_selected_of_two}
 
 -- the routes of each table
@@ -77,27 +77,34 @@ module _ (tables : List TableContents) (mid : ℕ) (h : AreTables (routes_of_eac
   matches_halves addr = look_up_all_two addr (union_of front) (union_of back) halves ∙ ap (look_up_all addr) all_routes
 
   module _ (asked : Selection) where
-    selected_union : merged precedes (selected asked (union_of front)) (selected asked (union_of back))
-        ≡ union_of (two (selected asked (union_of front)) (selected asked (union_of back)))
-    selected_union =
-        merged_union (selected asked (union_of front)) (selected asked (union_of back))
-        (selected_tables asked (union_of front) (union_of back) halves)
+    -- the selected routes of each half
+    abbrev chosen_front : List Route
+    chosen_front = selected asked (union_of front)
+
+    abbrev chosen_back : List Route
+    chosen_back = selected asked (union_of back)
+
+    chosen : AreTables (two chosen_front chosen_back)
+    chosen = selected_tables asked (union_of front) (union_of back) halves
+
+    -- both are in dump order
+    pub chosen_in_order : AreInDumpOrder chosen_front × AreInDumpOrder chosen_back
+    chosen_in_order = ((first_table chosen_front chosen_back chosen).ordered, (second_table chosen_front chosen_back chosen).ordered)
+
+    selected_union : merged precedes chosen_front chosen_back ≡ union_of (two chosen_front chosen_back)
+    selected_union = merged_union chosen_front chosen_back chosen
 
     -- the selected routes of both halves, merged, are a table
-    pub selected_table : IsTable (merged precedes (selected asked (union_of front)) (selected asked (union_of back)))
-    selected_table =
-        subst IsTable (sym selected_union)
-        (two_union (selected asked (union_of front)) (selected asked (union_of back)) (selected_tables asked (union_of front) (union_of back) halves))
+    pub selected_table : IsTable (merged precedes chosen_front chosen_back)
+    selected_table = subst IsTable (sym selected_union) (two_union chosen_front chosen_back chosen)
 
     -- they are the selected routes of all tables
-    pub selected_halves : asked.only_best ≡ false → merged precedes (selected asked (union_of front)) (selected asked (union_of back))
-        ≡ selected asked (union_of (routes_of_each tables))
+    pub selected_halves : asked.only_best ≡ false → merged precedes chosen_front chosen_back ≡ selected asked (union_of (routes_of_each tables))
     selected_halves every =
         selected_union ∙ selected_of_two asked (union_of front) (union_of back) halves every ∙ ap (selected asked) all_routes
 
     -- or the best of them are
     pub best_halves : IsBeforeFilters asked → asked.only_best ≡ true
-        → best_routes (merged precedes (selected asked (union_of front)) (selected asked (union_of back)))
-        ≡ selected asked (union_of (routes_of_each tables))
+        → best_routes (merged precedes chosen_front chosen_back) ≡ selected asked (union_of (routes_of_each tables))
     best_halves before best =
         ap best_routes selected_union ∙ best_selected_of_two asked (union_of front) (union_of back) halves before best ∙ ap (selected asked) all_routes

@@ -3,6 +3,7 @@ pub mod Lists
 pub mod Unions
 pub mod Pairs
 pub mod Merging
+pub mod Cutting
 pub mod Selecting
 pub mod Answering
 pub mod Improving

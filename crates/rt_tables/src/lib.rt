@@ -17,6 +17,7 @@ mod cursor;
 pub mod laws;
 mod lookups;
 mod merge;
+mod pieces;
 mod selection;
 mod tables;
 

@@ -16,7 +16,7 @@ pub(crate) enum ListOrder {
 }
 
 /// Returns true if `a` precedes `b` in dump order.
-fn precedes(a: &Route, b: &Route) -> bool
+pub(crate) fn precedes(a: &Route, b: &Route) -> bool
     ensures { result ≡ precedes a.now b.now }
 {
     let (base, other_base) = (a.prefix.base(), b.prefix.base());
@@ -57,7 +57,7 @@ pub(crate) fn merge<A: Allocator + Copy>(
 }
 
 /// Appends the routes of both lists, which are in this order.
-fn append_merged<A: Allocator + Copy>(
+pub(crate) fn append_merged<A: Allocator + Copy>(
     order: ListOrder,
     first: &[Route],
     second: &[Route],

@@ -1,12 +1,12 @@
 //! Selecting routes of several tables: each table selects its own, and the lists are merged. Both halves of the tables do so
-//! at the same time, if a thread can be created.
+//! at the same time, if a thread can be created, and so do the pieces of two long lists.
 ghost use Rattle.std.specs.Prelude.{◌≡◌, length, filter, map, IfOk};
 ghost use Rattle.std.specs.Thread.{IsSync};
 ghost use Rattle.rt_rib.specs.Selection.{is_by, is_via, selected};
 ghost use Rattle.rt_tables.specs.Unions.{union_of};
 ghost use Rattle.rt_tables.specs.inside.Tables.{AreTables, IsBeforeFilters};
 
-use crate::merge::{ListOrder, merge};
+use crate::pieces::merge_on_threads;
 use rt_rib::{Hop, Refused, Route, Selection, Table, keep_best};
 use std::alloc::{Allocator, Global};
 use std::thread::{self, Threads};
@@ -40,7 +40,7 @@ pub(crate) fn select_from<R: Threads + Sync>(
                     ensures { IfOk result (λ routes. routes.items ≡ selected asked.entry.now (union_of (map (λ t. t.routes) others.entry.now))) }
                 { select_from(rt, others, alloc, asked) },
             );
-            let mut routes = merge(ListOrder::Dump, alloc, first?, second?)?;
+            let mut routes = merge_on_threads(rt, alloc, first?, second?, tables.len())?;
             if asked.only_best {
                 keep_best(&mut routes);
             }

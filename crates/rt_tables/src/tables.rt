@@ -114,8 +114,8 @@ impl<A: Allocator + Copy> TableUnion<A> {
 impl TableUnion<Global> {
     /// Returns the selected routes, in dump order. `only_best` first restricts the union to the best route of each
     /// prefix; then the routes are selected whose prefix is in the part, and which are of the feed and have the next
-    /// hop. Each table selects its routes, on its own thread if one can be created; the lists are merged two at a time.
-    /// Error M1 (`Refused`) if memory runs out.
+    /// hop. Each table selects its routes, on its own thread if one can be created; the lists are merged two at a time,
+    /// long ones in pieces, on as many threads. Error M1 (`Refused`) if memory runs out.
     pub fn select<R: Threads + Sync>(
         &self,
         rt: &R,

@@ -1,5 +1,6 @@
 -- Two ordered lists merged.
-use Rattle.std.specs.Prelude.{Bool, if◌then◌else◌, List, [], ◌∷◌}
+use Rattle.std.specs.Prelude.{◌≡◌, Bool, true, if◌then◌else◌, List, [], ◌∷◌}
+use Rattle.std.specs.List.{AllPairs}
 use Rattle.rt_rib.specs.declared.routes.Route.{Route}
 use Rattle.rt_rib.specs.Table.{precedes}
 use Rattle.rt_rib.specs.LookUp.{beats}
@@ -16,3 +17,7 @@ abbrev pub merged : {X : Type 0} → (X → X → Bool) → List X → List X �
 merged before [] ys = ys
 merged before (x ∷ xs) [] = x ∷ xs
 merged before (x ∷ xs) (y ∷ ys) = if before y x then y ∷ merged before (x ∷ xs) ys else x ∷ merged before xs (y ∷ ys)
+
+-- each route precedes those after it
+abbrev pub AreInDumpOrder : List Route → Type 0
+AreInDumpOrder routes = AllPairs (λ r s. precedes r s ≡ true) routes

@@ -7,9 +7,9 @@ use Rattle.rt_rib.specs.LookUp.{best_routes}
 use Rattle.rt_rib.specs.Selection.{selected}
 use Rattle.rt_rib.specs.Table.{precedes, IsTable}
 use Rattle.rt_tables.specs.Unions.{union_of}
-use Rattle.rt_tables.specs.inside.Merging.{merged}
+use Rattle.rt_tables.specs.inside.Merging.{merged, AreInDumpOrder}
 use Rattle.rt_tables.specs.inside.Tables.{AreTables}
-use Rattle.rt_tables.proofs.Halves.{routes_of_each, none_selected, union_of_only, front_half, back_half, selected_table, selected_halves, best_halves}
+use Rattle.rt_tables.proofs.Halves.{routes_of_each, none_selected, union_of_only, front_half, back_half, chosen_in_order, selected_table, selected_halves, best_halves}
 use Rattle.rt_tables.proofs.selection.+select_from.Goals as goal
 use Rattle.rt_tables.proofs.selection.+select_from.Goals.{then-asked, else-asked}
 
@@ -41,6 +41,24 @@ returns-in-len1 g t c =
     subst (λ l. IfOk c.select.result (λ routes. routes.items ≡ selected c.args.asked.now l))
     (union_of_only c.args.tables.now c.table-item.result c.requires.tables (omega (arith, c.in-len1.len_at_least, c.in-len1.len_below)) c.table-item.is)
     c.select.ensures
+
+pub merge_on_threads-requires-clause-first : goal.merge_on_threads-requires-clause-first
+merge_on_threads-requires-clause-first g t c κs within =
+    let tables : List TableContents = c.args.tables.now in
+    let asked = c.args.asked.now in
+    let found : List TableContents → List Route = λ l. selected asked (union_of (routes_of_each l)) in
+    let first-found : c.in_ok-first-in_default.field-0.items ≡ found c.split_at.result.0.now = search rules in
+    subst AreInDumpOrder (sym (first-found ∙ ap found c.split_at.ensures.front))
+    (chosen_in_order tables (length tables / 2) c.requires.tables asked).0
+
+pub merge_on_threads-requires-clause-second : goal.merge_on_threads-requires-clause-second
+merge_on_threads-requires-clause-second g t c κs within =
+    let tables : List TableContents = c.args.tables.now in
+    let asked = c.args.asked.now in
+    let found : List TableContents → List Route = λ l. selected asked (union_of (routes_of_each l)) in
+    let second-found : c.in_ok-second-in_default.field-0.items ≡ found c.split_at.result.1.now = search rules in
+    subst AreInDumpOrder (sym (second-found ∙ ap found c.split_at.ensures.back))
+    (chosen_in_order tables (length tables / 2) c.requires.tables asked).1
 
 pub keep_best-requires : goal.keep_best-requires
 keep_best-requires g t c =
