@@ -19,13 +19,15 @@ from .workspaces import add, lay_out
 LAUNCHER = (TOP / "yarib").read_text()
 
 
-def launched(subcommand="run"):
+def launched(subcommand="run", limited=False):
     """The setting that the launchers make before they start the program with this subcommand, as in ./yarib's own lines:
-    arenas of large pages."""
-    arenas = {word: number for words, number in re.findall(r"([\w*| ]+)\) arenas=(\d+) ;;", LAUNCHER)
+    arenas of large pages, which request address space in large pieces if several are filled and it isn't limited."""
+    arenas = {word: (number, asks) for words, number, asks in re.findall(r"([\w*| ]+)\) arenas=(\d+) limits=(.*?) ;;", LAUNCHER)
               for word in words.split(" in ")[-1].replace(" ", "").split("|")}
+    number, asks = arenas.get(subcommand, arenas["*"])
+    pieces = "" if limited or "ulimit" not in asks else re.search(r"^case \$limits in .*?\) pieces=(\S+) ;;", LAUNCHER, re.M)[1]
     setting = re.search(r'^export GLIBC_TUNABLES="(.*?)\$\{', LAUNCHER, re.M)[1]
-    return {"GLIBC_TUNABLES": setting.replace("$arenas", arenas.get(subcommand, arenas["*"]))}
+    return {"GLIBC_TUNABLES": setting.replace("$arenas", number).replace("$pieces", pieces)}
 
 
 LAUNCHED = launched()

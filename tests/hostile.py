@@ -77,7 +77,7 @@ def little_memory(yarib):
         ("the help", ["run", "--help"], None, 16_384, 0),
     ]
     for name, words, texts, step, part in cases:
-        for memory, setting in (({}, ""), (launched(words[0]), ", launched")):
+        for memory, setting in (({}, ""), (launched(words[0], limited=True), ", launched")):
             rising_limits(name + setting, [yarib, *words], texts, step, part, memory)
 
 

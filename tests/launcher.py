@@ -68,8 +68,9 @@ cp "$STARTED" "$2"
 """
 # The settings that the launcher makes for glibc's memory.
 TUNABLES = "glibc.malloc.arena_max=1:glibc.malloc.hugetlb=1"
-TUNABLES_OF = {word: f"glibc.malloc.arena_max={arenas}:glibc.malloc.hugetlb=1"
-               for word, arenas in (("diff", 64), ("lookup", 64), ("table", 64))}
+OF_ARENAS = "glibc.malloc.arena_max=64:glibc.malloc.hugetlb=1"
+OF_PIECES = f"{OF_ARENAS}:glibc.malloc.top_pad=67108864:glibc.malloc.mmap_threshold=4194304"
+TUNABLES_OF = {word: OF_PIECES for word in ("diff", "lookup", "table")}
 
 
 class Copy:

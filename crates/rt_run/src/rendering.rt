@@ -11,8 +11,9 @@ use std::alloc::{AllocError, Global};
 use std::io::{self, Write};
 use std::thread::{self, Threads};
 
-/// The number of items that a thread renders at once. Their rows have about a megabyte.
-const PIECE_ITEMS: usize = 16_384;
+/// The number of items that a thread renders at once, which takes some milliseconds: a new thread may wait for the processor of
+/// the one that made it for as long as two. Their rows have about three megabytes.
+const PIECE_ITEMS: usize = 65_536;
 
 /// The number of bytes per row that are allocated before a piece is rendered.
 const ROW_BYTES: usize = 64;

@@ -26,10 +26,10 @@ struct SideThreads {
 }
 
 /// Executes the old texts and the new ones at the same time, each side over tables of its own, as `run_on_threads` does: the
-/// sides share the `threads` threads, but each has at least one. If no thread can be created, executes one side after the
-/// other. Returns the union of the tables of the old texts, that of the new ones, and the tallies of the old texts and then of
-/// the new ones. Callers leak the tables. Errors: F1 if there is no old text or no new text; F3 if memory ran out outside of a
-/// command.
+/// sides share the `threads` threads, but each has at least one. If there is one, or if no thread can be created, executes one
+/// side after the other. Returns the union of the tables of the old texts, that of the new ones, and the tallies of the old
+/// texts and then of the new ones. Callers leak the tables. Errors: F1 if there is no old text or no new text; F3 if memory ran
+/// out outside of a command.
 pub(crate) fn run_both<R: Threads + Sync>(
     rt: &R,
     alloc: Global,
@@ -47,8 +47,7 @@ pub(crate) fn run_both<R: Threads + Sync>(
     if old_input.count() == 0 || new_input.count() == 0 {
         return Err(RunFault::NoText);
     }
-    let shared = shared_threads(threads, bytes_of(old_input), bytes_of(new_input));
-    let (old_run, new_run) = run_sides(rt, alloc, shared, old_input, new_input);
+    let (old_run, new_run) = run_sides(rt, alloc, threads, old_input, new_input);
     let (old_tables, mut tallies) = old_run?;
     let (new_tables, mut new_tallies) = new_run?;
     let Ok(()) = tallies.append(&mut new_tallies) else {
@@ -57,8 +56,28 @@ pub(crate) fn run_both<R: Threads + Sync>(
     Ok((old_tables, new_tables, tallies))
 }
 
-/// Executes both sides, each on its own threads if they can be created. Returns the old one and the new one.
+/// Executes the old texts and the new ones, as `run_both` does. Returns the run of each side.
 fn run_sides<R: Threads + Sync>(
+    rt: &R,
+    alloc: Global,
+    threads: usize,
+    old_input: &mut RunInput,
+    new_input: &mut RunInput,
+) -> (SideRun, SideRun)
+    ensures old { EndsSide old_input.old result.0 old_input.new }
+    ensures new { EndsSide new_input.old result.1 new_input.new }
+{
+    if threads < 2 {
+        let old_run = run_on_threads(rt, alloc, old_input, 1);
+        let new_run = run_on_threads(rt, alloc, new_input, 1);
+        return (old_run, new_run);
+    }
+    let shared = shared_threads(threads, bytes_of(old_input), bytes_of(new_input));
+    run_at_once(rt, alloc, shared, old_input, new_input)
+}
+
+/// Executes both sides at the same time, each on its own threads, if they can be created. Returns the run of each side.
+fn run_at_once<R: Threads + Sync>(
     rt: &R,
     alloc: Global,
     threads: SideThreads,
