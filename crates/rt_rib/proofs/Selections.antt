@@ -1,8 +1,8 @@
 -- The selected routes, in terms of a map: those of the selected pairs, and the best of these.
 use Rattle.std.proofs.Common.{◌≡◌, ℕ, sym, Bool, true, false, cond, eqb, ltb, inl, inr, List, [], ◌∷◌, ◌++◌, map, refl, ap, ◌∙◌, subst, arith}
-use Rattle.std.specs.Prelude.{◌&&◌, Option, Some, None, if◌then◌else◌}
+use Rattle.std.specs.Prelude.{◌==◌, ◌&&◌, length, Option, Some, None, if◌then◌else◌}
 use Rattle.std.specs.List.{filter}
-use Rattle.std.proofs.lemmas.Bool.{cases_Bool, and_parts, eqb-true, ltb-true, false_from_ne_true}
+use Rattle.std.proofs.lemmas.Bool.{cases_Bool, and_parts, eqb-true, ltb-true, false_from_ne_true, true≢false}
 use Rattle.std.proofs.lemmas.List.Elements.{filter-append}
 use Rattle.std.proofs.lemmas.List.{append-nil}
 use Rattle.rt_cidr.specs.declared.prefixes.Prefix.{Prefix}
@@ -17,7 +17,7 @@ use Rattle.rt_rib.specs.declared.selection.Selection.{Selection}
 use Rattle.rt_rib.specs.declared.selection.PrefixFilter.TheVariants.{All}
 use Rattle.rt_rib.specs.LookUp.{best_routes}
 use Rattle.rt_rib.specs.Maps.{Map, route_by, routes_of}
-use Rattle.rt_rib.specs.Selection.{is_in, is_by, same_hop, is_via, selected}
+use Rattle.rt_rib.specs.Selection.{is_in, is_one_of, is_by, same_hop, is_via, selected}
 use Rattle.rt_rib.specs.Table.{IsTable}
 use Rattle.rt_rib.specs.contracts.routes.HopPartialEq.TheImpl as of_hop
 use Rattle.rt_rib.specs.inside.Maps.{offers_at}
@@ -36,13 +36,18 @@ filter-filter f g (x ∷ xs) = elim (cases_Bool (f x)) [
 ]
 
 -- every route is of any feed
-by_any : (xs : List Route) → filter (is_by None) xs ≡ xs
+by_any : (xs : List Route) → filter (is_by []) xs ≡ xs
 by_any [] = refl
 by_any (r ∷ xs) = ap (λ l. r ∷ l) (by_any xs)
 
-pub by_none : (feed : Option ℕ) (xs : List Route) → ((n : ℕ) → feed ≡ Some n → ⊥) → xs ≡ filter (is_by feed) xs
-by_none None xs h = sym (by_any xs)
-by_none (Some n) xs h = absurd (h n refl)
+pub by_none : (feeds : List ℕ) (xs : List Route) → (length feeds == 0) ≡ true → xs ≡ filter (is_by feeds) xs
+by_none [] xs none = sym (by_any xs)
+by_none (n ∷ feeds) xs none = absurd (omega (arith, eqb-true (length (n ∷ feeds)) 0 none))
+
+-- if there are feeds, the routes of selected feeds are those of one of them
+pub by_these : (feeds : List ℕ) (xs : List Route) → (length feeds == 0) ≡ false → filter (λ r. is_one_of feeds r.feed) xs ≡ filter (is_by feeds) xs
+by_these [] xs some = absurd (true≢false some)
+by_these (n ∷ feeds) xs some = refl
 
 -- every route has any next hop
 via_any : (xs : List Route) → filter (is_via None) xs ≡ xs
@@ -122,18 +127,18 @@ routes_at p m order = filter_routes (λ q. same_prefix q p) m ∙ at m order whe
 
 -- selecting from the part's routes gives the same as selecting from all routes
 pub selected_of_part : (asked : Selection) (table : List Route) → IsTable table
-    → filter (is_via asked.hop) (filter (is_by asked.feed) (if asked.only_best then best_routes (filter (λ r. is_in asked.part r.prefix) table)
+    → filter (is_via asked.hop) (filter (is_by asked.feeds.now) (if asked.only_best then best_routes (filter (λ r. is_in asked.part r.prefix) table)
     else filter (λ r. is_in asked.part r.prefix) table)) ≡ selected asked table
 selected_of_part asked table h = by_best asked.only_best where
   kept : List Route → List Route
-  kept routes = filter (is_via asked.hop) (filter (is_by asked.feed) routes)
+  kept routes = filter (is_via asked.hop) (filter (is_by asked.feeds.now) routes)
 
   three : (routes : List Route) → kept (filter (λ r. is_in asked.part r.prefix) routes)
-      ≡ filter (λ r. is_in asked.part r.prefix && is_by asked.feed r && is_via asked.hop r) routes
-  three routes = ap (filter (is_via asked.hop)) (filter-filter (λ r. is_in asked.part r.prefix) (is_by asked.feed) routes)
-      ∙ filter-filter (λ r. is_in asked.part r.prefix && is_by asked.feed r) (is_via asked.hop) routes
+      ≡ filter (λ r. is_in asked.part r.prefix && is_by asked.feeds.now r && is_via asked.hop r) routes
+  three routes = ap (filter (is_via asked.hop)) (filter-filter (λ r. is_in asked.part r.prefix) (is_by asked.feeds.now) routes)
+      ∙ filter-filter (λ r. is_in asked.part r.prefix && is_by asked.feeds.now r) (is_via asked.hop) routes
 
   by_best : (only_best : Bool) → kept (cond only_best (best_routes (filter (λ r. is_in asked.part r.prefix) table)) (filter (λ r. is_in asked.part r.prefix) table))
-      ≡ filter (λ r. is_in asked.part r.prefix && is_by asked.feed r && is_via asked.hop r) (cond only_best (best_routes table) table)
+      ≡ filter (λ r. is_in asked.part r.prefix && is_by asked.feeds.now r && is_via asked.hop r) (cond only_best (best_routes table) table)
   by_best true = ap kept (best_passing (is_in asked.part) table h) ∙ three (best_routes table)
   by_best false = three table

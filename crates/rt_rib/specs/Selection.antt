@@ -1,5 +1,6 @@
 -- Selecting routes of a table.
-use Rattle.std.specs.Prelude.{ℕ, Bool, true, false, ◌==◌, ◌&&◌, if◌then◌else◌, List, Option, Some, None, filter}
+use Rattle.std.specs.Prelude.{ℕ, Bool, true, false, ◌==◌, ◌&&◌, if◌then◌else◌, List, [], ◌∷◌, Option, Some, None, filter}
+use Rattle.std.specs.List.{list_any}
 use Rattle.rt_cidr.specs.declared.prefixes.Prefix.{Prefix}
 use Rattle.rt_cidr.specs.Prefix.{contains, same_prefix}
 use Rattle.rt_rib.specs.declared.routes.Hop.{Hop}
@@ -17,10 +18,18 @@ is_in (Within p) q = contains p q
 is_in (Covering p) q = contains q p
 is_in (Exact p) q = same_prefix q p
 
--- true if a route's feed is selected: any feed; this one
-abbrev pub is_by : Option ℕ → Route → Bool
-is_by None r = true
-is_by (Some feed) r = r.feed == feed
+-- true if the feed is one of these
+abbrev pub is_one_of : List ℕ → ℕ → Bool
+is_one_of feeds feed = list_any (λ n. n == feed) feeds
+
+-- true if the feed is selected: it is one of these; if there are none, every feed is selected
+abbrev pub is_selected : List ℕ → ℕ → Bool
+is_selected [] feed = true
+is_selected (n ∷ feeds) feed = is_one_of (n ∷ feeds) feed
+
+-- true if a route's feed is selected
+abbrev pub is_by : List ℕ → Route → Bool
+is_by feeds r = is_selected feeds r.feed
 
 -- true if two next hops are the same: the same router, or both discard
 abbrev pub same_hop : Hop → Hop → Bool
@@ -37,4 +46,4 @@ is_via (Some hop) r = same_hop r.hop hop
 -- the selected routes, in the table's order: of all, or of the best one of each prefix, those that meet all conditions
 abbrev pub selected : Selection → List Route → List Route
 selected asked table =
-    filter (λ r. is_in asked.part r.prefix && is_by asked.feed r && is_via asked.hop r) (if asked.only_best then best_routes table else table)
+    filter (λ r. is_in asked.part r.prefix && is_by asked.feeds.now r && is_via asked.hop r) (if asked.only_best then best_routes table else table)

@@ -27,13 +27,13 @@ pub enum PrefixFilter {
 
 /// The routes of a table to select.
 #[derive(Clone, Copy, PartialEq, Eq, Debug)]
-pub struct Selection {
+pub struct Selection<'a> {
     /// Routes to these prefixes.
     pub part: PrefixFilter,
     /// If true, only the best route of each prefix.
     pub only_best: bool,
-    /// Routes of this feed, or of any: with `only_best`, those best routes that are the feed's.
-    pub feed: Option<u32>,
+    /// Routes of these feeds, or of any if there are none: with `only_best`, those best routes that are theirs.
+    pub feeds: &'a [u32],
     /// Routes with this next hop, or with any: with `only_best`, those best routes that use it.
     pub hop: Option<Hop>,
 }
@@ -87,24 +87,24 @@ fn routes_to<A: Allocator + Copy>(
 }
 
 /// Keeps the selected routes, out of those of a part. The order is unchanged. Doesn't allocate.
-pub(crate) fn keep_selected<A: Allocator>(routes: &mut Vec<Route, A>, asked: &Selection)
+pub(crate) fn keep_selected<A: Allocator>(routes: &mut Vec<Route, A>, asked: &Selection<'_>)
     requires { IsTable routes.old.items }
-    ensures { routes.new.items ≡ filter (is_via asked.now.hop) (filter (is_by asked.now.feed)
+    ensures { routes.new.items ≡ filter (is_via asked.now.hop) (filter (is_by asked.now.feeds.now)
         (if asked.now.only_best then best_routes routes.old.items else routes.old.items)) }
 {
     if asked.only_best {
         keep_best(routes);
     }
-    keep_feed(routes, asked.feed);
+    keep_feeds(routes, asked.feeds);
     keep_hop(routes, asked.hop);
 }
 
-/// Keeps the routes of the feed, or all of them.
-fn keep_feed<A: Allocator>(routes: &mut Vec<Route, A>, feed: Option<u32>)
-    ensures { routes.new.items ≡ filter (is_by feed) routes.old.items }
+/// Keeps the routes of the feeds; all routes if there are no feeds.
+fn keep_feeds<A: Allocator>(routes: &mut Vec<Route, A>, feeds: &[u32])
+    ensures { routes.new.items ≡ filter (is_by feeds.now) routes.old.items }
 {
-    if let Some(feed) = feed {
-        routes.retain(|route| route.feed == feed);
+    if !feeds.is_empty() {
+        routes.retain(|route| feeds.contains(&route.feed));
     }
 }
 

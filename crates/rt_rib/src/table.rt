@@ -211,10 +211,10 @@ impl<A: Allocator + Copy> Table<A> {
     }
 
     /// Returns the selected routes, in dump order. `only_best` first restricts the table to the best route of each
-    /// prefix; then the routes are selected whose prefix is in the part, and which are of the feed and have the next
+    /// prefix; then the routes are selected whose prefix is in the part, and which are of the feeds and have the next
     /// hop. Descends once, then visits only that part, and allocates only for its routes, with the given allocator.
     /// Error M1 (`Refused`) if memory runs out.
-    pub fn select(&self, alloc: A, asked: &Selection) -> Result<Vec<Route, A>, Refused>
+    pub fn select(&self, alloc: A, asked: &Selection<'_>) -> Result<Vec<Route, A>, Refused>
         ensures { IfOk result (λ routes. routes.items ≡ selected asked.now self.now.routes) }
     {
         let count = self.len();

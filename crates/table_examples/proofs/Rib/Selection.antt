@@ -1,11 +1,14 @@
 -- Examples of selections.
-use Rattle.std.proofs.Common.{◌≡◌, true, false, Some, None, List, [], ◌∷◌, refl}
+use Rattle.std.proofs.Common.{◌≡◌, ℕ, Bool, true, false, Some, None, List, [], ◌∷◌, refl}
+use Rattle.std.specs.Prelude.{Option, map}
 use Rattle.table_examples.proofs.Cidr.{everything, ten_8, ten_0_16, last_32}
+use Rattle.rt_rib.specs.declared.routes.Hop.{Hop}
 use Rattle.rt_rib.specs.declared.routes.Hop.TheVariants.{Discard}
 use Rattle.rt_rib.specs.declared.routes.Route.{Route}
+use Rattle.rt_rib.specs.declared.selection.PrefixFilter.{PrefixFilter}
 use Rattle.rt_rib.specs.declared.selection.PrefixFilter.TheVariants as part
-use Rattle.rt_rib.specs.Selection.{is_in, is_by, same_hop, is_via, selected}
-use Rattle.std.specs.Prelude.{map}
+use Rattle.rt_rib.specs.declared.selection.Selection.{Selection}
+use Rattle.rt_rib.specs.Selection.{is_in, is_selected, is_by, same_hop, is_via, selected}
 use Rattle.table_examples.proofs.Rib.Values.{ten_1_16, route, via_192_0_2, route_via}
 
 -- is_in
@@ -16,9 +19,17 @@ what_each_part_has :
     × (map (is_in (part.Exact ten_8)) (everything ∷ ten_8 ∷ ten_0_16 ∷ last_32 ∷ []) ≡ false ∷ true ∷ false ∷ false ∷ [])
 what_each_part_has = (refl, refl, refl, refl)
 
+-- is_selected
+the_second_of_the_two : is_selected (1 ∷ 3 ∷ []) 3 ≡ true
+the_second_of_the_two = refl
+
+every_feed_if_none_is_named : is_selected [] 7 ≡ true
+every_feed_if_none_is_named = refl
+
 -- is_by
-of_any_feed_or_of_one : map (λ feed. is_by feed (route ten_8 2 30)) (None ∷ Some 2 ∷ Some 1 ∷ []) ≡ true ∷ true ∷ false ∷ []
-of_any_feed_or_of_one = refl
+of_any_feed_or_of_some :
+    map (λ feeds. is_by feeds (route ten_8 2 30)) ([] ∷ (2 ∷ []) ∷ (1 ∷ []) ∷ (1 ∷ 2 ∷ []) ∷ (1 ∷ 3 ∷ []) ∷ []) ≡ true ∷ true ∷ false ∷ true ∷ false ∷ []
+of_any_feed_or_of_some = refl
 
 -- same_hop
 a_router_with_itself_and_with_another : map (same_hop (via_192_0_2 1)) (via_192_0_2 1 ∷ via_192_0_2 2 ∷ Discard ∷ []) ≡ true ∷ false ∷ false ∷ []
@@ -33,16 +44,24 @@ with_any_next_hop_or_with_one :
     ≡ true ∷ true ∷ false ∷ false ∷ []
 with_any_next_hop_or_with_one = refl
 
+-- the selection of a part, of the best routes or of all, by feeds and next hop
+abbrev asked : PrefixFilter → Bool → List ℕ → Option Hop → Selection
+asked part only_best feeds hop = record { part = part; only_best = only_best; feeds = record { ref_ptr = (0, 0); now = feeds }; hop = hop }
+
 -- selected
 abbrev three_prefixes : List Route
 three_prefixes = route everything 2 200 ∷ route ten_8 2 30 ∷ route ten_8 1 50 ∷ route ten_1_16 1 10 ∷ route ten_1_16 2 100 ∷ []
 
 of_a_part_what_is_a_feeds :
-    selected (record { part = part.Within ten_8; only_best = false; feed = Some 2; hop = None }) three_prefixes ≡ route ten_8 2 30 ∷ route ten_1_16 2 100 ∷ []
+    selected (asked (part.Within ten_8) false (2 ∷ []) None) three_prefixes ≡ route ten_8 2 30 ∷ route ten_1_16 2 100 ∷ []
 of_a_part_what_is_a_feeds = refl
 
-of_the_best_what_is_a_feeds : selected (record { part = part.Within ten_8; only_best = true; feed = Some 2; hop = None }) three_prefixes ≡ route ten_8 2 30 ∷ []
+of_the_best_what_is_a_feeds : selected (asked (part.Within ten_8) true (2 ∷ []) None) three_prefixes ≡ route ten_8 2 30 ∷ []
 of_the_best_what_is_a_feeds = refl
+
+of_three_feeds_what_is_of_two :
+    selected (asked part.All false (1 ∷ 3 ∷ []) None) (route ten_8 1 1 ∷ route ten_8 2 1 ∷ route ten_8 3 1 ∷ []) ≡ route ten_8 1 1 ∷ route ten_8 3 1 ∷ []
+of_three_feeds_what_is_of_two = refl
 
 -- one prefix whose best route uses the router 1, though another route to it uses the router 2; and one for each of them
 abbrev two_routers : List Route
@@ -51,6 +70,6 @@ two_routers =
     ∷ route_via ten_1_16 2 20 (via_192_0_2 2) ∷ []
 
 of_the_best_what_uses_a_router :
-    selected (record { part = part.All; only_best = true; feed = None; hop = Some (via_192_0_2 2) }) two_routers
+    selected (asked part.All true [] (Some (via_192_0_2 2))) two_routers
     ≡ route_via ten_1_16 2 20 (via_192_0_2 2) ∷ []
 of_the_best_what_uses_a_router = refl

@@ -18,7 +18,7 @@ keep_selected-requires g c =
 pub returns : goal.returns
 returns g c =
     let asked = c.args.asked.now in
-    let kept : List Route → List Route = λ routes. filter (is_via asked.hop) (filter (is_by asked.feed) (if asked.only_best then best_routes routes else routes)) in
+    let kept : List Route → List Route = λ routes. filter (is_via asked.hop) (filter (is_by asked.feeds.now) (if asked.only_best then best_routes routes else routes)) in
     rw (← c.self.view_is)
     (c.keep_selected.ensures ∙ ap kept c.in_ok-routes.ensures
     ∙ selected_of_part asked (routes_of c.self.inside.map.pairs) c.self.invariant.table)
