@@ -26,14 +26,15 @@ and_always true b c = refl
 and_always false b c = refl
 
 -- the same routes are selected at once and by one filter after the other
-pub selected_by_filters : (asked : Selection) (table : List Route)
-    → filter (is_via asked.hop) (filter (is_by asked.feed) (selected (record { part = asked.part; only_best = asked.only_best; feed = None; hop = None }) table))
-    ≡ selected asked table
-selected_by_filters asked table =
+pub selected_by_filters : (asked every : Selection) (table : List Route)
+    → every.part ≡ asked.part → every.only_best ≡ asked.only_best → every.feeds.now ≡ [] → every.hop ≡ None
+    → filter (is_via asked.hop) (filter (is_by asked.feeds.now) (selected every table)) ≡ selected asked table
+selected_by_filters asked every table is_part is_best is_feeds is_hop =
+    rw (is_part, is_best, is_feeds, is_hop) (
     let routes = if asked.only_best then best_routes table else table in
     let part : Route → Bool = λ r. is_in asked.part r.prefix && true && true in
-    ap (filter (is_via asked.hop)) (filter-filter part (is_by asked.feed) routes)
-    ∙ filter-filter (λ r. part r && is_by asked.feed r) (is_via asked.hop) routes
-    ∙ filter_agree (λ r. part r && is_by asked.feed r && is_via asked.hop r)
-    (λ r. is_in asked.part r.prefix && is_by asked.feed r && is_via asked.hop r)
-    (λ r. and_always (is_in asked.part r.prefix) (is_by asked.feed r) (is_via asked.hop r)) routes
+    ap (filter (is_via asked.hop)) (filter-filter part (is_by asked.feeds.now) routes)
+    ∙ filter-filter (λ r. part r && is_by asked.feeds.now r) (is_via asked.hop) routes
+    ∙ filter_agree (λ r. part r && is_by asked.feeds.now r && is_via asked.hop r)
+    (λ r. is_in asked.part r.prefix && is_by asked.feeds.now r && is_via asked.hop r)
+    (λ r. and_always (is_in asked.part r.prefix) (is_by asked.feeds.now r) (is_via asked.hop r)) routes)

@@ -194,7 +194,7 @@ module _ (p : Route → Bool) (t u : List Route) (h : AreTables (two t u)) where
 
 -- whether a route is selected
 abbrev passes : Selection → Route → Bool
-passes asked r = is_in asked.part r.prefix && is_by asked.feed r && is_via asked.hop r
+passes asked r = is_in asked.part r.prefix && is_by asked.feeds.now r && is_via asked.hop r
 
 module _ (asked : Selection) (t u : List Route) (h : AreTables (two t u)) where
   -- the selected routes of two tables are tables of different feeds
@@ -215,9 +215,9 @@ module _ (asked : Selection) (t u : List Route) (h : AreTables (two t u)) where
       let filters = before best in
       let by_prefix : (s r : Route) → s.prefix ≡ r.prefix → passes asked r ≡ true → passes asked s ≡ true =
       λ s r same pass.
-      let outer = and_parts (is_in asked.part r.prefix && is_by asked.feed r) (is_via asked.hop r) pass in
-      let inner = and_parts (is_in asked.part r.prefix) (is_by asked.feed r) outer.0 in
-      and_from (is_in asked.part s.prefix && is_by asked.feed s) (is_via asked.hop s)
-      (and_from (is_in asked.part s.prefix) (is_by asked.feed s) (ap (is_in asked.part) same ∙ inner.0) (rw filters.0 refl))
+      let outer = and_parts (is_in asked.part r.prefix && is_by asked.feeds.now r) (is_via asked.hop r) pass in
+      let inner = and_parts (is_in asked.part r.prefix) (is_by asked.feeds.now r) outer.0 in
+      and_from (is_in asked.part s.prefix && is_by asked.feeds.now s) (is_via asked.hop s)
+      (and_from (is_in asked.part s.prefix) (is_by asked.feeds.now s) (ap (is_in asked.part) same ∙ inner.0) (rw filters.0 refl))
       (rw filters.1 refl) in
       rw best (best_of_two (passes asked) t u h by_prefix)

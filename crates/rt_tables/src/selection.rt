@@ -4,21 +4,21 @@ ghost use Rattle.std.specs.Prelude.{◌≡◌, length, filter, map, IfOk};
 ghost use Rattle.std.specs.Thread.{IsSync};
 ghost use Rattle.rt_rib.specs.Selection.{is_by, is_via, selected};
 ghost use Rattle.rt_tables.specs.Unions.{union_of};
-ghost use Rattle.rt_tables.specs.inside.Tables.{AreTables, IsBeforeFilters};
+ghost use Rattle.rt_tables.specs.inside.Tables.{AreTables, asked_of, IsBeforeFilters};
 
 use crate::pieces::merge_on_threads;
 use rt_rib::{Hop, Refused, Route, Selection, Table, keep_best};
 use std::alloc::{Allocator, Global};
 use std::thread::{self, Threads};
 
-/// Returns the selected routes of all tables. The selection must not filter the best routes by feed or next hop: a
+/// Returns the selected routes of all tables. The selection must not filter the best routes by feeds or next hop: a
 /// table's best route to a prefix may be worse than another table's, whichever of them the filters would keep.
 #[cycle(select_from)]
 pub(crate) fn select_from<R: Threads + Sync>(
     rt: &R,
     tables: &[Table<Global>],
     alloc: Global,
-    asked: &Selection,
+    asked: &Selection<'_>,
 ) -> Result<Vec<Route>, Refused>
     requires tables { AreTables (map (λ t. t.routes) tables.now) }
     requires asked { IsBeforeFilters asked.now }
@@ -29,16 +29,43 @@ pub(crate) fn select_from<R: Threads + Sync>(
         [table] => table.select(alloc, asked),
         _ => {
             let (some, others) = tables.split_at(tables.len() / 2);
+            // A closure that borrows a slice tells what it returns; one that borrows a struct that borrows a slice doesn't.
+            let (part, only_best) = (asked.part, asked.only_best);
+            let (feeds, hop) = (asked.feeds, asked.hop);
             let (first, second) = thread::join(
                 rt,
                 || -> Result<Vec<Route>, Refused>
-                    requires { IsSync R.row × AreTables (map (λ t. t.routes) some.now) × IsBeforeFilters asked.now }
-                    ensures { IfOk result (λ routes. routes.items ≡ selected asked.entry.now (union_of (map (λ t. t.routes) some.entry.now))) }
-                { select_from(rt, some, alloc, asked) },
+                    requires { IsSync R.row × AreTables (map (λ t. t.routes) some.now) × IsBeforeFilters (asked_of part only_best feeds.now hop) }
+                    ensures { IfOk result (λ routes. routes.items ≡ selected (asked_of part only_best feeds.entry.now hop) (union_of (map (λ t. t.routes) some.entry.now))) }
+                {
+                    select_from(
+                        rt,
+                        some,
+                        alloc,
+                        &Selection {
+                            part,
+                            only_best,
+                            feeds,
+                            hop,
+                        },
+                    )
+                },
                 || -> Result<Vec<Route>, Refused>
-                    requires { IsSync R.row × AreTables (map (λ t. t.routes) others.now) × IsBeforeFilters asked.now }
-                    ensures { IfOk result (λ routes. routes.items ≡ selected asked.entry.now (union_of (map (λ t. t.routes) others.entry.now))) }
-                { select_from(rt, others, alloc, asked) },
+                    requires { IsSync R.row × AreTables (map (λ t. t.routes) others.now) × IsBeforeFilters (asked_of part only_best feeds.now hop) }
+                    ensures { IfOk result (λ routes. routes.items ≡ selected (asked_of part only_best feeds.entry.now hop) (union_of (map (λ t. t.routes) others.entry.now))) }
+                {
+                    select_from(
+                        rt,
+                        others,
+                        alloc,
+                        &Selection {
+                            part,
+                            only_best,
+                            feeds,
+                            hop,
+                        },
+                    )
+                },
             );
             let mut routes = merge_on_threads(rt, alloc, first?, second?, tables.len())?;
             if asked.only_best {
@@ -49,12 +76,12 @@ pub(crate) fn select_from<R: Threads + Sync>(
     }
 }
 
-/// Keeps the routes of the feed, or all of them.
-pub(crate) fn keep_feed<A: Allocator>(routes: &mut Vec<Route, A>, feed: Option<u32>)
-    ensures { routes.new.items ≡ filter (is_by feed) routes.old.items }
+/// Keeps the routes of the feeds; all routes if there are no feeds.
+pub(crate) fn keep_feeds<A: Allocator>(routes: &mut Vec<Route, A>, feeds: &[u32])
+    ensures { routes.new.items ≡ filter (is_by feeds.now) routes.old.items }
 {
-    if let Some(feed) = feed {
-        routes.retain(|route| route.feed == feed);
+    if !feeds.is_empty() {
+        routes.retain(|route| feeds.contains(&route.feed));
     }
 }
 

@@ -9,7 +9,7 @@ ghost use Rattle.rt_tables.specs.Unions.{union_of, AreOfDifferentFeeds};
 
 use crate::cursor::UnionCursor;
 use crate::lookups::{best_of_each, matches_in};
-use crate::selection::{keep_feed, keep_hop, select_from};
+use crate::selection::{keep_feeds, keep_hop, select_from};
 use rt_cidr::Addr;
 use rt_rib::{Refused, Route, Selection, Table};
 use std::alloc::{AllocError, Allocator, Global};
@@ -113,14 +113,14 @@ impl<A: Allocator + Copy> TableUnion<A> {
 
 impl TableUnion<Global> {
     /// Returns the selected routes, in dump order. `only_best` first restricts the union to the best route of each
-    /// prefix; then the routes are selected whose prefix is in the part, and which are of the feed and have the next
+    /// prefix; then the routes are selected whose prefix is in the part, and which are of the feeds and have the next
     /// hop. Each table selects its routes, on its own thread if one can be created; the lists are merged two at a time,
     /// long ones in pieces, on as many threads. Error M1 (`Refused`) if memory runs out.
     pub fn select<R: Threads + Sync>(
         &self,
         rt: &R,
         alloc: Global,
-        asked: &Selection,
+        asked: &Selection<'_>,
     ) -> Result<Vec<Route>, Refused>
         ensures { IfOk result (λ routes. routes.items ≡ selected asked.now self.now) }
     {
@@ -128,12 +128,12 @@ impl TableUnion<Global> {
             return select_from(rt, &self.tables, alloc, asked);
         }
         let best = Selection {
-            feed: None,
+            feeds: &[],
             hop: None,
             ..*asked
         };
         let mut routes = select_from(rt, &self.tables, alloc, &best)?;
-        keep_feed(&mut routes, asked.feed);
+        keep_feeds(&mut routes, asked.feeds);
         keep_hop(&mut routes, asked.hop);
         Ok(routes)
     }

@@ -1,14 +1,14 @@
-use Rattle.std.proofs.Common.{rules, Some, sym, ap, ◌∙◌}
+use Rattle.std.proofs.Common.{rules, sym, ◌∙◌}
 use Rattle.std.proofs.lemmas.Fn.{filter_same}
-use Rattle.std.specs.List.{filter}
-use Rattle.rt_rib.specs.Selection.{is_by}
-use Rattle.rt_rib.proofs.Selections.{by_none}
-use Rattle.rt_tables.proofs.selection.keep_feed.Goals as goal
+use Rattle.rt_rib.specs.Selection.{is_one_of}
+use Rattle.rt_rib.proofs.Selections.{by_none, by_these}
+use Rattle.rt_tables.proofs.selection.keep_feeds.Goals as goal
 
-pub returns-in-Some : goal.returns-in-Some
-returns-in-Some g c =
-    filter_same _ (is_by (Some c.in-Some.feed)) _ (λ x b f' k. search rules) _ _ c.retain.ensures.filtered
-    ∙ ap (λ feed. filter (is_by feed) c.args.routes.now.items) (sym c.in-Some.is)
+pub returns-then-not-is_empty : goal.returns-then-not-is_empty
+returns-then-not-is_empty g c =
+    let feeds = c.args.feeds.now in
+    filter_same _ (λ r. is_one_of feeds r.feed) _ (λ x b f' k. search rules) _ _ c.retain.ensures.filtered
+    ∙ by_these feeds c.args.routes.now.items (sym c.is_empty.ensures ∙ c.if-not-is_empty.true)
 
-pub returns-in_default : goal.returns-in_default
-returns-in_default g c = by_none c.args.feed c.args.routes.now.items c.in_default.not-Some
+pub returns-else-not-is_empty : goal.returns-else-not-is_empty
+returns-else-not-is_empty g c = by_none c.args.feeds.now c.args.routes.now.items (sym c.is_empty.ensures ∙ c.if-not-is_empty.false)
