@@ -68,12 +68,13 @@ use Rattle.rt_run.specs.declared.question.Question.TheVariants as ask
 use Rattle.std.specs.declared.vec.Vec.{Vec}
 use Rattle.std.specs.declared.alloc.Global.{Global}
 use Rattle.rt_run.specs.SameTable.{table_alone, LeavesAlone, IsUnion, IsAnsweredAlone}
-use Rattle.rt_run.specs.ChosenFeeds.{is_selected, is_left_out, texts_kept, routes_of_selected}
+use Rattle.rt_run.specs.ChosenFeeds.{is_left_out, texts_kept}
 use Rattle.rt_run.specs.ChosenFeeds.{AreWithout}
 use Rattle.rt_run.specs.SameTable.{LosesLeftOut}
 use Rattle.rt_run.specs.Shares.{share_with, is_of_other, share_of, AreTalliesOfShares}
 use Rattle.rt_run.proofs.KeptTexts.{kept_length, kept_at}
 use Rattle.std.proofs.lemmas.Bool.{cond-true, cond-false}
+use Rattle.rt_rib.specs.declared.selection.PrefixFilter.{PrefixFilter}
 use Rattle.rt_rib.specs.declared.selection.PrefixFilter.TheVariants as part
 
 -- table_alone
@@ -122,13 +123,6 @@ selected_but_left_out = refl
 
 neither_of_the_two_selected : is_left_out (1 ∷ 3 ∷ []) [] 2 ≡ true
 neither_of_the_two_selected = refl
-
--- is_selected
-the_second_of_the_two : is_selected (1 ∷ 3 ∷ []) 3 ≡ true
-the_second_of_the_two = refl
-
-every_feed_if_none_is_named : is_selected [] 7 ≡ true
-every_feed_if_none_is_named = refl
 
 -- three texts of which the second is left out
 abbrev three_texts : List (List ℕ)
@@ -273,48 +267,45 @@ two_to_ten_8 = route_via ten_8 2 30 Discard ∷ route_via ten_8 1 50 Discard ∷
 abbrev plain : StyleContents
 plain = record { syntax = syntax.Line; labels = [] }
 
--- the selected routes, and their number, of these feeds
-abbrev routes_text : StyleContents → Selection → List ℕ → List Route → List ℕ
-routes_text style selection feeds table = question_text style (ask.Routes selection (record { ref_ptr = (0, 0); now = feeds })) [] table
+-- the selection of a part, of the best routes or of all, by feeds
+abbrev asked_of : PrefixFilter → Bool → List ℕ → Selection
+asked_of part only_best feeds = record { part = part; only_best = only_best; feeds = record { ref_ptr = (0, 0); now = feeds }; hop = None }
 
-abbrev counts_text : StyleContents → Selection → List ℕ → List Route → List ℕ
-counts_text style selection feeds table = question_text style (ask.Counts selection (record { ref_ptr = (0, 0); now = feeds })) [] table
+-- the selected routes, and their number
+abbrev routes_text : StyleContents → Selection → List Route → List ℕ
+routes_text style selection table = question_text style (ask.Routes selection) [] table
+
+abbrev counts_text : StyleContents → Selection → List Route → List ℕ
+counts_text style selection table = question_text style (ask.Counts selection) [] table
 
 -- question_text
-all_of_them : routes_text plain (record { part = part.All; only_best = false; feed = None; hop = None }) [] two_to_ten_8 ≡ codes "10.0.0.0/8 feed 2 pref 30 via discard\n10.0.0.0/8 feed 1 pref 50 via discard\n"
+all_of_them : routes_text plain (asked_of part.All false []) two_to_ten_8 ≡ codes "10.0.0.0/8 feed 2 pref 30 via discard\n10.0.0.0/8 feed 1 pref 50 via discard\n"
 unfolding digits address_text prefix_text rows_header row_as
 all_of_them = refl
 
-only_the_best : routes_text plain (record { part = part.All; only_best = true; feed = None; hop = None }) [] two_to_ten_8 ≡ codes "10.0.0.0/8 feed 2 pref 30 via discard\n"
+only_the_best : routes_text plain (asked_of part.All true []) two_to_ten_8 ≡ codes "10.0.0.0/8 feed 2 pref 30 via discard\n"
 unfolding digits address_text prefix_text rows_header row_as
 only_the_best = refl
 
-only_a_feeds : routes_text plain (record { part = part.Exact ten_8; only_best = false; feed = Some 1; hop = None }) [] two_to_ten_8 ≡ codes "10.0.0.0/8 feed 1 pref 50 via discard\n"
+only_a_feeds : routes_text plain (asked_of (part.Exact ten_8) false (1 ∷ [])) two_to_ten_8 ≡ codes "10.0.0.0/8 feed 1 pref 50 via discard\n"
 unfolding digits address_text prefix_text rows_header row_as
 only_a_feeds = refl
 
 only_those_of_the_feeds_that_are_best :
-    routes_text plain (record { part = part.All; only_best = true; feed = None; hop = None }) (1 ∷ 2 ∷ []) two_to_ten_8 ≡ codes "10.0.0.0/8 feed 2 pref 30 via discard\n"
+    routes_text plain (asked_of part.All true (1 ∷ 2 ∷ [])) two_to_ten_8 ≡ codes "10.0.0.0/8 feed 2 pref 30 via discard\n"
 unfolding digits address_text prefix_text rows_header row_as
 only_those_of_the_feeds_that_are_best = refl
 
-none_if_the_best_is_anothers : routes_text plain (record { part = part.All; only_best = true; feed = None; hop = None }) (1 ∷ []) two_to_ten_8 ≡ []
+none_if_the_best_is_anothers : routes_text plain (asked_of part.All true (1 ∷ [])) two_to_ten_8 ≡ []
 unfolding rows_header
 none_if_the_best_is_anothers = refl
 
--- routes_of_selected
-of_two_of_three_feeds :
-    routes_of_selected (1 ∷ 3 ∷ []) (route_via ten_8 1 1 Discard ∷ route_via ten_8 2 1 Discard ∷ route_via ten_8 3 1 Discard ∷ [])
-    ≡ route_via ten_8 1 1 Discard ∷ route_via ten_8 3 1 Discard ∷ []
-of_two_of_three_feeds = refl
-
--- question_text
-all_in_numbers : counts_text plain (record { part = part.All; only_best = false; feed = None; hop = None }) [] two_to_ten_8
+all_in_numbers : counts_text plain (asked_of part.All false []) two_to_ten_8
     ≡ codes "routes 2 prefixes 1\nfeed 1 routes 1\nfeed 2 routes 1\nlength 8 routes 2\n"
 unfolding counts_as totals_as count_as digits
 all_in_numbers = refl
 
-only_the_best_in_numbers : counts_text plain (record { part = part.All; only_best = true; feed = None; hop = None }) [] two_to_ten_8
+only_the_best_in_numbers : counts_text plain (asked_of part.All true []) two_to_ten_8
     ≡ codes "routes 1 prefixes 1\nfeed 2 routes 1\nlength 8 routes 1\n"
 unfolding counts_as totals_as count_as digits
 only_the_best_in_numbers = refl
@@ -819,13 +810,13 @@ all_of_one_and_a_text = ask.All (record { ref_ptr = (0, 0); now = one_and_a_text
 
 -- every route of the table, and their number
 abbrev every_route : Question
-every_route = ask.Routes (record { part = part.All; only_best = false; feed = None; hop = None }) (record { ref_ptr = (0, 0); now = [] })
+every_route = ask.Routes (asked_of part.All false [])
 
 abbrev every_route_and_the_number : Question
-every_route_and_the_number = ask.RoutesAndTotal (record { part = part.All; only_best = false; feed = None; hop = None }) (record { ref_ptr = (0, 0); now = [] })
+every_route_and_the_number = ask.RoutesAndTotal (asked_of part.All false [])
 
 abbrev the_number_of_all : Question
-the_number_of_all = ask.Counts (record { part = part.All; only_best = false; feed = None; hop = None }) (record { ref_ptr = (0, 0); now = [] })
+the_number_of_all = ask.Counts (asked_of part.All false [])
 
 -- SaysRows
 the_named_one_and_then_those_of_the_text :

@@ -41,9 +41,9 @@ asks_about_the_same once (ask.Best addresses) rows rows' others others' (faulty,
 asks_about_the_same once (ask.All addresses) rows rows' others others' (faulty, is, told) (faulty', is', told') =
     let same = same_rows once addresses.now rows rows' faulty faulty' is is' in
     (same.0, told ∙ ap (λ (f : FaultyLines). faulty_tally f ∷ []) same.1 ∙ sym told')
-asks_about_the_same once (ask.Routes selection feeds) rows rows' others others' is is' = (is.0 ∙ sym is'.0, is.1 ∙ sym is'.1)
-asks_about_the_same once (ask.RoutesAndTotal selection feeds) rows rows' others others' is is' = (is.0 ∙ sym is'.0, is.1 ∙ sym is'.1)
-asks_about_the_same once (ask.Counts selection feeds) rows rows' others others' is is' = (is.0 ∙ sym is'.0, is.1 ∙ sym is'.1)
+asks_about_the_same once (ask.Routes selection) rows rows' others others' is is' = (is.0 ∙ sym is'.0, is.1 ∙ sym is'.1)
+asks_about_the_same once (ask.RoutesAndTotal selection) rows rows' others others' is is' = (is.0 ∙ sym is'.0, is.1 ∙ sym is'.1)
+asks_about_the_same once (ask.Counts selection) rows rows' others others' is is' = (is.0 ∙ sym is'.0, is.1 ∙ sym is'.1)
 
 -- the rows of a question about the best routes are those that were read of its addresses; and those of a question about all
 pub rows_of_best : AddressTextHasOneReading → (addresses : _) (rows : List AddressRow) (others : List RejectedInput) (read : AddressText)

@@ -1,16 +1,6 @@
 -- Which feeds take part in a run, and the texts of a run in which the others are left out.
-use Rattle.std.specs.Prelude.{◌≡◌, ℕ, ◌+◌, ◌==◌, Bool, true, false, not, ◌||◌, if◌then◌else◌, List, [], ◌∷◌, length, get_or, filter}
-use Rattle.std.specs.List.{list_any}
-use Rattle.rt_rib.specs.declared.routes.Route.{Route}
-
--- the feed is one of these
-abbrev pub is_one_of : List ℕ → ℕ → Bool
-is_one_of feeds feed = list_any (λ n. n == feed) feeds
-
--- the feed is selected: it is one of these; if there are none, every feed is selected
-abbrev pub is_selected : List ℕ → ℕ → Bool
-is_selected [] feed = true
-is_selected (n ∷ feeds) feed = is_one_of (n ∷ feeds) feed
+use Rattle.std.specs.Prelude.{◌≡◌, ℕ, ◌+◌, Bool, true, false, not, ◌||◌, if◌then◌else◌, List, [], ◌∷◌, length, get_or}
+use Rattle.rt_rib.specs.Selection.{is_one_of, is_selected}
 
 -- the feed is left out: it is one of `without`, or it isn't selected
 abbrev pub is_left_out : List ℕ → List ℕ → ℕ → Bool
@@ -26,7 +16,3 @@ pub record AreWithout (is_left_out : ℕ → Bool) (all texts : List (List ℕ))
   pub as_many : length texts ≡ length all
   pub others : (k : ℕ) → is_left_out (k + 1) ≡ false → get_or texts k [] ≡ get_or all k []
   pub empty : (k : ℕ) → is_left_out (k + 1) ≡ true → get_or texts k [] ≡ []
-
--- the routes of selected feeds
-abbrev pub routes_of_selected : List ℕ → List Route → List Route
-routes_of_selected feeds routes = filter (λ r. is_selected feeds r.feed) routes

@@ -25,7 +25,6 @@ use Rattle.rt_run.specs.declared.question.Question.{Question}
 use Rattle.rt_run.specs.declared.question.Question.TheVariants as ask
 use Rattle.rt_run.specs.RunText.{InputContents, RunContents, IsJournalOfRun, reports_of, status_where}
 use Rattle.rt_run.specs.Asked.{SaysRows}
-use Rattle.rt_run.specs.ChosenFeeds.{routes_of_selected}
 
 -- what is printed for a row: the answer for its address; for an invalid line its number, if such lines are kept, or else nothing
 abbrev pub line_answer_text : StyleContents → Bool → (Addr → List ℕ) → AddressRow → List ℕ
@@ -41,14 +40,14 @@ abbrev pub all_answers_text : StyleContents → Bool → List AddressRow → Lis
 all_answers_text style keeps rows table =
     flat_map (line_answer_text style keeps (λ addr. all_found_as style.syntax (label_of style.labels) addr (look_up_all addr table))) rows
 
--- the text that answers a question about a table, in the style; the rows have the addresses to look up. If there are feeds,
--- only their routes among the selected ones are printed or counted. Answers and routes follow their header, which only CSV has
+-- the text that answers a question about a table, in the style; the rows have the addresses to look up. Answers
+-- and routes follow their header, which only CSV has
 abbrev pub question_text : StyleContents → Question → List AddressRow → List Route → List ℕ
 question_text style (ask.Best addresses) rows table = found_header style.syntax ++ answers_text style addresses.now.keeps_invalid rows table
 question_text style (ask.All addresses) rows table = all_found_header style.syntax ++ all_answers_text style addresses.now.keeps_invalid rows table
-question_text style (ask.Routes selection feeds) rows table = rows_header style.syntax ++ rows_as style (routes_of_selected feeds.now (selected selection table))
-question_text style (ask.RoutesAndTotal selection feeds) rows table = rows_and_total_as style (routes_of_selected feeds.now (selected selection table))
-question_text style (ask.Counts selection feeds) rows table = counts_as style (routes_of_selected feeds.now (selected selection table))
+question_text style (ask.Routes selection) rows table = rows_header style.syntax ++ rows_as style (selected selection table)
+question_text style (ask.RoutesAndTotal selection) rows table = rows_and_total_as style (selected selection table)
+question_text style (ask.Counts selection) rows table = counts_as style (selected selection table)
 
 -- an `add` was over the limit
 abbrev pub was_full : Answer → Bool
@@ -143,9 +142,9 @@ pub record IsQueryOutput (asked : RunContents) (text_of : List Route → List �
 abbrev pub AsksAbout : Question → List AddressRow → List RejectedInput → Type 0
 AsksAbout (ask.Best addresses) rows tallies = (faulty : FaultyLines) × SaysRows addresses.now rows faulty × (tallies ≡ faulty_tally faulty ∷ [])
 AsksAbout (ask.All addresses) rows tallies = (faulty : FaultyLines) × SaysRows addresses.now rows faulty × (tallies ≡ faulty_tally faulty ∷ [])
-AsksAbout (ask.Routes selection feeds) rows tallies = (rows ≡ []) × (tallies ≡ [])
-AsksAbout (ask.RoutesAndTotal selection feeds) rows tallies = (rows ≡ []) × (tallies ≡ [])
-AsksAbout (ask.Counts selection feeds) rows tallies = (rows ≡ []) × (tallies ≡ [])
+AsksAbout (ask.Routes selection) rows tallies = (rows ≡ []) × (tallies ≡ [])
+AsksAbout (ask.RoutesAndTotal selection) rows tallies = (rows ≡ []) × (tallies ≡ [])
+AsksAbout (ask.Counts selection) rows tallies = (rows ≡ []) × (tallies ≡ [])
 
 -- the bytes are the answer to the question, in the style, from the table that some run of this input left. The tallies are
 -- the run's and, last, that of the question's text of addresses, if it has addresses

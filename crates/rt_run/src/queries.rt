@@ -2,14 +2,11 @@
 ghost use Rattle.std.specs.Prelude.{◌≡◌, ◌↔◌, ◌≤◌, ◌==◌, ◌&&◌, ◌++◌, ℕ, [], List, IfOk, length};
 ghost use Rattle.rt_feed.specs.Addresses.{AddressRow};
 ghost use Rattle.rt_print.specs.Styles.{found_header, all_found_header};
-ghost use Rattle.rt_rib.specs.Selection.{selected};
-ghost use Rattle.rt_run.specs.ChosenFeeds.{routes_of_selected};
 ghost use Rattle.rt_run.specs.RunText.{WritesOrFails, in_batches};
 ghost use Rattle.rt_run.specs.TableText.{question_text, AsksAbout, IsAnswer, IsGivenBack};
 ghost use Rattle.rt_run.specs.declared.tallies.RejectedInput.{RejectedInput};
 ghost use Rattle.rt_run.specs.inside.Outputs.{found_text, all_found_text, matches_found, matches_in, with_invalid, Writes, AddsTally};
 
-use crate::chosen::is_selected;
 use crate::faults::AppFault;
 use crate::forwarding::fib_for;
 use crate::input::RunInput;
@@ -23,7 +20,7 @@ use rt_cidr::Addr;
 use rt_feed::laws::one_address_text;
 use rt_feed::{AddressText, InvalidLine, RunFault};
 use rt_print::{OutputRoom, Style, write_counts, write_routes_and_total};
-use rt_rib::{Refused, Route, Selection};
+use rt_rib::{Refused, Route};
 use rt_tables::TableUnion;
 use std::alloc::{AllocError, Global};
 use std::io::Write;
@@ -87,9 +84,7 @@ fn with_addresses(
             tallies.push_reserved(RejectedInput::of(addresses.parts().faulty));
             Ok(tallies)
         }
-        Question::Routes { .. } | Question::RoutesAndTotal { .. } | Question::Counts { .. } => {
-            Ok(tallies)
-        }
+        Question::Routes(_) | Question::RoutesAndTotal(_) | Question::Counts(_) => Ok(tallies),
     }
 }
 
@@ -115,8 +110,8 @@ fn write_answer<R: Threads + Sync, W: Write>(
         Question::All(addresses) => {
             write_all(workers, w, room, style, tables, addresses.parts(), given)
         }
-        Question::Routes { selection, feeds } => {
-            let routes = routes_asked(rt, alloc, tables, selection, feeds)?;
+        Question::Routes(selection) => {
+            let routes = tables.select(rt, alloc, selection)?;
             let (routes, is_empty) = (routes.as_slice(), routes.is_empty());
             let header = style.rows_header();
             write_rows_through(
@@ -132,14 +127,14 @@ fn write_answer<R: Threads + Sync, W: Write>(
                 given,
             )
         }
-        Question::RoutesAndTotal { selection, feeds } => {
-            let routes = routes_asked(rt, alloc, tables, selection, feeds)?;
+        Question::RoutesAndTotal(selection) => {
+            let routes = tables.select(rt, alloc, selection)?;
             write_through(w, room, false, given, |out| {
                 write_routes_and_total(out, style, routes.as_slice())
             })
         }
-        Question::Counts { selection, feeds } => {
-            let routes = routes_asked(rt, alloc, tables, selection, feeds)?;
+        Question::Counts(selection) => {
+            let routes = tables.select(rt, alloc, selection)?;
             write_through(w, room, false, given, |out| {
                 write_counts(out, style, routes.as_slice())
             })
@@ -224,19 +219,4 @@ fn matches_of(
         all.push_reserved((*addr, routes));
     }
     Ok(all)
-}
-
-/// Returns the selected routes of the tables, in dump order; of these feeds, if there are any.
-fn routes_asked<R: Threads + Sync>(
-    rt: &R,
-    alloc: Global,
-    tables: &TableUnion<Global>,
-    selection: &Selection,
-    feeds: &[u32],
-) -> Result<Vec<Route>, Refused>
-    ensures { IfOk result (λ routes. routes.items ≡ routes_of_selected feeds.now (selected selection.now tables.now)) }
-{
-    let mut routes = tables.select(rt, alloc, selection)?;
-    routes.retain(|route| is_selected(feeds, route.feed));
-    Ok(routes)
 }

@@ -58,7 +58,7 @@ impl<'a> Addresses<'a> {
     }
 }
 
-/// A question to the finished table. If there are numbers of feeds, only the routes of these feeds are selected.
+/// A question to the finished table.
 #[derive(Clone, Copy, Debug)]
 pub enum Question<'a> {
     /// For each address, the best route of the longest prefix that covers it.
@@ -66,18 +66,9 @@ pub enum Question<'a> {
     /// For each address, every route that covers it, the best first.
     All(&'a Addresses<'a>),
     /// The selected routes, in the table's order.
-    Routes {
-        selection: Selection,
-        feeds: &'a [u32],
-    },
+    Routes(Selection<'a>),
     /// The selected routes, in the table's order, and last their number.
-    RoutesAndTotal {
-        selection: Selection,
-        feeds: &'a [u32],
-    },
+    RoutesAndTotal(Selection<'a>),
     /// The number of the selected routes and of their prefixes, and the number for each feed and each prefix length.
-    Counts {
-        selection: Selection,
-        feeds: &'a [u32],
-    },
+    Counts(Selection<'a>),
 }

@@ -46,10 +46,10 @@ IsPart c (Within p) = (c.part ≡ 1) × SelectsPrefix c p
 IsPart c (Covering p) = (c.part ≡ 2) × SelectsPrefix c p
 IsPart c (Exact p) = (c.part ≡ 3) × SelectsPrefix c p
 
--- the feed whose routes are selected, or any feed for 0
-abbrev pub feed_asked : ℕ → Option ℕ
-feed_asked zero = None
-feed_asked (suc n) = Some (suc n)
+-- the feeds whose routes are selected: this one, or any feed for 0
+abbrev pub feeds_asked : ℕ → List ℕ
+feeds_asked zero = []
+feeds_asked (suc n) = suc n ∷ []
 
 -- the numbers denote the next hop whose routes are selected, or any next hop
 abbrev pub IsHopAsked : ℕ → ℕ → Option Hop → Type 0
@@ -65,7 +65,7 @@ best_number true = 1
 -- the numbers denote the selection, apart from its next hop
 pub record IsSelection (c : YaribSelection) (asked : Selection) : Type 0 where
   pub part : IsPart c asked.part
-  pub feed : asked.feed ≡ feed_asked c.feed
+  pub feeds : asked.feeds.now ≡ feeds_asked c.feed
   pub best : best_number asked.only_best ≡ c.only_best
 
 -- the selected routes from index `skip` on are shown; `hop` and `via` denote the next hop

@@ -3,7 +3,7 @@ ghost use Rattle.std.specs.Prelude.{◌≡◌, ◌≢◌, ◌<◌, ◌≤◌, �
 ghost use Rattle.rt_cidr.specs.Cidr.{IsPrefix};
 ghost use Rattle.yarib_c.specs.Kinds.{routes_in, IsForwarding};
 ghost use Rattle.yarib_c.specs.Calls.{held_in, HandleHolds, WithHeld};
-ghost use Rattle.yarib_c.specs.Selections.{IsOutOfRange, IsHopAsked, IsSelection, SelectionStatus, ShowsSelected};
+ghost use Rattle.yarib_c.specs.Selections.{IsOutOfRange, IsHopAsked, IsSelection, feeds_asked, SelectionStatus, ShowsSelected};
 ghost use Rattle.yarib_c.specs.inside.Parts.{PartReading, HasPart, IsRefused};
 ghost use Rattle.yarib_c.specs.Statuses.{IsOneOf};
 ghost use Rattle.yarib_c.specs.declared.status.TheConstants.{DONE, NOTHING, BAD_NUMBER, NO_MEMORY, BAD_LENGTH, BAD_BITS, WRONG_KIND};
@@ -15,6 +15,7 @@ use crate::status::{BAD_BITS, BAD_LENGTH, BAD_NUMBER, DONE, NO_MEMORY, WRONG_KIN
 use rt_cidr::{Addr, Prefix, TextFault};
 use rt_rib::{Hop, PrefixFilter, Selection, feed_ok};
 use std::alloc::Global;
+use std::slice;
 
 /// Selects routes. `part` is 0 for the routes to any prefix. The other values select by the prefix of `base` and `len`: 1 that prefix
 /// and the longer ones in it, 2 that prefix and the shorter ones that contain it, and 3 only that prefix. `feed` is 0 for any feed. If
@@ -38,7 +39,7 @@ impl YaribSelection {
     }
 
     /// Returns the selection that the numbers denote, with this next hop, or the status of the first that is invalid.
-    fn read(&self, hop: Option<Hop>) -> Result<Selection, u32>
+    fn read(&self, hop: Option<Hop>) -> Result<Selection<'_>, u32>
         ensures { MatchResult result (λ selection. IsSelection self.now selection × (selection.hop ≡ hop) × (¬ IsOutOfRange self.now) × HasPart self.now) (λ status. IsRefused self.now status) }
     {
         if self.is_out_of_range() {
@@ -52,13 +53,20 @@ impl YaribSelection {
         Ok(Selection {
             part,
             only_best: self.only_best == 1,
-            feed: if self.feed == 0 {
-                None
-            } else {
-                Some(self.feed)
-            },
+            feeds: self.feeds(),
             hop,
         })
+    }
+
+    /// Returns the feed whose routes are selected; for any feed, none.
+    fn feeds(&self) -> &[u32]
+        ensures { result.now ≡ feeds_asked self.now.feed }
+    {
+        if self.feed == 0 {
+            &[]
+        } else {
+            slice::from_ref(&self.feed)
+        }
     }
 
     /// Returns the filter of prefixes that the numbers denote.

@@ -65,24 +65,30 @@ impl<R: FileReader + Threads + Wait + Sync + AllocGlobal, O: Write, E: Write> Pr
         &mut self,
         request: &TableRequest<'w>,
     ) -> Result<u8, ProgramError<'w>> {
-        let selection = selection_of(request)?;
+        let part = filter_of(request.part)?;
         let mut query = Query::of(self.alloc, request.run.files, request.format)?;
         query
             .feeds
             .choose(self.alloc, request.listed, request.without)?;
-        self.list(request, selection, &query)
+        self.list(request, part, &query)
     }
 
     /// Reads the files and writes the selected routes, as `show_routes` says.
     fn list<'w>(
         &mut self,
         request: &TableRequest<'w>,
-        selection: Selection,
+        part: PrefixFilter,
         query: &Query<'w>,
     ) -> Result<u8, ProgramError<'w>> {
         // The feeds that aren't selected take part too: which of their routes are best may depend on them.
         let texts = self.read_feeds(&query.feeds, &[], query.feeds.without.as_slice())?;
-        let question = question_of(request.output, selection, query.feeds.only.as_slice());
+        let selection = Selection {
+            part,
+            only_best: request.only_best,
+            feeds: query.feeds.only.as_slice(),
+            hop: None,
+        };
+        let question = question_of(request.output, selection);
         let input = RunInput::new(texts, request.run.limit);
         self.show(input, query, &question, None, &[])
     }
@@ -147,25 +153,16 @@ impl<'w> Query<'w> {
     }
 }
 
-/// Returns the question of this output for the selected routes of these feeds.
-fn question_of(output: TableOutput, selection: Selection, feeds: &[u32]) -> Question<'_> {
+/// Returns the question of this output for the selected routes.
+fn question_of(output: TableOutput, selection: Selection<'_>) -> Question<'_> {
     match output {
-        TableOutput::Routes => Question::Routes { selection, feeds },
-        TableOutput::RoutesAndTotal => Question::RoutesAndTotal { selection, feeds },
-        TableOutput::Counts => Question::Counts { selection, feeds },
+        TableOutput::Routes => Question::Routes(selection),
+        TableOutput::RoutesAndTotal => Question::RoutesAndTotal(selection),
+        TableOutput::Counts => Question::Counts(selection),
     }
 }
 
-/// Returns the selection of the command line. Stops if an argument isn't a prefix.
-fn selection_of<'a>(request: &TableRequest<'a>) -> Result<Selection, ProgramError<'a>> {
-    Ok(Selection {
-        part: filter_of(request.part)?,
-        only_best: request.only_best,
-        feed: None,
-        hop: None,
-    })
-}
-
+/// Returns the part of the prefixes that the command line selects. Stops if an argument isn't a prefix.
 fn filter_of(part: PrefixFilterArg<'_>) -> Result<PrefixFilter, ProgramError<'_>> {
     match part {
         PrefixFilterArg::All => Ok(PrefixFilter::All),

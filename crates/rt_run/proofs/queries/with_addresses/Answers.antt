@@ -5,8 +5,8 @@ use Rattle.rt_run.proofs.queries.with_addresses.Goals as goal
 
 pub returns-in-Routes : goal.returns-in-Routes
 returns-in-Routes c = adds_none c.args.question.now c.args.tallies.items (elim c.in-Routes.is [
-  | inl e ↦ rw e.2 (refl, refl)
-  | inr h ↦ elim h [ inl e ↦ rw e.2 (refl, refl) | inr e ↦ rw e.2 (refl, refl) ]
+  | inl e ↦ rw e.1 (refl, refl)
+  | inr h ↦ elim h [ inl e ↦ rw e.1 (refl, refl) | inr e ↦ rw e.1 (refl, refl) ]
 ])
 
 pub returns-in_ok-try_reserve-in-Best : goal.returns-in_ok-try_reserve-in-Best
