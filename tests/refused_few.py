@@ -8,7 +8,7 @@ number comes. Each is refused first by itself, then with all later ones. A run r
 SharedRib (new, and apply or with batches apply_batch), in run_feed and in run_texts. tests/refused_calls.py refuses each
 request of the libraries' calls, and tests/refused_growth.py each of more runs.
 
-A comparison of two tables executes its sides on two threads, and a query of two large files each on its own. Longer files are
+A comparison of two large tables executes its sides on two threads, and a query of two large files each on its own. Longer files are
 read on several threads. All are run with each request refused, by itself and with all later ones, with a second thread and
 without one.
 """
@@ -94,13 +94,17 @@ def ends_alike(called, words, happenings):
     return sorted({ending.threads for ending in in_turn} - {0})
 
 
-# Catches a comparison on one thread: `its threads`.
+# Catches a comparison on one thread, and one that creates a thread for small tables: `its threads`.
 # Catches one that executes only one side if no thread can be created: `without a thread`.
 # Catches one that ignores that a side had no memory: `with a request refused`.
 def a_comparison(called):
-    for form in ([], ["--count"]):
-        words = [called.yarib, "diff", *form, *written("old", OLD), "--", *written("new", NEW)]
-        checks.expect("its threads", ends_alike(called, words, HAPPENINGS), [1])
+    """Small sides, and large ones, whose lines are comments but for a few."""
+    if len(os.sched_getaffinity(0)) < 2:
+        return print("left out: a comparison has one thread on one processor", flush=True)
+    for form, comments, threads in (([], "", []), (["--count"], "", []), ([], COMMENTS * 2, [1, 2, 64, 65])):
+        old, new = ([text + comments for text in side] for side in (OLD, NEW))
+        words = [called.yarib, "diff", *form, *written("old", old), "--", *written("new", new)]
+        checks.expect("its threads", ends_alike(called, words, HAPPENINGS), threads)
 
 
 # Catches a query on one thread: `its threads`.
