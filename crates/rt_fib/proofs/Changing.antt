@@ -1,5 +1,5 @@
 -- What entries and groups lead to while they are changed in place.
-use Rattle.std.proofs.Common.{◌≡◌, ◌≢◌, ℕ, ◌+◌, ◌*◌, ◌-◌, ◌^◌, ◌<◌, ◌≤◌, List, length, get_or, get_or-set_other, get_or-set_same, Option, subst, sym, refl, ap, ◌∙◌, inl, inr, below_more, arith}
+use Rattle.std.proofs.Common.{◌≡◌, ◌≢◌, ℕ, ◌+◌, ◌*◌, ◌-◌, ◌^◌, ◌<◌, ◌≤◌, List, length, get_or, get_or-set_other, get_or-set_same, Option, subst, sym, refl, ap, ◌∙◌, inl, inr, arith}
 use Rattle.std.proofs.Math.ListN.{set}
 use Rattle.std.proofs.lemmas.Bool.{cases_eq}
 use Rattle.std.proofs.lemmas.List.{length-set}
@@ -9,47 +9,33 @@ use Rattle.rt_fib.specs.declared.slabs.Group.{Group}
 use Rattle.rt_fib.specs.declared.slabs.Slabs.{Slabs}
 use Rattle.rt_fib.specs.declared.following.Change.{Change}
 use Rattle.rt_fib.specs.declared.spans.Span.{Span}
-use Rattle.rt_fib.specs.inside.Slab.{SlabState, Has, with_value}
+use Rattle.rt_fib.specs.inside.Slab.{SlabState, Has}
 use Rattle.rt_fib.specs.inside.Entries.{at, HasRoute, IsSince, Leads, IsEntry, AreMarked}
 use Rattle.rt_fib.specs.inside.Changes.{AnswerAlike, IsChange, IsNumberAfter, AreNumbersAfter, KeepsOthers, LeadsAfter, AreUntil}
-use Rattle.rt_fib.proofs.Placing.{value_set}
-use Rattle.rt_fib.proofs.Reading.{short_number, long_group, group_is}
+use Rattle.rt_fib.proofs.Placing.{each_set}
+use Rattle.rt_fib.proofs.Leading.{short_number, long_group, group_is, leads_still}
 
 -- what a replaced group of this slab has
-replaced : (old new : SlabState Group) (t place : ℕ) (was next : Group) → new.places.values ≡ with_value old.places.values place next
+replaced : (old new : SlabState Group) (t place : ℕ) (was next : Group) → new.places.values ≡ set old.places.values place next
     → new.places.epochs ≡ old.places.epochs → Has old.places t place was → Has new.places t place next
-replaced old new t place was next values epochs has =
-    let there = has.is_used.within in
-    let put : new.places.values ≡ set old.places.values place next = values ∙ value_set old.places.values place next there in
-    rw (put, epochs) (record {
-      is_used = record {
-        within = omega (arith, there, length-set old.places.values place next);
-        marked = has.is_used.marked;
-        used = has.is_used.used;
-      };
-      there = λ d. get_or-set_same old.places.values place next d there;
-    })
+replaced old new t place was next values epochs has = rw (values, epochs) (record {
+  is_used = record { within = omega (arith, has.is_used.within, length-set old.places.values place next); used = has.is_used.used };
+  there = λ d. get_or-set_same old.places.values place next d has.is_used.within;
+})
 
 -- every other group stays, where the replaced one is its owner's
-pub others_stay : (i : ℕ) (old new : SlabState Group) (place : ℕ) (group next : Group) → place < length old.places.values
-    → group ≡ get_or old.places.values place group → group.owner ≡ i → new.places.values ≡ with_value old.places.values place next
-    → new.places.epochs ≡ old.places.epochs → (t n : ℕ) (other : Group) → other.owner ≢ i → Has old.places t n other → Has new.places t n other
-others_stay i old new place group next below read own values epochs t n other apart has =
-    let put : new.places.values ≡ set old.places.values place next = values ∙ value_set old.places.values place next below in
-    elim (cases_eq n place) [
-      | inl same ↦
-          let e : other ≡ group = sym (has.there group) ∙ ap (λ (j : ℕ). get_or old.places.values j group) same ∙ sym read in
-          absurd (apart (ap (λ (g : Group). g.owner) e ∙ own))
-      | inr away ↦
-          rw (put, epochs) (record {
-            is_used = record {
-              within = omega (arith, has.is_used.within, length-set old.places.values place next);
-              marked = has.is_used.marked;
-              used = has.is_used.used;
-            };
-            there = λ d. get_or-set_other old.places.values place n next d away ∙ has.there d;
-          })
-    ]
+pub others_stay : (i : ℕ) (old new : SlabState Group) (place : ℕ) (group next : Group) → group ≡ get_or old.places.values place group → group.owner ≡ i
+    → new.places.values ≡ set old.places.values place next → new.places.epochs ≡ old.places.epochs
+    → (t n : ℕ) (other : Group) → other.owner ≢ i → Has old.places t n other → Has new.places t n other
+others_stay i old new place group next read own values epochs t n other apart has = elim (cases_eq n place) [
+  | inl same ↦
+      let e : other ≡ group = sym (has.there group) ∙ ap (λ (j : ℕ). get_or old.places.values j group) same ∙ sym read in
+      absurd (apart (ap (λ (g : Group). g.owner) e ∙ own))
+  | inr away ↦ rw (values, epochs) (record {
+    is_used = record { within = omega (arith, has.is_used.within, length-set old.places.values place next); used = has.is_used.used };
+    there = λ d. get_or-set_other old.places.values place n next d away ∙ has.there d;
+  })
+]
 
 module _ {A : Type 0} where
   -- an entry that is a number
@@ -62,7 +48,7 @@ module _ {A : Type 0} where
   pub group_goes : (old new : Slabs A) (epoch i entry : ℕ) (change : Change) (group : Group) (numbers : List ℕ)
       → 2 ^ 31 ≤ entry → group ≡ get_or old.groups.places.values (entry - 2 ^ 31) group → AreNumbersAfter old epoch change group.numbers numbers 256
       → new.routes ≡ old.routes → new.groups.places.epochs ≡ old.groups.places.epochs
-      → new.groups.places.values ≡ with_value old.groups.places.values (entry - 2 ^ 31) (record { numbers = numbers; owner = i })
+      → new.groups.places.values ≡ set old.groups.places.values (entry - 2 ^ 31) (record { numbers = numbers; owner = i })
       → LeadsAfter old new epoch change i entry entry
   group_goes old new epoch i entry change group numbers long is are routes epochs values t k answer within before leads =
       let names = long_group old t i entry k answer leads long in
@@ -77,25 +63,14 @@ module _ {A : Type 0} where
         long = names.long;
         named = replaced old.groups new.groups t names.place names.group next (rw place at values) epochs names.named;
         own = refl;
-        within = omega (arith, within, are.size);
         number = rw routes (are.each k within t answer before had);
       })
 
   -- the entries of others lead where they led
   leads_others : (old new : Slabs A) (i t j entry k : ℕ) (answer : Option Route)
       → KeepsOthers i old new → j ≢ i → Leads old t j entry k answer → Leads new t j entry k answer
-  leads_others old new i t j entry k answer keeps other leads = elim leads [
-    | inl whole ↦ inl (record { short = whole.short; has = rw keeps.routes whole.has })
-    | inr names ↦ inr (record {
-      place = names.place;
-      group = names.group;
-      long = names.long;
-      named = keeps.groups t names.place names.group (λ e. other (sym names.own ∙ e)) names.named;
-      own = names.own;
-      within = names.within;
-      number = rw keeps.routes names.number;
-    })
-  ]
+  leads_others old new i t j entry k answer keeps other =
+      leads_still old new t t j entry k answer (λ n has. rw keeps.routes has) (λ n group own. keeps.groups t n group (λ e. other (sym own ∙ e)))
 
   -- one more entry is changed
   pub until_more : (entries : List ℕ) (slabs more : Slabs A) (epoch marked entry next place : ℕ) (change : Change) (span : Span) (old new : List Route)
@@ -103,26 +78,19 @@ module _ {A : Type 0} where
       → entry ≡ get_or entries place 0 → LeadsAfter slabs more epoch change place entry next
       → AreUntil entries slabs epoch marked old new place → AreUntil (set entries place next) more epoch marked old new (place + 1)
   until_more entries slabs more epoch marked entry next place change span old new is from below keeps within e goes are =
-      let others : (table : List Route) (t i : ℕ) → i ≢ place → IsEntry table slabs t i (get_or entries i 0)
-      → IsEntry table more t i (get_or (set entries place next) i 0) =
-      λ table t i other entry_is k small.
-      subst (λ (x : ℕ). Leads more t i x k (look_up (at (i * 256 + k)) table)) (sym (get_or-set_other entries place i next 0 other))
-      (leads_others slabs more place t i (get_or entries i 0) k (look_up (at (i * 256 + k)) table) keeps other (entry_is k small)) in
+      let others : (table : List Route) (t i : ℕ) → i ≢ place → IsEntry table slabs t i (get_or entries i 0) → IsEntry table more t i (get_or entries i 0) =
+      λ table t i other entry_is k small. leads_others slabs more place t i (get_or entries i 0) k (look_up (at (i * 256 + k)) table) keeps other (entry_is k small) in
       record {
         size = length-set entries place next ∙ are.size;
-        before = λ t i earlier here since. elim (cases_eq i place) [
-          | inl same ↦
-              let fits : place < 2 ^ 24 = omega (arith, within, are.size) in
-              let still = subst (λ (j : ℕ). IsSince epoch marked j t) same since in
-              subst (λ (j : ℕ). IsEntry new more t j (get_or (set entries place next) j 0)) (sym same)
-              (λ k small.
-              subst (λ (x : ℕ). Leads more t place x k (look_up (at (place * 256 + k)) new)) (sym (get_or-set_same entries place next 0 within))
-              (subst (λ (a : Option Route). Leads more t place next k a) (sym (is.within place k from below small))
-              (goes t k (look_up (at (place * 256 + k)) old) small since.upto
-              (subst (λ (x : ℕ). Leads slabs t place x k (look_up (at (place * 256 + k)) old)) (sym e) (are.behind t place (omega arith) fits still k small)))))
-          | inr other ↦ others new t i other (are.before t i (omega (arith, earlier, other)) here since)
-        ];
-        behind = λ t i later here since. others old t i (omega (arith, later)) (are.behind t i (omega (arith, later)) here since);
+        before = λ t. each_set (λ i x. i < place + 1 → i < 2 ^ 24 → IsSince epoch marked i t → IsEntry new more t i x) entries place next within
+            (λ _ fits since k small.
+            subst (λ (a : Option Route). Leads more t place next k a) (sym (is.within place k from below small))
+            (goes t k (look_up (at (place * 256 + k)) old) small since.upto
+            (subst (λ (x : ℕ). Leads slabs t place x k (look_up (at (place * 256 + k)) old)) (sym e) (are.behind t place (omega arith) fits since k small))))
+            (λ i other earlier here since. others new t i other (are.before t i (omega (arith, earlier, other)) here since));
+        behind = λ t. each_set (λ i x. place + 1 ≤ i → i < 2 ^ 24 → IsSince epoch marked i t → IsEntry old more t i x) entries place next within
+            (λ later fits since. absurd (omega (arith, later)))
+            (λ i other later here since. others old t i other (are.behind t i (omega (arith, later)) here since));
       }
 
   -- one more number of a group
@@ -130,12 +98,9 @@ module _ {A : Type 0} where
       → IsNumberAfter slabs epoch change (get_or old k 0) number → AreNumbersAfter slabs epoch change old new k
       → AreNumbersAfter slabs epoch change old (set new k number) (k + 1)
   numbers_more slabs epoch change old new k number below goes are = record {
-    size = omega (arith, are.size, length-set new k number);
-    each = below_more (λ (j : ℕ). IsNumberAfter slabs epoch change (get_or old j 0) (get_or (set new k number) j 0)) k
-        (λ j earlier.
-        let other : j ≢ k = omega arith in
-        subst (λ (n : ℕ). IsNumberAfter slabs epoch change (get_or old j 0) n) (sym (get_or-set_other new k j number 0 other)) (are.each j earlier))
-        (subst (λ (n : ℕ). IsNumberAfter slabs epoch change (get_or old k 0) n) (sym (get_or-set_same new k number 0 (omega (arith, below, are.size)))) goes);
+    size = length-set new k number ∙ are.size;
+    each = each_set (λ j n. j < k + 1 → IsNumberAfter slabs epoch change (get_or old j 0) n) new k number (omega (arith, below, are.size)) (λ _. goes)
+        (λ j other earlier. are.each j (omega (arith, earlier, other)));
   }
 
   -- the entries of one table are those of another that answers alike

@@ -1,18 +1,144 @@
--- What entries, pieces and numbers lead to, while places are taken and marked.
-use Rattle.std.proofs.Common.{◌≡◌, ℕ, ◌+◌, ◌*◌, ◌^◌, ◌<◌, ◌≤◌, ◌≢◌, List, length, get_or, get_or-set_other, get_or-set_same, Option, subst, sym, ◌∙◌, below_more, zero-add, inl, inr, arith}
+-- What entries, pieces and numbers lead to, while places are filled and marked, and entries are renewed.
+use Rattle.std.proofs.Common.{◌≡◌, ℕ, ◌+◌, ◌*◌, ◌-◌, ◌/◌, ◌%◌, ◌^◌, ◌<◌, ◌≤◌, ◌⊎◌, List, [], ◌++◌, length, take, drop, get_or, Option, subst, sym, refl, ◌∙◌, zero-add, inl, inr, arith}
 use Rattle.std.proofs.Math.ListN.{set}
-use Rattle.std.proofs.lemmas.List.{length-set}
-use Rattle.std.proofs.lemmas.Bool.{cases_lt, cases_eq}
+use Rattle.std.proofs.lemmas.List.{append-nil, drop_all, length-set, take_all}
+use Rattle.std.proofs.lemmas.Bool.{cases_lt}
+use Rattle.rt_cidr.specs.declared.prefixes.Prefix.{Prefix}
 use Rattle.rt_rib.specs.declared.routes.Route.{Route}
 use Rattle.rt_rib.specs.LookUp.{look_up}
+use Rattle.rt_fib.specs.declared.filling.Filling.{Filling}
 use Rattle.rt_fib.specs.declared.filling.Piece.{Piece}
+use Rattle.rt_fib.specs.declared.slabs.Group.{Group}
 use Rattle.rt_fib.specs.declared.slabs.Slabs.{Slabs}
-use Rattle.rt_fib.specs.inside.Slabs.{KeepsBoth}
-use Rattle.rt_fib.specs.inside.Entries.{at, HasRoute, IsSince, Leads, IsEntry, AreFrom, AreMarked, LeadsOn}
-use Rattle.rt_fib.specs.inside.Pieces.{IsNumberedFrom, AreNumbers}
-use Rattle.rt_fib.proofs.Placing.{weaker}
+use Rattle.rt_fib.specs.declared.spans.Span.{Span}
+use Rattle.rt_fib.specs.inside.Slab.{Has, Places}
+use Rattle.rt_fib.specs.inside.Entries.{at, AreFrom, AreMarked, AreNumbers, FillsBoth, GoesOn, HasRoute, IsEntry, IsNumberedFrom, IsSince, KeepsBoth, Leads, LeadsOn, NamesGroup}
+use Rattle.rt_fib.specs.inside.Changes.{AreEntriesOf, ArePut, PreservesLookupsOutside}
+use Rattle.rt_fib.proofs.Placing.{both_fill_same, both_fill_twice, each_set, weaker}
+
+-- a slice that was lent whole
+pub lent_whole : (old new : List ℕ) (n : ℕ) → n ≡ length old → length new ≡ length old → take n (new ++ drop (length new) old) ≡ new
+lent_whole old new n size same =
+    let none : drop (length new) old ≡ [] = drop_all (length new) old (omega (arith, same)) in
+    rw (none, append-nil new) (take_all n new (omega (arith, size, same)))
+
+-- what stands at the number is the answer
+pub value_read : {T : Type 0} → (places : Places T) (epoch n : ℕ) (value read : T)
+    → Has places epoch n value → read ≡ get_or places.values n read → read ≡ value
+value_read places epoch n value read has is = is ∙ has.there read
 
 module _ {A : Type 0} where
+  -- an address's entry leads to its answer
+  pub entry_leads : (entries : List ℕ) (slabs : Slabs A) (epoch marked : ℕ) (table : List Route) (n entry : ℕ)
+      → AreMarked entries slabs epoch marked table → n < 2 ^ 32 → entry ≡ get_or entries (n / 256) 0
+      → Leads slabs epoch (n / 256) entry (n % 256) (look_up (at n) table)
+  entry_leads entries slabs epoch marked table n entry are fits is =
+      let whole : n / 256 * 256 + n % 256 ≡ n = omega arith in
+      let since : IsSince epoch marked (n / 256) epoch = record { from = omega arith; upto = omega arith; unmarked = λ _. omega arith } in
+      subst (λ (m : ℕ). Leads slabs epoch (n / 256) entry (n % 256) (look_up (at m) table)) whole
+      (subst (λ (m : ℕ). Leads slabs epoch (n / 256) m (n % 256) (look_up (at (n / 256 * 256 + n % 256)) table)) (sym is)
+      (are.each epoch (n / 256) (omega arith) since (n % 256) (omega arith)))
+
+  module _ (slabs : Slabs A) (epoch i entry k : ℕ) (answer : Option Route) where
+    -- a short entry is the number of the answer
+    pub short_number : Leads slabs epoch i entry k answer → entry < 2 ^ 31 → HasRoute slabs epoch entry answer
+    short_number leads short = elim leads [
+      | inl whole ↦ whole.has
+      | inr names ↦ absurd (omega (arith, names.long))
+    ]
+
+    -- a long one names a group
+    pub long_group : Leads slabs epoch i entry k answer → 2 ^ 31 ≤ entry → NamesGroup slabs epoch i entry k answer
+    long_group leads long = elim leads [
+      | inl whole ↦ absurd (omega (arith, whole.short))
+      | inr names ↦ names
+    ]
+
+    -- and this is the group
+    pub group_is : (read : Group) → (names : NamesGroup slabs epoch i entry k answer) → read ≡ get_or slabs.groups.places.values (entry - 2 ^ 31) read
+        → read ≡ names.group
+    group_is read names is =
+        let e : entry - 2 ^ 31 ≡ names.place = omega (arith, names.long) in
+        let there : read ≡ get_or slabs.groups.places.values names.place read =
+        subst (λ (b : ℕ). read ≡ get_or slabs.groups.places.values b read) e is in
+        value_read slabs.groups.places epoch names.place names.group read names.named there
+
+    -- so what stands there has the number of the answer
+    pub group_read : (read : Group) → NamesGroup slabs epoch i entry k answer → read ≡ get_or slabs.groups.places.values (entry - 2 ^ 31) read
+        → HasRoute slabs epoch (get_or read.numbers k 0) answer
+    group_read read names is = subst (λ (g : Group). HasRoute slabs epoch (get_or g.numbers k 0) answer) (sym (group_is read names is)) names.number
+
+  -- an entry leads where it led, if the answers and its group stay
+  pub leads_still : (old new : Slabs A) (s t i entry k : ℕ) (answer : Option Route)
+      → ((n : ℕ) → HasRoute old s n answer → HasRoute new t n answer)
+      → ((n : ℕ) (group : Group) → group.owner ≡ i → Has old.groups.places s n group → Has new.groups.places t n group)
+      → Leads old s i entry k answer → Leads new t i entry k answer
+  leads_still old new s t i entry k answer routes groups leads = elim leads [
+    | inl whole ↦ inl (record { short = whole.short; has = routes entry whole.has })
+    | inr names ↦ inr (record {
+      place = names.place;
+      group = names.group;
+      long = names.long;
+      named = groups names.place names.group names.own names.named;
+      own = names.own;
+      number = routes (get_or names.group.numbers k 0) names.number;
+    })
+  ]
+
+  pub leads_keeps : (old new : Slabs A) (epoch t i entry k : ℕ) (answer : Option Route)
+      → KeepsBoth epoch old new → epoch ≤ t → Leads old t i entry k answer → Leads new t i entry k answer
+  leads_keeps old new epoch t i entry k answer keeps lo =
+      leads_still old new t t i entry k answer (λ n. keeps.routes.each t n answer lo) (λ n group _. keeps.groups.each t n group lo)
+
+  -- to what is in use since an earlier epoch too
+  pub leads_weaker : (slabs : Slabs A) (s t i entry k : ℕ) (answer : Option Route)
+      → s ≤ t → Leads slabs t i entry k answer → Leads slabs s i entry k answer
+  leads_weaker slabs s t i entry k answer before =
+      leads_still slabs slabs t s i entry k answer (λ n. weaker slabs.routes.places s t n answer before)
+      (λ n group _. weaker slabs.groups.places s t n group before)
+
+  -- an entry that names its group of the numbers
+  pub group_entry : (table : List Route) (slabs : Slabs A) (epoch i j place : ℕ) (group : Group)
+      → j ≡ i → group.owner ≡ i → Has slabs.groups.places epoch place group → AreNumbers table group.numbers slabs epoch (i * 256) 256
+      → IsEntry table slabs epoch j (2 ^ 31 + place)
+  group_entry table slabs epoch i j place group same own has are k within = inr (record {
+    place = place;
+    group = group;
+    long = omega arith;
+    named = has;
+    own = omega (arith, own, same);
+    number = rw same (are k within);
+  })
+
+  -- an answer's number, which is marked
+  pub whole_on : (old new : Slabs A) (epoch entry : ℕ) → entry < 2 ^ 31
+      → ((answer : Option Route) → HasRoute old epoch entry answer → HasRoute new (epoch + 1) entry answer) → LeadsOn old new epoch entry entry
+  whole_on old new epoch entry short marked i k answer within leads =
+      inl (record { short = short; has = marked answer (short_number old epoch i entry k answer leads short) })
+
+  -- a group's number
+  pub group_on : (old new : Slabs A) (epoch entry : ℕ) (read : Group)
+      → 2 ^ 31 ≤ entry → read ≡ get_or old.groups.places.values (entry - 2 ^ 31) read
+      → ((group : Group) → Has old.groups.places epoch (entry - 2 ^ 31) group → Has new.groups.places (epoch + 1) (entry - 2 ^ 31) group)
+      → ((k : ℕ) (answer : Option Route) → k < 256 → HasRoute old epoch (get_or read.numbers k 0) answer
+      → HasRoute new (epoch + 1) (get_or read.numbers k 0) answer)
+      → LeadsOn old new epoch entry entry
+  group_on old new epoch entry read long is marked on i k answer within leads =
+      let names = long_group old epoch i entry k answer leads long in
+      let place : entry - 2 ^ 31 ≡ names.place = omega (arith, names.long) in
+      let e : read ≡ names.group = group_is old epoch i entry k answer read names is in
+      let was : Has old.groups.places epoch (entry - 2 ^ 31) names.group =
+      subst (λ (p : ℕ). Has old.groups.places epoch p names.group) (sym place) names.named in
+      inr (record {
+        place = names.place;
+        group = names.group;
+        long = names.long;
+        named = subst (λ (p : ℕ). Has new.groups.places (epoch + 1) p names.group) place (marked names.group was);
+        own = names.own;
+        number = subst (λ (g : Group). HasRoute new (epoch + 1) (get_or g.numbers k 0) answer) e
+            (on k answer within (group_read old epoch i entry k answer read names is));
+      })
+
   -- a piece stays one, from each later address too
   pub piece_keeps : (table : List Route) (old new : Slabs A) (epoch t from later : ℕ) (piece : Piece)
       → KeepsBoth epoch old new → epoch ≤ t → from ≤ later → IsNumberedFrom table old t from piece → IsNumberedFrom table new t later piece
@@ -25,47 +151,9 @@ module _ {A : Type 0} where
   pub numbers_set : (table : List Route) (numbers : List ℕ) (old new : Slabs A) (epoch t first k number : ℕ)
       → KeepsBoth epoch old new → epoch ≤ t → k < length numbers → AreNumbers table numbers old t first k
       → HasRoute new t number (look_up (at (first + k)) table) → AreNumbers table (set numbers k number) new t first (k + 1)
-  numbers_set table numbers old new epoch t first k number keeps lo within are one = record {
-    size = omega (arith, length-set numbers k number, within);
-    each = below_more (λ (j : ℕ). HasRoute new t (get_or (set numbers k number) j 0) (look_up (at (first + j)) table)) k
-        (λ j below.
-        let other : j ≢ k = omega arith in
-        subst (λ (n : ℕ). HasRoute new t n (look_up (at (first + j)) table)) (sym (get_or-set_other numbers k j number 0 other))
-        (keeps.routes.each t (get_or numbers j 0) (look_up (at (first + j)) table) lo (are.each j below)))
-        (subst (λ (n : ℕ). HasRoute new t n (look_up (at (first + k)) table)) (sym (get_or-set_same numbers k number 0 within)) one);
-  }
-
-  -- an entry leads where it led
-  pub leads_keeps : (old new : Slabs A) (epoch t i entry k : ℕ) (answer : Option Route)
-      → KeepsBoth epoch old new → epoch ≤ t → Leads old t i entry k answer → Leads new t i entry k answer
-  leads_keeps old new epoch t i entry k answer keeps lo leads = elim leads [
-    | inl whole ↦ inl (record { short = whole.short; has = keeps.routes.each t entry answer lo whole.has })
-    | inr names ↦ inr (record {
-      place = names.place;
-      group = names.group;
-      long = names.long;
-      named = keeps.groups.each t names.place names.group lo names.named;
-      own = names.own;
-      within = names.within;
-      number = keeps.routes.each t (get_or names.group.numbers k 0) answer lo names.number;
-    })
-  ]
-
-  -- to what is in use since an earlier epoch too
-  pub leads_weaker : (slabs : Slabs A) (s t i entry k : ℕ) (answer : Option Route)
-      → s ≤ t → Leads slabs t i entry k answer → Leads slabs s i entry k answer
-  leads_weaker slabs s t i entry k answer before leads = elim leads [
-    | inl whole ↦ inl (record { short = whole.short; has = weaker slabs.routes.places s t entry answer before whole.has })
-    | inr names ↦ inr (record {
-      place = names.place;
-      group = names.group;
-      long = names.long;
-      named = weaker slabs.groups.places s t names.place names.group before names.named;
-      own = names.own;
-      within = names.within;
-      number = weaker slabs.routes.places s t (get_or names.group.numbers k 0) answer before names.number;
-    })
-  ]
+  numbers_set table numbers old new epoch t first k number keeps lo within are one =
+      each_set (λ j n. j < k + 1 → HasRoute new t n (look_up (at (first + j)) table)) numbers k number within (λ _. one)
+      (λ j other below. keeps.routes.each t (get_or numbers j 0) (look_up (at (first + j)) table) lo (are j (omega (arith, below, other))))
 
   -- more entries, which are the same
   pub from_run : (first : ℕ) (entries longer : List ℕ) (old new : Slabs A) (table : List Route)
@@ -116,13 +204,64 @@ module _ {A : Type 0} where
       record {
         size = length-set entries marked next ∙ are.size;
         within = omega (arith, below);
-        each = λ t i here since. elim (cases_eq i marked) [
-          | inl same ↦ subst (λ (j : ℕ). IsEntry table new t j (get_or (set entries marked next) j 0)) (sym same)
-              (subst (λ (e : ℕ). IsEntry table new t marked e) (sym (get_or-set_same entries marked next 0 (omega (arith, below, are.size))))
-              (λ k within. leads_weaker new t (epoch + 1) marked next k (look_up (at (marked * 256 + k)) table) since.upto
-              (on marked k (look_up (at (marked * 256 + k)) table) within
-              (subst (λ (e : ℕ). Leads old epoch marked e k (look_up (at (marked * 256 + k)) table)) (sym is) (are.each epoch marked below first k within)))))
-          | inr other ↦ subst (λ (e : ℕ). IsEntry table new t i e) (sym (get_or-set_other entries marked i next 0 other))
-              (kept.each t i here (record { from = since.from; upto = since.upto; unmarked = λ after. since.unmarked (omega (arith, after, other)) }))
+        each = λ t. each_set (λ i e. i < 2 ^ 24 → IsSince epoch (marked + 1) i t → IsEntry table new t i e) entries marked next (omega (arith, below, are.size))
+            (λ here since k within. leads_weaker new t (epoch + 1) marked next k (look_up (at (marked * 256 + k)) table) since.upto
+            (on marked k (look_up (at (marked * 256 + k)) table) within
+            (subst (λ (e : ℕ). Leads old epoch marked e k (look_up (at (marked * 256 + k)) table)) (sym is) (are.each epoch marked below first k within))))
+            (λ i other here since.
+            kept.each t i here (record { from = since.from; upto = since.upto; unmarked = λ after. since.unmarked (omega (arith, after, other)) }));
+      }
+
+module _ {A B : Type 0} where
+  -- the filling, step by step
+  pub goes_same : (f : Filling B) (xs : Slabs A) → GoesOn f f xs xs
+  goes_same f xs = record { table = refl; epoch = refl; fills = both_fill_same f.epoch.number xs }
+
+  pub goes_fills : (f g : Filling B) (xs ys zs : Slabs A) → GoesOn f g xs ys → FillsBoth g.epoch.number ys zs → GoesOn f g xs zs
+  goes_fills f g xs ys zs goes fills =
+      record { table = goes.table; epoch = goes.epoch; fills = both_fill_twice f.epoch.number xs ys zs goes.fills (rw goes.epoch at fills) }
+
+  pub goes_twice : (f g h : Filling B) (xs ys zs : Slabs A) → GoesOn f g xs ys → GoesOn g h ys zs → GoesOn f h xs zs
+  goes_twice f g h xs ys zs first then = record {
+    table = then.table ∙ first.table;
+    epoch = then.epoch ∙ first.epoch;
+    fills = (goes_fills f g xs ys zs first then.fills).fills;
+  }
+
+module _ {A : Type 0} (prefix : Prefix) (span : Span) (old new fresh : List ℕ) (slabs more : Slabs A) (epoch : ℕ) (table next : List Route) where
+  -- the span's entries are those that were put
+  entry_put : ArePut old new fresh span.first (length fresh) → AreFrom span.first fresh more (epoch + 1) next (span.end - span.first)
+      → (i : ℕ) → span.first ≤ i → i < span.end → IsEntry next more (epoch + 1) i (get_or new i 0)
+  entry_put put are i from below =
+      let whole : span.first + (i - span.first) ≡ i = omega (arith, from) in
+      let within : i - span.first < span.end - span.first = omega (arith, from, below) in
+      let placed : get_or new (span.first + (i - span.first)) 0 ≡ get_or fresh (i - span.first) 0 =
+      put.there (i - span.first) (omega (arith, are.size, within)) in
+      subst (λ (n : ℕ). IsEntry next more (epoch + 1) n (get_or new n 0)) whole
+      (subst (λ (m : ℕ). IsEntry next more (epoch + 1) (span.first + (i - span.first)) m) (sym placed) (are.each (i - span.first) within))
+
+  -- all entries, once those of the prefix are renewed
+  pub renewed_all : (marked : ℕ) → AreEntriesOf prefix span → AreMarked old slabs epoch marked table
+      → KeepsBoth epoch slabs more → ArePut old new fresh span.first (length fresh)
+      → AreFrom span.first fresh more (epoch + 1) next (span.end - span.first) → PreservesLookupsOutside prefix table next
+      → AreMarked new more epoch marked next
+  renewed_all marked of_prefix was keeps put are kept =
+      let stays : (t i : ℕ) → i < 2 ^ 24 → IsSince epoch marked i t → (i < span.first) ⊎ (span.end ≤ i) → get_or new i 0 ≡ get_or old i 0
+      → IsEntry next more t i (get_or new i 0) =
+      λ t i here since out same k within.
+      let lead = leads_keeps slabs more epoch t i (get_or old i 0) k (look_up (at (i * 256 + k)) table) keeps since.from (was.each t i here since k within) in
+      let alike : look_up (at (i * 256 + k)) table ≡ look_up (at (i * 256 + k)) next = kept (at (i * 256 + k)) (of_prefix.outside i k here within out) in
+      subst (λ (e : ℕ). Leads more t i e k (look_up (at (i * 256 + k)) next)) (sym same)
+      (subst (λ (a : Option Route). Leads more t i (get_or old i 0) k a) alike lead) in
+      record {
+        size = put.size ∙ was.size;
+        within = was.within;
+        each = λ t i here since. elim (cases_lt i span.first) [
+          | inl before ↦ stays t i here since (inl before) (put.before i before)
+          | inr from ↦ elim (cases_lt i span.end) [
+            | inl below ↦ λ k within. leads_weaker more t (epoch + 1) i (get_or new i 0) k (look_up (at (i * 256 + k)) next) since.upto
+                (entry_put put are i from below k within)
+            | inr behind ↦ stays t i here since (inr behind) (put.behind i (omega (arith, are.size, behind, of_prefix.ordered)))
+          ]
         ];
       }

@@ -1,14 +1,8 @@
 pub mod Placing
-pub mod Both
 pub mod HopCodes
 pub mod Leading
-pub mod Reading
-pub mod Renewing
-pub mod Marks
-pub mod Outside
 pub mod Others
 pub mod Changing
-pub mod Withdrawing
 pub mod Crossing
 pub mod Shown
 pub mod Promised

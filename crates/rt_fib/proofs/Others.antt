@@ -1,11 +1,12 @@
 -- What a command leaves of the routes to other prefixes, and what follows for look-ups: the answers of longer prefixes stay, and all
 -- other addresses of the prefix have one answer.
-use Rattle.std.proofs.Common.{◌≡◌, ℕ, ◌+◌, ◌*◌, ◌^◌, ◌<◌, ◌≤◌, ◌≢◌, ◌==◌, Bool, true, false, inl, inr, List, Option, None, Some, eqb, nat_le, if◌then◌else◌, subst, sym, refl, ap, ◌∙◌, arith}
-use Rattle.std.proofs.lemmas.Bool.{cases_lt, and_from, eq-eqb, eqb-true, ltb-true, ltb-false, cond-true, cond-false}
+use Rattle.std.proofs.Common.{◌≡◌, ◌↔◌, ℕ, ◌+◌, ◌*◌, ◌/◌, ◌^◌, ◌<◌, ◌≤◌, ◌≢◌, ◌==◌, Bool, true, false, inl, inr, List, Option, None, Some, eqb, nat_le, if◌then◌else◌, subst, sym, refl, ap, ◌∙◌, arith}
+use Rattle.std.proofs.lemmas.Bool.{cases_Bool, cases_lt, and_from, and_parts, both_ways, eq-eqb, eqb-true, ltb-true, ltb-false, cond-true, cond-false}
 use Rattle.std.specs.List.{Contains}
 use Rattle.rt_cidr.specs.declared.address.Addr.{Addr}
 use Rattle.rt_cidr.specs.declared.prefixes.Prefix.{Prefix}
 use Rattle.rt_cidr.specs.Prefix.{covers, contains, same_prefix}
+use Rattle.rt_cidr.specs.Cidr.{size_of}
 use Rattle.rt_cidr.specs.Laws.{CoversItsRange, ContainsWhatItCovers, CoveringAreNested}
 use Rattle.rt_rib.specs.declared.routes.Route.{Route}
 use Rattle.rt_rib.specs.declared.commands.Cmd.{Cmd}
@@ -19,9 +20,44 @@ use Rattle.rt_rib.specs.Laws.{PutInAdds, TakeOutLeavesOthers, LookUpFindsBest, I
 use Rattle.rt_fib.specs.declared.spans.Span.{Span}
 use Rattle.rt_fib.specs.Laws.{PreservesOtherRoutes, KeepsOtherRoutes}
 use Rattle.rt_fib.specs.inside.Entries.{at}
-use Rattle.rt_fib.specs.inside.Spans.{PreservesLookupsOutside, AreEntriesOf, IsWholly}
-use Rattle.rt_fib.specs.inside.Changes.{is_longer, answer_after, AnswerAlike, IsChange}
-use Rattle.rt_fib.proofs.Outside.{either, not_both, second_part, same_covers, found_alike}
+use Rattle.rt_fib.specs.inside.Changes.{PreservesLookupsOutside, AreEntriesOf, IsWholly, is_longer, answer_after, AnswerAlike, IsChange}
+
+-- the same prefix covers the same addresses
+same_covers : (p q : Prefix) (addr : Addr) → same_prefix p q ≡ true → covers p addr ≡ covers q addr
+same_covers p q addr same =
+    let parts = and_parts (p.base == q.base) (p.len == q.len) same in
+    ap (λ (b : ℕ). (addr.0 / size_of p.len) == (b / size_of p.len)) (eqb-true p.base q.base parts.0)
+    ∙ ap (λ (l : ℕ). (addr.0 / size_of l) == (q.base / size_of l)) (eqb-true p.len q.len parts.1)
+
+-- the routes of one table that cover one address are those of the other that cover the other one
+abbrev CoverAlike : Addr → Addr → List Route → List Route → Type 0
+CoverAlike a b t u = (x : Route) → (Contains t x × (covers x.prefix a ≡ true)) ↔ (Contains u x × (covers x.prefix b ≡ true))
+
+-- so what is best in one is best in the other
+best_in_both : (a b : Addr) (t u : List Route) (r : Route) → CoverAlike a b t u → IsBestMatch a t r → IsBestMatch b u r
+best_in_both a b t u r alike is =
+    let here = (alike r).0 (is.contained, is.covering) in
+    record {
+      contained = here.0;
+      covering = here.1;
+      longest = λ s there covering. let was = (alike s).1 (there, covering) in is.longest s was.0 was.1;
+      best = λ s there covering long. let was = (alike s).1 (there, covering) in is.best s was.0 was.1 long;
+    }
+
+-- and look-ups find the same
+found_alike : (a b : Addr) (t u : List Route) → LookUpFindsBest → IsTable t → IsTable u → CoverAlike a b t u → look_up a t ≡ look_up b u
+found_alike a b t u finds of_t of_u alike =
+    let in_t = finds a t of_t in
+    let in_u = finds b u of_u in
+    let P : Option Route → Type 0 = λ v. look_up a t ≡ v → v ≡ look_up b u in
+    let at_each : (v : Option Route) → look_up a t ≡ v → v ≡ look_up b u = λ v. elim v as P [
+      | Some r ↦ λ e. sym ((in_u.0 r).1 (best_in_both a b t u r alike ((in_t.0 r).0 e)))
+      | None ↦ λ e. sym (in_u.1.1 (λ s there. elim (cases_Bool (covers s.prefix b)) [
+        | inl covering ↦ let was = (alike s).1 (there, covering) in absurd (both_ways _ (in_t.1.0 e s was.0) was.1)
+        | inr misses ↦ misses
+      ]))
+    ] in
+    at_each (look_up a t) refl
 
 -- a prefix is the same as itself
 same_itself : (p : Prefix) → same_prefix p p ≡ true
@@ -34,15 +70,15 @@ module _ (prefix : Prefix) (t : List Route) where
     (λ c. (adds r x t).1 (inl c)),
     (λ c. elim ((adds r x t).0 c) [
       | inl there ↦ there
-      | inr is ↦ absurd (not_both other (ap (λ (y : Route). same_prefix y.prefix prefix) (sym is) ∙ same))
+      | inr is ↦ absurd (both_ways _ other (ap (λ (y : Route). same_prefix y.prefix prefix) (sym is) ∙ same))
     ]),
   )
 
   -- a route taken out
   taken_others : (feed : ℕ) → TakeOutLeavesOthers → PreservesOtherRoutes prefix t (take_out feed prefix t)
   taken_others feed leaves x other =
-      let another : is_of feed prefix x ≡ false = elim (either (is_of feed prefix x)) [
-        | inl is ↦ absurd (not_both other (second_part (x.feed == feed) (same_prefix x.prefix prefix) is))
+      let another : is_of feed prefix x ≡ false = elim (cases_Bool (is_of feed prefix x)) [
+        | inl is ↦ absurd (both_ways _ other ((and_parts (x.feed == feed) (same_prefix x.prefix prefix) is).1))
         | inr apart ↦ apart
       ] in
       ((λ c. (leaves feed prefix x t).1 (c, another)), (λ c. ((leaves feed prefix x t).0 c).0))
@@ -86,8 +122,8 @@ served_others old new feed cmd reply adds leaves serves =
 
 -- a prefix of another length is another
 another_length : (p q : Prefix) → p.len ≢ q.len → same_prefix p q ≡ false
-another_length p q differ = elim (either (same_prefix p q)) [
-  | inl same ↦ absurd (differ (eqb-true _ _ (second_part (p.base == q.base) (p.len == q.len) same)))
+another_length p q differ = elim (cases_Bool (same_prefix p q)) [
+  | inl same ↦ absurd (differ (eqb-true _ _ ((and_parts (p.base == q.base) (p.len == q.len) same).1)))
   | inr other ↦ other
 ]
 
@@ -96,8 +132,8 @@ module _ (prefix : Prefix) (t u : List Route) (finds : LookUpFindsBest) (of_t : 
   pub outside_stays : PreservesLookupsOutside prefix t u
   outside_stays addr misses =
       let other : (x : Route) → covers x.prefix addr ≡ true → same_prefix x.prefix prefix ≡ false =
-      λ x covering. elim (either (same_prefix x.prefix prefix)) [
-        | inl same ↦ absurd (not_both misses (sym (same_covers x.prefix prefix addr same) ∙ covering))
+      λ x covering. elim (cases_Bool (same_prefix x.prefix prefix)) [
+        | inl same ↦ absurd (both_ways _ misses (sym (same_covers x.prefix prefix addr same) ∙ covering))
         | inr apart ↦ apart
       ] in
       found_alike addr addr t u finds of_t of_u
@@ -110,9 +146,9 @@ module _ (prefix : Prefix) (t u : List Route) (finds : LookUpFindsBest) (of_t : 
       record {
         contained = (others r other).0 is.contained;
         covering = is.covering;
-        longest = λ s there covering. elim (either (same_prefix s.prefix prefix)) [
+        longest = λ s there covering. elim (cases_Bool (same_prefix s.prefix prefix)) [
           | inl same ↦
-              let e : s.prefix.len ≡ prefix.len = eqb-true _ _ (second_part (s.prefix.base == prefix.base) (s.prefix.len == prefix.len) same) in
+              let e : s.prefix.len ≡ prefix.len = eqb-true _ _ ((and_parts (s.prefix.base == prefix.base) (s.prefix.len == prefix.len) same).1) in
               omega (arith, e, long)
           | inr apart ↦ is.longest s ((others s apart).1 there) covering
         ];
@@ -127,7 +163,7 @@ module _ (prefix : Prefix) (t u : List Route) (finds : LookUpFindsBest) (of_t : 
       let P : Option Route → Type 0 = λ v. look_up addr t ≡ v → is_longer prefix.len v ≡ true → look_up addr u ≡ v in
       let at_each : (v : Option Route) → look_up addr t ≡ v → is_longer prefix.len v ≡ true → look_up addr u ≡ v = λ v. elim v as P [
         | Some r ↦ λ e long. ((finds addr u of_u).0 r).1 (best_stays addr r (ltb-true _ _ long) (((finds addr t of_t).0 r).0 e))
-        | None ↦ λ e long. absurd (not_both refl long)
+        | None ↦ λ e long. absurd (both_ways _ refl long)
       ] in
       at_each (look_up addr t) refl
 
@@ -143,7 +179,7 @@ module _ (prefix : Prefix) (t : List Route) (finds : LookUpFindsBest) (of_t : Is
             let best = ((finds addr t of_t).0 r).0 e in
             let low : r.prefix.len ≤ prefix.len = ltb-false _ _ short in
             omega (arith, low, best.longest x there covering)
-        | None ↦ λ e short x there covering. absurd (not_both ((finds addr t of_t).1.0 e x there) covering)
+        | None ↦ λ e short x there covering. absurd (both_ways _ ((finds addr t of_t).1.0 e x there) covering)
       ] in
       at_each (look_up addr t) refl
 
@@ -162,58 +198,47 @@ module _ (prefix : Prefix) (t : List Route) (finds : LookUpFindsBest) (of_t : Is
       (λ x.
       ((λ is. (is.0, covers_both a b fits_b of_a of_b own_a x is.0 is.1)), (λ is. (is.0, covers_both b a fits_a of_b of_a own_b x is.0 is.1))))
 
--- the answer to each of the prefix's addresses after the change
-after_is : (prefix : Prefix) (t u : List Route) → LookUpFindsBest → CoveringAreNested → ContainsWhatItCovers → IsTable t → IsTable u
-    → PreservesOtherRoutes prefix t u → (own addr : Addr) → own.0 < 2 ^ 32 → addr.0 < 2 ^ 32 → covers prefix own ≡ true → covers prefix addr ≡ true
-    → is_longer prefix.len (look_up own t) ≡ false → look_up addr u ≡ answer_after prefix.len (look_up own u) (look_up addr t)
-after_is prefix t u finds covering_nest covers_all of_t of_u others own addr fits_own fits of_own of_addr is_own =
-    let back : PreservesOtherRoutes prefix u t = λ x apart. ((others x apart).1, (others x apart).0) in
-    let still : (a : Addr) → is_longer prefix.len (look_up a t) ≡ false → is_longer prefix.len (look_up a u) ≡ false =
-    λ a short. elim (either (is_longer prefix.len (look_up a u))) [
-      | inl long ↦
-          let same : look_up a t ≡ look_up a u = longer_stays prefix u t finds of_u of_t back a long in
-          absurd (not_both short (ap (is_longer prefix.len) same ∙ long))
-      | inr stays ↦ stays
-    ] in
-    elim (either (is_longer prefix.len (look_up addr t))) [
-      | inl long ↦
-          longer_stays prefix t u finds of_t of_u others addr long
-          ∙ sym (cond-true (is_longer prefix.len (look_up addr t)) (look_up addr t) (look_up own u) long)
-      | inr short ↦
-          own_alike prefix u finds of_u covering_nest covers_all addr own fits fits_own of_addr of_own (still addr short) (still own is_own)
-          ∙ sym (cond-false (is_longer prefix.len (look_up addr t)) (look_up addr t) (look_up own u) short)
-    ]
-
--- so the span is changed
-pub span_changes : (prefix : Prefix) (span : Span) (t u : List Route) → LookUpFindsBest → CoveringAreNested → ContainsWhatItCovers → CoversItsRange
-    → IsTable t → IsTable u → PreservesOtherRoutes prefix t u → AreEntriesOf prefix span → IsWholly prefix span → (own : Addr) → own.0 < 2 ^ 32
-    → covers prefix own ≡ true → is_longer prefix.len (look_up own t) ≡ false → IsChange prefix.len (look_up own u) span t u
-span_changes prefix span t u finds covering_nest covers_all range of_t of_u others are wholly own fits of_own is_own = record {
-  within = λ i k from below low.
-      let covered : covers prefix (at (i * 256 + k)) ≡ true =
-      (range prefix (at (i * 256 + k))).1 (omega (arith, from, wholly.first), omega (arith, below, low, wholly.end)) in
-      after_is prefix t u finds covering_nest covers_all of_t of_u others own (at (i * 256 + k)) fits (omega (arith, below, low, are.fits)) of_own covered is_own;
-  outside = λ i k fit low out. outside_stays prefix t u finds of_t of_u others (at (i * 256 + k)) (are.outside i k fit low out);
-}
-
--- if the new answer is the old one, nothing is changed
-pub nothing_changes : (prefix : Prefix) (span : Span) (t u : List Route) → LookUpFindsBest → CoveringAreNested → ContainsWhatItCovers → CoversItsRange
-    → IsTable t → AreEntriesOf prefix span → IsWholly prefix span → (own : Addr) → own.0 < 2 ^ 32 → covers prefix own ≡ true
-    → is_longer prefix.len (look_up own t) ≡ false → look_up own t ≡ look_up own u → IsChange prefix.len (look_up own u) span t u → AnswerAlike t u
-nothing_changes prefix span t u finds covering_nest covers_all range of_t are wholly own fits of_own is_own same change i k fit low =
-    let addr : Addr = at (i * 256 + k) in
-    elim (cases_lt i span.first) [
-      | inl before ↦ change.outside i k fit low (inl before)
-      | inr from ↦ elim (cases_lt i span.end) [
-        | inr behind ↦ change.outside i k fit low (inr behind)
-        | inl below ↦
-            let covered : covers prefix addr ≡ true = (range prefix addr).1 (omega (arith, from, wholly.first), omega (arith, below, low, wholly.end)) in
-            elim (either (is_longer prefix.len (look_up addr t))) [
-              | inl long ↦
-                  sym (change.within i k from below low ∙ cond-true (is_longer prefix.len (look_up addr t)) (look_up addr t) (look_up own u) long)
-              | inr short ↦
-                  own_alike prefix t finds of_t covering_nest covers_all addr own (omega (arith, fit, low)) fits covered of_own short is_own ∙ same
-                  ∙ sym (change.within i k from below low ∙ cond-false (is_longer prefix.len (look_up addr t)) (look_up addr t) (look_up own u) short)
-            ]
+module _ (prefix : Prefix) (span : Span) (t : List Route) (finds : LookUpFindsBest) (covering_nest : CoveringAreNested) (covers_all : ContainsWhatItCovers) (range : CoversItsRange) (of_t : IsTable t) (are : AreEntriesOf prefix span) (wholly : IsWholly prefix span) (own : Addr) (fits_own : own.0 < 2 ^ 32) (of_own : covers prefix own ≡ true) (is_own : is_longer prefix.len (look_up own t) ≡ false) where
+  -- the answer to each of the prefix's addresses after the change
+  after_is : (u : List Route) → IsTable u → PreservesOtherRoutes prefix t u → (addr : Addr) → addr.0 < 2 ^ 32 → covers prefix addr ≡ true
+      → look_up addr u ≡ answer_after prefix.len (look_up own u) (look_up addr t)
+  after_is u of_u others addr fits of_addr =
+      let back : PreservesOtherRoutes prefix u t = λ x apart. ((others x apart).1, (others x apart).0) in
+      let still : (a : Addr) → is_longer prefix.len (look_up a t) ≡ false → is_longer prefix.len (look_up a u) ≡ false =
+      λ a short. elim (cases_Bool (is_longer prefix.len (look_up a u))) [
+        | inl long ↦
+            let same : look_up a t ≡ look_up a u = longer_stays prefix u t finds of_u of_t back a long in
+            absurd (both_ways _ short (ap (is_longer prefix.len) same ∙ long))
+        | inr stays ↦ stays
+      ] in
+      elim (cases_Bool (is_longer prefix.len (look_up addr t))) [
+        | inl long ↦
+            longer_stays prefix t u finds of_t of_u others addr long
+            ∙ sym (cond-true (is_longer prefix.len (look_up addr t)) (look_up addr t) (look_up own u) long)
+        | inr short ↦
+            own_alike prefix u finds of_u covering_nest covers_all addr own fits fits_own of_addr of_own (still addr short) (still own is_own)
+            ∙ sym (cond-false (is_longer prefix.len (look_up addr t)) (look_up addr t) (look_up own u) short)
       ]
-    ]
+
+  -- so the span is changed
+  pub span_changes : (u : List Route) → IsTable u → PreservesOtherRoutes prefix t u → IsChange prefix.len (look_up own u) span t u
+  span_changes u of_u others = record {
+    within = λ i k from below low.
+        after_is u of_u others (at (i * 256 + k)) (omega (arith, below, low, are.fits))
+        ((range prefix (at (i * 256 + k))).1 (omega (arith, from, wholly.first), omega (arith, below, low, wholly.end)));
+    outside = λ i k fit low out. outside_stays prefix t u finds of_t of_u others (at (i * 256 + k)) (are.outside i k fit low out);
+  }
+
+  -- if the new answer is the old one, nothing is changed
+  pub nothing_changes : (u : List Route) → IsTable u → PreservesOtherRoutes prefix t u → look_up own t ≡ look_up own u → AnswerAlike t u
+  nothing_changes u of_u others same i k fit low =
+      let change = span_changes u of_u others in
+      elim (cases_lt i span.first) [
+        | inl before ↦ change.outside i k fit low (inl before)
+        | inr from ↦ elim (cases_lt i span.end) [
+          | inr behind ↦ change.outside i k fit low (inr behind)
+          | inl below ↦
+              (span_changes t of_t (itself prefix t)).within i k from below low
+              ∙ ap (λ (a : Option Route). answer_after prefix.len a (look_up (at (i * 256 + k)) t)) same ∙ sym (change.within i k from below low)
+        ]
+      ]

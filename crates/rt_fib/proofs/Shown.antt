@@ -1,7 +1,8 @@
 -- How numbers of next hops lead where the numbers of answers led.
-use Rattle.std.proofs.Common.{◌≡◌, ℕ, ◌+◌, ◌*◌, ◌/◌, ◌%◌, ◌<◌, ◌≤◌, inl, inr, List, [], ◌∷◌, ◌++◌, length, take, get_or, get_or-take, Option, Some, None, subst, sym, ap, ◌∙◌, arith}
-use Rattle.std.proofs.lemmas.Bool.{cases_lt}
-use Rattle.std.proofs.lemmas.List.{length-take, get_or_append_left, get_or_push, length_push}
+use Rattle.std.proofs.Common.{◌≡◌, ℕ, ◌+◌, ◌*◌, ◌/◌, ◌%◌, ◌<◌, ◌≤◌, inl, inr, List, [], ◌∷◌, ◌++◌, length, take, get_or, get_or-set_other, get_or-set_same, get_or-take, Option, Some, None, subst, sym, ap, ◌∙◌, arith}
+use Rattle.std.proofs.Math.ListN.{set}
+use Rattle.std.proofs.lemmas.Bool.{cases_eq, cases_lt}
+use Rattle.std.proofs.lemmas.List.{length-set, length-take, get_or_append_left, get_or_push, length_push}
 use Rattle.rt_rib.specs.declared.routes.Hop.{Hop}
 use Rattle.rt_rib.specs.declared.routes.Hop.TheVariants.{Via, Discard}
 use Rattle.rt_rib.specs.declared.routes.Route.{Route}
@@ -10,9 +11,9 @@ use Rattle.rt_fib.specs.Views.{IsHopNumber, IsAnswerNumber, IsNumber, ViewShows}
 use Rattle.rt_fib.specs.declared.slabs.Group.{Group}
 use Rattle.rt_fib.specs.declared.slabs.Slabs.{Slabs}
 use Rattle.rt_fib.specs.inside.Entries.{AreMarked}
-use Rattle.rt_fib.specs.inside.Shown.{Extends, IsHopOf, AreHopsOf, AreShownEntries, IsShownBlock, AreShownBlocks}
-use Rattle.rt_fib.specs.inside.Spans.{ArePut}
-use Rattle.rt_fib.proofs.Reading.{entry_leads}
+use Rattle.rt_fib.specs.inside.Shown.{Extends, IsHopOf, AreHopsOf, AreShownEntries, AreShownBlocks}
+use Rattle.rt_fib.specs.inside.Changes.{ArePut}
+use Rattle.rt_fib.proofs.Leading.{entry_leads}
 
 -- a router's number in a list that goes on
 hop_extends : (old new : List ℕ) (number : ℕ) (hop : Hop) → Extends old new → IsHopNumber old number hop → IsHopNumber new number hop
@@ -45,18 +46,19 @@ hops_push old new numbers answers n number answer more are is there = record {
   ];
 }
 
--- one more block
-pub blocks_more : (numbers : List ℕ) (blocks : List Group) (old shown next : List ℕ) (block : Group) (b : ℕ) → AreShownBlocks numbers blocks old shown b
-    → IsShownBlock numbers block.numbers shown next (b * 256) 256 → ((d : Group) → get_or blocks b d ≡ block) → AreShownBlocks numbers blocks old next (b + 1)
-blocks_more numbers blocks old shown next block b are is there = record {
-  size = is.size ∙ are.size;
-  each = λ j k d below low. elim (cases_lt j b) [
-    | inl before ↦ is.before (j * 256 + k) (omega (arith, before, low)) ∙ are.each j k d before low
-    | inr from ↦
-        let last : j ≡ b = omega (arith, below, from) in
-        rw last (is.each k low ∙ ap (λ (l : Group). get_or numbers (get_or l.numbers k 0) 0) (sym (there d)))
-  ];
-}
+-- one more number of a block
+pub blocks_more : (numbers : List ℕ) (blocks : List Group) (old shown : List ℕ) (block : Group) (i : ℕ) → i < length shown
+    → AreShownBlocks numbers blocks old shown i → ((d : Group) → get_or blocks (i / 256) d ≡ block)
+    → AreShownBlocks numbers blocks old (set shown i (get_or numbers (get_or block.numbers (i % 256) 0) 0)) (i + 1)
+blocks_more numbers blocks old shown block i within are there =
+    let number : ℕ = get_or numbers (get_or block.numbers (i % 256) 0) 0 in
+    record {
+      size = length-set shown i number ∙ are.size;
+      each = λ j d below. elim (cases_eq j i) [
+        | inl same ↦ rw same (get_or-set_same shown i number 0 within ∙ ap (λ (b : Group). get_or numbers (get_or b.numbers (i % 256) 0) 0) (sym (there d)))
+        | inr other ↦ get_or-set_other shown i j number 0 other ∙ are.each j d (omega (arith, below, other))
+      ];
+    }
 
 -- the list, once it is put into the caller's
 pub put_extends : (old new list : List ℕ) → length list ≤ length old → ArePut old new list 0 (length list) → Extends list (take (length list) new)
@@ -71,7 +73,7 @@ put_extends old new list fits put = record {
 pub view_shows : {A : Type 0} → (entries shown old more numbers list routers : List ℕ) (slabs : Slabs A) (epoch marked : ℕ) (table : List Route)
     → AreMarked entries slabs epoch marked table → AreHopsOf list numbers slabs.routes.places.values (length slabs.routes.places.values) → Extends list routers
     → AreShownEntries numbers entries shown (length entries)
-    → AreShownBlocks numbers slabs.groups.places.values old more (length slabs.groups.places.values)
+    → AreShownBlocks numbers slabs.groups.places.values old more (length slabs.groups.places.values * 256)
     → length slabs.groups.places.values * 256 ≤ length old → ViewShows shown more routers table
 view_shows entries shown old more numbers list routers slabs epoch marked table all hops longer are put fits = record {
   size = are.size ∙ all.size;
@@ -100,8 +102,12 @@ view_shows entries shown old more numbers list routers slabs epoch marked table 
             let same : get_or shown i 0 ≡ get_or entries i 0 = there.long (omega (arith, names.long)) in
             let group = names.named.is_used.within in
             let hop = number (get_or names.group.numbers k 0) names.number.is_used.within names.number.there in
-            let read : get_or more (names.place * 256 + k) 0 ≡ get_or numbers (get_or names.group.numbers k 0) 0 =
-            put.each names.place k names.group group low ∙ ap (λ (g : Group). get_or numbers (get_or g.numbers k 0) 0) (names.named.there names.group) in
+            let n = names.place * 256 + k in
+            let is_place : n / 256 ≡ names.place = omega (arith, low) in
+            let is_k : n % 256 ≡ k = omega (arith, low) in
+            let read : get_or more n 0 ≡ get_or numbers (get_or names.group.numbers k 0) 0 =
+            rw (is_place, is_k) at (put.each n names.group (omega (arith, group, low)))
+            ∙ ap (λ (g : Group). get_or numbers (get_or g.numbers k 0) 0) (names.named.there names.group) in
             inr (record {
               block = names.place;
               long = same ∙ names.long;

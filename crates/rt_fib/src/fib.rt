@@ -7,7 +7,7 @@ ghost use Rattle.rt_rib.specs.Table.{IsTable};
 ghost use Rattle.rt_fib.specs.Hops.{next_hop};
 ghost use Rattle.rt_fib.specs.Laws.{KeepsOtherRoutes, PreservesOtherRoutes};
 ghost use Rattle.rt_fib.specs.Views.{ViewShows};
-ghost use Rattle.rt_fib.specs.inside.Spans.{PreservesLookupsOutside};
+ghost use Rattle.rt_fib.specs.inside.Changes.{PreservesLookupsOutside};
 
 use crate::dir24_8::{AT_ONCE, Dir24_8, Seen};
 use crate::epochs::Epoch;
@@ -188,10 +188,7 @@ impl<A: Allocator + Copy, B: Allocator + Copy> Fib<A, B> {
             number,
         };
         self.dir.change_entries(table, &change, span);
-        self.dir.keep_pace(Counts {
-            groups: 0,
-            routes: 1,
-        });
+        self.dir.mark(0, 1);
         Ok(())
     }
 
@@ -217,7 +214,7 @@ impl<A: Allocator + Copy, B: Allocator + Copy> Fib<A, B> {
         let routes = self.dir.slabs.routes.filled_since(count);
         put_entries(self.dir.tbl24.as_mut_slice(), fresh.as_slice(), first);
         self.dir.table = Snapshot::of(table);
-        self.dir.keep_pace(Counts { groups, routes });
+        self.dir.mark(groups, routes);
         Ok(())
     }
 
@@ -245,16 +242,10 @@ impl<A: Allocator + Copy, B: Allocator + Copy> Fib<A, B> {
         ensures served { Serves (table_state table.old) (table_state table.new) feed Purge result.0 }
         ensures followed { IfSome result.1 (λ fib. fib ≡ table.new.routes) }
     {
-        let mut fib = self;
         let count = table.count(feed);
-        let prefixes = prefixes_to_withdraw(fib.allocator(), table, feed, count);
-        match withdraw_each(&mut fib, table, feed, &prefixes) {
-            Ok(()) => (Reply::Purged(count), purge_rest(fib, table, feed)),
-            Err(_) => {
-                table.purge(feed);
-                (Reply::Purged(count), None)
-            }
-        }
+        let prefixes = prefixes_to_withdraw(self.allocator(), table, feed, count);
+        let fib = withdraw_each(self, table, feed, &prefixes).ok();
+        (Reply::Purged(count), purge_rest(fib, table, feed))
     }
 
     /// Returns the sizes of the arrays that [`write_view`](Fib::write_view) fills: room for at least two routers, of which it

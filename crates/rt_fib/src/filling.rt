@@ -1,10 +1,8 @@
 //! Filling the table entry by entry, each from the piece of the routing table that its addresses lie in. A piece is a range of
 //! addresses with one answer, as far as the routing table's lookup cursor returns it.
 ghost use Rattle.std.specs.Prelude.{◌≡◌, ℕ, ◌≤◌, ◌<◌, ◌+◌, ◌*◌, ◌-◌, ◌^◌, IfOk, OnOk, OnErr, length};
-ghost use Rattle.rt_fib.specs.inside.Slabs.{AreBack, FillsBoth, KeepsBoth};
-ghost use Rattle.rt_fib.specs.inside.Entries.{AreFrom, IsEntry};
-ghost use Rattle.rt_fib.specs.inside.Pieces.{AreNumbers, Continues, IsFrom};
-ghost use Rattle.rt_fib.specs.inside.Spans.{ArePut};
+ghost use Rattle.rt_fib.specs.inside.Entries.{AreBack, FillsBoth, KeepsBoth, AreFrom, IsEntry, AreNumbers, GoesOn, IsFrom};
+ghost use Rattle.rt_fib.specs.inside.Changes.{ArePut};
 
 use crate::epochs::Epoch;
 use crate::slabs::{GROUP_FLAG, GROUP_SIZE, Group, Slabs};
@@ -44,8 +42,7 @@ impl<'a, B: Allocator + Copy> Filling<'a, B> {
         addr: Addr,
     ) -> Result<(), Refused>
         requires { IsFrom self.old slabs.old addr.0 }
-        ensures continues { Continues self.old self.new }
-        ensures fills { FillsBoth self.old.epoch.number slabs.old slabs.new }
+        ensures goes { GoesOn self.old self.new slabs.old slabs.new }
         ensures reaches { OnOk result (addr.0 < self.new.piece.end) }
         ensures piece { OnOk result (IsFrom self.new slabs.new addr.0) }
     {
@@ -68,8 +65,7 @@ impl<'a, B: Allocator + Copy> Filling<'a, B> {
     ) -> Result<[u32; GROUP_SIZE], Refused>
         requires fits { first + 256 ≤ 2 ^ 32 }
         requires piece { IsFrom self.old slabs.old first }
-        ensures continues { Continues self.old self.new }
-        ensures fills { FillsBoth self.old.epoch.number slabs.old slabs.new }
+        ensures goes { GoesOn self.old self.new slabs.old slabs.new }
         ensures numbers { IfOk result (λ numbers. AreNumbers self.old.table numbers slabs.new (self.old.epoch.number + 1) first 256) }
         ensures piece { OnOk result (IsFrom self.new slabs.new (first + 256)) }
     {
@@ -92,8 +88,7 @@ impl<'a, B: Allocator + Copy> Filling<'a, B> {
         requires before { i < end }
         requires fits { end ≤ 2 ^ 24 }
         requires piece { IsFrom self.old slabs.old (i * 256) }
-        ensures continues { Continues self.old self.new }
-        ensures fills { FillsBoth self.old.epoch.number slabs.old slabs.new }
+        ensures goes { GoesOn self.old self.new slabs.old slabs.new }
         ensures onward { IfOk result (λ run. i < run.end) }
         ensures within { IfOk result (λ run. run.end ≤ end) }
         ensures entry { IfOk result (λ run. (j : ℕ) → i ≤ j → j < run.end

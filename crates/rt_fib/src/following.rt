@@ -4,10 +4,8 @@ ghost use Rattle.std.specs.Prelude.{◌≡◌, ◌+◌, ◌<◌, ◌≤◌, ◌^
 ghost use Rattle.rt_rib.specs.Table.{IsTable};
 ghost use Rattle.rt_fib.specs.Laws.{PreservesOtherRoutes};
 ghost use Rattle.rt_fib.specs.inside.Slab.{IsNumberOf};
-ghost use Rattle.rt_fib.specs.inside.Slabs.{AreBack, KeepsBoth};
-ghost use Rattle.rt_fib.specs.inside.Entries.{IsForwarding};
-ghost use Rattle.rt_fib.specs.inside.Spans.{AreEntriesOf};
-ghost use Rattle.rt_fib.specs.inside.Changes.{is_longer, AnswerAlike, AreNumbersAfter, HasNumber, IsChange, IsLast, IsNumberAfter, KeepsOthers, LeadsAfter};
+ghost use Rattle.rt_fib.specs.inside.Entries.{AreBack, KeepsBoth, IsForwarding};
+ghost use Rattle.rt_fib.specs.inside.Changes.{AreEntriesOf, is_longer, AnswerAlike, AreNumbersAfter, HasNumber, IsChange, IsLast, IsNumberAfter, KeepsOthers, LeadsAfter};
 
 use crate::dir24_8::Dir24_8;
 use crate::epochs::Epoch;

@@ -1,8 +1,7 @@
 //! Marking, a few entries after each change: what they lead to is in use. Once all entries were marked a round is over, and what no
 //! entry led to is free.
 ghost use Rattle.std.specs.Prelude.{◌≡◌, ◌<◌, ◌^◌};
-ghost use Rattle.rt_fib.specs.inside.Slabs.{KeepsBoth};
-ghost use Rattle.rt_fib.specs.inside.Entries.{IsForwarding, LeadsOn};
+ghost use Rattle.rt_fib.specs.inside.Entries.{KeepsBoth, IsForwarding, LeadsOn};
 
 use crate::dir24_8::{Dir24_8, Seen};
 use crate::epochs::Epoch;
@@ -77,14 +76,16 @@ impl<A: Allocator + Copy, B: Allocator + Copy> Dir24_8<A, B> {
         taken.saturating_add(taken / 4) > most
     }
 
-    /// Marks this number of entries. An entry with a group counts as 256. After the last entry, a new round begins.
-    fn mark(&mut self, count: usize)
+    /// Marks some entries, and more for each group that fell out of use and each answer that was put. An entry with a group counts as
+    /// 256. After the last entry, a new round begins.
+    pub(crate) fn mark(&mut self, groups: usize, routes: usize)
         requires { IsForwarding self.old }
         ensures right { IsForwarding self.new }
         ensures table { self.new.table.value ≡ self.old.table.value }
     {
+        let routes = routes.max(1);
         let epoch = self.epoch;
-        let mut left = count;
+        let mut left = Counts { groups, routes }.bytes().saturating_mul(PACE);
         let mut last = self.last_marked();
         'mark: while left > 0 && self.marked < ENTRIES {
             let i = self.marked as usize;
@@ -104,19 +105,5 @@ impl<A: Allocator + Copy, B: Allocator + Copy> Dir24_8<A, B> {
             };
             self.marked = 0;
         }
-    }
-
-    /// Marks some entries, and more for each group that fell out of use and each answer that was put.
-    pub(crate) fn keep_pace(&mut self, changed: Counts)
-        requires { IsForwarding self.old }
-        ensures right { IsForwarding self.new }
-        ensures table { self.new.table.value ≡ self.old.table.value }
-    {
-        let Counts { groups, routes } = changed;
-        let debt = Counts {
-            groups,
-            routes: routes.max(1),
-        };
-        self.mark(debt.bytes().saturating_mul(PACE));
     }
 }

@@ -1,7 +1,7 @@
 //! Purges a feed's routes from a table that a forwarding table follows. After a purge, nothing says which routes it removed, so only a
 //! rebuild follows it. Therefore few routes are withdrawn one by one before the purge, each followed by a renewal of its prefix. The
 //! purge then removes nothing.
-ghost use Rattle.std.specs.Prelude.{◌≡◌, IfSome, OnOk};
+ghost use Rattle.std.specs.Prelude.{◌≡◌, IfOk, IfSome};
 ghost use Rattle.rt_rib.specs.Table.{purge};
 ghost use Rattle.rt_rib.specs.Book.{IsFeed};
 
@@ -52,14 +52,14 @@ pub(crate) fn prefixes_to_withdraw<A: Allocator + Copy, B: Allocator + Copy>(
 
 /// Withdraws the feed's routes to the prefixes from the table, and follows. Error M1 (`Refused`) if memory runs out.
 pub(crate) fn withdraw_each<A: Allocator + Copy, B: Allocator + Copy>(
-    fib: &mut Fib<A, B>,
+    mut fib: Fib<A, B>,
     table: &mut Table<B>,
     feed: u32,
     prefixes: &[Prefix],
-) -> Result<(), Refused>
+) -> Result<Fib<A, B>, Refused>
     requires feed { IsFeed feed }
-    requires same { fib.old ≡ table.old.routes }
-    ensures followed { OnOk result (fib.new ≡ table.new.routes) }
+    requires same { fib ≡ table.old.routes }
+    ensures followed { IfOk result (λ fib. fib ≡ table.new.routes) }
     ensures limit { table.new.limit ≡ table.old.limit }
     ensures rest { purge feed table.new.routes ≡ purge feed table.old.routes }
 {
@@ -72,24 +72,26 @@ pub(crate) fn withdraw_each<A: Allocator + Copy, B: Allocator + Copy>(
         table.apply(feed, cmd)?;
         fib.follow(table, &cmd)?;
     }
-    Ok(())
+    Ok(fib)
 }
 
-/// Purges the feed's remaining routes from the table, and follows. If there are none, all answers stay. Returns `None` if memory runs
-/// out.
+/// Purges the feed's remaining routes from the table, and follows. If there are none, all answers stay. Returns `None` if there is no
+/// forwarding table, or memory runs out.
+#[tactic(auto, using(rt_rib::proofs::Promised::purged_limit))]
 pub(crate) fn purge_rest<A: Allocator + Copy, B: Allocator + Copy>(
-    fib: Fib<A, B>,
+    fib: Option<Fib<A, B>>,
     table: &mut Table<B>,
     feed: u32,
 ) -> Option<Fib<A, B>>
     requires feed { IsFeed feed }
-    requires same { fib ≡ table.old.routes }
+    requires same { IfSome fib (λ fib. fib ≡ table.old.routes) }
     ensures limit { table.new.limit ≡ table.old.limit }
     ensures routes { table.new.routes ≡ purge feed table.old.routes }
     ensures followed { IfSome result (λ fib. fib ≡ table.new.routes) }
 {
     let rest = table.count(feed);
     table.purge(feed);
+    let fib = fib?;
     if rest == 0 {
         return Some(fib);
     }

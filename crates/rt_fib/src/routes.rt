@@ -1,9 +1,9 @@
 //! The answers, and next to each the code of its next hop in 4 bytes: a look-up of a next hop reads the code, and seldom the answer.
-ghost use Rattle.std.specs.Prelude.{◌≡◌, ◌≢◌, ◌↔◌, ℕ, ◌+◌, ◌<◌, ◌≤◌, ◌^◌, max, IfOk, IsTrue, [], None, Option, get_or, length, vec_len, vec_capacity};
+ghost use Rattle.std.specs.Prelude.{◌≡◌, ◌↔◌, ℕ, ◌+◌, ◌<◌, ◌≤◌, ◌^◌, max, IfOk, IsTrue, [], None, Option, get_or, length, vec_len, vec_capacity};
 ghost use Rattle.rt_rib.specs.declared.routes.Route.{Route};
 ghost use Rattle.rt_fib.specs.Hops.{next_hop};
 ghost use Rattle.rt_fib.specs.inside.HopCodes.{hop_code};
-ghost use Rattle.rt_fib.specs.inside.Slab.{with_value, Begins, Fills, Has, IsBack, IsNumberOf, Keeps, SlabState};
+ghost use Rattle.rt_fib.specs.inside.Slab.{with_value, Fills, Has, IsBack, IsNumberOf, Keeps, Logs, Places};
 
 use crate::epochs::Epoch;
 use crate::slab::Slab;
@@ -29,16 +29,6 @@ const CODE_BYTES: usize = 4;
 /// Says how many bytes an answer takes, with its epoch and the code of its next hop.
 pub(crate) const ROUTE_BYTES: usize = 36;
 
-/// Returns the code of the router.
-fn router_code(router: Addr) -> u32
-    ensures { result ≡ max router.0 2 }
-{
-    if router.0 < LOW_ROUTER {
-        return LOW_ROUTER;
-    }
-    router.0
-}
-
 /// Returns the code of the answer's next hop.
 fn hop_code(answer: Option<Route>) -> u32
     ensures { result ≡ hop_code answer }
@@ -46,34 +36,17 @@ fn hop_code(answer: Option<Route>) -> u32
     match answer {
         None => NO_ROUTE,
         Some(route) => match route.hop {
-            Hop::Via(router) => router_code(router),
+            Hop::Via(router) => router.0.max(LOW_ROUTER),
             Hop::Discard => DISCARD,
         },
     }
-}
-
-/// Returns the next hop with this code, which says all of it.
-fn hop_with(code: u32) -> Option<Hop>
-    requires { code ≢ 2 }
-    ensures { (answer : Option Route) → code ≡ hop_code answer → result ≡ next_hop answer }
-{
-    if code == NO_ROUTE {
-        return None;
-    }
-    if code == DISCARD {
-        return Some(Hop::Discard);
-    }
-    Some(Hop::Via(Addr(code)))
 }
 
 /// Returns the answer's next hop.
 fn next_hop(answer: Option<Route>) -> Option<Hop>
     ensures { result ≡ next_hop answer }
 {
-    match answer {
-        None => None,
-        Some(route) => Some(route.hop),
-    }
+    Some(answer?.hop)
 }
 
 /// Writes the code at this place of the list, or at its end, where there is room for it.
@@ -105,20 +78,13 @@ fn trim_codes<A: Allocator + Copy>(codes: &mut Vec<u32, A>, count: usize)
 /// Says how many lengths a last number is kept for: those of prefixes, and one for no route.
 const LENGTHS: usize = 34;
 
-/// Returns true if two routes are the same.
-fn is_same_route(one: &Route, other: &Route) -> bool
-    ensures { IsTrue result ↔ (one.now ≡ other.now) }
-{
-    same_prefix();
-    one == other
-}
-
 /// Returns true if two answers are the same.
 pub(crate) fn is_same(one: Option<Route>, other: Option<Route>) -> bool
     ensures { IsTrue result ↔ (one ≡ other) }
 {
+    same_prefix();
     match (one, other) {
-        (Some(one), Some(other)) => is_same_route(&one, &other),
+        (Some(one), Some(other)) => one == other,
         (None, None) => true,
         _ => false,
     }
@@ -209,11 +175,12 @@ impl<A: Allocator + Copy> RouteSlab<A> {
         requires { n < length self.now.places.values }
         ensures { result ≡ next_hop (get_or self.now.places.values n None) }
     {
-        let code = self.codes[n as usize];
-        if code == LOW_ROUTER {
-            return next_hop(self.answer(n));
+        match self.codes[n as usize] {
+            NO_ROUTE => None,
+            DISCARD => Some(Hop::Discard),
+            LOW_ROUTER => next_hop(self.answer(n)),
+            code => Some(Hop::Via(Addr(code))),
         }
-        hop_with(code)
     }
 
     /// Puts the answer into a free place, or at the end, and writes the code of its next hop. The place is in use in the next epoch too.
@@ -240,24 +207,14 @@ impl<A: Allocator + Copy> RouteSlab<A> {
         ensures fills { Fills epoch.number self.old self.new }
         ensures number { IsTrue result → IsNumberOf self.new.places (epoch.number + 1) number answer }
     {
-        if number >= GROUP_FLAG {
+        let Some(used) = self.slab.used(epoch, number) else {
             return false;
-        }
-        if !self.slab.is_used(epoch, number) {
-            return false;
-        }
-        if !is_same(*self.slab.get(number), answer) {
+        };
+        if !is_same(*used, answer) {
             return false;
         }
         self.slab.mark_used(epoch, number);
         true
-    }
-
-    /// Keeps the number as that which such an answer got last.
-    fn set_last_number(&mut self, answer: Option<Route>, number: u32)
-        ensures { self.new ≡ self.old }
-    {
-        self.last_numbers[length_of(answer)] = number;
     }
 
     /// Keeps the number of an answer, as that which such an answer got last.
@@ -265,8 +222,7 @@ impl<A: Allocator + Copy> RouteSlab<A> {
         ensures { self.new ≡ self.old }
     {
         if (number as usize) < self.len() {
-            let answer = self.answer(number);
-            self.set_last_number(answer, number);
+            self.last_numbers[length_of(self.answer(number))] = number;
         }
     }
 
@@ -281,22 +237,23 @@ impl<A: Allocator + Copy> RouteSlab<A> {
         ensures fills { Fills epoch.number self.old self.new }
         ensures number { IfOk result (λ number. IsNumberOf self.new.places (epoch.number + 1) number answer) }
     {
-        let last = self.last_numbers[length_of(answer)];
+        let length = length_of(answer);
+        let last = self.last_numbers[length];
         if self.reuse_if_same(epoch, last, answer) {
             return Ok(last);
         }
         if self.reuse_if_same(epoch, previous, answer) {
-            self.set_last_number(answer, previous);
+            self.last_numbers[length] = previous;
             return Ok(previous);
         }
         let number = self.put(epoch, answer)?;
-        self.set_last_number(answer, number);
+        self.last_numbers[length] = number;
         Ok(number)
     }
 
     /// Begins a change. Returns how many places there are.
     pub(crate) fn begin(&mut self) -> usize
-        ensures { Begins self.old self.new result }
+        ensures { (epoch : ℕ) → Logs epoch result self.old.places self.new }
     {
         self.slab.begin()
     }
@@ -309,8 +266,7 @@ impl<A: Allocator + Copy> RouteSlab<A> {
     /// Undoes a refused change that began with this number of places: the free places that it filled are free again, and it keeps
     /// only its first places.
     pub(crate) fn roll_back(&mut self, count: usize)
-        ensures { (epoch : ℕ) → (first start : SlabState (Option Route)) → Begins first start count → Fills epoch start self.old
-            → IsBack epoch first.places self.new.places }
+        ensures { (epoch : ℕ) → (start : Places (Option Route)) → Logs epoch count start self.old → IsBack epoch start self.new.places }
     {
         self.slab.roll_back(count);
         self.codes.truncate(count);

@@ -1,7 +1,7 @@
 //! Lists whose places are used again. Each place has the epoch in which it was last marked as used. Whatever is in use has at least
 //! the epoch that the round began with, so a place with a lower one is free.
-ghost use Rattle.std.specs.Prelude.{◌≡◌, ℕ, ◌+◌, ◌<◌, ◌≤◌, ◌^◌, IfOk, IfSome, IsTrue, OnErr, [], length, get_or, take};
-ghost use Rattle.rt_fib.specs.inside.Slab.{with_value, AreCleared, Begins, Fills, Has, IsBack, IsNumberOf, IsUsed, Keeps, SlabState};
+ghost use Rattle.std.specs.Prelude.{◌≡◌, ℕ, ◌+◌, ◌<◌, ◌≤◌, ◌^◌, IfOk, IfSome, OnErr, [], length, get_or, slice_set, take};
+ghost use Rattle.rt_fib.specs.inside.Slab.{with_value, AreCleared, Fills, Has, IsBack, IsNumberOf, Keeps, Logs, Places};
 
 use crate::epochs::Epoch;
 use crate::slabs::GROUP_FLAG;
@@ -25,11 +25,14 @@ pub(crate) struct Slab<T: Copy, A: Allocator + Copy> {
 }
 
 impl<T: Copy, A: Allocator + Copy> Model for Slab<T, A> {
+    ghost use Rattle.std.specs.Prelude.{◌≡◌, length};
     ghost use Rattle.rt_fib.specs.inside.Slab.{SlabState};
 
     ghost Value = { SlabState T };
 
     ghost view = { λ s. record { places = record { values = s.values.items; epochs = s.epochs.items }; undo_log = s.undo_log.items } };
+
+    ghost invariant = { λ s. length s.epochs.items ≡ length s.values.items };
 }
 
 impl<T: Copy, A: Allocator + Copy> Slab<T, A> {
@@ -85,10 +88,7 @@ impl<T: Copy, A: Allocator + Copy> Slab<T, A> {
     pub(crate) fn reserve(&mut self, count: usize)
         ensures { self.new ≡ self.old }
     {
-        if self.values.reserve_exact(count).is_err() {
-            return;
-        }
-        if self.epochs.reserve_exact(count).is_err() {
+        if self.values.reserve_exact(count).is_ok() && self.epochs.reserve_exact(count).is_err() {
             self.values.shrink_to(0);
         }
     }
@@ -114,12 +114,15 @@ impl<T: Copy, A: Allocator + Copy> Slab<T, A> {
             .saturating_add(log)
     }
 
-    /// Returns true if the place is there and in use since this epoch.
-    pub(crate) fn is_used(&self, epoch: Epoch, n: u32) -> bool
-        ensures { IsTrue result → IsUsed self.now.places epoch.number n }
+    /// Returns the value at the place, if it is in use since this epoch.
+    pub(crate) fn used(&self, epoch: Epoch, n: u32) -> Option<&T>
+        ensures { IfSome result (λ value. IsNumberOf self.now.places epoch.number n value.now) }
     {
         let i = n as usize;
-        i < self.values.len() && i < self.epochs.len() && self.epochs[i] >= epoch.number
+        if n >= GROUP_FLAG || i >= self.values.len() || self.epochs[i] < epoch.number {
+            return None;
+        }
+        Some(&self.values[i])
     }
 
     /// Puts the value into a free place, or at the end of the list. The place is in use in the next epoch too.
@@ -131,7 +134,7 @@ impl<T: Copy, A: Allocator + Copy> Slab<T, A> {
         ensures kept { OnErr result (self.new.places.values ≡ self.old.places.values) }
     {
         let count = self.values.len();
-        if let Some(n) = free_place(self.epochs.as_slice(), count, &mut self.next, epoch) {
+        if let Some(n) = free_place(self.epochs.as_slice(), &mut self.next, epoch) {
             self.undo_log.push(n)?;
             self.values[n as usize] = value;
             self.epochs[n as usize] = epoch.number + 1;
@@ -140,16 +143,16 @@ impl<T: Copy, A: Allocator + Copy> Slab<T, A> {
         if count >= GROUP_FLAG as usize {
             return Err(Refused);
         }
-        self.epochs.truncate(count);
-        self.epochs.resize(count + 1, epoch.number + 1)?;
+        self.epochs.reserve(1)?;
         self.values.push(value)?;
+        self.epochs.push(epoch.number + 1)?;
         Ok(count as u32)
     }
 
     /// Replaces the value at the place.
     pub(crate) fn replace(&mut self, n: u32, value: T)
         requires { n < length self.old.places.values }
-        ensures values { self.new.places.values ≡ with_value self.old.places.values n value }
+        ensures values { self.new.places.values ≡ slice_set self.old.places.values n value }
         ensures epochs { self.new.places.epochs ≡ self.old.places.epochs }
     {
         self.values[n as usize] = value;
@@ -163,10 +166,7 @@ impl<T: Copy, A: Allocator + Copy> Slab<T, A> {
         ensures values { self.new.places.values ≡ self.old.places.values }
     {
         let i = n as usize;
-        if i >= self.epochs.len() {
-            return;
-        }
-        if self.epochs[i] > epoch.number {
+        if i >= self.epochs.len() || self.epochs[i] > epoch.number {
             return;
         }
         self.epochs[i] = epoch.number + 1;
@@ -174,7 +174,8 @@ impl<T: Copy, A: Allocator + Copy> Slab<T, A> {
 
     /// Begins a change. Returns how many places there are.
     pub(crate) fn begin(&mut self) -> usize
-        ensures { Begins self.old self.new result }
+        ensures log { (epoch : ℕ) → Logs epoch result self.old.places self.new }
+        ensures places { self.new.places ≡ self.old.places }
     {
         self.undo_log.clear();
         self.values.len()
@@ -189,8 +190,7 @@ impl<T: Copy, A: Allocator + Copy> Slab<T, A> {
     /// Undoes a refused change that began with this number of places: the free places that it filled are free again, and the slab
     /// keeps only its first places.
     pub(crate) fn roll_back(&mut self, count: usize)
-        ensures back { (epoch : ℕ) → (first start : SlabState T) → Begins first start count → Fills epoch start self.old
-            → IsBack epoch first.places self.new.places }
+        ensures back { (epoch : ℕ) → (start : Places T) → Logs epoch count start self.old → IsBack epoch start self.new.places }
         ensures values { self.new.places.values ≡ take count self.old.places.values }
     {
         clear_each(self.epochs.as_mut_slice(), self.undo_log.as_slice());
@@ -199,11 +199,10 @@ impl<T: Copy, A: Allocator + Copy> Slab<T, A> {
     }
 }
 
-/// Returns a free one of the first `count` places, if one is near.
-fn free_place(epochs: &[u32], count: usize, next: &mut usize, epoch: Epoch) -> Option<u32>
+/// Returns a free place, if one is near.
+fn free_place(epochs: &[u32], next: &mut usize, epoch: Epoch) -> Option<u32>
     ensures short { IfSome result (λ n. n < 2 ^ 31) }
-    ensures within { IfSome result (λ n. n < count) }
-    ensures marked { IfSome result (λ n. n < length epochs.now) }
+    ensures within { IfSome result (λ n. n < length epochs.now) }
     ensures unused { IfSome result (λ n. get_or epochs.now n 0 < epoch.number) }
 {
     if epoch.number == 0 {
@@ -211,7 +210,7 @@ fn free_place(epochs: &[u32], count: usize, next: &mut usize, epoch: Epoch) -> O
     }
     'places: for _ in 0..MOST_TRIES {
         let n = *next;
-        if n >= count || n >= epochs.len() || n >= GROUP_FLAG as usize {
+        if n >= epochs.len() || n >= GROUP_FLAG as usize {
             *next = 0;
             return None;
         }

@@ -2,7 +2,7 @@
 ghost use Rattle.std.specs.Prelude.{◌≡◌, ℕ, ◌+◌, ◌<◌, ◌^◌, IfOk, IsTrue};
 ghost use Rattle.rt_fib.specs.declared.slabs.Slabs.{Slabs};
 ghost use Rattle.rt_fib.specs.inside.Slab.{Fills, IsNumberOf};
-ghost use Rattle.rt_fib.specs.inside.Slabs.{AreBack, BeginsBoth, FillsBoth};
+ghost use Rattle.rt_fib.specs.inside.Entries.{AreBack, FillsBoth, LogsBoth};
 
 use crate::epochs::Epoch;
 use crate::routes::{ROUTE_BYTES, RouteSlab};
@@ -100,7 +100,7 @@ impl<A: Allocator + Copy> Slabs<A> {
 
     /// Begins a change. Returns how many groups and routes there are.
     pub(crate) fn begin(&mut self) -> Counts
-        ensures { BeginsBoth self.old self.new result }
+        ensures { (epoch : ℕ) → LogsBoth epoch result self.old self.new }
     {
         let groups = self.groups.begin();
         let routes = self.routes.begin();
@@ -109,8 +109,7 @@ impl<A: Allocator + Copy> Slabs<A> {
 
     /// Undoes a refused change that began with these counts: what was free is free again.
     pub(crate) fn roll_back(&mut self, counts: Counts)
-        ensures { (epoch : ℕ) → (first start : Slabs A) → BeginsBoth first start counts → FillsBoth epoch start self.old
-            → AreBack epoch first self.new }
+        ensures { (epoch : ℕ) → (start : Slabs A) → LogsBoth epoch counts start self.old → AreBack epoch start self.new }
     {
         self.groups.roll_back(counts.groups);
         self.routes.roll_back(counts.routes);
@@ -175,13 +174,10 @@ impl<A: Allocator + Copy> Slabs<A> {
         ensures fills { Fills epoch.number self.old.groups self.new.groups }
         ensures group { IsTrue result → IsNumberOf self.new.groups.places (epoch.number + 1) place group.now }
     {
-        if place >= GROUP_FLAG {
+        let Some(used) = self.groups.used(epoch, place) else {
             return false;
-        }
-        if !self.groups.is_used(epoch, place) {
-            return false;
-        }
-        if !is_same_group(self.groups.get(place), group) {
+        };
+        if !is_same_group(used, group) {
             return false;
         }
         self.groups.mark_used(epoch, place);
@@ -196,7 +192,7 @@ impl<A: Allocator + Copy> Slabs<A> {
         group: Group,
     ) -> Result<u32, Refused>
         ensures routes { self.new.routes ≡ self.old.routes }
-        ensures fills { Fills epoch.number self.old.groups self.new.groups }
+        ensures fills { FillsBoth epoch.number self.old self.new }
         ensures group { IfOk result (λ place. IsNumberOf self.new.groups.places (epoch.number + 1) place group) }
     {
         if self.reuse_if_same_group(epoch, previous, &group) {

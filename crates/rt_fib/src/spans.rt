@@ -1,7 +1,7 @@
 //! The entries that a prefix's addresses have.
 ghost use Rattle.std.specs.Prelude.{◌≡◌, ◌+◌, ◌*◌, IsTrue};
 ghost use Rattle.rt_cidr.specs.Cidr.{size_of};
-ghost use Rattle.rt_fib.specs.inside.Spans.{AreEntriesOf, IsWholly};
+ghost use Rattle.rt_fib.specs.inside.Changes.{AreEntriesOf, IsWholly};
 
 use rt_cidr::Prefix;
 

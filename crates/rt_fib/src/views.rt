@@ -2,9 +2,9 @@
 ghost use Rattle.std.specs.Prelude.{◌≡◌, ◌+◌, ◌*◌, ◌<◌, ◌≤◌, ◌^◌, IfOk, IfSome, get_or, length};
 ghost use Rattle.rt_rib.specs.declared.routes.Hop.TheVariants.{Via};
 ghost use Rattle.rt_fib.specs.Views.{IsHopNumber};
-ghost use Rattle.rt_fib.specs.inside.Shown.{Extends, IsHopOf, AreHopsOf, AreShownEntries, IsShownBlock, AreShownBlocks};
+ghost use Rattle.rt_fib.specs.inside.Shown.{Extends, IsHopOf, AreHopsOf, AreShownEntries, AreShownBlocks};
 
-use crate::slabs::{GROUP_FLAG, Group};
+use crate::slabs::{GROUP_FLAG, GROUP_SIZE, Group};
 use rt_cidr::Addr;
 use rt_rib::{Hop, Refused, Route};
 use std::alloc::Allocator;
@@ -19,29 +19,8 @@ pub struct ViewSizes {
 /// Says for how many routers the last number is kept.
 const KEPT: usize = 1 << 16;
 
-/// Returns the place at which the router's last number is kept. Routers may share a place.
-fn place_of(router: Addr) -> usize {
-    (router.0.wrapping_mul(0x9e37_79b1) >> 16) as usize
-}
-
-/// Returns the number, if it is the router's.
-fn number_again(routers: &[u32], number: u32, router: Addr) -> Option<u32>
-    ensures short { IfSome result (λ number. number < 2 ^ 31) }
-    ensures is { IfSome result (λ number. IsHopNumber routers.now number (Via router)) }
-{
-    if number < 2 || number >= GROUP_FLAG {
-        return None;
-    }
-    if number as usize >= routers.len() {
-        return None;
-    }
-    if routers[number as usize] != router.0 {
-        return None;
-    }
-    Some(number)
-}
-
-/// Returns the number of the router, which is its index in the list. If routers share a place, one may be in the list more than once.
+/// Returns the number of the router, which is its index in the list. Its last number is kept at a place that other routers may share:
+/// so a router may be in the list more than once.
 fn router_number<A: Allocator + Copy>(
     routers: &mut Vec<u32, A>,
     kept: &mut [u32],
@@ -52,18 +31,19 @@ fn router_number<A: Allocator + Copy>(
     ensures short { IfOk result (λ number. number < 2 ^ 31) }
     ensures is { IfOk result (λ number. IsHopNumber routers.new.items number (Via router)) }
 {
-    let place = place_of(router);
-    let before = if place < kept.len() { kept[place] } else { 0 };
-    if let Some(number) = number_again(routers.as_slice(), before, router) {
-        return Ok(number);
+    let place = router.0.wrapping_mul(0x9e37_79b1) >> 16;
+    let last = number_at(kept, place);
+    let is_number = last >= 2 && last < GROUP_FLAG && (last as usize) < routers.len();
+    if is_number && routers[last as usize] == router.0 {
+        return Ok(last);
     }
     let number = routers.len();
     if number >= GROUP_FLAG as usize {
         return Err(Refused);
     }
     routers.push(router.0)?;
-    if place < kept.len() {
-        kept[place] = number as u32;
+    if (place as usize) < kept.len() {
+        kept[place as usize] = number as u32;
     }
     Ok(number as u32)
 }
@@ -132,22 +112,12 @@ pub(crate) fn show_entries(entries: &[u32], numbers: &[u32], shown: &mut [u32])
     }
 }
 
-/// Writes the numbers of next hops of one block, from this index on.
-fn show_block(block: &[u32; 256], numbers: &[u32], shown: &mut [u32], first: usize)
-    requires { first + 256 ≤ length shown.old }
-    ensures { IsShownBlock numbers.now block.now shown.old shown.new first 256 }
-{
-    'numbers: for k in 0..256usize {
-        shown[first + k] = number_at(numbers, block[k]);
-    }
-}
-
 /// Writes the numbers of next hops of all blocks, one block after another.
 pub(crate) fn show_blocks(blocks: &[Group], numbers: &[u32], shown: &mut [u32])
     requires { length blocks.now * 256 ≤ length shown.old }
-    ensures { AreShownBlocks numbers.now blocks.now shown.old shown.new (length blocks.now) }
+    ensures { AreShownBlocks numbers.now blocks.now shown.old shown.new (length blocks.now * 256) }
 {
-    'each: for b in 0..blocks.len() {
-        show_block(&blocks[b].numbers, numbers, shown, b * 256);
+    'numbers: for i in 0..blocks.len() * GROUP_SIZE {
+        shown[i] = number_at(numbers, blocks[i / GROUP_SIZE].numbers[i % GROUP_SIZE]);
     }
 }

@@ -4,9 +4,12 @@ use Rattle.rt_cidr.specs.declared.address.Addr.{Addr}
 use Rattle.rt_rib.specs.declared.routes.Route.{Route}
 use Rattle.rt_rib.specs.LookUp.{look_up}
 use Rattle.rt_fib.specs.declared.dir24_8.Dir24_8.{Dir24_8}
+use Rattle.rt_fib.specs.declared.filling.Filling.{Filling}
+use Rattle.rt_fib.specs.declared.filling.Piece.{Piece}
+use Rattle.rt_fib.specs.declared.slabs.Counts.{Counts}
 use Rattle.rt_fib.specs.declared.slabs.Group.{Group}
 use Rattle.rt_fib.specs.declared.slabs.Slabs.{Slabs}
-use Rattle.rt_fib.specs.inside.Slab.{Has, IsNumberOf}
+use Rattle.rt_fib.specs.inside.Slab.{Fills, Has, IsBack, IsNumberOf, Keeps, Logs}
 
 -- the address of this number
 abbrev pub at : ℕ → Addr
@@ -23,6 +26,26 @@ pub record IsSince (epoch marked i t : ℕ) : Type 0 where
   pub unmarked : marked ≤ i → t ≤ epoch
 
 module _ {A : Type 0} where
+  -- what is in use in both slabs since this epoch or a later one stays so, with its value
+  pub record KeepsBoth (epoch : ℕ) (old new : Slabs A) : Type 0 where
+    pub groups : Keeps epoch old.groups.places new.groups.places
+    pub routes : Keeps epoch old.routes.places new.routes.places
+
+  -- and the logs have whatever free places were filled
+  pub record FillsBoth (epoch : ℕ) (old new : Slabs A) : Type 0 where
+    pub groups : Fills epoch old.groups new.groups
+    pub routes : Fills epoch old.routes new.routes
+
+  -- since a change began, it kept all in use, and the logs have the free places that it filled
+  pub record LogsBoth (epoch : ℕ) (counts : Counts) (start slabs : Slabs A) : Type 0 where
+    pub groups : Logs epoch counts.groups start.groups.places slabs.groups
+    pub routes : Logs epoch counts.routes start.routes.places slabs.routes
+
+  -- all in use is kept, all free places are free, and there are no more of them
+  pub record AreBack (epoch : ℕ) (old new : Slabs A) : Type 0 where
+    pub groups : IsBack epoch old.groups.places new.groups.places
+    pub routes : IsBack epoch old.routes.places new.routes.places
+
   -- the number is that of the answer's place
   abbrev pub HasRoute : Slabs A → ℕ → ℕ → Option Route → Type 0
   HasRoute slabs epoch number answer = Has slabs.routes.places epoch number answer
@@ -34,7 +57,6 @@ module _ {A : Type 0} where
     pub long : entry ≡ 2 ^ 31 + place
     pub named : Has slabs.groups.places epoch place group
     pub own : group.owner ≡ i
-    pub within : k < length group.numbers
     pub number : HasRoute slabs epoch (get_or group.numbers k 0) answer
 
   -- the i-th entry leads to the answer at this place
@@ -62,7 +84,27 @@ module _ {A : Type 0} where
   LeadsOn old new epoch entry next =
       (i k : ℕ) (answer : Option Route) → k < 256 → Leads old epoch i entry k answer → Leads new (epoch + 1) i next k answer
 
+  -- each address from this number to the piece's end has the answer of the piece's number
+  pub record IsNumberedFrom (table : List Route) (slabs : Slabs A) (epoch from : ℕ) (piece : Piece) : Type 0 where
+    pub short : piece.number < 2 ^ 31
+    pub each : (n : ℕ) → from ≤ n → n < piece.end → HasRoute slabs epoch piece.number (look_up (at n) table)
+
+  -- the first `count` numbers are those of the table's answers to the addresses from `first` on
+  abbrev pub AreNumbers : List Route → List ℕ → Slabs A → ℕ → ℕ → ℕ → Type 0
+  AreNumbers table numbers slabs epoch first count =
+      (k : ℕ) → k < count → HasRoute slabs epoch (get_or numbers k 0) (look_up (at (first + k)) table)
+
 module _ {A B : Type 0} where
   -- the table leads each address to the answer of the table that it follows
   abbrev pub IsForwarding : Dir24_8 A B → Type 0
   IsForwarding dir = AreMarked dir.tbl24.items dir.slabs dir.epoch.number dir.marked dir.table.value.routes
+
+  -- the filling goes on from this address by its piece
+  abbrev pub IsFrom : Filling B → Slabs A → ℕ → Type 0
+  IsFrom filling slabs from = IsNumberedFrom filling.table slabs (filling.epoch.number + 1) from filling.piece
+
+  -- the filling goes on by the same table and epoch, and what it filled is logged
+  pub record GoesOn (old new : Filling B) (slabs more : Slabs A) : Type 0 where
+    pub table : new.table ≡ old.table
+    pub epoch : new.epoch.number ≡ old.epoch.number
+    pub fills : FillsBoth old.epoch.number slabs more

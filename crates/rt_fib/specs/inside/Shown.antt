@@ -1,5 +1,5 @@
 -- Numbers of next hops that stand for the numbers of answers.
-use Rattle.std.specs.Prelude.{◌≡◌, ℕ, ◌+◌, ◌*◌, ◌^◌, ◌<◌, ◌≤◌, List, length, get_or, Option}
+use Rattle.std.specs.Prelude.{◌≡◌, ℕ, ◌/◌, ◌%◌, ◌^◌, ◌<◌, ◌≤◌, List, length, get_or, Option}
 use Rattle.rt_rib.specs.declared.routes.Route.{Route}
 use Rattle.rt_fib.specs.Views.{IsAnswerNumber}
 use Rattle.rt_fib.specs.declared.slabs.Group.{Group}
@@ -29,14 +29,7 @@ pub record AreShownEntries (numbers entries shown : List ℕ) (count : ℕ) : Ty
   pub size : length shown ≡ length entries
   pub each : (i : ℕ) → i < count → IsShownEntry numbers (get_or entries i 0) (get_or shown i 0)
 
--- the first `count` numbers of a block became those of their next hops, from the index `first` on; nothing before it changed
-pub record IsShownBlock (numbers block old shown : List ℕ) (first count : ℕ) : Type 0 where
-  pub size : length shown ≡ length old
-  pub each : (k : ℕ) → k < count → get_or shown (first + k) 0 ≡ get_or numbers (get_or block k 0) 0
-  pub before : (i : ℕ) → i < first → get_or shown i 0 ≡ get_or old i 0
-
--- all numbers of the first `count` blocks became those of their next hops
+-- the first `count` numbers of the blocks, one block after another, became those of their next hops
 pub record AreShownBlocks (numbers : List ℕ) (blocks : List Group) (old shown : List ℕ) (count : ℕ) : Type 0 where
   pub size : length shown ≡ length old
-  pub each : (b k : ℕ) (d : Group) → b < count → k < 256
-      → get_or shown (b * 256 + k) 0 ≡ get_or numbers (get_or (get_or blocks b d).numbers k 0) 0
+  pub each : (i : ℕ) (d : Group) → i < count → get_or shown i 0 ≡ get_or numbers (get_or (get_or blocks (i / 256) d).numbers (i % 256) 0) 0

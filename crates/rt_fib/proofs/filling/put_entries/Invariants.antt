@@ -1,4 +1,4 @@
-use Rattle.rt_fib.specs.inside.Spans.{ArePut}
+use Rattle.rt_fib.specs.inside.Changes.{ArePut}
 use Rattle.rt_fib.proofs.filling.put_entries.Given as goal
 
 abbrev pub invariant-put : goal.invariant-put

@@ -1,6 +1,6 @@
 use Rattle.rt_fib.specs.inside.Shown.{AreShownBlocks}
 use Rattle.rt_fib.proofs.views.show_blocks.Given as goal
 
--- the blocks so far
-abbrev pub invariant-each : goal.invariant-each
-invariant-each l = AreShownBlocks l.numbers l.blocks l.fn.shown l.shown l.b
+-- the numbers so far
+abbrev pub invariant-numbers : goal.invariant-numbers
+invariant-numbers l = AreShownBlocks l.numbers l.blocks l.fn.shown l.shown l.i

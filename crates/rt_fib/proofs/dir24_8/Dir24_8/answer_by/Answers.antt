@@ -1,4 +1,4 @@
-use Rattle.rt_fib.proofs.Reading.{value_read}
+use Rattle.rt_fib.proofs.Leading.{value_read}
 use Rattle.rt_fib.proofs.dir24_8.Dir24_8.answer_by.Goals as goal
 
 pub answer-requires : goal.answer-requires

@@ -1,4 +1,4 @@
-use Rattle.rt_fib.proofs.Both.{same_places_keep}
+use Rattle.rt_fib.proofs.Placing.{same_places_keep}
 use Rattle.rt_fib.proofs.Leading.{all_keep}
 use Rattle.rt_fib.proofs.fib.Fib.copy.Goals as goal
 

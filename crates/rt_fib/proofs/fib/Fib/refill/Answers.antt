@@ -1,13 +1,12 @@
 use Rattle.std.proofs.Common.{arith}
-use Rattle.rt_fib.proofs.Leading.{all_keep}
-use Rattle.rt_fib.proofs.Renewing.{lent_whole, renewed_all}
+use Rattle.rt_fib.proofs.Leading.{all_keep, lent_whole, renewed_all}
 use Rattle.rt_fib.proofs.fib.Fib.refill.Goals as goal
 
 pub invariant_of-self : goal.invariant_of-self
 invariant_of-self g c = all_keep _ _ _ _ _ _ c.fresh_entries.ensures.keeps c.self.invariant
 
-pub keep_pace-requires : goal.keep_pace-requires
-keep_pace-requires g c =
+pub mark-requires : goal.mark-requires
+mark-requires g c =
     let tbl24 = c.self.inside.dir.tbl24 in
     let fresh = rw c.as_slice.ensures.value at c.put_entries.ensures in
     let put = rw c.as_mut_slice.ensures.value at fresh in

@@ -1,14 +1,13 @@
-use Rattle.std.proofs.Common.{arith, refl, ◌-◌, ◌∙◌}
-use Rattle.rt_fib.proofs.Both.{both_fill_same, both_fill_twice, fills_keep}
-use Rattle.rt_fib.proofs.Leading.{from_run}
+use Rattle.std.proofs.Common.{arith, refl, ◌-◌}
+use Rattle.rt_fib.proofs.Placing.{both_fill_same, fills_keep}
+use Rattle.rt_fib.proofs.Leading.{from_run, goes_same, goes_twice}
 use Rattle.rt_fib.proofs.filling.Filling.entries.Goals as goal
 
 pub entries-init : goal.entries-init
 entries-init g c = record {
   onward = omega arith;
   within = omega arith;
-  continues = record { table = refl; epoch = refl };
-  fills = rw c.keep_left_number.ensures (both_fill_same _ _);
+  goes = rw c.keep_left_number.ensures (goes_same _ _);
   made = record { size = omega (arith, c.in_ok-entries.ensures.len); each = λ i below. absurd (omega (arith, below)) };
   piece = rw c.keep_left_number.ensures c.requires.piece;
 }
@@ -16,31 +15,27 @@ entries-init g c = record {
 pub entries-preserved : goal.entries-preserved
 entries-preserved g c =
     let v = c.entries.invariant in
-    let on = c.run.ensures.continues in
+    let on = c.run.ensures.goes in
     let made = c.in_ok-run.ensures in
     let first = c.args.span.first in
     let filled = c.in_ok-resize.ensures.by_index in
-    let fills = rw v.continues.epoch at c.run.ensures.fills in
-    let entry = rw (v.continues.table, v.continues.epoch) at made.entry in
+    let entry = rw (v.goes.table, v.goes.epoch) at made.entry in
     record {
       onward = omega (arith, v.onward, made.onward);
       within = made.within;
-      continues = record { table = on.table ∙ v.continues.table; epoch = on.epoch ∙ v.continues.epoch };
-      fills = both_fill_twice _ _ _ _ v.fills fills;
+      goes = goes_twice _ _ _ _ _ _ v.goes on;
       made = from_run first _ _ _ _ _ c.args.self.now.epoch.number _ (c.entries.i - first) (c.in_ok-run.run'.end - first) c.in_ok-run.run'.entry
-          (fills_keep _ _ _ fills) (omega arith) v.made (omega (arith, c.in_ok-resize.ensures.len))
+          (fills_keep _ _ _ (rw v.goes.epoch at on.fills)) (omega arith) v.made (omega (arith, c.in_ok-resize.ensures.len))
           (λ k d upto here. filled.0 k d upto (omega (arith, here))) (λ k d from upto. filled.1 k d refl (omega (arith, from)) upto)
           (λ j from upto. entry j (omega (arith, v.onward, from)) (omega (arith, v.onward, made.onward, upto)));
       piece = made.piece;
     }
 
 pub returns-in_err-run-clause-fills : goal.returns-in_err-run-clause-fills
-returns-in_err-run-clause-fills g c =
-    both_fill_twice _ _ _ _ c.entries.invariant.fills (rw c.entries.invariant.continues.epoch at c.run.ensures.fills)
+returns-in_err-run-clause-fills g c = (goes_twice _ _ _ _ _ _ c.entries.invariant.goes c.run.ensures.goes).fills
 
 pub returns-in_err-resize-clause-fills : goal.returns-in_err-resize-clause-fills
-returns-in_err-resize-clause-fills g c =
-    both_fill_twice _ _ _ _ c.entries.invariant.fills (rw c.entries.invariant.continues.epoch at c.run.ensures.fills)
+returns-in_err-resize-clause-fills g c = (goes_twice _ _ _ _ _ _ c.entries.invariant.goes c.run.ensures.goes).fills
 
 pub returns-in_err-entries-clause-fills : goal.returns-in_err-entries-clause-fills
 returns-in_err-entries-clause-fills g c = both_fill_same _ _

@@ -1,11 +1,13 @@
-use Rattle.rt_fib.proofs.Both.{both_fill_same, routes_fill}
+use Rattle.std.proofs.Common.{rules}
+use Rattle.rt_fib.proofs.Placing.{routes_fill}
+use Rattle.rt_fib.proofs.Leading.{goes_same}
 use Rattle.rt_fib.proofs.filling.Filling.go_on_to.Goals as goal
 
-pub returns-then-from-self-clause-fills : goal.returns-then-from-self-clause-fills
-returns-then-from-self-clause-fills g c = both_fill_same _ _
+pub returns-then-from-self-clause-goes : goal.returns-then-from-self-clause-goes
+returns-then-from-self-clause-goes g c = goes_same _ _
 
-pub returns-in_err-number-clause-fills : goal.returns-in_err-number-clause-fills
-returns-in_err-number-clause-fills g c = routes_fill _ _ _ c.number_of.ensures.fills
+pub returns-in_err-number-clause-goes : goal.returns-in_err-number-clause-goes
+returns-in_err-number-clause-goes g c = record { table = search rules; epoch = search rules; fills = routes_fill _ _ _ c.number_of.ensures.fills }
 
-pub returns-clause-fills : goal.returns-clause-fills
-returns-clause-fills g c = routes_fill _ _ _ c.number_of.ensures.fills
+pub returns-clause-goes : goal.returns-clause-goes
+returns-clause-goes g c = record { table = search rules; epoch = search rules; fills = routes_fill _ _ _ c.number_of.ensures.fills }

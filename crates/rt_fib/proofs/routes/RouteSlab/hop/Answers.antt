@@ -1,24 +1,30 @@
-use Rattle.std.proofs.Common.{Option, None, get_or, ap, ◌∙◌, arith}
+use Rattle.std.proofs.Common.{Option, None, ap, ◌∙◌, arith}
 use Rattle.std.proofs.lemmas.List.{get_or_read}
 use Rattle.rt_rib.specs.declared.routes.Route.{Route}
 use Rattle.rt_fib.specs.Hops.{next_hop}
 use Rattle.rt_fib.proofs.HopCodes.{codes_long, code_read}
 use Rattle.rt_fib.proofs.routes.RouteSlab.hop.Goals as goal
 
-pub index-code-requires : goal.index-code-requires
-index-code-requires g c =
+pub index-requires : goal.index-requires
+index-requires g c =
     let below = rw (← c.self.view_is) at c.requires in
-    omega (arith, below, codes_long c.self.inside.codes.items c.self.inside.slab.places.values c.self.invariant, c.self.inside.codes.ok.0)
+    omega (arith, below, codes_long _ _ c.self.invariant, c.self.inside.codes.ok.0)
 
-pub returns-then-code-eq-LOW_ROUTER : goal.returns-then-code-eq-LOW_ROUTER
-returns-then-code-eq-LOW_ROUTER g c =
-    let answers = c.args.self.now.places.values in
-    c.next_hop.ensures ∙ ap (λ (a : Option Route). next_hop a) (get_or_read answers c.args.n c.answer.result c.requires c.answer.ensures None)
-
-pub returns : goal.returns
-returns g c =
+pub returns-in-0 : goal.returns-in-0
+returns-in-0 g c =
     let below = rw (← c.self.view_is) at c.requires in
-    let answers = c.self.inside.slab.places.values in
-    rw (← c.self.view_is)
-    (c.hop_with.ensures (get_or answers c.args.n None)
-    (code_read c.self.inside.codes.items answers c.args.n c.index-code.result.now c.self.invariant below c.index-code.ensures))
+    rw (← c.self.view_is) ((code_read _ _ c.args.n _ c.self.invariant below c.index.ensures).0 c.in-0.is)
+
+pub returns-in-1 : goal.returns-in-1
+returns-in-1 g c =
+    let below = rw (← c.self.view_is) at c.requires in
+    rw (← c.self.view_is) ((code_read _ _ c.args.n _ c.self.invariant below c.index.ensures).1 c.in-1.is)
+
+pub returns-in-2 : goal.returns-in-2
+returns-in-2 g c =
+    c.next_hop.ensures ∙ ap (λ (a : Option Route). next_hop a) (get_or_read c.args.self.now.places.values c.args.n c.answer.result c.requires c.answer.ensures None)
+
+pub returns-in_default : goal.returns-in_default
+returns-in_default g c =
+    let below = rw (← c.self.view_is) at c.requires in
+    rw (← c.self.view_is) ((code_read _ _ c.args.n _ c.self.invariant below c.index.ensures).2 (omega arith))

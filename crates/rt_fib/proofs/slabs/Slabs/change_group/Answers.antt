@@ -1,4 +1,4 @@
-use Rattle.std.proofs.Common.{◌-◌, ◌^◌, refl, arith}
+use Rattle.std.proofs.Common.{◌-◌, ◌^◌, refl}
 use Rattle.rt_fib.proofs.Changing.{group_goes, others_stay}
 use Rattle.rt_fib.proofs.slabs.Slabs.change_group.Goals as goal
 
@@ -10,5 +10,5 @@ returns-clause-leads g c =
 pub returns-clause-others : goal.returns-clause-others
 returns-clause-others g c = record {
   routes = refl;
-  groups = others_stay c.args.i c.args.self.now.groups c.replace.new.self (c.args.entry - 2 ^ 31) _ _ (omega arith) c.get.ensures c.if-group-i.false c.replace.ensures.values c.replace.ensures.epochs;
+  groups = others_stay c.args.i c.args.self.now.groups c.replace.new.self (c.args.entry - 2 ^ 31) _ _ c.get.ensures c.if-group-i.false c.replace.ensures.values c.replace.ensures.epochs;
 }

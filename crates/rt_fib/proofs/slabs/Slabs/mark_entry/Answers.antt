@@ -1,7 +1,7 @@
 use Rattle.std.proofs.Common.{◌≡◌, ◌+◌, inl, inr, arith}
 use Rattle.std.proofs.lemmas.Bool.{cases_lt}
 use Rattle.rt_fib.proofs.Placing.{keeps_same, keeps_twice}
-use Rattle.rt_fib.proofs.Marks.{group_on}
+use Rattle.rt_fib.proofs.Leading.{group_on}
 use Rattle.rt_fib.proofs.slabs.Slabs.mark_entry.Goals as goal
 
 pub numbers-init : goal.numbers-init

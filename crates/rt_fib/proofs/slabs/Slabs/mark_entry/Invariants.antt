@@ -2,8 +2,7 @@ use Rattle.std.proofs.Common.{ℕ, ◌+◌, ◌<◌, Option, get_or}
 use Rattle.rt_rib.specs.declared.routes.Route.{Route}
 use Rattle.rt_fib.specs.declared.slabs.Group.{Group}
 use Rattle.rt_fib.specs.inside.Slab.{Has}
-use Rattle.rt_fib.specs.inside.Slabs.{KeepsBoth}
-use Rattle.rt_fib.specs.inside.Entries.{HasRoute}
+use Rattle.rt_fib.specs.inside.Entries.{KeepsBoth, HasRoute}
 use Rattle.rt_fib.proofs.slabs.Slabs.mark_entry.Given as goal
 
 -- the group is marked, and so are its numbers up to the loop's place

@@ -1,6 +1,6 @@
 use Rattle.std.proofs.Common.{arith}
 use Rattle.rt_fib.proofs.Placing.{keeps_same, keeps_twice}
-use Rattle.rt_fib.proofs.Marks.{whole_on}
+use Rattle.rt_fib.proofs.Leading.{whole_on}
 use Rattle.rt_fib.proofs.slabs.Slabs.mark_number.Goals as goal
 
 pub returns-then-entry-last-clause-keeps : goal.returns-then-entry-last-clause-keeps
@@ -8,7 +8,7 @@ returns-then-entry-last-clause-keeps g c = record { groups = keeps_same _ _; rou
 
 pub returns-then-entry-last-clause-leads : goal.returns-then-entry-last-clause-leads
 returns-then-entry-last-clause-leads g c =
-    whole_on _ _ _ c.args.entry c.args.entry c.requires c.requires (λ answer has. c.mark_used.ensures.marked c.args.epoch.number answer has)
+    whole_on _ _ _ c.args.entry c.requires (λ answer has. c.mark_used.ensures.marked c.args.epoch.number answer has)
 
 pub returns-clause-keeps : goal.returns-clause-keeps
 returns-clause-keeps g c = record {
@@ -19,5 +19,5 @@ returns-clause-keeps g c = record {
 pub returns-clause-leads : goal.returns-clause-leads
 returns-clause-leads g c =
     let again = c.reuse_if_same.ensures.fills.keeps in
-    whole_on _ _ _ c.args.entry c.args.entry c.requires c.requires
+    whole_on _ _ _ c.args.entry c.requires
     (λ answer has. c.mark_used-2.ensures.marked c.args.epoch.number answer (again.each c.args.epoch.number c.args.entry answer (omega arith) has))

@@ -1,7 +1,7 @@
 use Rattle.rt_fib.proofs.slabs.Slabs.roll_back.Goals as goal
 
 pub returns : goal.returns
-returns g c = λ epoch first start begins fills. record {
-  groups = c.roll_back.ensures.back epoch first.groups start.groups begins.groups fills.groups;
-  routes = c.roll_back-2.ensures epoch first.routes start.routes begins.routes fills.routes;
+returns g c = λ epoch start logs. record {
+  groups = c.roll_back.ensures.back epoch start.groups.places logs.groups;
+  routes = c.roll_back-2.ensures epoch start.routes.places logs.routes;
 }
