@@ -8,7 +8,7 @@ use Rattle.rt_rib.specs.LookUp.{look_up}
 use Rattle.rt_fib.specs.declared.slabs.Group.{Group}
 use Rattle.rt_fib.specs.declared.slabs.Slabs.{Slabs}
 use Rattle.rt_fib.specs.declared.following.Change.{Change}
-use Rattle.rt_fib.specs.declared.spans.Span.{Span}
+use Rattle.rt_fib.specs.declared.bounds.Span.{Span}
 use Rattle.rt_fib.specs.inside.Slab.{SlabState, Has}
 use Rattle.rt_fib.specs.inside.Entries.{at, HasRoute, IsSince, Leads, IsEntry, AreMarked}
 use Rattle.rt_fib.specs.inside.Changes.{AnswerAlike, IsChange, IsNumberAfter, AreNumbersAfter, KeepsOthers, LeadsAfter, AreUntil}
@@ -39,10 +39,10 @@ others_stay i old new place group next read own values epochs t n other apart ha
 
 module _ {A : Type 0} where
   -- an entry that is a number
-  pub entry_goes : (slabs : Slabs A) (epoch i entry next : ℕ) (change : Change) → entry < 2 ^ 31 → next < 2 ^ 31
+  pub entry_goes : (slabs : Slabs A) (epoch i entry next : ℕ) (change : Change) → entry < 2 ^ 31
       → IsNumberAfter slabs epoch change entry next → LeadsAfter slabs slabs epoch change i entry next
-  entry_goes slabs epoch i entry next change short low goes t k answer within before leads =
-      inl (record { short = low; has = goes t answer before (short_number slabs t i entry k answer leads short) })
+  entry_goes slabs epoch i entry next change short goes t k answer within before leads =
+      inl (record { short = goes.short short; has = goes.after t answer before (short_number slabs t i entry k answer leads short) })
 
   -- and the entry that names it
   pub group_goes : (old new : Slabs A) (epoch i entry : ℕ) (change : Change) (group : Group) (numbers : List ℕ)
@@ -63,7 +63,7 @@ module _ {A : Type 0} where
         long = names.long;
         named = replaced old.groups new.groups t names.place names.group next (rw place at values) epochs names.named;
         own = refl;
-        number = rw routes (are.each k within t answer before had);
+        number = rw routes ((are.each k within).after t answer before had);
       })
 
   -- the entries of others lead where they led

@@ -10,7 +10,7 @@ use Rattle.rt_fib.specs.declared.filling.Filling.{Filling}
 use Rattle.rt_fib.specs.declared.filling.Piece.{Piece}
 use Rattle.rt_fib.specs.declared.slabs.Group.{Group}
 use Rattle.rt_fib.specs.declared.slabs.Slabs.{Slabs}
-use Rattle.rt_fib.specs.declared.spans.Span.{Span}
+use Rattle.rt_fib.specs.declared.bounds.Span.{Span}
 use Rattle.rt_fib.specs.inside.Slab.{Has, Places}
 use Rattle.rt_fib.specs.inside.Entries.{at, AreFrom, AreMarked, AreNumbers, FillsBoth, GoesOn, HasRoute, IsEntry, IsNumberedFrom, IsSince, KeepsBoth, Leads, LeadsOn, NamesGroup}
 use Rattle.rt_fib.specs.inside.Changes.{AreEntriesOf, ArePut, PreservesLookupsOutside}
@@ -139,13 +139,10 @@ module _ {A : Type 0} where
             (on k answer within (group_read old epoch i entry k answer read names is));
       })
 
-  -- a piece stays one, from each later address too
-  pub piece_keeps : (table : List Route) (old new : Slabs A) (epoch t from later : ℕ) (piece : Piece)
-      → KeepsBoth epoch old new → epoch ≤ t → from ≤ later → IsNumberedFrom table old t from piece → IsNumberedFrom table new t later piece
-  piece_keeps table old new epoch t from later piece keeps lo onward is = record {
-    short = is.short;
-    each = λ n here there. keeps.routes.each t piece.number (look_up (at n) table) lo (is.each n (omega (arith, onward, here)) there);
-  }
+  -- a piece is one from each later address too
+  pub piece_later : (table : List Route) (slabs : Slabs A) (t from later : ℕ) (piece : Piece)
+      → from ≤ later → IsNumberedFrom table slabs t from piece → IsNumberedFrom table slabs t later piece
+  piece_later table slabs t from later piece onward is = record { short = is.short; each = λ n here there. is.each n (omega (arith, onward, here)) there }
 
   -- one more number in its place
   pub numbers_set : (table : List Route) (numbers : List ℕ) (old new : Slabs A) (epoch t first k number : ℕ)
@@ -250,7 +247,7 @@ module _ {A : Type 0} (prefix : Prefix) (span : Span) (old new fresh : List ℕ)
       → IsEntry next more t i (get_or new i 0) =
       λ t i here since out same k within.
       let lead = leads_keeps slabs more epoch t i (get_or old i 0) k (look_up (at (i * 256 + k)) table) keeps since.from (was.each t i here since k within) in
-      let alike : look_up (at (i * 256 + k)) table ≡ look_up (at (i * 256 + k)) next = kept (at (i * 256 + k)) (of_prefix.outside i k here within out) in
+      let alike : look_up (at (i * 256 + k)) table ≡ look_up (at (i * 256 + k)) next = kept (at (i * 256 + k)) (of_prefix i k here within out) in
       subst (λ (e : ℕ). Leads more t i e k (look_up (at (i * 256 + k)) next)) (sym same)
       (subst (λ (a : Option Route). Leads more t i (get_or old i 0) k a) alike lead) in
       record {
@@ -261,7 +258,7 @@ module _ {A : Type 0} (prefix : Prefix) (span : Span) (old new fresh : List ℕ)
           | inr from ↦ elim (cases_lt i span.end) [
             | inl below ↦ λ k within. leads_weaker more t (epoch + 1) i (get_or new i 0) k (look_up (at (i * 256 + k)) next) since.upto
                 (entry_put put are i from below k within)
-            | inr behind ↦ stays t i here since (inr behind) (put.behind i (omega (arith, are.size, behind, of_prefix.ordered)))
+            | inr behind ↦ stays t i here since (inr behind) (put.behind i (omega (arith, are.size, behind, span.ordered)))
           ]
         ];
       }

@@ -17,7 +17,7 @@ use Rattle.rt_rib.specs.LookUp.{look_up}
 use Rattle.rt_rib.specs.Sequential.{table_after}
 use Rattle.rt_rib.specs.Book.{TableState, Serves}
 use Rattle.rt_rib.specs.Laws.{PutInAdds, TakeOutLeavesOthers, LookUpFindsBest, IsBestMatch}
-use Rattle.rt_fib.specs.declared.spans.Span.{Span}
+use Rattle.rt_fib.specs.declared.bounds.Span.{Span}
 use Rattle.rt_fib.specs.Laws.{PreservesOtherRoutes, KeepsOtherRoutes}
 use Rattle.rt_fib.specs.inside.Entries.{at}
 use Rattle.rt_fib.specs.inside.Changes.{PreservesLookupsOutside, AreEntriesOf, IsWholly, is_longer, answer_after, AnswerAlike, IsChange}
@@ -224,9 +224,9 @@ module _ (prefix : Prefix) (span : Span) (t : List Route) (finds : LookUpFindsBe
   pub span_changes : (u : List Route) → IsTable u → PreservesOtherRoutes prefix t u → IsChange prefix.len (look_up own u) span t u
   span_changes u of_u others = record {
     within = λ i k from below low.
-        after_is u of_u others (at (i * 256 + k)) (omega (arith, below, low, are.fits))
+        after_is u of_u others (at (i * 256 + k)) (omega (arith, below, low, span.fits))
         ((range prefix (at (i * 256 + k))).1 (omega (arith, from, wholly.first), omega (arith, below, low, wholly.end)));
-    outside = λ i k fit low out. outside_stays prefix t u finds of_t of_u others (at (i * 256 + k)) (are.outside i k fit low out);
+    outside = λ i k fit low out. outside_stays prefix t u finds of_t of_u others (at (i * 256 + k)) (are i k fit low out);
   }
 
   -- if the new answer is the old one, nothing is changed

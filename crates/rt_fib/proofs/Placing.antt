@@ -194,9 +194,6 @@ module _ {T : Type 0} where
 
 module _ {A : Type 0} where
   -- the same of both slabs
-  pub both_keep_same : (epoch : ℕ) (xs : Slabs A) → KeepsBoth epoch xs xs
-  both_keep_same epoch xs = record { groups = keeps_same epoch xs.groups.places; routes = keeps_same epoch xs.routes.places }
-
   pub same_places_keep : (epoch : ℕ) (old new : Slabs A) → new.groups.places ≡ old.groups.places → new.routes.places ≡ old.routes.places → KeepsBoth epoch old new
   same_places_keep epoch old new groups routes =
       record { groups = rw groups (keeps_same epoch old.groups.places); routes = rw routes (keeps_same epoch old.routes.places) }

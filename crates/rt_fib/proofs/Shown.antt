@@ -11,7 +11,7 @@ use Rattle.rt_fib.specs.Views.{IsHopNumber, IsAnswerNumber, IsNumber, ViewShows}
 use Rattle.rt_fib.specs.declared.slabs.Group.{Group}
 use Rattle.rt_fib.specs.declared.slabs.Slabs.{Slabs}
 use Rattle.rt_fib.specs.inside.Entries.{AreMarked}
-use Rattle.rt_fib.specs.inside.Shown.{Extends, IsHopOf, AreHopsOf, AreShownEntries, AreShownBlocks}
+use Rattle.rt_fib.specs.inside.Shown.{Extends, AreHopsOf, AreShownEntries, AreShownBlocks}
 use Rattle.rt_fib.specs.inside.Changes.{ArePut}
 use Rattle.rt_fib.proofs.Leading.{entry_leads}
 
@@ -20,29 +20,31 @@ hop_extends : (old new : List ℕ) (number : ℕ) (hop : Hop) → Extends old ne
 hop_extends old new number (Via a) more is = (is.0, omega (arith, is.1, more.longer), more.same number is.1 ∙ is.2)
 hop_extends old new number Discard more is = is
 
-pub answer_extends : (old new : List ℕ) (number : ℕ) (answer : Option Route) → Extends old new → IsAnswerNumber old number answer → IsAnswerNumber new number answer
+answer_extends : (old new : List ℕ) (number : ℕ) (answer : Option Route) → Extends old new → IsAnswerNumber old number answer → IsAnswerNumber new number answer
 answer_extends old new number None more is = is
 answer_extends old new number (Some r) more is = hop_extends old new number r.hop more is
 
+number_extends : (old new : List ℕ) (number : ℕ) (answer : Option Route) → Extends old new → IsNumber old number answer → IsNumber new number answer
+number_extends old new number answer more is = record { short = is.short; number = answer_extends old new number answer more is.number }
+
 -- one more answer
 pub hops_push : (old new numbers : List ℕ) (answers : List (Option Route)) (n number : ℕ) (answer : Option Route) → Extends old new
-    → AreHopsOf old numbers answers n → IsHopOf new number answer → ((d : Option Route) → get_or answers n d ≡ answer)
+    → AreHopsOf old numbers answers n → IsNumber new number answer → ((d : Option Route) → get_or answers n d ≡ answer)
     → AreHopsOf new (numbers ++ number ∷ []) answers (n + 1)
 hops_push old new numbers answers n number answer more are is there = record {
   size = omega (arith, are.size, length_push numbers number);
   each = λ m d below. elim (cases_lt m n) [
     | inl before ↦
-        let was = are.each m d before in
         let same : get_or (numbers ++ number ∷ []) m 0 ≡ get_or numbers m 0 =
         get_or_append_left numbers (number ∷ []) 0 m (omega (arith, before, are.size)) in
-        subst (λ (x : ℕ). IsHopOf new x (get_or answers m d)) (sym same)
-        (record { short = was.short; is = answer_extends old new (get_or numbers m 0) (get_or answers m d) more was.is })
+        subst (λ (x : ℕ). IsNumber new x (get_or answers m d)) (sym same)
+        (number_extends old new (get_or numbers m 0) (get_or answers m d) more (are.each m d before))
     | inr from ↦
         let last : m ≡ n = omega (arith, below, from) in
         let same : get_or (numbers ++ number ∷ []) m 0 ≡ number = get_or_push numbers number 0 m (omega (arith, are.size, last)) in
         let found : get_or answers m d ≡ answer = ap (λ (j : ℕ). get_or answers j d) last ∙ there d in
-        subst (λ (x : ℕ). IsHopOf new x (get_or answers m d)) (sym same)
-        (subst (λ (a : Option Route). IsHopOf new number a) (sym found) is)
+        subst (λ (x : ℕ). IsNumber new x (get_or answers m d)) (sym same)
+        (subst (λ (a : Option Route). IsNumber new number a) (sym found) is)
   ];
 }
 
@@ -85,19 +87,15 @@ view_shows entries shown old more numbers list routers slabs epoch marked table 
       let low : k < 256 = omega arith in
       let here : i < length entries = omega (arith, within, all.size) in
       let there = are.each i here in
-      let number : (n : ℕ) → n < length answers → ((d : Option Route) → get_or answers n d ≡ answer) → IsHopOf routers (get_or numbers n 0) answer =
+      let number : (n : ℕ) → n < length answers → ((d : Option Route) → get_or answers n d ≡ answer) → IsNumber routers (get_or numbers n 0) answer =
       λ n below found.
-      let hop = hops.each n answer below in
-      record {
-        short = hop.short;
-        is = subst (λ (a : Option Route). IsAnswerNumber routers (get_or numbers n 0) a) (found answer)
-            (answer_extends list routers (get_or numbers n 0) (get_or answers n answer) longer hop.is);
-      } in
+      subst (λ (a : Option Route). IsNumber routers (get_or numbers n 0) a) (found answer)
+      (number_extends list routers (get_or numbers n 0) (get_or answers n answer) longer (hops.each n answer below)) in
       elim (entry_leads entries slabs epoch marked table addr.0 (get_or entries i 0) all within (omega arith)) [
         | inl whole ↦
             let same : get_or shown i 0 ≡ get_or numbers (get_or entries i 0) 0 = there.short whole.short in
             let hop = number (get_or entries i 0) whole.has.is_used.within whole.has.there in
-            inl (subst (λ (e : ℕ). IsNumber routers e answer) (sym same) (record { short = hop.short; number = hop.is }))
+            inl (subst (λ (e : ℕ). IsNumber routers e answer) (sym same) hop)
         | inr names ↦
             let same : get_or shown i 0 ≡ get_or entries i 0 = there.long (omega (arith, names.long)) in
             let group = names.named.is_used.within in
@@ -112,7 +110,7 @@ view_shows entries shown old more numbers list routers slabs epoch marked table 
               block = names.place;
               long = same ∙ names.long;
               within = omega (arith, group, low, fits, put.size);
-              number = subst (λ (x : ℕ). IsAnswerNumber routers x answer) (sym read) hop.is;
+              number = subst (λ (x : ℕ). IsAnswerNumber routers x answer) (sym read) hop.number;
             })
       ];
 }

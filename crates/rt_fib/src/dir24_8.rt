@@ -4,7 +4,7 @@ ghost use Rattle.std.specs.Prelude.{◌≡◌, ℕ, ◌+◌, ◌<◌, ◌≤◌,
 ghost use Rattle.rt_rib.specs.LookUp.{look_up};
 ghost use Rattle.rt_fib.specs.inside.Entries.{at, entry_at, HasRoute, IsForwarding};
 
-use crate::epochs::Epoch;
+use crate::bounds::Epoch;
 use crate::slabs::{Counts, GROUP_FLAG, GROUP_SIZE, Slabs};
 use rt_cidr::Addr;
 use rt_rib::{Route, Table};
@@ -34,10 +34,6 @@ impl Seen {
             self.last = number;
             self.counts.routes = self.counts.routes.saturating_add(1);
         }
-    }
-
-    pub(crate) fn see_group(&mut self) {
-        self.counts.groups = self.counts.groups.saturating_add(1);
     }
 }
 

@@ -9,13 +9,13 @@ ghost use Rattle.rt_fib.specs.Laws.{KeepsOtherRoutes, PreservesOtherRoutes};
 ghost use Rattle.rt_fib.specs.Views.{ViewShows};
 ghost use Rattle.rt_fib.specs.inside.Changes.{PreservesLookupsOutside};
 
+use crate::bounds::{ENTRIES, Epoch, Span};
 use crate::dir24_8::{AT_ONCE, Dir24_8, Seen};
-use crate::epochs::Epoch;
 use crate::filling::{groups_gone, put_entries};
 use crate::following::Change;
 use crate::purging::{prefixes_to_withdraw, purge_rest, withdraw_each};
 use crate::slabs::{Counts, GROUP_SIZE, Slabs};
-use crate::spans::{ENTRIES, Span, span_of};
+use crate::spans::span_of;
 use crate::views::{ViewSizes, hop_numbers, show_blocks, show_entries};
 use rt_cidr::{Addr, Prefix};
 use rt_rib::laws::look_up_finds_best;

@@ -4,9 +4,8 @@ ghost use Rattle.std.specs.Prelude.{◌≡◌, ℕ, ◌≤◌, ◌<◌, ◌+◌,
 ghost use Rattle.rt_fib.specs.inside.Entries.{AreBack, FillsBoth, KeepsBoth, AreFrom, IsEntry, AreNumbers, GoesOn, IsFrom};
 ghost use Rattle.rt_fib.specs.inside.Changes.{ArePut};
 
-use crate::epochs::Epoch;
+use crate::bounds::{Epoch, Span};
 use crate::slabs::{GROUP_FLAG, GROUP_SIZE, Group, Slabs};
-use crate::spans::Span;
 use rt_cidr::Addr;
 use rt_rib::{LookupCursor, Refused, Table};
 use std::alloc::Allocator;
@@ -58,6 +57,7 @@ impl<'a, B: Allocator + Copy> Filling<'a, B> {
     }
 
     /// Returns the numbers of the table's answers to the 256 addresses from this one on.
+    #[tactic(auto, using(crate::proofs::Leading::piece_later))]
     fn numbers_from<A: Allocator + Copy>(
         &mut self,
         slabs: &mut Slabs<A>,
@@ -114,16 +114,15 @@ impl<'a, B: Allocator + Copy> Filling<'a, B> {
     }
 
     /// Returns the span's entries, and puts the groups and answers that they lead to into the slabs.
+    #[tactic(auto, using(crate::proofs::Leading::goes_same))]
     fn entries<A: Allocator + Copy>(
         &mut self,
         slabs: &mut Slabs<A>,
         alloc: A,
         span: Span,
     ) -> Result<Vec<u32, A>, Refused>
-        requires ordered { span.first < span.end }
-        requires fits { span.end ≤ 2 ^ 24 }
-        requires piece { IsFrom self.old slabs.old (span.first * 256) }
-        ensures fills { FillsBoth self.old.epoch.number slabs.old slabs.new }
+        requires { IsFrom self.old slabs.old (span.first * 256) }
+        ensures goes { GoesOn self.old self.new slabs.old slabs.new }
         ensures entries { IfOk result (λ fresh.
             AreFrom span.first fresh.items slabs.new (self.old.epoch.number + 1) self.old.table (span.end - span.first)) }
     {
@@ -159,8 +158,6 @@ impl<A: Allocator + Copy> Slabs<A> {
         epoch: Epoch,
         span: Span,
     ) -> Result<Vec<u32, A>, Refused>
-        requires ordered { span.first < span.end }
-        requires fits { span.end ≤ 2 ^ 24 }
         ensures keeps { KeepsBoth epoch.number self.old self.new }
         ensures entries { IfOk result (λ fresh.
             AreFrom span.first fresh.items self.new (epoch.number + 1) table.now.routes (span.end - span.first)) }

@@ -7,11 +7,11 @@ ghost use Rattle.rt_fib.specs.inside.Slab.{IsNumberOf};
 ghost use Rattle.rt_fib.specs.inside.Entries.{AreBack, KeepsBoth, IsForwarding};
 ghost use Rattle.rt_fib.specs.inside.Changes.{AreEntriesOf, is_longer, AnswerAlike, AreNumbersAfter, HasNumber, IsChange, IsLast, IsNumberAfter, KeepsOthers, LeadsAfter};
 
+use crate::bounds::{ENTRIES, Epoch, Span};
 use crate::dir24_8::Dir24_8;
-use crate::epochs::Epoch;
 use crate::routes::is_same;
 use crate::slabs::{GROUP_FLAG, GROUP_SIZE, Group, Slabs};
-use crate::spans::{ENTRIES, Span, is_whole};
+use crate::spans::is_whole;
 use rt_cidr::laws::{nested, ranges};
 use rt_cidr::{Addr, Prefix};
 use rt_rib::laws::look_up_finds_best;
@@ -63,11 +63,7 @@ impl<A: Allocator + Copy> Slabs<A> {
         ensures { IfSome result (λ k. k < 256) }
     {
         if entry < GROUP_FLAG {
-            return if self.is_uncovered(len, entry) {
-                Some(0)
-            } else {
-                None
-            };
+            return self.is_uncovered(len, entry).then_some(0);
         }
         let place = entry - GROUP_FLAG;
         if place as usize >= self.groups.len() {
@@ -110,8 +106,7 @@ impl<A: Allocator + Copy> Slabs<A> {
     /// Returns what becomes of the number of an answer.
     fn number_after(&self, epoch: Epoch, change: &Change, number: u32) -> u32
         requires { HasNumber self.now epoch.number change.now }
-        ensures short { number < 2 ^ 31 → result < 2 ^ 31 }
-        ensures after { IsNumberAfter self.now epoch.number change.now number result }
+        ensures { IsNumberAfter self.now epoch.number change.now number result }
     {
         if number as usize >= self.routes.len() {
             return number;
@@ -236,8 +231,6 @@ impl<A: Allocator + Copy, B: Allocator + Copy> Dir24_8<A, B> {
     pub(crate) fn change_entries(&mut self, table: &Table<B>, change: &Change, span: Span)
         requires right { IsForwarding self.old }
         requires number { HasNumber self.old.slabs self.old.epoch.number change.now }
-        requires fits { span.end ≤ 2 ^ 24 }
-        requires ordered { span.first < span.end }
         requires change { IsChange change.now.len change.now.answer span self.old.table.value.routes table.now.routes }
         ensures right { IsForwarding self.new }
         ensures table { self.new.table.value ≡ table.now }

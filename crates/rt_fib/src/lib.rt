@@ -21,8 +21,8 @@
 //! No clause says how much memory it takes, or that many threads may look up in one: this is only tested.
 #![tactic(auto)]
 
+mod bounds;
 mod dir24_8;
-mod epochs;
 mod fib;
 mod filling;
 mod following;

@@ -3,10 +3,9 @@
 ghost use Rattle.std.specs.Prelude.{◌≡◌, ◌<◌, ◌^◌};
 ghost use Rattle.rt_fib.specs.inside.Entries.{KeepsBoth, IsForwarding, LeadsOn};
 
+use crate::bounds::{ENTRIES, Epoch};
 use crate::dir24_8::{Dir24_8, Seen};
-use crate::epochs::Epoch;
 use crate::slabs::{Counts, GROUP_FLAG, GROUP_SIZE, PACE, Slabs, TBL24_BYTES};
-use crate::spans::ENTRIES;
 use std::alloc::Allocator;
 
 /// Says in how many rounds each number is once compared with the last one. The comparison waits for memory.
@@ -49,7 +48,7 @@ impl<A: Allocator + Copy> Slabs<A> {
         }
         let numbers = self.groups.get(place).numbers;
         self.groups.mark_used(epoch, place);
-        seen.see_group();
+        seen.counts.groups = seen.counts.groups.saturating_add(1);
         'numbers: for k in 0..GROUP_SIZE {
             seen.see(numbers[k]);
             self.routes.mark_used(epoch, numbers[k]);

@@ -15,21 +15,6 @@ use std::alloc::Allocator;
 /// Says how many entries the withdrawn prefixes may have in total: a quarter of all entries.
 const MOST_ENTRIES: usize = 1 << 22;
 
-/// Returns true if `count` renewals of a few entries take less time than a rebuild from `routes` routes.
-fn are_few(count: u32, routes: u32) -> bool {
-    count <= (routes / 16).saturating_add(1 << 13)
-}
-
-/// Returns the total number of the prefixes' entries.
-fn entries_of(prefixes: &[Prefix]) -> usize {
-    let mut entries = 0usize;
-    for prefix in prefixes {
-        let span = span_of(prefix);
-        entries = entries.saturating_add(span.end.saturating_sub(span.first) as usize);
-    }
-    entries
-}
-
 /// Returns the prefixes of the feed's routes, `count` of them, or none if a rebuild takes less time than their renewals or memory runs
 /// out. No clause mentions them: the purge removes each route that isn't withdrawn.
 pub(crate) fn prefixes_to_withdraw<A: Allocator + Copy, B: Allocator + Copy>(
@@ -38,13 +23,20 @@ pub(crate) fn prefixes_to_withdraw<A: Allocator + Copy, B: Allocator + Copy>(
     feed: u32,
     count: u32,
 ) -> Vec<Prefix, A> {
-    if count == 0 || !are_few(count, table.len()) {
+    // As many renewals of a few entries take less time than a rebuild.
+    let most = (table.len() / 16).saturating_add(1 << 13);
+    if count == 0 || count > most {
         return Vec::new(alloc);
     }
     let Ok(prefixes) = table.likely_prefixes(alloc, feed, count as usize) else {
         return Vec::new(alloc);
     };
-    if entries_of(&prefixes) > MOST_ENTRIES {
+    let mut entries = 0usize;
+    for prefix in &prefixes {
+        let span = span_of(prefix);
+        entries = entries.saturating_add((span.end - span.first) as usize);
+    }
+    if entries > MOST_ENTRIES {
         return Vec::new(alloc);
     }
     prefixes

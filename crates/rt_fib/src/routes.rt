@@ -5,7 +5,7 @@ ghost use Rattle.rt_fib.specs.Hops.{next_hop};
 ghost use Rattle.rt_fib.specs.inside.HopCodes.{hop_code};
 ghost use Rattle.rt_fib.specs.inside.Slab.{with_value, Fills, Has, IsBack, IsNumberOf, Keeps, Logs, Places};
 
-use crate::epochs::Epoch;
+use crate::bounds::Epoch;
 use crate::slab::Slab;
 use crate::slabs::GROUP_FLAG;
 use rt_cidr::Addr;
@@ -51,7 +51,7 @@ fn next_hop(answer: Option<Route>) -> Option<Hop>
 
 /// Writes the code at this place of the list, or at its end, where there is room for it.
 #[tactic(auto, using(crate::proofs::Placing::value_set, crate::proofs::Placing::value_pushed))]
-fn put_code<A: Allocator + Copy>(codes: &mut Vec<u32, A>, n: u32, code: u32) -> Result<(), Refused>
+fn put_code<A: Allocator + Copy>(codes: &mut Vec<u32, A>, n: u32, code: u32)
     requires within { n ≤ length codes.old.items }
     requires room { vec_len codes.old < vec_capacity codes.old }
     ensures { codes.new.items ≡ with_value codes.old.items n code }
@@ -59,10 +59,9 @@ fn put_code<A: Allocator + Copy>(codes: &mut Vec<u32, A>, n: u32, code: u32) -> 
     let i = n as usize;
     if i < codes.len() {
         codes[i] = code;
-        return Ok(());
+        return;
     }
-    codes.push(code)?;
-    Ok(())
+    let _ = codes.push(code);
 }
 
 /// Gives back room, if the list has over twice what it needs with `count` further codes.
@@ -190,7 +189,7 @@ impl<A: Allocator + Copy> RouteSlab<A> {
     {
         self.codes.reserve(1)?;
         let n = self.slab.put(epoch, answer)?;
-        put_code(&mut self.codes, n, hop_code(answer))?;
+        put_code(&mut self.codes, n, hop_code(answer));
         Ok(n)
     }
 

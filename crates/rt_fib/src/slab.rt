@@ -3,7 +3,7 @@
 ghost use Rattle.std.specs.Prelude.{◌≡◌, ℕ, ◌+◌, ◌<◌, ◌≤◌, ◌^◌, IfOk, IfSome, OnErr, [], length, get_or, slice_set, take};
 ghost use Rattle.rt_fib.specs.inside.Slab.{with_value, AreCleared, Fills, Has, IsBack, IsNumberOf, Keeps, Logs, Places};
 
-use crate::epochs::Epoch;
+use crate::bounds::Epoch;
 use crate::slabs::GROUP_FLAG;
 use rt_rib::Refused;
 use std::alloc::Allocator;
@@ -126,6 +126,7 @@ impl<T: Copy, A: Allocator + Copy> Slab<T, A> {
     }
 
     /// Puts the value into a free place, or at the end of the list. The place is in use in the next epoch too.
+    #[tactic(auto, using(crate::proofs::Placing::fills_same))]
     pub(crate) fn put(&mut self, epoch: Epoch, value: T) -> Result<u32, Refused>
         ensures fills { Fills epoch.number self.old self.new }
         ensures number { IfOk result (λ n. IsNumberOf self.new.places (epoch.number + 1) n value) }

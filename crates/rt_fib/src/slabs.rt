@@ -4,7 +4,7 @@ ghost use Rattle.rt_fib.specs.declared.slabs.Slabs.{Slabs};
 ghost use Rattle.rt_fib.specs.inside.Slab.{Fills, IsNumberOf};
 ghost use Rattle.rt_fib.specs.inside.Entries.{AreBack, FillsBoth, LogsBoth};
 
-use crate::epochs::Epoch;
+use crate::bounds::Epoch;
 use crate::routes::{ROUTE_BYTES, RouteSlab};
 use crate::slab::Slab;
 use rt_cidr::Addr;
@@ -185,6 +185,7 @@ impl<A: Allocator + Copy> Slabs<A> {
     }
 
     /// Returns the place of the group: the previous one, if it is that group's, and else one that was free.
+    #[tactic(auto, using(crate::proofs::Placing::fills_same))]
     pub(crate) fn place_of_group(
         &mut self,
         epoch: Epoch,

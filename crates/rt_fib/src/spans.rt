@@ -3,17 +3,8 @@ ghost use Rattle.std.specs.Prelude.{◌≡◌, ◌+◌, ◌*◌, IsTrue};
 ghost use Rattle.rt_cidr.specs.Cidr.{size_of};
 ghost use Rattle.rt_fib.specs.inside.Changes.{AreEntriesOf, IsWholly};
 
+use crate::bounds::{ENTRIES, Span};
 use rt_cidr::Prefix;
-
-/// Says how many entries there are.
-pub(crate) const ENTRIES: u32 = 1 << 24;
-
-/// Holds a range of entries: from the first on, up to the end, which is no longer one of them.
-#[derive(Clone, Copy)]
-pub(crate) struct Span {
-    pub(crate) first: u32,
-    pub(crate) end: u32,
-}
 
 /// Returns the entries of the prefix's addresses.
 pub(crate) fn span_of(prefix: &Prefix) -> Span

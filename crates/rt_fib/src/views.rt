@@ -1,8 +1,8 @@
 //! Views: the next hops of a forwarding table as arrays of numbers, in memory of the caller.
 ghost use Rattle.std.specs.Prelude.{◌≡◌, ◌+◌, ◌*◌, ◌<◌, ◌≤◌, ◌^◌, IfOk, IfSome, get_or, length};
 ghost use Rattle.rt_rib.specs.declared.routes.Hop.TheVariants.{Via};
-ghost use Rattle.rt_fib.specs.Views.{IsHopNumber};
-ghost use Rattle.rt_fib.specs.inside.Shown.{Extends, IsHopOf, AreHopsOf, AreShownEntries, AreShownBlocks};
+ghost use Rattle.rt_fib.specs.Views.{IsHopNumber, IsNumber};
+ghost use Rattle.rt_fib.specs.inside.Shown.{Extends, AreHopsOf, AreShownEntries, AreShownBlocks};
 
 use crate::slabs::{GROUP_FLAG, GROUP_SIZE, Group};
 use rt_cidr::Addr;
@@ -56,7 +56,7 @@ fn hop_number<A: Allocator + Copy>(
 ) -> Result<u32, Refused>
     requires { 2 ≤ length routers.old.items }
     ensures extends { Extends routers.old.items routers.new.items }
-    ensures hop { IfOk result (λ number. IsHopOf routers.new.items number answer) }
+    ensures hop { IfOk result (λ number. IsNumber routers.new.items number answer) }
 {
     let Some(route) = answer else {
         return Ok(0);

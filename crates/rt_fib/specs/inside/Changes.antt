@@ -11,7 +11,7 @@ use Rattle.rt_fib.specs.declared.following.Change.{Change}
 use Rattle.rt_fib.specs.declared.following.Last.{Last}
 use Rattle.rt_fib.specs.declared.slabs.Group.{Group}
 use Rattle.rt_fib.specs.declared.slabs.Slabs.{Slabs}
-use Rattle.rt_fib.specs.declared.spans.Span.{Span}
+use Rattle.rt_fib.specs.declared.bounds.Span.{Span}
 use Rattle.rt_fib.specs.inside.Slab.{Has, IsNumberOf}
 use Rattle.rt_fib.specs.inside.Entries.{at, HasRoute, IsSince, Leads, IsEntry}
 
@@ -20,10 +20,8 @@ abbrev pub PreservesLookupsOutside : Prefix → List Route → List Route → Ty
 PreservesLookupsOutside prefix old new = (addr : Addr) → covers prefix addr ≡ false → look_up addr old ≡ look_up addr new
 
 -- no address of another entry is the prefix's
-pub record AreEntriesOf (prefix : Prefix) (span : Span) : Type 0 where
-  pub ordered : span.first < span.end
-  pub fits : span.end ≤ 2 ^ 24
-  pub outside : (i k : ℕ) → i < 2 ^ 24 → k < 256 → (i < span.first) ⊎ (span.end ≤ i) → covers prefix (at (i * 256 + k)) ≡ false
+abbrev pub AreEntriesOf : Prefix → Span → Type 0
+AreEntriesOf prefix span = (i k : ℕ) → i < 2 ^ 24 → k < 256 → (i < span.first) ⊎ (span.end ≤ i) → covers prefix (at (i * 256 + k)) ≡ false
 
 -- the entries have just the prefix's addresses
 pub record IsWholly (prefix : Prefix) (span : Span) : Type 0 where
@@ -62,15 +60,15 @@ module _ {A : Type 0} where
   abbrev pub HasNumber : Slabs A → ℕ → Change → Type 0
   HasNumber slabs epoch change = IsNumberOf slabs.routes.places (epoch + 1) change.number change.answer
 
-  -- the number of any answer became that of the answer after the change
-  abbrev pub IsNumberAfter : Slabs A → ℕ → Change → ℕ → ℕ → Type 0
-  IsNumberAfter slabs epoch change old new =
-      (t : ℕ) (answer : Option Route) → t ≤ epoch + 1 → HasRoute slabs t old answer → HasRoute slabs t new (answer_after change.len change.answer answer)
+  -- the number of any answer became that of the answer after the change, and no group's
+  pub record IsNumberAfter (slabs : Slabs A) (epoch : ℕ) (change : Change) (old new : ℕ) : Type 0 where
+    pub short : old < 2 ^ 31 → new < 2 ^ 31
+    pub after : (t : ℕ) (answer : Option Route) → t ≤ epoch + 1 → HasRoute slabs t old answer
+        → HasRoute slabs t new (answer_after change.len change.answer answer)
 
   -- so did that of the last entry, if it was short
-  pub record IsLast (slabs : Slabs A) (epoch : ℕ) (change : Change) (last : Last) : Type 0 where
-    pub short : last.entry < 2 ^ 31 → last.after < 2 ^ 31
-    pub after : last.entry < 2 ^ 31 → IsNumberAfter slabs epoch change last.entry last.after
+  abbrev pub IsLast : Slabs A → ℕ → Change → Last → Type 0
+  IsLast slabs epoch change last = last.entry < 2 ^ 31 → IsNumberAfter slabs epoch change last.entry last.after
 
   -- the first `count` numbers of a group became those of the answers after the change
   pub record AreNumbersAfter (slabs : Slabs A) (epoch : ℕ) (change : Change) (old new : List ℕ) (count : ℕ) : Type 0 where

@@ -1,7 +1,7 @@
 -- Numbers of next hops that stand for the numbers of answers.
 use Rattle.std.specs.Prelude.{◌≡◌, ℕ, ◌/◌, ◌%◌, ◌^◌, ◌<◌, ◌≤◌, List, length, get_or, Option}
 use Rattle.rt_rib.specs.declared.routes.Route.{Route}
-use Rattle.rt_fib.specs.Views.{IsAnswerNumber}
+use Rattle.rt_fib.specs.Views.{IsNumber}
 use Rattle.rt_fib.specs.declared.slabs.Group.{Group}
 
 -- the first numbers of the one list are those of the other
@@ -9,15 +9,10 @@ pub record Extends (old new : List ℕ) : Type 0 where
   pub longer : length old ≤ length new
   pub same : (n : ℕ) → n < length old → get_or new n 0 ≡ get_or old n 0
 
--- this is the number of that answer's next hop, and is no block's
-pub record IsHopOf (routers : List ℕ) (number : ℕ) (answer : Option Route) : Type 0 where
-  pub short : number < 2 ^ 31
-  pub is : IsAnswerNumber routers number answer
-
 -- these are the numbers of the next hops of the first `count` answers
 pub record AreHopsOf (routers numbers : List ℕ) (answers : List (Option Route)) (count : ℕ) : Type 0 where
   pub size : length numbers ≡ count
-  pub each : (n : ℕ) (d : Option Route) → n < count → IsHopOf routers (get_or numbers n 0) (get_or answers n d)
+  pub each : (n : ℕ) (d : Option Route) → n < count → IsNumber routers (get_or numbers n 0) (get_or answers n d)
 
 -- the number of an answer became that of its next hop, and the name of a block stayed
 pub record IsShownEntry (numbers : List ℕ) (entry shown : ℕ) : Type 0 where

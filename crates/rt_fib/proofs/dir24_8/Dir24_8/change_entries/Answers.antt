@@ -9,7 +9,7 @@ entries-preserved g c =
     let made = c.entry_after-last.ensures in
     let entries = c.entries.self.tbl24.items in
     let i = c.entries.i in
-    let within : i < length entries = omega (arith, v.entries.size, c.entries-test.true, c.requires.fits) in
+    let within : i < length entries = omega (arith, v.entries.size, c.entries-test.true, c.args.span.fits) in
     record {
       marked = v.marked;
       number = rw made.others.routes v.number;

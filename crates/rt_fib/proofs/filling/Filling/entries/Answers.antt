@@ -1,5 +1,5 @@
 use Rattle.std.proofs.Common.{arith, refl, ◌-◌}
-use Rattle.rt_fib.proofs.Placing.{both_fill_same, fills_keep}
+use Rattle.rt_fib.proofs.Placing.{fills_keep}
 use Rattle.rt_fib.proofs.Leading.{from_run, goes_same, goes_twice}
 use Rattle.rt_fib.proofs.filling.Filling.entries.Goals as goal
 
@@ -9,7 +9,7 @@ entries-init g c = record {
   within = omega arith;
   goes = rw c.keep_left_number.ensures (goes_same _ _);
   made = record { size = omega (arith, c.in_ok-entries.ensures.len); each = λ i below. absurd (omega (arith, below)) };
-  piece = rw c.keep_left_number.ensures c.requires.piece;
+  piece = rw c.keep_left_number.ensures c.requires;
 }
 
 pub entries-preserved : goal.entries-preserved
@@ -31,11 +31,8 @@ entries-preserved g c =
       piece = made.piece;
     }
 
-pub returns-in_err-run-clause-fills : goal.returns-in_err-run-clause-fills
-returns-in_err-run-clause-fills g c = (goes_twice _ _ _ _ _ _ c.entries.invariant.goes c.run.ensures.goes).fills
+pub returns-in_err-run-clause-goes : goal.returns-in_err-run-clause-goes
+returns-in_err-run-clause-goes g c = goes_twice _ _ _ _ _ _ c.entries.invariant.goes c.run.ensures.goes
 
-pub returns-in_err-resize-clause-fills : goal.returns-in_err-resize-clause-fills
-returns-in_err-resize-clause-fills g c = (goes_twice _ _ _ _ _ _ c.entries.invariant.goes c.run.ensures.goes).fills
-
-pub returns-in_err-entries-clause-fills : goal.returns-in_err-entries-clause-fills
-returns-in_err-entries-clause-fills g c = both_fill_same _ _
+pub returns-in_err-resize-clause-goes : goal.returns-in_err-resize-clause-goes
+returns-in_err-resize-clause-goes g c = goes_twice _ _ _ _ _ _ c.entries.invariant.goes c.run.ensures.goes

@@ -1,7 +1,7 @@
 use Rattle.std.proofs.Common.{arith, refl, ◌+◌}
 use Rattle.std.proofs.lemmas.List.{length-set}
-use Rattle.rt_fib.proofs.Placing.{both_keep_same, fills_keep}
-use Rattle.rt_fib.proofs.Leading.{goes_same, goes_twice, piece_keeps, numbers_set}
+use Rattle.rt_fib.proofs.Placing.{fills_keep}
+use Rattle.rt_fib.proofs.Leading.{goes_same, goes_twice, piece_later, numbers_set}
 use Rattle.rt_fib.proofs.filling.Filling.numbers_from.Goals as goal
 
 pub numbers-init : goal.numbers-init
@@ -9,7 +9,7 @@ numbers-init g c = record {
   goes = goes_same _ _;
   full = refl;
   made = λ k below. absurd (omega (arith, below));
-  piece = piece_keeps _ _ _ 0 _ c.args.first (c.args.first + 0) _ (both_keep_same _ _) (omega arith) (omega arith) c.requires.piece;
+  piece = piece_later _ _ _ c.args.first (c.args.first + 0) _ (omega arith) c.requires.piece;
 }
 
 pub numbers-preserved : goal.numbers-preserved
@@ -25,14 +25,8 @@ numbers-preserved g c =
       full = omega (arith, v.full, length-set c.numbers.numbers k number);
       made = numbers_set _ _ _ _ c.args.self.now.epoch.number _ c.args.first k number (fills_keep _ _ _ (rw v.goes.epoch at on.fills)) (omega arith)
           (omega (arith, v.full)) v.made (there.each (c.args.first + k) (omega arith) c.in_ok-go_on_to.ensures.reaches);
-      piece = piece_keeps _ _ _ 0 _ (c.args.first + k) (c.args.first + (k + 1)) _ (both_keep_same _ _) (omega arith) (omega arith)
-          c.in_ok-go_on_to.ensures.piece;
+      piece = piece_later _ _ _ (c.args.first + k) (c.args.first + (k + 1)) _ (omega arith) c.in_ok-go_on_to.ensures.piece;
     }
 
 pub returns-in_err-go_on_to-clause-goes : goal.returns-in_err-go_on_to-clause-goes
 returns-in_err-go_on_to-clause-goes g c = goes_twice _ _ _ _ _ _ c.numbers.invariant.goes c.go_on_to.ensures.goes
-
-pub returns-clause-piece : goal.returns-clause-piece
-returns-clause-piece g c =
-    piece_keeps _ _ _ 0 _ (c.args.first + c.numbers.k) (c.args.first + 256) _ (both_keep_same _ _) (omega arith)
-    (omega (arith, c.numbers.auto.k-end)) c.numbers.invariant.piece

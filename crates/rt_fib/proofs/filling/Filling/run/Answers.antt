@@ -1,6 +1,5 @@
 use Rattle.std.proofs.Common.{◌≡◌, ◌+◌, ◌*◌, inl, refl, arith}
-use Rattle.rt_fib.proofs.Placing.{both_keep_same}
-use Rattle.rt_fib.proofs.Leading.{goes_fills, goes_twice, group_entry, piece_keeps}
+use Rattle.rt_fib.proofs.Leading.{goes_fills, goes_twice, group_entry, piece_later}
 use Rattle.rt_fib.proofs.filling.Filling.run.Goals as goal
 
 pub returns-then-from-self-clause-entry : goal.returns-then-from-self-clause-entry
@@ -8,21 +7,6 @@ returns-then-from-self-clause-entry g c = λ j from below k within.
     let on = c.go_on_to.ensures.goes in
     let there = rw (on.table, on.epoch) at c.in_ok-go_on_to.ensures.piece in
     inl (record { short = there.short; has = there.each (j * 256 + k) (omega (arith, from)) (omega (arith, below, within)) })
-
-pub returns-then-from-self-clause-piece : goal.returns-then-from-self-clause-piece
-returns-then-from-self-clause-piece g c =
-    piece_keeps _ _ _ 0 _ (c.args.i * 256) (c.min.result * 256) _ (both_keep_same _ _) (omega arith) (omega arith) c.in_ok-go_on_to.ensures.piece
-
-pub returns-in_err-numbers-clause-goes : goal.returns-in_err-numbers-clause-goes
-returns-in_err-numbers-clause-goes g c = goes_twice _ _ _ _ _ _ c.go_on_to.ensures.goes c.numbers_from.ensures.goes
-
-pub returns-in_err-place-clause-goes : goal.returns-in_err-place-clause-goes
-returns-in_err-place-clause-goes g c =
-    goes_fills _ _ _ _ _ (goes_twice _ _ _ _ _ _ c.go_on_to.ensures.goes c.numbers_from.ensures.goes) c.place_of_group.ensures.fills
-
-pub returns-clause-goes : goal.returns-clause-goes
-returns-clause-goes g c =
-    goes_fills _ _ _ _ _ (goes_twice _ _ _ _ _ _ c.go_on_to.ensures.goes c.numbers_from.ensures.goes) c.place_of_group.ensures.fills
 
 pub returns-clause-entry : goal.returns-clause-entry
 returns-clause-entry g c = λ j from below.
@@ -40,3 +24,17 @@ returns-clause-piece g c =
       short = is.short;
       each = λ n here there. rw c.place_of_group.ensures.routes (is.each n (omega (arith, here)) there);
     }
+
+pub returns-in_err-numbers-clause-goes : goal.returns-in_err-numbers-clause-goes
+returns-in_err-numbers-clause-goes g c = goes_twice _ _ _ _ _ _ c.go_on_to.ensures.goes c.numbers_from.ensures.goes
+
+pub returns-in_err-place-clause-goes : goal.returns-in_err-place-clause-goes
+returns-in_err-place-clause-goes g c =
+    goes_fills _ _ _ _ _ (goes_twice _ _ _ _ _ _ c.go_on_to.ensures.goes c.numbers_from.ensures.goes) c.place_of_group.ensures.fills
+
+pub returns-clause-goes : goal.returns-clause-goes
+returns-clause-goes g c =
+    goes_fills _ _ _ _ _ (goes_twice _ _ _ _ _ _ c.go_on_to.ensures.goes c.numbers_from.ensures.goes) c.place_of_group.ensures.fills
+
+pub returns-then-from-self-clause-piece : goal.returns-then-from-self-clause-piece
+returns-then-from-self-clause-piece g c = piece_later _ _ _ (c.args.i * 256) (c.min.result * 256) _ (omega arith) c.in_ok-go_on_to.ensures.piece

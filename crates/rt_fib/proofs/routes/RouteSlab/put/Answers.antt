@@ -16,11 +16,6 @@ put_code-requires-clause-within g c =
 pub invariant_of-self-in_err-n : goal.invariant_of-self-in_err-n
 invariant_of-self-in_err-n g c = rw (c.reserve.ensures.items, c.in_err-n.ensures.kept) c.self.invariant
 
-pub invariant_of-self-in_err-put_code : goal.invariant_of-self-in_err-put_code
-invariant_of-self-in_err-put_code g c =
-    rw (c.put_code.ensures, c.reserve.ensures.items, c.hop_code.ensures)
-    (codes_put c.self.inside.codes.items c.self.inside.slab.places.values _ _ c.args.answer c.self.invariant c.in_ok-n.ensures.put)
-
 pub invariant_of-self-2 : goal.invariant_of-self-2
 invariant_of-self-2 g c =
     rw (c.put_code.ensures, c.reserve.ensures.items, c.hop_code.ensures)
@@ -31,9 +26,6 @@ returns-in_err-reserve-clause-fills g c = rw (← c.self.view_is) (fills_same _ 
 
 pub returns-in_err-n-clause-fills : goal.returns-in_err-n-clause-fills
 returns-in_err-n-clause-fills g c = rw (← c.self.view_is) c.put.ensures.fills
-
-pub returns-in_err-put_code-clause-fills : goal.returns-in_err-put_code-clause-fills
-returns-in_err-put_code-clause-fills g c = rw (← c.self.view_is) c.put.ensures.fills
 
 pub returns-clause-fills : goal.returns-clause-fills
 returns-clause-fills g c = rw (← c.self.view_is) c.put.ensures.fills

@@ -4,12 +4,8 @@ use Rattle.rt_fib.proofs.slabs.Slabs.entry_after.Goals as goal
 
 pub returns-then-entry-last-clause-leads : goal.returns-then-entry-last-clause-leads
 returns-then-entry-last-clause-leads g c =
-    let short = c.if-entry-ge-GROUP_FLAG.false in
-    let below : c.args.last.entry < 2 ^ 31 = omega (arith, short, c.if-entry-last.true) in
-    rw c.if-entry-last.true
-    (entry_goes _ c.args.epoch.number c.args.i c.args.last.entry c.args.last.after c.args.change.now below (c.requires.last.short below) (c.requires.last.after below))
+    let below : c.args.last.entry < 2 ^ 31 = omega (arith, c.if-entry-ge-GROUP_FLAG.false, c.if-entry-last.true) in
+    rw c.if-entry-last.true (entry_goes _ _ _ c.args.last.entry c.args.last.after c.args.change.now below (c.requires.last below))
 
 pub returns-clause-leads : goal.returns-clause-leads
-returns-clause-leads g c =
-    let below : c.args.entry < 2 ^ 31 = omega (arith, c.if-entry-ge-GROUP_FLAG.false) in
-    entry_goes _ c.args.epoch.number c.args.i c.args.entry _ c.args.change.now below (c.number_after-after.ensures.short below) c.number_after-after.ensures.after
+returns-clause-leads g c = entry_goes _ _ _ c.args.entry _ c.args.change.now c.if-entry-ge-GROUP_FLAG.false c.number_after-after.ensures
