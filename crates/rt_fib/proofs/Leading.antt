@@ -11,7 +11,7 @@ use Rattle.rt_fib.specs.declared.filling.Piece.{Piece}
 use Rattle.rt_fib.specs.declared.slabs.Group.{Group}
 use Rattle.rt_fib.specs.declared.slabs.Slabs.{Slabs}
 use Rattle.rt_fib.specs.declared.bounds.Span.{Span}
-use Rattle.rt_fib.specs.inside.Slab.{Has, Places}
+use Rattle.rt_fib.specs.inside.Slab.{Has}
 use Rattle.rt_fib.specs.inside.Entries.{at, AreFrom, AreMarked, AreNumbers, FillsBoth, GoesOn, HasRoute, IsEntry, IsNumberedFrom, IsSince, KeepsBoth, Leads, LeadsOn, NamesGroup}
 use Rattle.rt_fib.specs.inside.Changes.{AreEntriesOf, ArePut, PreservesLookupsOutside}
 use Rattle.rt_fib.proofs.Placing.{both_fill_same, both_fill_twice, each_set, weaker}
@@ -21,11 +21,6 @@ pub lent_whole : (old new : List ℕ) (n : ℕ) → n ≡ length old → length 
 lent_whole old new n size same =
     let none : drop (length new) old ≡ [] = drop_all (length new) old (omega (arith, same)) in
     rw (none, append-nil new) (take_all n new (omega (arith, size, same)))
-
--- what stands at the number is the answer
-pub value_read : {T : Type 0} → (places : Places T) (epoch n : ℕ) (value read : T)
-    → Has places epoch n value → read ≡ get_or places.values n read → read ≡ value
-value_read places epoch n value read has is = is ∙ has.there read
 
 module _ {A : Type 0} where
   -- an address's entry leads to its answer
@@ -59,9 +54,7 @@ module _ {A : Type 0} where
         → read ≡ names.group
     group_is read names is =
         let e : entry - 2 ^ 31 ≡ names.place = omega (arith, names.long) in
-        let there : read ≡ get_or slabs.groups.places.values names.place read =
-        subst (λ (b : ℕ). read ≡ get_or slabs.groups.places.values b read) e is in
-        value_read slabs.groups.places epoch names.place names.group read names.named there
+        subst (λ (b : ℕ). read ≡ get_or slabs.groups.places.values b read) e is ∙ names.named.there read
 
     -- so what stands there has the number of the answer
     pub group_read : (read : Group) → NamesGroup slabs epoch i entry k answer → read ≡ get_or slabs.groups.places.values (entry - 2 ^ 31) read

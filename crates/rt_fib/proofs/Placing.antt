@@ -7,7 +7,7 @@ use Rattle.std.proofs.lemmas.Bool.{cases_eq}
 use Rattle.rt_rib.specs.declared.routes.Route.{Route}
 use Rattle.rt_fib.specs.declared.slabs.Counts.{Counts}
 use Rattle.rt_fib.specs.declared.slabs.Slabs.{Slabs}
-use Rattle.rt_fib.specs.inside.Slab.{with_value, AreCleared, Fills, Has, IsBack, IsFree, IsUsed, Keeps, Logs, Places, SlabState}
+use Rattle.rt_fib.specs.inside.Slab.{with_value, AreCleared, Fills, Has, IsBack, IsFree, Keeps, Logs, Places, SlabState}
 use Rattle.rt_fib.specs.inside.Entries.{FillsBoth, KeepsBoth, LogsBoth}
 
 -- what holds of each number of a list, once one is set
@@ -38,10 +38,6 @@ module _ {T : Type 0} where
     is_used = record { within = has.is_used.within; used = omega (arith, before, has.is_used.used) };
     there = has.there;
   }
-
-  -- what is found at a place in use is its value
-  pub read_there : (places : Places T) (epoch n : ℕ) (value : T) → IsUsed places epoch n → value ≡ get_or places.values n value → Has places epoch n value
-  read_there places epoch n value is read = record { is_used = is; there = λ d. get_or_default places.values n d value is.within ∙ sym read }
 
   -- nothing changed
   pub keeps_same : (epoch : ℕ) (xs : Places T) → Keeps epoch xs xs
