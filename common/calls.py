@@ -205,6 +205,15 @@ yarib: again.feed: replaces and withdraws without a route: 2, the first is line 
     # A feed that is left out has no routes, and the others keep their numbers.
     call("lookup --without east --address 10.9.0.1 north.feed south.feed east.feed",
          "10.9.0.1 route 10.0.0.0/8 feed 2 pref 30 via 192.0.2.2\n"),
+    # Only the feeds of --only are executed; those of --feed are selected from the table of all.
+    call("lookup --only north --address 10.9.0.1 north.feed south.feed east.feed",
+         "10.9.0.1 route 10.0.0.0/8 feed 1 pref 50 via 192.0.2.1\n"),
+    call("table --only 1 --best north.feed south.feed east.feed", """\
+10.0.0.0/8 feed 1 pref 50 via 192.0.2.1
+10.1.0.0/16 feed 1 pref 10 via 192.0.2.1
+"""),
+    call("table --only south --only north --feed south --best north.feed south.feed east.feed",
+         "10.0.0.0/8 feed 2 pref 30 via 192.0.2.2\n"),
     # The commands of a feed after its own look-up are executed before the answer.
     call("lookup --address 10.1.2.3 --batch 1 late.feed north.feed",
          "10.1.2.3 route 10.1.2.0/24 feed 1 pref 1 via 192.0.2.7\n"),
@@ -291,6 +300,7 @@ add 255.255.255.255/32 5 192.0.2.1
 }
 
 COMPARED = [
+    call("diff --old-only 1 --new-only north north.feed south.feed -- south.feed north.feed", ""),
     call("diff --new-without east north.feed south.feed east.feed -- north.feed south.feed east.feed",
          "10.9.0.0-10.9.255.255 discard -> via 192.0.2.2\n", 1),
     call("diff --new-without east north.feed east.feed -- north.feed east.feed",

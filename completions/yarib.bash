@@ -7,7 +7,7 @@ _yarib() {
     return
   fi
   case ${COMP_WORDS[1]}:$before in
-    run:--limit | run:--batch | lookup:--limit | lookup:--address | lookup:--feed | lookup:--without | table:--within | table:--covering | table:--exact | table:--feed | table:--without | table:--limit | diff:--old-feed | diff:--old-without | diff:--new-feed | diff:--new-without | diff:--limit | replay:--levels) return ;;
+    run:--limit | run:--batch | lookup:--limit | lookup:--address | lookup:--only | lookup:--without | table:--within | table:--covering | table:--exact | table:--feed | table:--only | table:--without | table:--limit | diff:--old-only | diff:--old-without | diff:--new-only | diff:--new-without | diff:--limit | replay:--levels) return ;;
   esac
   if [ "${COMP_WORDS[1]}:$before" = diff:--by ]; then
     mapfile -t COMPREPLY < <(compgen -W "hop route" -- "$word")
@@ -15,9 +15,9 @@ _yarib() {
   fi
   case ${COMP_WORDS[1]} in
     run) options="--limit --batch --help" ;;
-    lookup) options="--all --feed --without --names --json --csv --address --addresses --keep-invalid --limit --help" ;;
-    table) options="--within --covering --exact --feed --without --best --count --total --names --json --csv --limit --help" ;;
-    diff) options="--by --prefixes --count --old-feed --old-without --new-feed --new-without --names --json --csv --limit --help" ;;
+    lookup) options="--all --only --without --names --json --csv --address --addresses --keep-invalid --limit --help" ;;
+    table) options="--within --covering --exact --feed --only --without --best --count --total --names --json --csv --limit --help" ;;
+    diff) options="--by --prefixes --count --old-only --old-without --new-only --new-without --names --json --csv --limit --help" ;;
     replay) options="--levels --help" ;;
     help) options="run lookup table diff replay" ;;
     *) return ;;

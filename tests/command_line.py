@@ -423,7 +423,9 @@ def advice(yarib):
             (["table", "--cuont", "row.feed"], "\n\n  tip: a similar argument exists: '--count'", "table --count <FILE>..."),
             (["diff", "row.feed", "--frob", "--", "row.feed"], "", "diff <OLD>... -- <NEW>..."),
             (["diff", "--new-old-feed", "row.feed"], "\n\n  tip: a similar argument exists: '--new-feed'",
-             "diff --new-feed <F> <OLD>... -- <NEW>..."),
+             "diff [OPTIONS] <OLD>... -- <NEW>..."),
+            (["diff", "--new-onyl", "row.feed"], "\n\n  tip: a similar argument exists: '--new-only'",
+             "diff --new-only <F> <OLD>... -- <NEW>..."),
             (["run", "--frob=1", "row.feed"], "", "run [OPTIONS] <FILE>...")):
         option = next(word.split("=")[0] for word in words if word.startswith("--"))
         expect(f"{words}", yarib(*words),
@@ -567,7 +569,9 @@ def parts_of_tables(yarib):
 # Catches a program that opens the file of a feed that is left out, that renumbers the other feeds, or that leaves out
 # another feed as well: `['table'] without [4]`.
 # Catches a program that ignores all but the first `--without`, or all but the last: `['table'] without [2, 3]`.
-# Catches a program that ignores all but the first `--feed`, or all but the last: `of [1, 4] only`.
+# Catches a program that ignores all but the first `--only`, or all but the last: `of [1, 4] only`.
+# Catches a `table` that executes the feeds that `--only` doesn't give: `['table', '--best'] without [4, 1]: of [2, 3] only`.
+# Catches an earlier spelling that is refused, or replaces `--only` instead of adding to it: `of [1, 4] only`.
 def left_out(yarib):
     """Queries without some feeds, by number or name: they print, report and return the same as the query with empty
     files of these feeds."""
@@ -594,42 +598,59 @@ def left_out(yarib):
     def options(word, feeds):
         return [part for feed in feeds for part in (word, named(feed))]
 
+    def only(feeds, side=""):
+        """The options that execute only these feeds: as the help spells them, in the earlier spelling, and in both."""
+        place = choice.randrange(len(feeds) + 1)
+        spelled, earlier = f"--{side}only", f"--{side}feed"
+        return [options(spelled, feeds), options(earlier, feeds),
+                options(earlier, feeds[:place]) + options(spelled, feeds[place:])]
+
     for _ in range(12):
         out = choice.sample(range(1, 5), choice.randrange(5))
         kept = [feed for feed in range(1, 5) if feed not in out]
         for query in queries:
             wanted = yarib(*query, *placed(out, "empty"))
             expect(f"{query} without {out}", yarib(*query, *options("--without", out), *placed(out, "missing")), wanted)
-            if query[0] == "lookup" and kept:
-                ended = yarib(*query, *options("--feed", kept), *placed(out, "missing"))
-                expect(f"{query} without {out}: of {kept} only", ended, wanted)
+            if kept:
+                spellings = 3 if query[0] == "lookup" else 1
+                for words in only(kept)[:spellings]:
+                    expect(f"{query} without {out}: of {kept} only", yarib(*query, *words, *placed(out, "missing")), wanted)
                 most = choice.sample(kept, min(2, len(kept)))
                 gone = [feed for feed in range(1, 5) if feed not in most]
-                ended = yarib(*query, *options("--feed", most), *options("--without", out), *placed(gone, "missing"))
+                ended = yarib(*query, *options("--only", most), *options("--without", out), *placed(gone, "missing"))
                 expect(f"{query} without {out}: of {most} only", ended, yarib(*query, *placed(gone, "empty")))
         for more in ([], ["--by", "route"], ["--names", "--by", "route"], ["--json"], ["--csv"]):
             lost = choice.sample(range(1, 5), choice.randrange(4))
             stay = [feed for feed in range(1, 5) if feed not in lost]
             wanted = yarib("diff", *more, *placed(out, "empty"), "--", *placed(lost, "empty"))
-            for new in (options("--new-without", lost), options("--new-feed", stay)):
+            for new in (options("--new-without", lost), *only(stay, "new-")):
                 ended = yarib("diff", *more, *options("--old-without", out), *new, *placed(out, "missing"), "--",
                               *placed(lost, "missing"))
                 expect(f"diff {more} without {out} and {lost}", ended, wanted)
             wanted = yarib("diff", *more, *placed(lost, "empty"), "--", *names)
-            ended = yarib("diff", *more, *options("--old-feed", stay), *placed(lost, "missing"), "--", *names)
-            expect(f"diff {more} without {lost} on the old side", ended, wanted)
+            for old in only(stay, "old-"):
+                ended = yarib("diff", *more, *old, *placed(lost, "missing"), "--", *names)
+                expect(f"diff {more} without {lost} on the old side", ended, wanted)
 
 
 # Catches a program that replaces the best route of a prefix by that of a selected feed: `['--best'] of feeds [1]`.
 # Catches a program that ignores all but the first `--feed`, or all but the last: `[] of feeds [4, 2]`.
+# Catches `--only` that isn't applied together with `--feed`: `['--best'] of feeds [1], with [1, 3] only`.
 def routes_of_feeds(yarib):
-    """`table --feed` selects routes of the whole table, and with --best routes that are the best of all feeds."""
+    """`table --feed` selects routes of the table of all executed feeds, and with --best routes that are the best of these."""
     choice = random.Random(71)
     names = [f"of{feed}.feed" for feed in range(1, 5)]
     for name in names:
         lines = [f"add 10.{place}.0.0/16 {choice.randrange(4)} 192.0.2.1" for place in choice.sample(range(20), 12)]
         pathlib.Path(name).write_text("".join(line + "\n" for line in [*lines, "frob"]))
     for best in ([], ["--best"]):
+        for feeds, executed in (([1], [1, 3]), ([3, 1], [1, 2, 3]), ([4], [4])):
+            table_of = ["table", *best, *(f"--only={feed}" for feed in executed)]
+            files = [name if feed in executed else "missing" for feed, name in enumerate(names, 1)]
+            status, rows, err = yarib(*table_of, *files)
+            wanted = [row for row in rows.splitlines(keepends=True) if int(row.split()[2]) in feeds]
+            expect(f"{best} of feeds {feeds}, with {executed} only",
+                   yarib(*table_of, *(f"--feed={feed}" for feed in feeds), *files), (status, "".join(wanted), err))
         status, rows, err = yarib("table", *best, *names)
         for feeds in ([1], [4, 2], [3, 3], [1, 2, 3, 4]):
             wanted = [row for row in rows.splitlines(keepends=True) if int(row.split()[2]) in feeds]
@@ -646,8 +667,8 @@ def routes_of_feeds(yarib):
 def unknown_feeds(yarib):
     """A feed that is unknown or ambiguous is an error, and no file is read."""
     missing = ["missing/same.feed", "missing/other.feed"]
-    queries = [("lookup", "--feed", ["--address", "10.0.0.1"]), ("lookup", "--without", ["--address", "10.0.0.1"]),
-               ("table", "--feed", []), ("table", "--without", [])]
+    queries = [("lookup", option, ["--address", "10.0.0.1"]) for option in ("--only", "--feed", "--without")]
+    queries += [("table", option, []) for option in ("--only", "--feed", "--without")]
     for command, option, words in queries:
         beyond = str(MAX_FEEDS + 1)
         for word in ("3", "0", beyond, "-1", "4294967297", "sam", "same.feed", "missing/same", "SAME", "", " 1"):
@@ -660,7 +681,7 @@ def unknown_feeds(yarib):
                             ("2", ["2.feed", "other.feed"]), ("1", ["other.feed", "1"])):
             expect(f"{command} {option} {word} of {files}", yarib(command, option, word, *words, *files),
                    (3, "", f"yarib: more than one feed has this number or name: {word}\n"))
-    for option in ("--old-feed", "--old-without", "--new-feed", "--new-without"):
+    for option in [f"--{side}-{word}" for side in ("old", "new") for word in ("only", "feed", "without")]:
         side = ["one.feed", "same.feed"] if "old" in option else ["one.feed", "row.feed", "same.feed"]
         for word in (str(len(side) + 1), "row" if "old" in option else "two"):
             ended = yarib("diff", option, word, "one.feed", "same.feed", "--", "one.feed", "row.feed", "same.feed")
@@ -670,16 +691,22 @@ def unknown_feeds(yarib):
     compare("a number that is the same feed's name", yarib("table", "--without", "2", "row.feed", "missing/2.feed"), 0, route(1))
     compare("a number as a name", yarib("table", "--without", "65001", "row.feed", "missing/65001.feed"), 0, route(1))
     compare("all feeds left out", yarib("table", "--without", "1", "--without", "2", *missing), 0, "")
-    for only, out in (("2", "other"), ("other", "2"), ("same", "1"), ("1", "same"), ("02", "2")):
-        words = ["--feed", "1", "--feed", "2", "--without", out]
-        for given in (["--feed", only, "--without", out], ["--without", out, "--feed", only], words):
+    for select, only, out in [(select, *feeds) for select in ("--only", "--feed") for feeds in (
+            ("2", "other"), ("other", "2"), ("same", "1"), ("1", "same"), ("02", "2"))]:
+        words = [select, "1", select, "2", "--without", out]
+        for given in ([select, only, "--without", out], ["--without", out, select, only], words):
             ended = (3, "", f"yarib: the same feed is selected and left out: {out}\n")
             expect(f"table {given}", yarib("table", *given, *missing), ended)
             expect(f"lookup {given}", yarib("lookup", "--address", "10.0.0.1", *given, *missing), ended)
             for side in ("old", "new"):
                 of_side = [word.replace("--", f"--{side}-") for word in given]
                 expect(f"diff {of_side}", yarib("diff", *of_side, *missing, "--", *missing), ended)
-    misused("--without of a run", yarib("run", "--without", "1", "row.feed"), "--without")
+    for given, out in (("--only 1 --feed 2", "2"), ("--feed other --only same", "other"), ("--only same --feed 01 --feed 02", "02"),
+                       ("--feed 1 --only 1 --without same", "same"), ("--only 2 --feed 1 --without same", "same")):
+        ended = (3, "", f"yarib: the same feed is selected and left out: {out}\n")
+        expect(f"table {given}", yarib("table", *given.split(), *missing), ended)
+    for option in ("--only", "--feed", "--without"):
+        misused(f"{option} of a run", yarib("run", option, "1", "row.feed"), option)
     expect("too many files", yarib("table", "--without", "1", *["missing"] * (MAX_FEEDS + 1)), TOO_MANY)
 
 

@@ -274,12 +274,12 @@ def forms_by_options(name):
     said, named = (json_text(members(whole, **names, file=f"{name}.feed")) for names in ({}, {"name": name}))
     hop, route, by_name = "via 192.0.2.1", row("{0}/32").strip(), row("{0}/32", name).strip()
     tables = [(options, route) for options in (
-        ["--within", "10.0.0.0/7"], ["--feed", "1"], ["--feed", "1", "--feed", "2"], ["--without", "2"], ["--best"],
-        ["--best", "--feed", "1"])]
+        ["--within", "10.0.0.0/7"], ["--feed", "1"], ["--feed", "1", "--feed", "2"], ["--only", "1"], ["--without", "2"],
+        ["--best"], ["--best", "--feed", "1"])]
     record = f"{{0}}/32,1,{name},{name}.feed,1,192.0.2.1,"
     tables += [(["--csv"], record + "\r"), (["--names"], by_name), (["--json"], said), (["--names", "--json"], named),
                (["--json", "--within", "10.0.0.0/7", "--feed", "1"], said)]
-    answers = [(options, "{0} route " + route) for options in ([], ["--all"], ["--feed", "1"], ["--without", "2"])]
+    answers = [(options, "{0} route " + route) for options in ([], ["--all"], ["--only", "1"], ["--without", "2"])]
     answers += [([*more, "--names"], "{0} route " + by_name) for more in ([], ["--all"])]
     answers += [(["--csv"], "{0}," + record + "\r"), (["--csv", "--all"], "{0}," + record + ",\r"),
                 (["--json"], '{"address":"{0}","route":' + said + "}"),

@@ -119,7 +119,7 @@ empty. With --all, reason is the last column; it is empty for the best route.
 --csv can't be given with --json or --keep-invalid.
 
 --without F leaves out a feed: its file isn't read, and the output is that of a
-run in which this file is empty. The other feeds keep their numbers. --feed F
+run in which this file is empty. The other feeds keep their numbers. --only F
 executes only feed F: every feed that isn't given is left out. Here F is a
 number or a feed's name.
 
@@ -147,10 +147,11 @@ With --best only the best route of each prefix is printed: the lowest P, and
 then the lowest F. Only one of --within, --covering and --exact may be given.
 
 --without F leaves out a feed: its file isn't read, and the output is that of a
-run in which this file is empty. The other feeds keep their numbers. --feed F
-prints only routes of feed F, but every feed is executed: with --best, those of
-its routes are printed that are the best of all feeds to their prefix. Here F is
-a number or a feed's name.
+run in which this file is empty. The other feeds keep their numbers. --only F
+executes only feed F: every feed that isn't given is left out. --feed F prints
+only routes of feed F, but leaves out no feed: with --best, those of its routes
+are printed that are the best of all executed feeds to their prefix. Here F is a
+number or a feed's name.
 
 With --count the number of these routes and of their prefixes is printed
 instead, then the number for each feed and for each prefix length that has any:
@@ -253,8 +254,8 @@ or --count.
 
 --old-without F leaves out a feed of the old side: its file isn't read, and the
 output is that of a run in which this file is empty. The other feeds keep their
-numbers. --old-feed F leaves out every old feed that isn't given. --new-without
-and --new-feed do the same on the new side. Here F is a number or a feed's name.
+numbers. --old-only F leaves out every old feed that isn't given. --new-without
+and --new-only do the same on the new side. Here F is a number or a feed's name.
 
 ",
     "  0 the tables give the same answers   1 they differ for some address

@@ -114,6 +114,19 @@ const UNUSED_BATCH: Parameter = Parameter {
     ..BATCH
 };
 
+const ONLY: Parameter = Parameter {
+    name: "only",
+    help: "Execute only feed F, a number or a name; may be given more than once",
+    ..FEED
+};
+
+/// The earlier spelling of `--only`. It is accepted, so that a script that uses it still works.
+const EARLIER_ONLY: Parameter = Parameter {
+    name: "feed",
+    is_hidden: true,
+    ..FEED
+};
+
 const WITHOUT: Parameter = Parameter {
     name: "without",
     help: "Leave out feed F, a number or a name; may be given more than once",
@@ -171,11 +184,8 @@ const LOOKUP: &[Parameter] = &[
         help: "Print every route that covers an address, the best first",
         ..FLAG
     },
-    Parameter {
-        name: "feed",
-        help: "Execute only feed F, a number or a name; may be given more than once",
-        ..FEED
-    },
+    ONLY,
+    EARLIER_ONLY,
     WITHOUT,
     NAMES,
     JSON,
@@ -233,6 +243,7 @@ const TABLE: &[Parameter] = &[
         help: "Print only routes of feed F, a number or a name; may be given more than once",
         ..FEED
     },
+    ONLY,
     WITHOUT,
     Parameter {
         name: "best",
@@ -286,9 +297,13 @@ const DIFF: &[Parameter] = &[
         ..FLAG
     },
     Parameter {
-        name: "old-feed",
+        name: "old-only",
         help: "Execute only old feed F; may be given more than once",
         ..FEED
+    },
+    Parameter {
+        name: "old-feed",
+        ..EARLIER_ONLY
     },
     Parameter {
         name: "old-without",
@@ -296,9 +311,13 @@ const DIFF: &[Parameter] = &[
         ..FEED
     },
     Parameter {
-        name: "new-feed",
+        name: "new-only",
         help: "Execute only new feed F; may be given more than once",
         ..FEED
+    },
+    Parameter {
+        name: "new-feed",
+        ..EARLIER_ONLY
     },
     Parameter {
         name: "new-without",

@@ -71,16 +71,27 @@ pub struct RunRequest<'a> {
     pub ghost batched: { 1 ≤ batch },
 }
 
-/// The addresses to look up, and the feed files. A feed is identified by its number or its name, not yet resolved, as in
-/// [`TableRequest`] and [`DiffRequest`].
+/// The feeds that options select and leave out, of a run or of a side of `diff`. Each is identified by its number or its name,
+/// not yet resolved.
+#[derive(Clone, Copy)]
+pub struct FeedArgs<'a> {
+    /// The feeds whose routes `table` lists; if there are none, the routes of every feed are listed.
+    pub listed: &'a [&'a str],
+    /// The feeds that are executed; if there are none here and in `earlier_only`, every feed is.
+    pub only: &'a [&'a str],
+    /// The other feeds that are executed, by the earlier spelling of the same option.
+    pub earlier_only: &'a [&'a str],
+    /// The feeds that are left out.
+    pub without: &'a [&'a str],
+}
+
+/// The addresses to look up, and the feed files.
 #[derive(Clone, Copy)]
 pub struct LookupRequest<'a> {
     /// The feed files.
     pub run: RunRequest<'a>,
-    /// The feeds that are executed; if there are none, every feed is.
-    pub only: &'a [&'a str],
-    /// The feeds that are left out.
-    pub without: &'a [&'a str],
+    /// The feeds that are executed.
+    pub feeds: FeedArgs<'a>,
     /// The arguments of `--address`, not yet parsed.
     pub addresses: &'a [&'a str],
     /// The name of the file with further addresses.
@@ -98,10 +109,8 @@ pub struct LookupRequest<'a> {
 pub struct TableRequest<'a> {
     /// The feed files.
     pub run: RunRequest<'a>,
-    /// The feeds whose routes are listed, though every feed is executed; if there are none, the routes of every feed are.
-    pub listed: &'a [&'a str],
-    /// The feeds that are left out.
-    pub without: &'a [&'a str],
+    /// The feeds that are executed, and those whose routes are listed.
+    pub feeds: FeedArgs<'a>,
     /// List only the best route of each prefix.
     pub only_best: bool,
     /// The prefixes whose routes are listed.
@@ -158,16 +167,12 @@ pub enum PrefixFilterArg<'a> {
 pub struct DiffRequest<'a> {
     /// The old feed files, and the limit and the batch of both runs.
     pub run: RunRequest<'a>,
-    /// The old feeds that are executed; if there are none, every old feed is.
-    pub old_only: &'a [&'a str],
-    /// The old feeds that are left out.
-    pub old_without: &'a [&'a str],
+    /// The old feeds that are executed.
+    pub old_feeds: FeedArgs<'a>,
     /// The names of the new feed files.
     pub new_files: &'a [&'a str],
-    /// The new feeds that are executed; if there are none, every new feed is.
-    pub new_only: &'a [&'a str],
-    /// The new feeds that are left out.
-    pub new_without: &'a [&'a str],
+    /// The new feeds that are executed.
+    pub new_feeds: FeedArgs<'a>,
     /// The part of an answer that is compared.
     pub by: ComparedBy,
     /// What is printed of the differences.
@@ -313,8 +318,12 @@ fn lookup_request<'a>(matches: &'a ArgMatches<'_>) -> Result<Request<'a>, Reques
     }
     Ok(Request::Lookup(LookupRequest {
         run: run_request(matches)?,
-        only: texts_of(matches, "feed"),
-        without: texts_of(matches, "without"),
+        feeds: FeedArgs {
+            listed: &[],
+            only: texts_of(matches, "only"),
+            earlier_only: texts_of(matches, "feed"),
+            without: texts_of(matches, "without"),
+        },
         addresses: texts_of(matches, "address"),
         more: matches.get_str("addresses"),
         keep_invalid,
@@ -334,8 +343,12 @@ fn table_request<'a>(matches: &'a ArgMatches<'_>) -> Result<Request<'a>, Request
     }
     Ok(Request::Table(TableRequest {
         run: run_request(matches)?,
-        listed: texts_of(matches, "feed"),
-        without: texts_of(matches, "without"),
+        feeds: FeedArgs {
+            listed: texts_of(matches, "feed"),
+            only: texts_of(matches, "only"),
+            earlier_only: &[],
+            without: texts_of(matches, "without"),
+        },
         only_best: matches.get_flag("best"),
         part,
         output,
@@ -374,11 +387,19 @@ fn diff_request<'a>(matches: &'a ArgMatches<'_>) -> Result<Request<'a>, RequestF
     }
     Ok(Request::Diff(DiffRequest {
         run: run_request(matches)?,
-        old_only: texts_of(matches, "old-feed"),
-        old_without: texts_of(matches, "old-without"),
+        old_feeds: FeedArgs {
+            listed: &[],
+            only: texts_of(matches, "old-only"),
+            earlier_only: texts_of(matches, "old-feed"),
+            without: texts_of(matches, "old-without"),
+        },
         new_files: texts_of(matches, "new"),
-        new_only: texts_of(matches, "new-feed"),
-        new_without: texts_of(matches, "new-without"),
+        new_feeds: FeedArgs {
+            listed: &[],
+            only: texts_of(matches, "new-only"),
+            earlier_only: texts_of(matches, "new-feed"),
+            without: texts_of(matches, "new-without"),
+        },
         by,
         output,
         format,

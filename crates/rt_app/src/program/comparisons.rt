@@ -125,8 +125,8 @@ impl<'w> Sides<'w> {
     /// old feeds and for the new ones.
     fn of(alloc: Global, request: &DiffRequest<'w>) -> Result<Sides<'w>, ProgramError<'w>> {
         let (mut old, mut new) = sides_of(alloc, request)?;
-        old.choose(alloc, request.old_only, request.old_without)?;
-        new.choose(alloc, request.new_only, request.new_without)?;
+        old.choose(alloc, &request.old_feeds)?;
+        new.choose(alloc, &request.new_feeds)?;
         let options = diff_options(alloc, request, &old, &new)?;
         Ok(Sides { old, new, options })
     }

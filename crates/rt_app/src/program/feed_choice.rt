@@ -4,6 +4,7 @@ ghost use Rattle.std.specs.Prelude.{◌≤◌, length};
 ghost use Rattle.rt_rib.specs.declared.limits.TheConstants.{MAX_FEEDS};
 
 use super::{ArgumentFault, ProgramError};
+use command_line::FeedArgs;
 use rt_print::{NameFault, check_names, feed_name};
 use rt_run::MAX_FEED_FILES;
 use std::alloc::Global;
@@ -14,7 +15,9 @@ use std::alloc::Global;
 pub(super) struct NamedFeeds<'w> {
     /// The names of the files.
     pub(super) names: &'w [&'w str],
-    /// The selected feeds; if there are none, every feed is selected.
+    /// The feeds whose routes are listed; if there are none, the routes of every feed are.
+    pub(super) listed: Vec<u32>,
+    /// The feeds that are executed; if there are none, every feed is.
     pub(super) only: Vec<u32>,
     /// The feeds that are left out.
     pub(super) without: Vec<u32>,
@@ -33,22 +36,27 @@ impl<'w> NamedFeeds<'w> {
         }
         Ok(NamedFeeds {
             names,
+            listed: Vec::new(alloc),
             only: Vec::new(alloc),
             without: Vec::new(alloc),
         })
     }
 
-    /// Selects the feeds that the first arguments identify, and leaves out those that the others identify. Stops if an argument
-    /// identifies no feed, or several, or if a selected feed is also left out.
+    /// Selects and leaves out the feeds that the arguments identify. Stops if an argument identifies no feed, or several, or if a
+    /// selected feed is also left out.
     pub(super) fn choose(
         &mut self,
         alloc: Global,
-        only: &[&'w str],
-        without: &[&'w str],
+        args: &FeedArgs<'w>,
     ) -> Result<(), ProgramError<'w>> {
-        self.only = self.numbers_of(alloc, only)?;
-        self.without = self.numbers_of(alloc, without)?;
-        check_selected(without, self.without.as_slice(), self.only.as_slice())
+        self.listed = self.numbers_of(alloc, &[args.listed])?;
+        self.only = self.numbers_of(alloc, &[args.only, args.earlier_only])?;
+        self.without = self.numbers_of(alloc, &[args.without])?;
+        let (listed, only) = (self.listed.as_slice(), self.only.as_slice());
+        let without = self.without.as_slice();
+        check_selected(args.without, without, only)?;
+        check_selected(args.without, without, listed)?;
+        check_executed(args.listed, listed, only)
     }
 
     /// Stops if a file has no valid feed name, or the same feed name as an earlier file. A name isn't valid either if it would
@@ -73,11 +81,17 @@ impl<'w> NamedFeeds<'w> {
         }
     }
 
-    /// Returns the number of the feed that each argument identifies, in order.
-    fn numbers_of(&self, alloc: Global, words: &[&'w str]) -> Result<Vec<u32>, ProgramError<'w>> {
+    /// Returns the number of the feed that each argument of these lists identifies, in order.
+    fn numbers_of(
+        &self,
+        alloc: Global,
+        lists: &[&[&'w str]],
+    ) -> Result<Vec<u32>, ProgramError<'w>> {
         let mut numbers = Vec::new(alloc);
-        for word in words {
-            numbers.push(self.number_of(word)?)?;
+        for words in lists {
+            for word in *words {
+                numbers.push(self.number_of(word)?)?;
+            }
         }
         Ok(numbers)
     }
@@ -135,6 +149,20 @@ fn check_selected<'w>(
 ) -> Result<(), ProgramError<'w>> {
     for (word, number) in words.iter().zip(without.iter()) {
         if only.contains(number) {
+            return Err(ProgramError::Argument(ArgumentFault::SelectedAndLeftOut, word));
+        }
+    }
+    Ok(())
+}
+
+/// Stops if only other feeds than a listed one are executed. The words are the arguments that identify the listed feeds.
+fn check_executed<'w>(
+    words: &[&'w str],
+    listed: &[u32],
+    only: &[u32],
+) -> Result<(), ProgramError<'w>> {
+    for (word, number) in words.iter().zip(listed.iter()) {
+        if !only.is_empty() && !only.contains(number) {
             return Err(ProgramError::Argument(ArgumentFault::SelectedAndLeftOut, word));
         }
     }

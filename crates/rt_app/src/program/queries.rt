@@ -25,9 +25,7 @@ impl<R: FileReader + Threads + Wait + Sync + AllocGlobal, O: Write, E: Write> Pr
     ) -> Result<u8, ProgramError<'w>> {
         let named = named_addresses(self.alloc, request)?;
         let mut query = Query::of(self.alloc, request.run.files, request.format)?;
-        query
-            .feeds
-            .choose(self.alloc, request.only, request.without)?;
+        query.feeds.choose(self.alloc, &request.feeds)?;
         self.look_up(request, named.as_slice(), &query)
     }
 
@@ -67,9 +65,7 @@ impl<R: FileReader + Threads + Wait + Sync + AllocGlobal, O: Write, E: Write> Pr
     ) -> Result<u8, ProgramError<'w>> {
         let part = filter_of(request.part)?;
         let mut query = Query::of(self.alloc, request.run.files, request.format)?;
-        query
-            .feeds
-            .choose(self.alloc, request.listed, request.without)?;
+        query.feeds.choose(self.alloc, &request.feeds)?;
         self.list(request, part, &query)
     }
 
@@ -80,12 +76,13 @@ impl<R: FileReader + Threads + Wait + Sync + AllocGlobal, O: Write, E: Write> Pr
         part: PrefixFilter,
         query: &Query<'w>,
     ) -> Result<u8, ProgramError<'w>> {
-        // The feeds that aren't selected take part too: which of their routes are best may depend on them.
-        let texts = self.read_feeds(&query.feeds, &[], query.feeds.without.as_slice())?;
+        // Feeds that aren't listed are executed too: which of the listed routes are best may depend on them.
+        let feeds = &query.feeds;
+        let texts = self.read_feeds(feeds, feeds.only.as_slice(), feeds.without.as_slice())?;
         let selection = Selection {
             part,
             only_best: request.only_best,
-            feeds: query.feeds.only.as_slice(),
+            feeds: feeds.listed.as_slice(),
             hop: None,
         };
         let question = question_of(request.output, selection);
