@@ -1,6 +1,6 @@
 """The pages of statements: public clauses, and below them the definitions that they rest on (tools/statement). Their
 sentences are in statement_pages.toml. A chapter has one fence of clauses and one of definitions. A line in a fence names the
-files of what is below it; there are no numbers of lines, since a page changes only if what it says does."""
+files of the definitions and clauses below it. It has no numbers of lines, so a page changes only if its statements do."""
 import itertools
 import pathlib
 import re
@@ -38,8 +38,8 @@ def page_of(said):
 
 
 WORDS = tomllib.loads(pathlib.Path(__file__).with_suffix(".toml").read_text())
-# The page that explains signs and words, the signs that a reader has to know, the definitions of which the pages print only
-# the first line, and the words of the kit's library.
+# The page that explains signs and words, the signs that a reader has to know, the definitions whose first line is all that
+# the pages print, and the words of the kit's library.
 SIGNS, LEGEND, BRIEF, KIT = (WORDS[key] for key in ("signs_page", "signs", "brief", "words"))
 # The types and traits of the kit that the pages name.
 KIT_TYPES = WORDS["types"]
@@ -142,8 +142,9 @@ def public_function(crate, owner, name):
 
 
 def in_order(speakers, known, brief=()):
-    """What clauses, ties and definitions rest on, each below all that speak of it, but for what is known; and the
-    library's words. Only the first line of what is brief is shown, so what it rests on doesn't count."""
+    """Returns the definitions that clauses, ties and definitions use, each after all its users: those that aren't known,
+    and those that are; and the library's words. Of a brief definition only the first line is shown, so its own uses don't
+    count."""
     order, library, visited = [], {}, set()
 
     def visit(definition):
@@ -417,8 +418,8 @@ def pages(written):
 
 
 def figures(page, lines):
-    """The numbers of lines that README.md says of a page, each with the pattern of its link: the page's, and those of its
-    chapters in all, of which README.md names only some."""
+    """Yields each number of lines that README.md may give for a page, with the pattern of its link: the page's, and that of
+    each chapter. README.md names only some chapters."""
     link = r"\[(\d+){}\]\(docs/" + re.escape(page.name) + r"{}\)"
     yield re.compile(link.format(r"\slines", "")), lines
     for one in page.chapters:
