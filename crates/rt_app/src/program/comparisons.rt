@@ -61,31 +61,15 @@ impl<R: FileReader + Threads + Wait + Sync + AllocGlobal, O: Write, E: Write> Pr
         let old_ends = ends_of_line(self.alloc, old_input.texts())?;
         let new_ends = ends_of_line(self.alloc, new_input.texts())?;
         let threads = threads_to_compare(self.rt, old_input.texts(), new_input.texts());
-        let mut out = self
-            .screen
-            .beside(old_input.count() + new_input.count(), self.out);
+        let (rt, alloc, options) = (self.rt, self.alloc, &sides.options);
+        let (old, new) = (&mut old_input, &mut new_input);
+        let mut out = self.screen.beside(old.count() + new.count(), self.out);
         let compared = match request.output {
             DifferenceOutput::Counts => {
-                count_diff_texts(
-                    self.rt,
-                    self.alloc,
-                    threads,
-                    &mut old_input,
-                    &mut new_input,
-                    &sides.options,
-                    &mut out,
-                )
+                count_diff_texts(rt, alloc, threads, old, new, options, &mut out)
             }
             DifferenceOutput::Ranges | DifferenceOutput::Prefixes => {
-                diff_texts(
-                    self.rt,
-                    self.alloc,
-                    threads,
-                    &mut old_input,
-                    &mut new_input,
-                    &sides.options,
-                    &mut out,
-                )
+                diff_texts(rt, alloc, threads, old, new, options, &mut out)
             }
         };
         let summary = compared?;
@@ -103,6 +87,7 @@ impl<R: FileReader + Threads + Wait + Sync + AllocGlobal, O: Write, E: Write> Pr
         Ok(summary.status)
     }
 }
+
 /// Returns the names of the feed files, and which feeds are left out.
 fn side_of<'s, 'w>(feeds: &'s NamedFeeds<'w>) -> FeedSide<'s, 'w> {
     FeedSide {
