@@ -16,7 +16,7 @@ pub(crate) trait FileReader {
     /// Returns the number of bytes in the file of this name if it is a regular file.
     fn regular_len(&self, name: &str) -> Option<u64>;
 
-    /// Returns the contents of the file of this name, for which this number of bytes are requested at once.
+    /// Returns the contents of the file of this name. Memory for this number of bytes is requested at once.
     fn contents(&self, name: &str, bytes: u64) -> io::Result<Vec<u8>>;
 }
 
@@ -68,8 +68,8 @@ impl TextsAhead {
 }
 
 /// Reads the feed files of these sides on several threads if that pays, and returns their texts. Only files are read that can
-/// be read in any order: regular files, up to the first file that isn't one. If one of them can't be read, or there is no memory,
-/// returns no text: all files are read when they are needed then, and the first that can't be read is reported.
+/// be read in any order: regular files, up to the first file that isn't regular. If one of them can't be read, or memory runs
+/// out, returns no text. Then all files are read when they are needed, and the first that can't be read is reported.
 pub(super) fn read_ahead<'w, R: FileReader + Threads + Wait + Sync>(
     rt: &R,
     alloc: Global,
@@ -84,7 +84,7 @@ pub(super) fn read_ahead<'w, R: FileReader + Threads + Wait + Sync>(
 }
 
 /// Returns the texts of the files that `read_ahead` reads, each in its file's place, or `None` if one of them can't be read or
-/// there is no memory.
+/// memory runs out.
 fn texts_ahead<'w, R: FileReader + Threads + Wait + Sync>(
     rt: &R,
     alloc: Global,
@@ -131,7 +131,7 @@ fn bytes_of(files: &[FileAhead<'_>]) -> u64 {
     bytes
 }
 
-/// Returns the files of these sides that are read ahead, the longest first, or `None` if there is no memory for their list.
+/// Returns the files of these sides that are read ahead, the longest first, or `None` if memory runs out.
 fn files_ahead<'w, R: FileReader>(
     rt: &R,
     alloc: Global,
@@ -150,8 +150,7 @@ fn files_ahead<'w, R: FileReader>(
 }
 
 /// Adds the files of this side that are read ahead; its first file is in this place. Returns false if it came to a file that
-/// isn't a regular one, or `None` if there is no memory. A file of length 0 isn't read ahead: the system may generate its
-/// contents.
+/// isn't regular, or `None` if memory runs out. A file of length 0 isn't read ahead: the system may generate its contents.
 fn add_regular<'w, R: FileReader>(
     rt: &R,
     side: FeedSide<'_, 'w>,
@@ -182,7 +181,7 @@ struct Part<'w> {
 }
 
 /// Returns this number of parts of about the same length: each file, in order, is added to the part that has the fewest bytes so
-/// far. Returns `None` if there is no memory.
+/// far. Returns `None` if memory runs out.
 fn parts_of<'w>(alloc: Global, files: &[FileAhead<'w>], count: usize) -> Option<Vec<Part<'w>>> {
     let mut parts = Vec::new(alloc);
     for _ in 0..count {
@@ -197,11 +196,11 @@ fn parts_of<'w>(alloc: Global, files: &[FileAhead<'w>], count: usize) -> Option<
     Some(parts)
 }
 
-/// The texts of the files of a part, each with its file's place, or `None` if one couldn't be read or there was no memory.
+/// The texts of the files of a part, each with its file's place, or `None` if one couldn't be read or memory ran out.
 type PartTexts = Option<Vec<(usize, Vec<u8>)>>;
 
-/// Reads the files of each part, on a thread of its own if one can be created. Returns the texts of each part, or `None` if there
-/// is no memory.
+/// Reads the files of each part, on a thread of its own if one can be created. Returns the texts of each part, or `None` if
+/// memory runs out.
 fn read_parts<'w, R: FileReader + Threads + Wait + Sync>(
     rt: &R,
     alloc: Global,
@@ -232,8 +231,8 @@ fn read_part<R: FileReader + Wait>(
     Some(texts)
 }
 
-/// Returns the texts of the parts, each in its file's place among `count` files, or `None` if a part has none or there is no
-/// memory.
+/// Returns the texts of the parts, each in its file's place among `count` files, or `None` if a part has no texts or memory runs
+/// out.
 fn in_their_places(
     alloc: Global,
     count: usize,
