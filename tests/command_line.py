@@ -569,8 +569,8 @@ def parts_of_tables(yarib):
 # Catches a program that opens the file of a feed that is left out, that renumbers the other feeds, or that leaves out
 # another feed as well: `['table'] without [4]`.
 # Catches a program that ignores all but the first `--without`, or all but the last: `['table'] without [2, 3]`.
-# Catches a program that ignores all but the first `--only`, or all but the last: `of [1, 4] only`.
-# Catches a `table` that executes the feeds that `--only` doesn't give: `['table', '--best'] without [4, 1]: of [2, 3] only`.
+# Catches a program that ignores all but the first `--only`, or all but the last: `of [2, 4] only`.
+# Catches a `table` that executes the feeds that `--only` doesn't give: `['table', '--best'] without [1, 4, 2]: of [3] only`.
 # Catches an earlier spelling that is refused, or replaces `--only` instead of adding to it: `of [1, 4] only`.
 def left_out(yarib):
     """Queries without some feeds, by number or name: they print, report and return the same as the query with empty
