@@ -1,5 +1,6 @@
 //! Merging two long lists of routes in dump order: both are cut at one place, and several threads merge the pieces.
 ghost use Rattle.std.specs.Prelude.{◌≡◌, ◌+◌, ◌<◌, ◌≤◌, ◌++◌, IfOk, length, take, drop};
+ghost use Rattle.std.specs.List.{flat_map};
 ghost use Rattle.std.specs.Thread.{IsSync};
 ghost use Rattle.rt_rib.specs.Table.{precedes};
 ghost use Rattle.rt_tables.specs.inside.Merging.{merged, AreInDumpOrder};
@@ -29,55 +30,71 @@ pub(crate) fn merge_on_threads<R: Threads + Sync>(
     if first.is_empty() || second.is_empty() {
         return merge(ListOrder::Dump, alloc, first, second);
     }
-    let room = first.len().saturating_add(second.len());
-    merge_pieces(rt, alloc, &first, &second, pieces, room)
+    let merged = merge_in_pieces(rt, alloc, &first, &second, pieces)?;
+    joined(alloc, merged)
 }
 
-/// Merges two lists that are in dump order, in up to this number of pieces, into a list with room for at least `room` routes.
-/// The first piece's list gets the room, so that only the routes of the others are copied once more.
-#[cycle(merge_pieces)]
-fn merge_pieces<R: Threads + Sync>(
+/// Merges two lists that are in dump order, in up to this number of pieces: each on its own thread, if one can be created.
+/// Returns the list of each piece, in order. Error M1 (`Refused`) if memory runs out.
+#[cycle(merge_in_pieces)]
+pub(crate) fn merge_in_pieces<R: Threads + Sync>(
     rt: &R,
     alloc: Global,
     first: &[Route],
     second: &[Route],
     pieces: usize,
-    room: usize,
-) -> Result<Vec<Route>, Refused>
+) -> Result<Vec<Vec<Route>>, Refused>
     requires first { AreInDumpOrder first.now }
     requires second { AreInDumpOrder second.now }
-    ensures { IfOk result (λ routes. routes.items ≡ merged precedes first.now second.now) }
+    ensures { IfOk result (λ lists. flat_map (λ list. list.items) lists.items ≡ merged precedes first.now second.now) }
 {
-    if pieces < 2 || first.len().saturating_add(second.len()) < LEAST_ROUTES {
-        let mut routes = Vec::with_capacity(alloc, room)?;
+    let count = first.len().saturating_add(second.len());
+    if pieces < 2 || count < LEAST_ROUTES {
+        let mut routes = Vec::with_capacity(alloc, count)?;
         append_merged(ListOrder::Dump, first, second, &mut routes)?;
-        return Ok(routes);
+        return only_piece(alloc, routes);
     }
     let (i, j) = cut(first, second);
     let (first, others) = first.split_at(i);
     let (second, more) = second.split_at(j);
-    let (routes, rest) = thread::join(
+    let (lists, rest) = thread::join(
         rt,
-        || -> Result<Vec<Route>, Refused>
+        || -> Result<Vec<Vec<Route>>, Refused>
             requires { IsSync R.row × AreInDumpOrder first.now × AreInDumpOrder second.now }
-            ensures { IfOk result (λ routes. routes.items ≡ merged precedes first.entry.now second.entry.now) }
-        { merge_pieces(rt, alloc, first, second, pieces - pieces / 2, room) },
-        || -> Result<Vec<Route>, Refused>
+            ensures { IfOk result (λ lists. flat_map (λ list. list.items) lists.items ≡ merged precedes first.entry.now second.entry.now) }
+        { merge_in_pieces(rt, alloc, first, second, pieces - pieces / 2) },
+        || -> Result<Vec<Vec<Route>>, Refused>
             requires { IsSync R.row × AreInDumpOrder others.now × AreInDumpOrder more.now }
-            ensures { IfOk result (λ routes. routes.items ≡ merged precedes others.entry.now more.entry.now) }
-        {
-            merge_pieces(
-                rt,
-                alloc,
-                others,
-                more,
-                pieces / 2,
-                others.len().saturating_add(more.len()),
-            )
-        },
+            ensures { IfOk result (λ lists. flat_map (λ list. list.items) lists.items ≡ merged precedes others.entry.now more.entry.now) }
+        { merge_in_pieces(rt, alloc, others, more, pieces / 2) },
     );
-    let mut routes = routes?;
-    routes.extend_from_slice(&rest?)?;
+    let mut lists = lists?;
+    lists.append(&mut rest?)?;
+    Ok(lists)
+}
+
+/// Returns the routes as the only piece. Error M1 (`Refused`) if memory runs out.
+pub(crate) fn only_piece(alloc: Global, routes: Vec<Route>) -> Result<Vec<Vec<Route>>, Refused>
+    ensures { IfOk result (λ lists. flat_map (λ list. list.items) lists.items ≡ routes.items) }
+{
+    let mut lists = Vec::with_capacity(alloc, 1)?;
+    lists.push_reserved(routes);
+    Ok(lists)
+}
+
+/// Returns the routes of the pieces as one list. The first piece's list takes those of the others. Error M1 (`Refused`) if
+/// memory runs out.
+fn joined(alloc: Global, pieces: Vec<Vec<Route>>) -> Result<Vec<Route>, Refused>
+    ensures { IfOk result (λ routes. routes.items ≡ flat_map (λ list. list.items) pieces.items) }
+{
+    let mut routes = Vec::new(alloc);
+    for mut piece in pieces {
+        if routes.is_empty() {
+            routes = piece;
+        } else {
+            routes.append(&mut piece)?;
+        }
+    }
     Ok(routes)
 }
 

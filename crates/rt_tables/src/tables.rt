@@ -1,6 +1,6 @@
 //! Several tables of different feeds, as one.
 ghost use Rattle.std.specs.Prelude.{◌≡◌, ◌≤◌, ◌↔◌, IsTrue, [], length, map, sum_by, IfOk, IfSome};
-ghost use Rattle.std.specs.List.{All};
+ghost use Rattle.std.specs.List.{All, flat_map};
 ghost use Rattle.rt_rib.specs.declared.limits.TheConstants.{MAX_FEEDS};
 ghost use Rattle.rt_rib.specs.Table.{IsTable};
 ghost use Rattle.rt_rib.specs.LookUp.{look_up, look_up_all};
@@ -9,7 +9,8 @@ ghost use Rattle.rt_tables.specs.Unions.{union_of, AreOfDifferentFeeds};
 
 use crate::cursor::UnionCursor;
 use crate::lookups::{best_of_each, matches_in};
-use crate::selection::{keep_feeds, keep_hop, select_from};
+use crate::pieces::{merge_in_pieces, only_piece};
+use crate::selection::{keep_feeds, keep_hop, select_from, select_halves};
 use rt_cidr::Addr;
 use rt_rib::{Refused, Route, Selection, Table};
 use std::alloc::{AllocError, Allocator, Global};
@@ -136,6 +137,24 @@ impl TableUnion<Global> {
         keep_feeds(&mut routes, asked.feeds);
         keep_hop(&mut routes, asked.hop);
         Ok(routes)
+    }
+
+    /// Returns the same routes in pieces: lists that follow one another in dump order. Unless only the best are asked for, this
+    /// saves `select`'s last copy of most of the routes. Error M1 (`Refused`) if memory runs out.
+    pub fn select_in_pieces<R: Threads + Sync>(
+        &self,
+        rt: &R,
+        alloc: Global,
+        asked: &Selection<'_>,
+    ) -> Result<Vec<Vec<Route>>, Refused>
+        ensures { IfOk result (λ pieces. flat_map (λ piece. piece.items) pieces.items ≡ selected asked.now self.now) }
+    {
+        let count = self.tables.len();
+        if asked.only_best || count < 2 {
+            return only_piece(alloc, self.select(rt, alloc, asked)?);
+        }
+        let (first, second) = select_halves(rt, &self.tables, alloc, asked)?;
+        merge_in_pieces(rt, alloc, &first, &second, count)
     }
 }
 
