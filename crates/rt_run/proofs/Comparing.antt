@@ -1,15 +1,12 @@
 -- The output of a comparison: the lines of the differences so far, and then the lines of the rest.
-use Rattle.rt_run.proofs.Outputs.{has_byte, first-some}
-use Rattle.std.proofs.Common.{◌++◌, suc, ◌≡◌, ◌==◌, if◌then◌else◌, Bool, true, false, not, is_some, ℕ, ◌+◌, ◌^◌, ◌<◌, ◌≤◌, max}
-use Rattle.std.proofs.Common.{List, [], ◌∷◌, ◌++◌, Option, Some, None, length, append_assoc, append-nil, refl, sym, ap, subst, ◌∙◌, arith}
+use Rattle.rt_run.proofs.Outputs.{first-some}
+use Rattle.std.proofs.Common.{◌++◌, suc, ◌≡◌, ◌==◌, true, ℕ, ◌+◌, ◌^◌, ◌<◌, ◌≤◌, max}
+use Rattle.std.proofs.Common.{List, [], ◌∷◌, ◌++◌, length, refl, sym, subst, arith}
 use Rattle.std.specs.List.{All, AllPairs, sum_by, count_by}
 use Rattle.std.proofs.lemmas.Grind.{common_steps}
 use Rattle.std.proofs.lemmas.Bool.Decides.{nat_tests}
 use Rattle.std.proofs.lemmas.List.Elements.{All-head, All-tail}
 use Rattle.std.proofs.lemmas.List.Sums.{sum_by-cons, count_by-le-length}
-use Rattle.std.specs.Io.KnownBytes.{Appends}
-use Rattle.rt_cidr.specs.Output.{AppendsBeginning}
-use Rattle.rt_cidr.proofs.Promised.{begins_after, begins_longer}
 use Rattle.rt_rib.specs.declared.routes.Route.{Route}
 use Rattle.rt_diff.specs.declared.comparison.Difference.{Difference}
 use Rattle.rt_diff.specs.Answers.{own_numbers}
@@ -22,7 +19,7 @@ use Rattle.std.specs.declared.alloc.AllocError.{AllocError}
 use Rattle.std.proofs.lemmas.Result.{IfOk-weaker}
 use Rattle.rt_print.specs.declared.format.Syntax.{Syntax}
 use Rattle.rt_print.specs.declared.format.Syntax.TheVariants.{Line, Json, Csv}
-use Rattle.rt_print.specs.DifferenceText.{DiffContents, difference_as, differences_as, differences_header}
+use Rattle.rt_print.specs.DifferenceText.{DiffContents, differences_as, differences_header}
 use Rattle.rt_print.proofs.Promised.{difference-some}
 use Rattle.rt_run.specs.declared.tallies.RejectedInput.{RejectedInput}
 use Rattle.rt_run.specs.declared.tallies.RunSummary.{RunSummary}

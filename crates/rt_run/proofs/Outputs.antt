@@ -1,5 +1,5 @@
 -- The effect of a call on its writer, from its output, and which output is empty.
-use Rattle.std.proofs.Common.{◌≡◌, ◌==◌, ℕ, ◌<◌, Bool, false, List, [], ◌∷◌, ◌++◌, length, map, Option, None, Some, Result, Ok, Err, IfErr, refl, sym, subst, ◌∙◌, arith, length-append}
+use Rattle.std.proofs.Common.{◌≡◌, ◌==◌, ℕ, ◌<◌, Bool, false, List, [], ◌∷◌, ◌++◌, length, Option, None, Some, Result, Ok, Err, IfErr, refl, sym, subst, ◌∙◌, arith, length-append}
 use Rattle.std.proofs.Common.{◌≤◌}
 use Rattle.std.specs.Prelude.{◌&&◌}
 use Rattle.std.specs.List.{flat_map}
@@ -8,7 +8,6 @@ use Rattle.std.proofs.lemmas.Grind.{common_steps}
 use Rattle.rt_cidr.specs.declared.address.Addr.{Addr}
 use Rattle.rt_rib.specs.declared.routes.Route.{Route}
 use Rattle.rt_rib.specs.LookUp.{look_up}
-use Rattle.rt_feed.specs.declared.faulty.FaultyLines.{FaultyLines}
 use Rattle.rt_feed.specs.declared.faults.RunFault.TheVariants as refusal
 use Rattle.rt_print.specs.declared.format.Syntax.{Syntax}
 use Rattle.rt_print.specs.declared.format.Syntax.TheVariants.{Line, Json, Csv}
@@ -25,7 +24,7 @@ use Rattle.rt_run.specs.declared.question.Question.{Question}
 use Rattle.rt_run.specs.RunText.{RunContents, WritesOrFails}
 use Rattle.rt_run.specs.TableText.{question_text, tallies_status, LeavesTable, AsksAbout, IsAnswer}
 use Rattle.rt_run.specs.Replayed.{IsReplayText, LeavesReplay}
-use Rattle.rt_feed.specs.Addresses.{AddressRow, address_row, SaysAddresses}
+use Rattle.rt_feed.specs.Addresses.{AddressRow}
 use Rattle.rt_run.specs.inside.Outputs.{Writes, found_text, matches_text}
 use Rattle.ya_core.specs.declared.step.Step.{Step}
 use Rattle.ya_core.specs.Steps.{State, opening}

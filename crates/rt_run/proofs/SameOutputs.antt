@@ -1,5 +1,5 @@
 -- The answers to questions and the output of a comparison don't depend on the interleaving of the feeds' visits.
-use Rattle.std.proofs.Common.{List, ◌++◌, map, Bool, true, false, ◌||◌, refl, ap, sym, subst, ◌∙◌, ◌≡◌}
+use Rattle.std.proofs.Common.{List, ◌++◌, Bool, true, false, ◌||◌, refl, ap, sym, subst, ◌∙◌, ◌≡◌}
 use Rattle.std.specs.List.{list_any}
 use Rattle.std.proofs.lemmas.List.Folds.{list_any-append}
 use Rattle.rt_feed.specs.Addresses.{AddressRow}

@@ -9,6 +9,7 @@ ghost use Rattle.rt_rib.specs.declared.limits.TheConstants.{MAX_FEEDS};
 ghost use Rattle.rt_print.specs.ChangeCounts.{change_counts_as};
 ghost use Rattle.rt_print.specs.DifferenceText.{differences_as, differences_header};
 ghost use Rattle.rt_print.specs.Routes.{table_text};
+ghost use Rattle.rt_print.specs.Styles.{rows_as, rows_header};
 ghost use Rattle.rt_run.specs.RunText.{reports_text};
 ghost use Rattle.rt_run.specs.inside.Outputs.{with_invalid, Writes, list_of, AreSomeCounts};
 
@@ -162,6 +163,67 @@ fn write_with_invalid<R: Threads + Sync, W: Write, X: Sync, P: Rows<X> + Sync>(
         done = line.before;
     }
     write_on_threads(workers, w, rows, rest)
+}
+
+/// Writes the header of routes and the rows of the pieces, one after another, through a new buffer over the writer, as
+/// `write_through` does.
+pub(crate) fn write_route_pieces<R: Threads + Sync, W: Write, X: Drop>(
+    workers: &Workers<'_, R>,
+    w: &mut W,
+    room: OutputRoom,
+    style: &Style,
+    pieces: &[Vec<Route>],
+    given: X,
+) -> Result<X, AppFault>
+    requires new { room ≡ [] }
+    ensures { Writes (rows_header style.now.syntax ++ rows_as style.now (flat_map (λ piece. piece.items) pieces.now)) given (W.contents w.old) (W.contents w.new) result }
+{
+    let is_empty = is_output_empty(style.rows_header(), are_all_empty(pieces));
+    let mut out = OutputBuffer::new(w, room);
+    let written = write_headed_pieces(workers, &mut out, style, pieces);
+    let told = finish(&mut out, written, is_empty, given);
+    let _ = out.into_writer();
+    told
+}
+
+/// Returns true if no piece has a route.
+fn are_all_empty(pieces: &[Vec<Route>]) -> bool
+    ensures { result ≡ (length (flat_map (λ piece. piece.items) pieces.now) == 0) }
+{
+    for piece in pieces {
+        if !piece.is_empty() {
+            return false;
+        }
+    }
+    true
+}
+
+/// Writes the header of routes, and then the rows of the pieces.
+fn write_headed_pieces<R: Threads + Sync, W: Write>(
+    workers: &Workers<'_, R>,
+    w: &mut W,
+    style: &Style,
+    pieces: &[Vec<Route>],
+) -> Result<(), io::Error>
+    ensures { WritesText (W.contents w.old) (W.contents w.new) (rows_header style.now.syntax ++ rows_as style.now (flat_map (λ piece. piece.items) pieces.now)) result }
+{
+    put(w, style.rows_header())?;
+    write_pieces(workers, w, style, pieces)
+}
+
+/// Writes the rows of the pieces, one after another.
+fn write_pieces<R: Threads + Sync, W: Write>(
+    workers: &Workers<'_, R>,
+    w: &mut W,
+    style: &Style,
+    pieces: &[Vec<Route>],
+) -> Result<(), io::Error>
+    ensures { WritesText (W.contents w.old) (W.contents w.new) (rows_as style.now (flat_map (λ piece. piece.items) pieces.now)) result }
+{
+    for piece in pieces {
+        write_on_threads(workers, w, style, piece.as_slice())?;
+    }
+    Ok(())
 }
 
 /// Each range has its line, or the lines of its prefixes.

@@ -10,7 +10,7 @@ ghost use Rattle.rt_run.specs.inside.Outputs.{found_text, all_found_text, matche
 use crate::faults::AppFault;
 use crate::forwarding::fib_for;
 use crate::input::RunInput;
-use crate::output::{write_rows_through, write_through};
+use crate::output::{write_route_pieces, write_rows_through, write_through};
 use crate::parallel::run_on_threads;
 use crate::question::Question;
 use crate::rendering::Workers;
@@ -111,21 +111,8 @@ fn write_answer<R: Threads + Sync, W: Write>(
             write_all(workers, w, room, style, tables, addresses.parts(), given)
         }
         Question::Routes(selection) => {
-            let routes = tables.select(rt, alloc, selection)?;
-            let (routes, is_empty) = (routes.as_slice(), routes.is_empty());
-            let header = style.rows_header();
-            write_rows_through(
-                workers,
-                w,
-                room,
-                header,
-                style,
-                style,
-                routes,
-                &[],
-                is_empty,
-                given,
-            )
+            let pieces = tables.select_in_pieces(rt, alloc, selection)?;
+            write_route_pieces(workers, w, room, style, pieces.as_slice(), given)
         }
         Question::RoutesAndTotal(selection) => {
             let routes = tables.select(rt, alloc, selection)?;

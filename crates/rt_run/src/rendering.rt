@@ -1,5 +1,5 @@
 //! The rows of a long list: several threads render a piece of it each, and the pieces are written in order.
-ghost use Rattle.std.specs.Prelude.{◌≡◌, ◌≤◌, ◌+◌, length, IfOk, IfSome};
+ghost use Rattle.std.specs.Prelude.{◌≡◌, ◌≤◌, ◌*◌, IsTrue, length, vec_len, IfOk};
 ghost use Rattle.std.specs.List.{flat_map};
 ghost use Rattle.std.specs.Fork.{slice_chunk};
 ghost use Rattle.rt_cidr.specs.Output.{WritesText};
@@ -9,11 +9,15 @@ ghost use Rattle.rt_run.specs.declared.rendering.TheConstants.{PIECE_ITEMS};
 use rt_cidr::put;
 use std::alloc::{AllocError, Global};
 use std::io::{self, Write};
+use std::mem;
 use std::thread::{self, Threads};
 
-/// The number of items that a thread renders at once, which takes some milliseconds: a new thread may wait for the processor of
-/// the one that made it for as long as two. Their rows have about three megabytes.
-const PIECE_ITEMS: usize = 65_536;
+/// The number of items of a piece. Their rows have about a megabyte.
+const PIECE_ITEMS: usize = 16_384;
+
+/// The most pieces that a thread renders one after another, which takes some tens of milliseconds: a new thread may wait some
+/// milliseconds for a processor, and all threads wait for the last.
+const MOST_PIECES: usize = 8;
 
 /// The number of bytes per row that are allocated before a piece is rendered.
 const ROW_BYTES: usize = 64;
@@ -26,9 +30,12 @@ pub(crate) struct Workers<'r, R> {
     pub(crate) threads: usize,
 }
 
-/// The text of each piece of a list, or `None` for a piece for which memory ran out; or an error: memory ran out for the list of
-/// texts.
-type PieceTexts = Result<Vec<Option<Vec<u8>>>, AllocError>;
+/// The text of a piece, whose memory the text of a later piece uses again. It isn't whole if memory ran out.
+#[derive(Drop)]
+struct PieceText {
+    bytes: Vec<u8>,
+    is_whole: bool,
+}
 
 /// A way to write the items of a list: each has a row of its own, which doesn't depend on the others.
 pub(crate) trait Rows<X> {
@@ -44,8 +51,8 @@ pub(crate) trait Rows<X> {
         ensures { WritesText (W.contents w.old) (W.contents w.new) (flat_map (row_of self.now) items.now) result };
 }
 
-/// Writes the row of each item, in order. Each worker renders a piece and allocates its text; a group of pieces is written
-/// while the next group is rendered. If memory runs out, a piece is rendered while it is written.
+/// Writes the row of each item, in order. The workers render a group of pieces, which is written while they render the next
+/// one. If memory runs out, a piece is rendered while it is written.
 pub(crate) fn write_on_threads<R: Threads + Sync, W: Write, X: Sync, P: Rows<X> + Sync>(
     workers: &Workers<'_, R>,
     w: &mut W,
@@ -54,83 +61,95 @@ pub(crate) fn write_on_threads<R: Threads + Sync, W: Write, X: Sync, P: Rows<X> 
 ) -> io::Result<()>
     ensures { WritesText (W.contents w.old) (W.contents w.new) (flat_map (P.row_of rows.now) items.now) result }
 {
-    if workers.threads < 2 || items.len() <= PIECE_ITEMS {
+    let pieces = items.len().div_ceil(PIECE_ITEMS);
+    if workers.threads < 2 || pieces < 2 {
         return rows.write_rows(w, items);
     }
-    let most = workers.threads.saturating_mul(PIECE_ITEMS);
+    let count = pieces.min(workers.threads.saturating_mul(MOST_PIECES));
+    let (Ok(mut texts), Ok(mut next_texts)) = (
+        empty_texts(workers.alloc, count),
+        empty_texts(workers.alloc, count),
+    ) else {
+        return rows.write_rows(w, items);
+    };
+    let most = count.saturating_mul(PIECE_ITEMS);
     let (mut group, mut rest) = items.split_at(items.len().min(most));
-    let mut texts = render_pieces(workers, rows, group);
+    render_pieces(workers, rows, group, &mut texts);
     while !rest.is_empty() {
         let (next, behind) = rest.split_at(rest.len().min(most));
-        let (written, next_texts) = write_and_render(workers, w, rows, group, &texts, next);
-        written?;
+        write_and_render(workers, w, rows, group, &texts, next, &mut next_texts)?;
+        mem::swap(&mut texts, &mut next_texts);
         group = next;
-        texts = next_texts;
         rest = behind;
     }
-    write_group(w, rows, group, &texts)
+    write_texts(w, rows, group, &texts)
+}
+
+/// Returns this number of texts, none of which is whole. They have no memory yet. Its error: memory ran out for the list.
+fn empty_texts(alloc: Global, count: usize) -> Result<Vec<PieceText>, AllocError>
+    ensures { IfOk result (λ texts. vec_len texts ≡ count) }
+{
+    let mut texts = Vec::with_capacity(alloc, count)?;
+    for _ in 0..count {
+        texts.push_reserved(PieceText {
+            bytes: Vec::new(alloc),
+            is_whole: false,
+        });
+    }
+    Ok(texts)
 }
 
 /// Writes the rows of the items, whose texts these are, and meanwhile renders the next items on other threads, if they can be
-/// created. Returns the result of the write, and the texts of the next items.
+/// created.
 fn write_and_render<R: Threads + Sync, W: Write, X: Sync, P: Rows<X> + Sync>(
     workers: &Workers<'_, R>,
     w: &mut W,
     rows: &P,
     items: &[X],
-    texts: &PieceTexts,
+    texts: &[PieceText],
     next: &[X],
-) -> (io::Result<()>, PieceTexts)
-    requires { IfOk texts.now (λ texts. ArePieceTexts (P.row_of rows.now) items.now texts.items) }
-    ensures written { WritesText (W.contents w.old) (W.contents w.new) (flat_map (P.row_of rows.now) items.now) result.0 }
-    ensures rendered { IfOk result.1 (λ texts. ArePieceTexts (P.row_of rows.now) next.now texts.items) }
-{
-    let (next_texts, written) = thread::join_mut(
-        workers.rt,
-        &mut || -> PieceTexts
-            ensures { IfOk result (λ texts. ArePieceTexts (P.row_of rows.entry.now) next.entry.now texts.items) }
-        { render_pieces(workers, rows, next) },
-        &mut || -> io::Result<()>
-            requires { IfOk texts.now (λ texts. ArePieceTexts (P.row_of rows.now) items.now texts.items) }
-            ensures { WritesText (W.contents w.entry.now) (W.contents w.exit.now) (flat_map (P.row_of rows.entry.now) items.entry.now) result }
-        { write_group(w, rows, items, texts) },
-    );
-    (written, next_texts)
-}
-
-/// Writes the rows of the items: their texts, if there are any.
-fn write_group<W: Write, X, P: Rows<X>>(
-    w: &mut W,
-    rows: &P,
-    items: &[X],
-    texts: &PieceTexts,
+    next_texts: &mut [PieceText],
 ) -> io::Result<()>
-    requires { IfOk texts.now (λ texts. ArePieceTexts (P.row_of rows.now) items.now texts.items) }
-    ensures { WritesText (W.contents w.old) (W.contents w.new) (flat_map (P.row_of rows.now) items.now) result }
+    requires texts { ArePieceTexts (P.row_of rows.now) items.now texts.now }
+    requires room { length next.now ≤ length next_texts.old * PIECE_ITEMS }
+    ensures written { WritesText (W.contents w.old) (W.contents w.new) (flat_map (P.row_of rows.now) items.now) result }
+    ensures rendered { ArePieceTexts (P.row_of rows.now) next.now next_texts.new }
+    ensures count { length next_texts.new ≡ length next_texts.old }
 {
-    match texts {
-        Ok(texts) => write_texts(w, rows, items, texts.as_slice()),
-        Err(_) => rows.write_rows(w, items),
-    }
+    let (_, written) = thread::join_mut(
+        workers.rt,
+        &mut ||
+            requires { length next.now ≤ length next_texts.now * PIECE_ITEMS }
+            ensures { ArePieceTexts (P.row_of rows.entry.now) next.entry.now next_texts.exit.now × (length next_texts.exit.now ≡ length next_texts.entry.now) }
+        { render_pieces(workers, rows, next, next_texts) },
+        &mut || -> io::Result<()>
+            requires { ArePieceTexts (P.row_of rows.now) items.now texts.now }
+            ensures { WritesText (W.contents w.entry.now) (W.contents w.exit.now) (flat_map (P.row_of rows.entry.now) items.entry.now) result }
+        { write_texts(w, rows, items, texts) },
+    );
+    written
 }
 
-/// Returns the text of each piece of the items. Each is rendered on a thread of its own, if one can be created.
+/// Replaces each text by that of the piece of the items with the same index, on up to as many threads as there are workers. There
+/// must be enough texts for all pieces.
 fn render_pieces<R: Threads + Sync, X: Sync, P: Rows<X> + Sync>(
     workers: &Workers<'_, R>,
     rows: &P,
     items: &[X],
-) -> PieceTexts
-    ensures { IfOk result (λ texts. ArePieceTexts (P.row_of rows.now) items.now texts.items) }
+    texts: &mut [PieceText],
+)
+    requires room { length items.now ≤ length texts.old * PIECE_ITEMS }
+    ensures texts { ArePieceTexts (P.row_of rows.now) items.now texts.new }
+    ensures count { length texts.new ≡ length texts.old }
 {
-    let alloc = workers.alloc;
-    thread::map_indices(
+    thread::for_each_mut(
         workers.rt,
-        alloc,
-        items.len().div_ceil(PIECE_ITEMS),
-        &|index: usize| -> Option<Vec<u8>>
-            ensures { IsPieceText (P.row_of rows.entry.now) items.entry.now index result }
-        { render(alloc, rows, piece_at(items, index)) },
-    )
+        texts,
+        workers.threads.max(1),
+        &|index: usize, text: &mut PieceText|
+            ensures { IsPieceText (P.row_of rows.entry.now) items.entry.now index text.exit.now }
+        { render(rows, piece_at(items, index), text) },
+    );
 }
 
 /// Returns the piece of the items with this index, or no items if there are fewer pieces.
@@ -145,26 +164,24 @@ fn piece_at<X>(items: &[X], index: usize) -> &[X]
     piece
 }
 
-/// Returns the rows of the items, or `None` if memory runs out.
-fn render<X, P: Rows<X>>(alloc: Global, rows: &P, items: &[X]) -> Option<Vec<u8>>
-    ensures { IfSome result (λ text. text.items ≡ flat_map (P.row_of rows.now) items.now) }
+/// Replaces the text by the rows of the items. It isn't whole if memory ran out.
+fn render<X, P: Rows<X>>(rows: &P, items: &[X], text: &mut PieceText)
+    ensures { IsTrue text.new.is_whole → text.new.bytes.items ≡ flat_map (P.row_of rows.now) items.now }
 {
-    let size = items.len().saturating_mul(ROW_BYTES);
-    let Ok(mut text) = Vec::with_capacity(alloc, size) else {
-        return None;
-    };
-    match rows.write_rows(&mut text, items) {
-        Ok(()) => Some(text),
-        Err(_) => None,
-    }
+    text.bytes.clear();
+    text.is_whole = text
+        .bytes
+        .try_reserve(items.len().saturating_mul(ROW_BYTES))
+        .is_ok()
+        && rows.write_rows(&mut text.bytes, items).is_ok();
 }
 
-/// Writes the pieces of the items in order: their texts, and the rows of a piece that has no text.
+/// Writes the pieces of the items in order: their texts, and the rows of a piece whose text isn't whole.
 fn write_texts<W: Write, X, P: Rows<X>>(
     w: &mut W,
     rows: &P,
     items: &[X],
-    texts: &[Option<Vec<u8>>],
+    texts: &[PieceText],
 ) -> io::Result<()>
     requires { ArePieceTexts (P.row_of rows.now) items.now texts.now }
     ensures { WritesText (W.contents w.old) (W.contents w.new) (flat_map (P.row_of rows.now) items.now) result }
@@ -175,18 +192,19 @@ fn write_texts<W: Write, X, P: Rows<X>>(
     Ok(())
 }
 
-/// Writes the rows of the items: the text, if there is one.
+/// Writes the rows of the items: the text, if it is whole.
 fn write_piece<W: Write, X, P: Rows<X>>(
     w: &mut W,
     rows: &P,
     items: &[X],
-    text: &Option<Vec<u8>>,
+    text: &PieceText,
 ) -> io::Result<()>
-    requires { IfSome text.now (λ text. text.items ≡ flat_map (P.row_of rows.now) items.now) }
+    requires { IsTrue text.now.is_whole → text.now.bytes.items ≡ flat_map (P.row_of rows.now) items.now }
     ensures { WritesText (W.contents w.old) (W.contents w.new) (flat_map (P.row_of rows.now) items.now) result }
 {
-    match text {
-        Some(text) => put(w, text.as_slice()),
-        None => rows.write_rows(w, items),
+    if text.is_whole {
+        put(w, text.bytes.as_slice())
+    } else {
+        rows.write_rows(w, items)
     }
 }

@@ -1,6 +1,6 @@
 -- The effect of an output on its writer, the answers for addresses with invalid lines between them, and the output of a
 -- comparison of two tables.
-use Rattle.std.specs.Prelude.{◌≡◌, ℕ, List, [], ◌∷◌, Option, Result, Ok, Err, ◌++◌, ◌-◌, ◌^◌, ◌≤◌, Some, None, map, take, drop}
+use Rattle.std.specs.Prelude.{◌≡◌, ℕ, List, [], ◌∷◌, Option, Result, Ok, Err, ◌++◌, ◌-◌, ◌^◌, ◌≤◌, map, take, drop}
 use Rattle.std.specs.List.{flat_map, All, sum_by}
 use Rattle.std.specs.Io.KnownBytes.{Appends}
 use Rattle.rt_cidr.specs.Output.{AppendsBeginning}
@@ -18,12 +18,10 @@ use Rattle.rt_rib.specs.declared.routes.Route.{Route}
 use Rattle.rt_rib.specs.LookUp.{look_up, look_up_all}
 use Rattle.rt_diff.specs.declared.comparison.Difference.{Difference}
 use Rattle.rt_diff.specs.Answers.{own_numbers}
-use Rattle.rt_diff.specs.Differences.{IsFirstDifference}
-use Rattle.rt_diff.specs.inside.Rest.{AreRest}
 use Rattle.rt_diff.proofs.Promised.{differences_of}
 use Rattle.rt_print.specs.declared.change_counts.ChangeCount.{ChangeCount}
 use Rattle.rt_print.specs.ChangeCounts.{range_size, AreChangeCounts}
-use Rattle.rt_print.specs.DifferenceText.{DiffContents, differences_as}
+use Rattle.rt_print.specs.DifferenceText.{DiffContents}
 use Rattle.rt_run.specs.declared.question.Question.{Question}
 use Rattle.rt_run.specs.declared.tallies.RejectedInput.{RejectedInput}
 use Rattle.rt_run.specs.DiffText.{renumbered_new}

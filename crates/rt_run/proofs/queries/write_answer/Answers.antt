@@ -1,10 +1,10 @@
-use Rattle.std.proofs.Common.{◌≡◌, ℕ, List, length, refl, rules}
+use Rattle.std.proofs.Common.{ℕ, List, rules}
 use Rattle.rt_cidr.specs.declared.address.Addr.{Addr}
 use Rattle.rt_rib.specs.LookUp.{look_up, look_up_all}
 use Rattle.rt_print.specs.Styles.{label_of, found_as, all_found_as}
 use Rattle.rt_run.proofs.Asked.{rows_of_best, rows_of_all}
 use Rattle.rt_run.proofs.InvalidLines.{rows_text}
-use Rattle.rt_run.proofs.Outputs.{has_byte, rows-empty, rows_and_total-some, counts-some}
+use Rattle.rt_run.proofs.Outputs.{has_byte, rows_and_total-some, counts-some}
 use Rattle.rt_run.proofs.queries.write_answer.Goals as goal
 
 pub returns-in-Best : goal.returns-in-Best
@@ -25,9 +25,9 @@ returns-in-All g c rows others asks =
     let these = rows_of_all c.one_address_text.ensures c.in-All.addresses rows others read (rw c.in-All.is at asks) c.parts-in-All.ensures in
     rw (c.in-All.is, ← (rows_text style one _ rows read.addresses.items read.invalid.items these)) c.write_all.ensures
 
-pub returns-in_ok-routes-in-Routes : goal.returns-in_ok-routes-in-Routes
-returns-in_ok-routes-in-Routes g c rows others asks =
-    rw (c.in-Routes.is, ← (c.in_ok-routes-in-Routes.ensures {u = tt}), ← c.as_slice-routes.ensures.value, ← c.rows_header-header.ensures) c.write_rows_through.ensures
+pub returns-in_ok-pieces-in-Routes : goal.returns-in_ok-pieces-in-Routes
+returns-in_ok-pieces-in-Routes g c rows others asks =
+    rw (c.in-Routes.is, ← (c.in_ok-pieces-in-Routes.ensures {u = tt}), ← c.as_slice.ensures.value) c.write_route_pieces.ensures
 
 pub returns-in_ok-routes-in-RoutesAndTotal : goal.returns-in_ok-routes-in-RoutesAndTotal
 returns-in_ok-routes-in-RoutesAndTotal g c rows others asks =
@@ -40,8 +40,3 @@ returns-in_ok-routes-in-Counts g c rows others asks =
     rw (c.in-Counts.is, ← (c.in_ok-routes-in-Counts.ensures {u = tt}))
     (c.write_through-in-Counts.ensures.text _ (has_byte _ (counts-some c.args.style.now c.in_ok-routes-in-Counts.routes.items))
     (λ old written new called. search rules))
-
-pub write_rows_through-requires-clause-empty : goal.write_rows_through-requires-clause-empty
-write_rows_through-requires-clause-empty g c lifetimes outlive =
-    let routes = c.in_ok-routes-in-Routes.routes in
-    rw c.as_slice-routes.ensures.value (rows-empty c.args.style.now c.is_empty-is_empty.result routes.items (rw routes.ok.0 at c.is_empty-is_empty.ensures))
