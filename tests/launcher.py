@@ -640,7 +640,8 @@ def without_a_program(copy):
         misuse = stored(name).replace("WORD", words[0])
         expect(f"without a program {words}", copy.start(*words, path="without"), (3, "", misuse))
     for words, option in ((["table", "--bets", "x"], "--bets"), (["run", "x", "--lim=3"], "--lim"), (["diff", "-x"], "-x"),
-                          (["replay", "--best"], "--best"), (["lookup", "--within", "10.0.0.0/8"], "--within")):
+                          (["replay", "--best"], "--best"), (["lookup", "--within", "10.0.0.0/8"], "--within"),
+                          (["table", "--old-feed", "1", "x"], "--old-feed"), (["replay", "--batch", "4"], "--batch")):
         misuse = stored("no-option").replace("WORD", option).replace("yarib <COMMAND>", usage_of(page[words[0]]))
         expect(f"without a program {words}", copy.start(*words, path="without"), (3, "", misuse))
     for name, operands in (("run", "<FILE>..."), ("lookup", "<FILE>..."), ("table", "<FILE>..."),
@@ -651,7 +652,10 @@ def without_a_program(copy):
     expect("without a program, only flags", copy.start("table", "--best", path="without")[0], 3)
     expect("nothing is built for them", copy.built(), [])
     for words in (["run", "one.feed", "--help"], ["help", "walk"], ["help", "yarib"], ["-hx"], ["--help=x"], ["--"],
-                  ["run", "x"], ["table", "--limit"], ["run", "--", "--frob"], ["table", "-"], ["a\tb"]):
+                  ["run", "x"], ["table", "--limit"], ["run", "--", "--frob"], ["table", "-"], ["a\tb"],
+                  # Options that no help shows.
+                  ["lookup", "--feed", "1", "x"], ["lookup", "--batch", "4", "x"], ["table", "--batch=4", "x"],
+                  ["diff", "--old-feed", "1", "x", "--", "y"], ["diff", "--new-feed=1", "--batch", "4", "x", "--", "y"]):
         expect(f"what needs a program {words}", copy.start(*words, path="without")[0], 127)
     copy.start("run", "x.feed")
     for words in (["--help"], ["walk"], []):
