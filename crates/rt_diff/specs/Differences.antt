@@ -39,12 +39,6 @@ abbrev pub IsFirstDifference : CompareBy → RenumberedTable → RenumberedTable
 IsFirstDifference by old new from None = (addr : Addr) → from.0 ≤ addr.0 → addr.0 < 2 ^ 32 → IsAlike by old new addr
 IsFirstDifference by old new from (Some d) = IsNextDifference by old new from d
 
--- the first range from an address on, which doesn't begin after the last address; or every address from the one to the other
--- has the same answer in both tables
-abbrev pub IsFirstUpTo : CompareBy → RenumberedTable → RenumberedTable → Addr → Addr → Option Difference → Type 0
-IsFirstUpTo by old new from last None = (addr : Addr) → from.0 ≤ addr.0 → addr.0 ≤ last.0 → IsAlike by old new addr
-IsFirstUpTo by old new from last (Some d) = (d.first.0 ≤ last.0) × IsNextDifference by old new from d
-
 -- a comparison as contracts see it: how answers are compared, and the routes of both tables
 pub record Compared : Type 0 where
   pub by : CompareBy

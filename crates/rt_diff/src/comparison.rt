@@ -1,11 +1,12 @@
 //! Ranges of addresses that have different answers in two tables.
 ghost use Rattle.std.specs.Prelude.{◌≡◌, ◌+◌, ◌↔◌, IsTrue, IfOk};
 ghost use Rattle.rt_diff.specs.Answers.{own_numbers};
-ghost use Rattle.rt_diff.specs.Differences.{IsAlike, IsFirstDifference, IsFirstUpTo};
+ghost use Rattle.rt_diff.specs.Differences.{IsFirstDifference};
+ghost use Rattle.rt_diff.specs.inside.Parts.{GoesOnIn, IsFirstWithin};
 
-use crate::pieces::{are_alike, first_unlike, last_of};
+use crate::pieces::{first_unlike, last_of};
 use crate::renumbered::RenumberedLookups;
-use crate::table_answers::{CompareBy, TableAnswer};
+use crate::table_answers::{CompareBy, TableAnswer, is_same};
 use rt_cidr::Addr;
 use rt_rib::Table;
 use rt_tables::{TableUnion, UnionCursor};
@@ -24,6 +25,17 @@ pub struct Difference {
     pub old: TableAnswer,
     /// The new table's answer for each of them, which differs.
     pub new: TableAnswer,
+}
+
+impl Difference {
+    /// Returns true if the next range begins right after this one, with the same two answers: then both are parts of one range.
+    pub(crate) fn goes_on_in(&self, next: &Difference) -> bool
+        ensures { IsTrue result ↔ GoesOnIn self.now next.now }
+    {
+        u64::from(self.last.0) + 1 == u64::from(next.first.0)
+            && is_same(&self.old, &next.old)
+            && is_same(&self.new, &next.new)
+    }
 }
 
 /// A comparison of two tables. It keeps the path of the last look-up in each of them, so visiting them in rising order
@@ -100,32 +112,7 @@ impl<'a, A: Allocator + Copy> Comparison<'a, A> {
         ensures kept { self.new ≡ self.old }
         ensures first { IsFirstDifference self.old.by self.old.old_table self.old.new_table from result }
     {
-        self.first_difference_up_to(from, Addr(u32::MAX))
-    }
-
-    /// Returns the same range as `first_difference`, unless it begins after the last address: then it returns `None`, and
-    /// doesn't visit the addresses after the last one. Doesn't allocate.
-    pub fn first_difference_up_to(&mut self, from: Addr, last: Addr) -> Option<Difference>
-        ensures kept { self.new ≡ self.old }
-        ensures first { IsFirstUpTo self.old.by self.old.old_table self.old.new_table from last result }
-    {
-        if last.0 < from.0 {
-            return None;
-        }
-        let pieces = first_unlike(
-            &mut self.old_table,
-            &mut self.new_table,
-            self.by,
-            from,
-            last,
-        )?;
-        let end = last_of(&mut self.old_table, &mut self.new_table, self.by, &pieces);
-        Some(Difference {
-            first: pieces.from,
-            last: end,
-            old: pieces.old.answer,
-            new: pieces.new.answer,
-        })
+        self.first_within(from, Addr(u32::MAX))
     }
 
     /// Returns the first range after the address, as `first_difference` does from the next address on, or `None` if the
@@ -137,22 +124,33 @@ impl<'a, A: Allocator + Copy> Comparison<'a, A> {
         let from = last.0.checked_add(1)?;
         self.first_difference(Addr(from))
     }
-    /// Returns the first range after the address, as `first_difference_up_to` does from the next address on, or `None` if the
-    /// address is the last of all.
-    pub fn difference_between(&mut self, after: Addr, last: Addr) -> Option<Difference>
+
+    /// Returns the first range at or after the address, cut after the last address, which no look-up passes. Returns `None`
+    /// if every address from the one to the other has the same answer in both tables.
+    pub(crate) fn first_within(&mut self, from: Addr, last: Addr) -> Option<Difference>
         ensures kept { self.new ≡ self.old }
-        ensures first { IsFirstUpTo self.old.by self.old.old_table self.old.new_table (record { 0 = after.0 + 1 }) last result }
+        ensures first { IsFirstWithin self.old from.0 (last.0 + 1) result }
     {
-        let from = after.0.checked_add(1)?;
-        self.first_difference_up_to(Addr(from), last)
+        if last.0 < from.0 {
+            return None;
+        }
+        let (old, new) = (&mut self.old_table, &mut self.new_table);
+        let pieces = first_unlike(old, new, self.by, from, last)?;
+        let end = last_of(old, new, self.by, &pieces, last);
+        Some(Difference {
+            first: pieces.from,
+            last: end,
+            old: pieces.old.answer,
+            new: pieces.new.answer,
+        })
     }
 
-    /// Returns true if both tables give the same answer for the address. The list of ranges can be cut there: no range
-    /// begins before the address and goes on after it. Doesn't allocate.
-    pub fn is_alike(&mut self, addr: Addr) -> bool
+    /// Returns the first range after the address, cut after the last address, as `first_within` does from the next address on.
+    pub(crate) fn next_within(&mut self, after: Addr, last: Addr) -> Option<Difference>
         ensures kept { self.new ≡ self.old }
-        ensures alike { IsTrue result ↔ IsAlike self.old.by self.old.old_table self.old.new_table addr }
+        ensures first { IsFirstWithin self.old (after.0 + 1) (last.0 + 1) result }
     {
-        are_alike(&mut self.old_table, &mut self.new_table, self.by, addr)
+        let from = after.0.checked_add(1)?;
+        self.first_within(Addr(from), last)
     }
 }

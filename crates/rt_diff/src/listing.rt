@@ -1,9 +1,9 @@
-//! The list of all ranges of addresses that have different answers in two tables, found by several threads: the addresses are
-//! cut into parts, and the lists of the parts are joined.
-ghost use Rattle.std.specs.Prelude.{◌≡◌, ◌+◌, ◌*◌, ◌^◌, ◌<◌, ◌≤◌, ◌↔◌, IsTrue, IfOk, length, vec_len};
+//! The list of all ranges of addresses that have different answers in two tables, found by several threads: each lists the ranges
+//! of some blocks of addresses, and the lists of the blocks are joined.
+ghost use Rattle.std.specs.Prelude.{◌≡◌, ◌+◌, IfOk, OnOk, length, vec_len};
 ghost use Rattle.rt_diff.specs.Answers.{own_numbers};
 ghost use Rattle.rt_diff.specs.Differences.{AreDifferences};
-ghost use Rattle.rt_diff.specs.inside.Parts.{CanEndWith, AreOfPart, BeginsPart, EndsPart, ListsBlock, ListEach};
+ghost use Rattle.rt_diff.specs.inside.Parts.{AreJoined, AreOfPart, ListsBlock, ListEach};
 
 use crate::comparison::{Comparison, Difference};
 use crate::table_answers::CompareBy;
@@ -13,14 +13,14 @@ use std::alloc::{AllocError, Allocator, Global};
 use std::marker::Model;
 use std::thread::{self, Threads};
 
-/// The number of blocks of addresses, all of the same size. A part begins with a block, and each thread lists a part: there are
-/// more of them than processors, since real tables have most of their prefixes in some of the blocks.
+/// The number of blocks of addresses, all of the same size. There are more of them than processors, since real tables have most of
+/// their prefixes in some of the blocks.
 const BLOCKS: usize = 64;
 
 /// The number of addresses of a block.
 const BLOCK_SIZE: u32 = 1 << 26;
 
-/// The list of a part's ranges, unless memory ran out.
+/// The list of a block's ranges, unless memory ran out.
 type BlockList = Result<Vec<Difference>, AllocError>;
 
 /// Two tables, each the union of one or more, and how their answers are compared. Contracts see what they see of a [`Comparison`].
@@ -133,76 +133,58 @@ fn joined(
         let Ok(list) = &lists[block] else {
             return Err(AllocError);
         };
-        all.extend_from_slice(list.as_slice())?;
+        join(&mut all, list.as_slice())?;
     }
     Ok(all)
 }
 
-/// Returns the ranges of the part that begins with this block: up to the next block with which a part can begin. Returns no
-/// ranges if no part can begin with it.
+/// Appends the ranges of the next part. If the last range of the list goes on in the first of them, the two become one.
+fn join(list: &mut Vec<Difference>, more: &[Difference]) -> Result<(), AllocError>
+    ensures { OnOk result (AreJoined list.old.items more.now list.new.items) }
+{
+    let Some((first, rest)) = more.split_first() else {
+        return Ok(());
+    };
+    let Some(previous) = list.pop() else {
+        return list.extend_from_slice(more);
+    };
+    if !previous.goes_on_in(first) {
+        list.push(previous)?;
+        return list.extend_from_slice(more);
+    }
+    list.push(Difference {
+        last: first.last,
+        ..previous
+    })?;
+    list.extend_from_slice(rest)
+}
+
+/// Returns the ranges of the block, cut at its ends.
 fn list_block(alloc: Global, tables: &ComparedTables<'_, Global>, block: usize) -> BlockList
     ensures { ListsBlock tables.now block result }
 {
-    let mut comparison = tables.comparison(alloc)?;
-    if block >= BLOCKS || !begins_part(&mut comparison, block) {
+    if block >= BLOCKS {
         return Ok(Vec::new(alloc));
     }
-    let last = last_of_part(&mut comparison, block);
-    list_in_turn(alloc, tables, start_of(block), last)
+    let first = block as u32 * BLOCK_SIZE;
+    list_in_turn(alloc, tables, Addr(first), Addr(first + (BLOCK_SIZE - 1)))
 }
 
-/// Returns the first address of the block.
-fn start_of(block: usize) -> Addr
-    requires { block < 64 }
-    ensures { result.0 ≡ block * 2 ^ 26 }
-{
-    Addr(block as u32 * BLOCK_SIZE)
-}
-
-/// Returns true if a part can begin with this block: it is the first, or both tables give the same answer for its first
-/// address.
-fn begins_part(tables: &mut Comparison<'_, Global>, block: usize) -> bool
-    requires { block < 64 }
-    ensures kept { tables.new ≡ tables.old }
-    ensures begins { IsTrue result ↔ BeginsPart tables.old block }
-{
-    if block == 0 {
-        return true;
-    }
-    tables.is_alike(start_of(block))
-}
-
-/// Returns the last address of the part that begins with this block: the one before the next block with which a part can begin.
-fn last_of_part(tables: &mut Comparison<'_, Global>, block: usize) -> Addr
-    requires { block < 64 }
-    ensures kept { tables.new ≡ tables.old }
-    ensures last { EndsPart tables.old block result }
-{
-    for next in block + 1..BLOCKS {
-        if begins_part(tables, next) {
-            return Addr(start_of(next).0 - 1);
-        }
-    }
-    Addr(u32::MAX)
-}
-
-/// Returns the ranges that begin at an address from the first to the last.
+/// Returns the ranges of the addresses from the first to the last, cut there.
 fn list_in_turn(
     alloc: Global,
     tables: &ComparedTables<'_, Global>,
     first: Addr,
     last: Addr,
 ) -> Result<Vec<Difference>, AllocError>
-    requires some { first.0 ≤ last.0 }
-    requires ends { CanEndWith tables.now last }
     ensures { IfOk result (λ list. AreOfPart tables.now first.0 (last.0 + 1) list.items) }
 {
     let mut comparison = tables.comparison(alloc)?;
     let mut list = Vec::new(alloc);
-    let mut next = comparison.first_difference_up_to(first, last);
+    let mut next = comparison.first_within(first, last);
     while let Some(difference) = next {
         list.push(difference)?;
-        next = comparison.difference_between(difference.last, last);
+        next = comparison.next_within(difference.last, last);
     }
     Ok(list)
 }

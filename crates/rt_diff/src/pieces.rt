@@ -1,7 +1,6 @@
 //! Visiting both tables interval by interval. A piece is an answer with the last address that is known to have it.
-ghost use Rattle.std.specs.Prelude.{◌≡◌, ◌≤◌, ◌↔◌, IsTrue};
-ghost use Rattle.rt_diff.specs.Differences.{IsAlike};
-ghost use Rattle.rt_diff.specs.inside.Pieces.{IsPieceFrom, IsPieceAt, ArePieces, reach, AreBehind, FindsUnlike, IsEnd};
+ghost use Rattle.std.specs.Prelude.{◌≡◌, ◌+◌, ◌^◌, ◌<◌, ◌≤◌, ◌↔◌, IsTrue};
+ghost use Rattle.rt_diff.specs.inside.Pieces.{IsPieceFrom, IsPieceAt, ArePieces, reach, FindsUnlike, IsEnd};
 
 use crate::renumbered::RenumberedLookups;
 use crate::table_answers::{CompareBy, TableAnswer, answer_by, is_same};
@@ -98,39 +97,27 @@ fn pieces_at<A: Allocator + Copy>(
     }
 }
 
-/// Returns the pieces after the last address that both reach, if it isn't the last of all. Looks up the answer only in
+/// Returns the pieces after the last address that both reach, which isn't the last of all. Looks up the answer only in
 /// a table whose piece has ended.
 fn pieces_behind<A: Allocator + Copy>(
     old: &mut RenumberedLookups<'_, A>,
     new: &mut RenumberedLookups<'_, A>,
     by: CompareBy,
     pieces: &Pieces,
-) -> Option<Pieces>
-    requires { ArePieces by old.old new.old pieces.now }
+) -> Pieces
+    requires pieces { ArePieces by old.old new.old pieces.now }
+    requires more { reach pieces.now + 1 < 2 ^ 32 }
     ensures old { old.new ≡ old.old }
     ensures new { new.new ≡ new.old }
-    ensures behind { AreBehind by old.old new.old pieces.now result }
+    ensures from { result.from.0 ≡ reach pieces.now + 1 }
+    ensures behind { ArePieces by old.old new.old result }
 {
-    let from = Addr(pieces.reach().0.checked_add(1)?);
-    Some(Pieces {
+    let from = Addr(pieces.reach().0 + 1);
+    Pieces {
         from,
         old: piece_on(old, by, pieces.old, from),
         new: piece_on(new, by, pieces.new, from),
-    })
-}
-
-/// Returns true if both tables give the same answer for the address.
-pub(crate) fn are_alike<A: Allocator + Copy>(
-    old: &mut RenumberedLookups<'_, A>,
-    new: &mut RenumberedLookups<'_, A>,
-    by: CompareBy,
-    addr: Addr,
-) -> bool
-    ensures old { old.new ≡ old.old }
-    ensures new { new.new ≡ new.old }
-    ensures alike { IsTrue result ↔ IsAlike by old.old new.old addr }
-{
-    pieces_at(old, new, by, addr).is_alike()
+    }
 }
 
 /// Returns the first pieces at or after the address whose answers differ, unless they begin after the last address.
@@ -151,31 +138,33 @@ pub(crate) fn first_unlike<A: Allocator + Copy>(
         if last.0 <= pieces.reach().0 {
             return None;
         }
-        pieces = pieces_behind(old, new, by, &pieces)?;
+        pieces = pieces_behind(old, new, by, &pieces);
     }
     Some(pieces)
 }
 
-/// Returns the last address such that both tables give the answers of these pieces up to it.
+/// Returns the last address up to which both tables give the answers of these pieces, or the given last address if they give
+/// them beyond it.
 pub(crate) fn last_of<A: Allocator + Copy>(
     old: &mut RenumberedLookups<'_, A>,
     new: &mut RenumberedLookups<'_, A>,
     by: CompareBy,
     first: &Pieces,
+    last: Addr,
 ) -> Addr
-    requires { ArePieces by old.old new.old first.now }
+    requires pieces { ArePieces by old.old new.old first.now }
+    requires within { first.now.from.0 ≤ last.0 }
     ensures old { old.new ≡ old.old }
     ensures new { new.new ≡ new.old }
-    ensures end { IsEnd by old.old new.old first.now result }
+    ensures end { IsEnd by old.old new.old first.now last result }
 {
     let mut pieces = *first;
-    loop {
-        let Some(next) = pieces_behind(old, new, by, &pieces) else {
-            return pieces.reach();
-        };
+    while pieces.reach().0 < last.0 {
+        let next = pieces_behind(old, new, by, &pieces);
         if !next.goes_on(first) {
             return pieces.reach();
         }
         pieces = next;
     }
+    last
 }

@@ -1,83 +1,77 @@
--- The differences of a part of the addresses.
-use Rattle.std.specs.Prelude.{◌≡◌, ℕ, ◌+◌, ◌-◌, ◌*◌, ◌^◌, ◌<◌, ◌≤◌, List, [], ◌++◌, length, get_or, Option, None, Some, Result, IfOk}
+-- The differences of a part of the addresses: those from `first` on and before `end`.
+use Rattle.std.specs.Prelude.{◌≡◌, ℕ, ◌+◌, ◌-◌, ◌*◌, ◌^◌, ◌<◌, ◌≤◌, ◌⊎◌, List, [], ◌∷◌, ◌++◌, length, get_or, Option, None, Some, Result, IfOk}
 use Rattle.std.specs.declared.vec.Vec.{Vec}
 use Rattle.std.specs.declared.alloc.Global.{Global}
 use Rattle.std.specs.declared.alloc.AllocError.{AllocError}
 use Rattle.rt_cidr.specs.declared.address.Addr.{Addr}
 use Rattle.rt_diff.specs.declared.comparison.Difference.{Difference}
-use Rattle.rt_diff.specs.Differences.{Compared, IsAlike, IsFirstUpTo}
-use Rattle.rt_diff.specs.inside.Rest.{AreRest}
+use Rattle.rt_diff.specs.Differences.{Compared, IsAlike, IsDifference, HasAnswers, HaveSameAnswers}
 
--- the differences from this address on
-abbrev pub AreFrom : Compared → ℕ → List Difference → Type 0
-AreFrom tables from list = AreRest tables.by tables.old_table tables.new_table from list
+-- every address of the part has the same answer in both tables
+abbrev pub AreAllAlike : Compared → ℕ → ℕ → Type 0
+AreAllAlike tables first end = (addr : Addr) → first ≤ addr.0 → addr.0 < end → IsAlike tables.by tables.old_table tables.new_table addr
 
--- a range that begins before this address doesn't reach it: both tables give the same answer for it
-abbrev pub CanCutAt : Compared → Addr → Type 0
-CanCutAt tables addr = IsAlike tables.by tables.old_table tables.new_table addr
+-- the first range of the part: it may go on after the part, where it is cut
+pub record IsNextWithin (tables : Compared) (first end : ℕ) (d : Difference) : Type 0 where
+  pub onward : first ≤ d.first.0
+  pub within : d.last.0 < end
+  pub before : AreAllAlike tables first d.first.0
+  pub difference : IsDifference tables.by tables.old_table tables.new_table d
+  pub longest : (addr : Addr) → addr.0 ≡ d.last.0 + 1 → addr.0 < end → ¬ HasAnswers tables.by tables.old_table tables.new_table addr d.old d.new
 
--- a part may end with this address: it is the last of all, or the next one can begin another part
-abbrev pub CanEndWith : Compared → Addr → Type 0
-CanEndWith tables last = (addr : Addr) → addr.0 ≡ last.0 + 1 → addr.0 < 2 ^ 32 → CanCutAt tables addr
+-- this range, or there is none
+abbrev pub IsFirstWithin : Compared → ℕ → ℕ → Option Difference → Type 0
+IsFirstWithin tables first end None = AreAllAlike tables first end
+IsFirstWithin tables first end (Some d) = IsNextWithin tables first end d
 
--- the differences that begin at an address from `first` on and before `end`: followed by those from `end` on they are those
--- from `first` on
-pub record AreOfPart (tables : Compared) (first end : ℕ) (list : List Difference) : Type 0 where
-  pub followed : (rest : List Difference) → AreFrom tables end rest → AreFrom tables first (list ++ rest)
+-- the list of the part's ranges: each is the first one after the range before it
+abbrev pub AreOfPart : Compared → ℕ → ℕ → List Difference → Type 0
+AreOfPart tables first end [] = AreAllAlike tables first end
+AreOfPart tables first end (d ∷ rest) = IsNextWithin tables first end d × AreOfPart tables (d.last.0 + 1) end rest
 
--- a part can begin with this block
-abbrev pub BeginsPart : Compared → ℕ → Type 0
-BeginsPart tables block = 0 < block → CanCutAt tables (record { 0 = block * 2 ^ 26 })
-
--- a part of the addresses ends before this block, or with the last of all: no part begins with a block before it
-pub record IsEndOfPart (tables : Compared) (block end : ℕ) : Type 0 where
-  pub later : block < end
-  pub fits : end ≤ 64
-  pub begins : end < 64 → BeginsPart tables end
-  pub none : (other : ℕ) → block < other → other < end → ¬ BeginsPart tables other
-
--- the part that begins with this block ends with this address
-pub record EndsPart (tables : Compared) (block : ℕ) (last : Addr) : Type 0 where
-  pub end : ℕ
-  pub is_end : IsEndOfPart tables block end
-  pub is_last : last.0 + 1 ≡ end * 2 ^ 26
-
--- the list of the part that begins with this block
-pub record IsListOfPart (tables : Compared) (block : ℕ) (list : List Difference) : Type 0 where
-  pub end : ℕ
-  pub is_end : IsEndOfPart tables block end
-  pub are : AreOfPart tables (block * 2 ^ 26) (end * 2 ^ 26) list
-
--- and there are no ranges if no part begins with it
-pub record IsListOfBlock (tables : Compared) (block : ℕ) (list : List Difference) : Type 0 where
-  pub some : BeginsPart tables block → IsListOfPart tables block list
-  pub none : ¬ BeginsPart tables block → list ≡ []
-
--- this is the list of the block, or memory ran out
+-- the list of this block, or memory ran out
 abbrev pub ListsBlock : Compared → ℕ → Result (Vec Difference Global) AllocError → Type 0
-ListsBlock tables block run = block < 64 → IfOk run (λ list. IsListOfBlock tables block list.items)
+ListsBlock tables block run = block < 64 → IfOk run (λ list. AreOfPart tables (block * 2 ^ 26) ((block + 1) * 2 ^ 26) list.items)
 
 -- these are the lists of all blocks
 abbrev pub ListEach : Compared → List (Result (Vec Difference Global) AllocError) → Type 0
 ListEach tables runs = (block : ℕ) (none : Result (Vec Difference Global) AllocError) → block < length runs → ListsBlock tables block (get_or runs block none)
 
--- these are the ranges of the blocks before this one, up to the next one with which a part begins
-pub record IsJoined (tables : Compared) (block : ℕ) (list : List Difference) : Type 0 where
-  pub end : ℕ
-  pub later : block ≤ end
-  pub fits : end ≤ 64
-  pub begins : end < 64 → BeginsPart tables end
-  pub none : (other : ℕ) → block ≤ other → other < end → ¬ BeginsPart tables other
-  pub are : AreOfPart tables 0 (end * 2 ^ 26) list
+-- the second range begins right after the first, with the same answers
+abbrev pub GoesOnIn : Difference → Difference → Type 0
+GoesOnIn d next = (d.last.0 + 1 ≡ next.first.0) × HaveSameAnswers d next
+
+-- both as one range
+abbrev pub up_to : Difference → Addr → Difference
+up_to d last = record { first = d.first; last = last; old = d.old; new = d.new }
+
+-- a range, and those of the next part: if it goes on in the first of them, the two are one
+pub record ArePutAfter (d : Difference) (more list : List Difference) : Type 0 where
+  pub next : Difference
+  pub rest : List Difference
+  pub more_are : more ≡ next ∷ rest
+  pub put : (GoesOnIn d next × (list ≡ up_to d next.last ∷ rest)) ⊎ ((¬ GoesOnIn d next) × (list ≡ d ∷ more))
+
+-- the list, and the ranges of the next part
+pub record AreJoinedAt (list more all : List Difference) : Type 0 where
+  pub before : List Difference
+  pub d : Difference
+  pub behind : List Difference
+  pub list_is : list ≡ before ++ d ∷ []
+  pub put : ArePutAfter d more behind
+  pub all_are : all ≡ before ++ behind
+
+-- which are as they were if there are no others
+abbrev pub AreJoined : List Difference → List Difference → List Difference → Type 0
+AreJoined list more all = ((more ≡ []) × (all ≡ list)) ⊎ (((list ≡ []) × (all ≡ more)) ⊎ AreJoinedAt list more all)
 
 -- the number of addresses from the next range on
 abbrev pub addresses_from : Option Difference → ℕ
 addresses_from None = 0
 addresses_from (Some d) = 2 ^ 32 - d.first.0
 
--- the list has the differences before this next one, or before the end of the part
-pub record IsListing (tables : Compared) (first : ℕ) (last : Addr) (next : Option Difference) (list : List Difference) : Type 0 where
-  pub from : Addr
-  pub within : from.0 ≤ last.0 + 1
-  pub is_next : IsFirstUpTo tables.by tables.old_table tables.new_table from last next
-  pub so_far : (rest : List Difference) → AreFrom tables from.0 rest → AreFrom tables first (list ++ rest)
+-- the list has the ranges of the part before this next one, or all of them
+pub record IsListing (tables : Compared) (first end : ℕ) (next : Option Difference) (list : List Difference) : Type 0 where
+  pub from : ℕ
+  pub is_next : IsFirstWithin tables from end next
+  pub so_far : (rest : List Difference) → AreOfPart tables from end rest → AreOfPart tables first end (list ++ rest)

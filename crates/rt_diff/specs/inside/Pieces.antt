@@ -1,5 +1,5 @@
 -- What the search knows about the two tables from an address on.
-use Rattle.std.specs.Prelude.{◌≡◌, ◌≢◌, ℕ, ◌+◌, ◌^◌, ◌<◌, ◌≤◌, min, Option, None, Some}
+use Rattle.std.specs.Prelude.{◌≡◌, ◌≢◌, ℕ, ◌+◌, ◌<◌, ◌≤◌, min, Option, None, Some}
 use Rattle.rt_cidr.specs.declared.address.Addr.{Addr}
 use Rattle.rt_diff.specs.declared.table_answers.CompareBy.{CompareBy}
 use Rattle.rt_diff.specs.declared.pieces.Piece.{Piece}
@@ -25,11 +25,6 @@ pub record ArePieces (by : CompareBy) (old new : RenumberedTable) (pieces : Piec
 abbrev pub reach : Pieces → ℕ
 reach pieces = min pieces.old.last.0 pieces.new.last.0
 
--- the pieces after the last address that both reach, or that address is the last of all
-abbrev pub AreBehind : CompareBy → RenumberedTable → RenumberedTable → Pieces → Option Pieces → Type 0
-AreBehind by old new pieces None = reach pieces + 1 ≡ 2 ^ 32
-AreBehind by old new pieces (Some next) = (next.from.0 ≡ reach pieces + 1) × ArePieces by old new next
-
 -- every address from this one on, up to but not including the end, has the same answer in both tables
 abbrev pub AreAlike : CompareBy → RenumberedTable → RenumberedTable → Addr → ℕ → Type 0
 AreAlike by old new from end = (addr : Addr) → from.0 ≤ addr.0 → addr.0 < end → IsAlike by old new addr
@@ -51,8 +46,9 @@ abbrev pub HoldsUpTo : CompareBy → RenumberedTable → RenumberedTable → Pie
 HoldsUpTo by old new pieces end =
     (addr : Addr) → pieces.from.0 ≤ addr.0 → addr.0 < end → HasAnswers by old new addr pieces.old.answer pieces.new.answer
 
--- the last address such that both tables give these answers up to it
-pub record IsEnd (by : CompareBy) (old new : RenumberedTable) (pieces : Pieces) (last : Addr) : Type 0 where
-  pub some : pieces.from.0 ≤ last.0
-  pub so_far : HoldsUpTo by old new pieces (last.0 + 1)
-  pub ends : (addr : Addr) → addr.0 ≡ last.0 + 1 → addr.0 < 2 ^ 32 → ¬ HasAnswers by old new addr pieces.old.answer pieces.new.answer
+-- the last address up to which both tables give these answers, or the given last address if they give them beyond it
+pub record IsEnd (by : CompareBy) (old new : RenumberedTable) (pieces : Pieces) (last end : Addr) : Type 0 where
+  pub some : pieces.from.0 ≤ end.0
+  pub within : end.0 ≤ last.0
+  pub so_far : HoldsUpTo by old new pieces (end.0 + 1)
+  pub ends : (addr : Addr) → addr.0 ≡ end.0 + 1 → addr.0 ≤ last.0 → ¬ HasAnswers by old new addr pieces.old.answer pieces.new.answer

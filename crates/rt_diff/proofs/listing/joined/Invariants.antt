@@ -1,6 +1,7 @@
-use Rattle.rt_diff.specs.inside.Parts.{IsJoined}
+use Rattle.std.proofs.Common.{◌*◌, ◌^◌}
+use Rattle.rt_diff.specs.inside.Parts.{AreOfPart}
 use Rattle.rt_diff.proofs.listing.joined.Given as goal
 
 -- the lists of the blocks before this one are joined
 abbrev pub invariant-loop-block : goal.invariant-loop-block
-invariant-loop-block l = IsJoined l.fn.tables l.block l.all.items
+invariant-loop-block l = AreOfPart l.fn.tables 0 (l.block * 2 ^ 26) l.all.items

@@ -1,4 +1,4 @@
-use Rattle.std.proofs.Common.{◌≡◌}
+use Rattle.std.proofs.Common.{◌≡◌, ◌+◌}
 use Rattle.rt_diff.specs.inside.Parts.{IsListing, addresses_from}
 use Rattle.rt_diff.proofs.listing.list_in_turn.Given as goal
 
@@ -6,7 +6,7 @@ use Rattle.rt_diff.proofs.listing.list_in_turn.Given as goal
 abbrev pub invariant-loop-next : goal.invariant-loop-next
 invariant-loop-next l = record {
   same : l.comparison ≡ l.fn.tables;
-  far : IsListing l.fn.tables l.fn.first.0 l.fn.last l.next l.list.items;
+  far : IsListing l.fn.tables l.fn.first.0 (l.fn.last.0 + 1) l.next l.list.items;
 }
 
 abbrev pub decreases-loop-next : goal.decreases-loop-next

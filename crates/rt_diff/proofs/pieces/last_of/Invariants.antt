@@ -3,8 +3,8 @@ use Rattle.rt_diff.specs.inside.Pieces.{ArePieces, HoldsUpTo}
 use Rattle.rt_diff.proofs.pieces.last_of.Given as goal
 
 -- every address from the first pieces to these has their answers, and these have them too
-abbrev pub invariant-loop-next : goal.invariant-loop-next
-invariant-loop-next g l = record {
+abbrev pub invariant-loop-by : goal.invariant-loop-by
+invariant-loop-by g l = record {
   same_old_table : l.old ≡ l.fn.old;
   same_new_table : l.new ≡ l.fn.new;
   onward : l.first.from.0 ≤ l.pieces.from.0;
@@ -14,5 +14,5 @@ invariant-loop-next g l = record {
   same_new : l.pieces.new.answer ≡ l.first.new.answer;
 }
 
-abbrev pub decreases-loop-next : goal.decreases-loop-next
-decreases-loop-next g l = 2 ^ 32 - l.pieces.from.0
+abbrev pub decreases-loop-by : goal.decreases-loop-by
+decreases-loop-by g l = 2 ^ 32 - l.pieces.from.0
