@@ -241,7 +241,7 @@ def name_of_file(file):
 
 def fenced(language, lines):
     """A fence with these lines; nothing without lines."""
-    return [f"```{language}", *lines, "```", ""] if lines else []
+    return [f"```{language}", *lines, "```"] if lines else []
 
 
 def wrapped(prose, margin="", width=120):
@@ -273,14 +273,15 @@ class Written:
 
 
 def from_others(old, spoken_of, written):
-    """Yields the lines that name definitions of other pages that are used here, with the name of the page."""
+    """Returns the lines that name definitions of other pages that are used here, with the names of the pages."""
     pages = {}
     for one in old:
         if one.key in spoken_of:
             pages.setdefault(written.home[one.key] or written.page, []).append(one)
-    for page, definitions in pages.items():
-        if page is not written.page:
-            yield from [*wrapped(f"From [{page.title}]({page.name}): {named(definitions)}, and what they rest on."), ""]
+    said = [f"from [{page.title}]({page.name}): {named(definitions)}" for page, definitions in pages.items()
+            if page is not written.page]
+    whole = "; ".join(said)
+    return ["", *wrapped(f"{whole[0].upper()}{whole[1:]}, and what these rest on.")] if said else []
 
 
 def definitions_of(speakers, written, brief):
@@ -291,7 +292,7 @@ def definitions_of(speakers, written, brief):
     if bare:
         sys.exit("tools/statement: no comment says what this is: " + ", ".join(bare))
     spoken_of = {one.key for speaker in speakers + new for one in speaks_of(speaker) if isinstance(one, Definition)}
-    out = list(from_others(old, spoken_of, written))
+    out = from_others(old, spoken_of, written)
     out += fenced("agda", below_crates("--", new, lambda definition: shown(definition, brief)))
     for definition in new:
         written.has(definition, brief)
@@ -304,7 +305,7 @@ def chapter(one, written):
     """A chapter: its sentence and its premises, its clauses, and what they rest on."""
     speakers = [*(Clause(said, is_whole=False) for said in one.clauses), *(Tie(**tie) for tie in one.ties)]
     written.has_implied |= any(isinstance(one, Clause) and one.implied for one in speakers)
-    out = [f"## {one.title}", "", *wrapped(one.said), "", *wrapped(f"*Premises:* {one.premises}"), ""]
+    out = ["", f"## {one.title}", "", *wrapped(f"{one.said} *Premises:* {one.premises}")]
     out += fenced("rust", below_crates("//", speakers, shown_clause))
     for said in one.kit:
         out += of_kit(written=written, **said)
@@ -332,7 +333,7 @@ def of_kit(said, types, functions, definitions, written):
     written.counts(len(kinds + terms), sum(map(count, kinds + terms)))
     calls = [call for file, names in functions.items() for call in kit_functions(file, names)]
     code = [*below_crates("//", kinds, shown_of_kit), "", *below_crates("//", calls, shown_function)]
-    return [*wrapped(said), "", *fenced("rust", code), *fenced("agda", below_crates("--", terms, shown_of_kit))]
+    return ["", *wrapped(said), *fenced("rust", code), *fenced("agda", below_crates("--", terms, shown_of_kit))]
 
 
 def shown_of_kit(definition):
@@ -386,8 +387,8 @@ def head_of(page, table, written):
         f"To judge the clauses, read them and the definitions below them, on this page {written.lines} lines in "
         f"{written.definitions} definitions and types. [{SIGNS['title']}]({SIGNS['file']}) explains the form of the page, the "
         "signs and the words of the kit."), "",
-        "| Chapter | New definitions | Their lines | Lines in all |", "|---|---|---|---|", *table, "",
-        *[*wrapped(WORDS["implied"]["said"]), ""] * written.has_implied]
+        "| Chapter | New definitions | Their lines | Lines in all |", "|---|---|---|---|", *table,
+        *["", *wrapped(WORDS["implied"]["said"])] * written.has_implied]
 
 
 def anchor(title):
@@ -465,4 +466,4 @@ def print_clauses(said):
     library = [f"- `{module}`: " + ", ".join(f"`{name}`" for name in sorted(name for name in names if name))
                for module, names in sorted(written.library.items())]
     counts = f"{written.definitions} definitions, {written.lines} lines"
-    print("\n".join([*out, "Words of the kit's library:", "", *library, counts]))
+    print("\n".join([*out, "", "Words of the kit's library:", "", *library, counts]))
