@@ -4,7 +4,7 @@
   arguments: a definition without a type is a statement.
 - A definition with one case is printed as one equation, whose arguments have their types.
 - What is broken in the sources, but fits into a line, is joined. Short cases, fields and clauses share a line.
-- A comment of one line is printed after a field, a case of an `enum` or a definition, if both fit into a line."""
+- A comment of one line is printed after a field, a case of an `enum`, a definition or its head, if both fit into a line."""
 import re
 
 WIDTH = 120
@@ -228,15 +228,24 @@ def shown_parts(definition):
 
 
 def with_comment(comment, lines):
-    """Returns a definition below its comment, or before it if each is one line and both fit into one."""
-    whole = "  ".join([*lines, *(line.replace("///", "//", 1) for line in comment)])
-    is_short = len(lines) == len(comment) == 1 and len(whole) <= WIDTH and "//" not in lines[0]
-    return [whole] if is_short else [*comment, *lines]
+    """Returns the lines of a definition below its comment. A comment of one line is printed after the head, and cases after
+    their type, if that makes fewer lines."""
+    found = [[*comment, *lines]]
+    for form in [lines, [GAP.join(lines)]] if len(lines) == 2 and is_type(lines) else [lines]:
+        if len(comment) == 1 and (len(form) == 1 or is_head(form)) and "//" not in form[0]:
+            found.append([f"{form[0]}  {comment[0].replace('///', '//', 1)}", *form[1:]])
+        found.append([*comment, *form])
+    return min((form for form in found if form == found[0] or all(len(line) <= WIDTH for line in form)), key=len)
 
 
-def count(definition):
-    """Returns the number of lines of a definition on a page, without those of comments."""
-    return sum(not line.strip().startswith(("--", "//")) for line in shown_parts(definition)[1])
+def is_head(lines):
+    """Returns true if the first of these lines is a head, which the value follows."""
+    return lines[0].endswith((" where", " =", " {")) or is_type(lines)
+
+
+def is_type(lines):
+    """Returns true if the first of these lines is the type of a definition, and the others are its cases."""
+    return len(split_at(lines[0], " : ")) > 1 and " = " not in lines[0] and not lines[1].startswith(" ")
 
 
 # -- contracts

@@ -13,7 +13,7 @@ from .crates import CRATES, TOP, all_crates
 from .definition_reader import Definition, imports, parse_module, rests_on, rust_named, type_of, unique, words_of
 from .implied_clauses import implied
 from .rust_sources import source, sources
-from .statement_forms import WIDTH, contract_lines, count, joined, shown_parts, with_comment
+from .statement_forms import WIDTH, contract_lines, joined, shown_parts, with_comment
 
 
 class Chapter:
@@ -204,6 +204,11 @@ def shown(definition, brief=()):
     return with_comment(commented(mark, comment), lines)
 
 
+def count(lines):
+    """Returns the number of lines in a fence, without those of comments."""
+    return sum(not line.strip().startswith(("--", "//")) for line in lines)
+
+
 # A link of a comment to another part of the sources, which leads nowhere on a page.
 SOURCE_LINK = re.compile(r"\[(`[^`]+`)\]\([\w:]+\)")
 
@@ -265,7 +270,7 @@ class Written:
 
     def has(self, definition, brief):
         self.home[definition.key] = None if definition.key in brief else self.page
-        self.counts(1, 1 if definition.key in brief else count(definition))
+        self.counts(1, count(shown(definition, brief)))
 
     def counts(self, definitions, lines):
         self.definitions += definitions
@@ -317,7 +322,7 @@ def lines_in_all(one):
     speakers = [*map(Clause, one.clauses), *(Tie(**tie) for tie in one.ties)]
     rest, _, _ = in_order(speakers, (), BRIEF)
     of_toolchain = [part for said in one.kit for parts in kit_parts(**said) for part in parts]
-    return sum(1 if part.key in BRIEF else count(part) for part in rest) + sum(map(count, of_toolchain))
+    return sum(count(shown(part, BRIEF)) for part in rest) + sum(count(shown_of_kit(part)) for part in of_toolchain)
 
 
 def kit_parts(types, definitions, **_):
@@ -330,7 +335,7 @@ def of_kit(said, types, functions, definitions, written):
     """What the toolchain says of a chapter: its types and the contracts of its functions, and the definitions in these.
     Each table has files, with the names to show from each."""
     kinds, terms = kit_parts(types, definitions)
-    written.counts(len(kinds + terms), sum(map(count, kinds + terms)))
+    written.counts(len(kinds + terms), sum(count(shown_of_kit(one)) for one in kinds + terms))
     calls = [call for file, names in functions.items() for call in kit_functions(file, names)]
     code = [*below_crates("//", kinds, shown_of_kit), "", *below_crates("//", calls, shown_function)]
     return ["", *wrapped(said), *fenced("rust", code), *fenced("agda", below_crates("--", terms, shown_of_kit))]

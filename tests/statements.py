@@ -13,7 +13,7 @@ from common.checks import TOP, chosen, end, expect, run, run_case
 from common.crates import CRATES, crate_of
 from common.definition_reader import parse_module, type_of, uncommented
 from common.rust_sources import source
-from common.statement_forms import definition_lines, type_lines
+from common.statement_forms import definition_lines, type_lines, with_comment
 from common.statement_pages import contract_of
 
 # Weaker laws of the routing table, each about nothing or nearly nothing: the old and the new text.
@@ -135,6 +135,16 @@ def a_clause_that_is_gone(copy):
     copy.expect_check("two statuses with one number", 1, "two statuses of yarib_c have the same number")
 
 
+def all_definitions():
+    return [one for file in sorted(CRATES.glob("*/specs/**/*.antt"))
+            for one in parse_module(f"Rattle.{crate_of(file)}.specs.{file.stem}", file).values()]
+
+
+def all_types():
+    return [type_of(one.name, item) for one in sorted(CRATES.iterdir()) for file in sorted(one.glob("src/**/*.rt"))
+            for item in source(file).items if item.kind in ("struct", "enum", "const")]
+
+
 def words(lines):
     """Returns the words and signs of a definition, without those that pages leave out."""
     text = re.sub(r"\b(pub|abbrev|unfoldable) |(: Type 0 )?\bwhere\b", "", uncommented("\n".join(lines)))
@@ -153,8 +163,7 @@ def lost_words(definition, lines):
 
 # Catches a form that leaves out a word of a definition or changes their order.
 def every_word_of_a_definition(copy):
-    found = [one for file in sorted(CRATES.glob("*/specs/**/*.antt"))
-             for one in parse_module(f"Rattle.{crate_of(file)}.specs.{file.stem}", file).values()]
+    found = all_definitions()
     expect("more than a thousand definitions", len(found) > 1000, True)
     for one in found:
         lines = definition_lines(one.lines)
@@ -165,12 +174,27 @@ def every_word_of_a_definition(copy):
 
 # Catches a form that leaves out a word of a type or of its comments, or a field.
 def every_word_of_a_type(copy):
-    found = [type_of(one.name, item) for one in sorted(CRATES.iterdir()) for file in sorted(one.glob("src/**/*.rt"))
-             for item in source(file).items if item.kind in ("struct", "enum", "const")]
+    found = all_types()
     expect("more than a hundred types", len(found) > 100, True)
     for one in found:
         comment, lines = type_lines(one.comment, one.lines)
         expect(f"words of {one.key} on a page", type_words([*comment, *lines]), type_words([*one.comment, *one.lines]))
+
+
+# Catches a form that leaves out a word of a comment, or prints a word of a definition in a comment.
+def every_word_of_a_comment(copy):
+    found = [("--", one, definition_lines(one.lines)) for one in all_definitions()]
+    found += [("///", one, type_lines([], one.lines)[1]) for one in all_types()]
+    for mark, one, lines in found:
+        comment = [f"{mark} {line}" for line in one.comment if line.strip()]
+        shown = with_comment(comment, lines)
+        expect(f"words of {one.key} with its comment", type_words(shown), type_words([*comment, *lines]))
+        expect(f"words of {one.key} outside of comments", code_of(shown), code_of(lines))
+
+
+def code_of(lines):
+    """Returns the words of lines in order, without those of comments."""
+    return re.findall(r"[^\s;]+", "\n".join(re.sub(r"(^|\s)(--|//).*", "", line) for line in lines))
 
 
 # Catches a form that leaves out a word of a clause, or a clause.
@@ -197,7 +221,7 @@ def a_definition_that_moved(copy):
 CASES = (
     the_pages_as_they_are, a_weaker_law, a_law_on_no_page, a_definition_on_no_page, a_table_of_another_type,
     a_tie_that_is_gone, another_number_of_lines, a_clause_that_says_less, a_clause_that_is_gone, every_word_of_a_definition,
-    every_word_of_a_type, every_word_of_a_clause, a_definition_that_moved)
+    every_word_of_a_type, every_word_of_a_comment, every_word_of_a_clause, a_definition_that_moved)
 
 
 def main():
