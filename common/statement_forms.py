@@ -10,6 +10,7 @@ import re
 WIDTH = 120
 # Between two cases, fields or clauses on one line.
 GAP = ";  "
+SPACE = "  "
 KEYWORDS = re.compile(r"^(\s*)(?:(?:pub|abbrev|unfoldable) )+")
 VARIABLE = re.compile(r"[^\W\d][\w']*")
 LITERAL = re.compile(r'"(?:[^"\\]|\\.)*"')
@@ -250,6 +251,30 @@ def is_type(lines):
 
 # -- contracts
 
-def contract_lines(head, clauses):
-    """Returns the lines of a function's head and clauses: short clauses share a line."""
-    return [*head, *packed([broken(joined(clause), "    ", "        ") for clause in clauses], gap="  ")]
+def contract_lines(head, clauses, comment=(), end=""):
+    """Returns the lines of a function's comment, head and clauses, with a note at their end: as few as can be. Short clauses
+    share a line, with the head if it has room. A comment of one line is printed after the head, or after all."""
+    parts = list(parts_of(clauses))
+    found = [[*comment, *head, *packed(parts, SPACE)]]
+    if len(comment) == len(head) == 1 and "//" not in head[0]:
+        behind = comment[0].replace("///", "//", 1)
+        found.append([head[0] + SPACE + behind, *packed(parts, SPACE)])
+        if not end and len(whole := packed([head, *parts, [behind]], SPACE)) == 1:
+            found.append(whole)
+    found.append([*comment, *packed([head, *parts], SPACE)])
+    found = [with_end(form, end) for form in found] if end else found
+    return min((form for form in found if form == found[0] or all(len(line) <= WIDTH for line in form)), key=len)
+
+
+def parts_of(clauses):
+    """Yields the lines of each clause. A comment between two clauses is printed above the second one."""
+    above = []
+    for clause in clauses:
+        comment = [line for line in clause if line.strip().startswith("//")]
+        yield [*above, *broken(joined(line for line in clause if line not in comment), "    ", "        ")]
+        above = [f"    {line.strip()}" for line in comment]
+
+
+def with_end(lines, end):
+    """Returns lines with a note, on the last line if that has room."""
+    return [*lines[:-1], lines[-1] + SPACE + end] if len(lines[-1] + SPACE + end) <= WIDTH else [*lines, f"    {end}"]

@@ -63,7 +63,11 @@ class Tie:
         if missing := set(members) - set(parts):
             sys.exit(f"tools/statement: {head}: no " + ", ".join(sorted(missing)))
         kept = [line for name in members for line in parts[name]]
-        self.comment, self.lines = [], [item.lines[0], *kept, "}"]
+        self.lines = [item.lines[0], *kept, "}"]
+
+    def shown(self):
+        """Returns its lines in a fence."""
+        return with_comment(commented("///", wrapped(self.said, width=WIDTH - 4)), self.lines)
 
     def rests_on(self):
         ghosts, text = imports(source(self.file).text), "\n".join(self.lines[1:-1])
@@ -93,8 +97,12 @@ class Clause:
             if not any("ensures" in clause[0] for clause in self.clauses):
                 sys.exit(f"tools/statement: {said}: no such label")
         self.implied = [] if label or is_whole else implied(self.file, self.head, self.clauses)
+
+    def shown(self):
+        """Returns its lines in a fence."""
         printed = [one for one in self.clauses if not is_labelled(one, self.implied)]
-        self.lines = contract_lines(self.head, printed) + [f"    // also: {', '.join(self.implied)}"] * bool(self.implied)
+        also = f"// also: {', '.join(self.implied)}" if self.implied else ""
+        return contract_lines(self.head, printed, commented("///", self.comment), also)
 
     def rests_on(self):
         ghosts = imports(source(self.file).text)
@@ -115,24 +123,23 @@ def is_labelled(clause, labels):
     return any(re.match(rf"\s*ensures\*? {label}\b", clause[0]) for label in labels)
 
 
+# The words before `fn` that the clauses of a page have in common.
+PUBLIC = re.compile(r'^pub (extern "C" )?')
+
+
 def parts_of_contract(function, owner=None):
     """The lines of a function's head and those of each clause, without its margin. The head has the type of a method, if it
-    is given, and is filled into lines."""
+    is given, and is filled into lines; that the function is public, or an export, isn't said."""
     head, clauses = [], []
     for line in function.written()[:function.clauses_end()]:
         if re.match(r"\s*(requires|ensures)\b", line):
             clauses.append([])
         (clauses[-1] if clauses else head).append(line[function.margin:])
     if not any("//" in line for line in head):
-        whole = joined(head).replace(",)", ")", 1).replace("-> ", "->_")
+        whole = PUBLIC.sub("", joined(head).replace(",)", ")", 1).replace("-> ", "->_"))
         whole = whole.replace(f"fn {function.name}", f"fn {owner}::{function.name}", 1) if owner else whole
         head = [line.replace("->_", "-> ") for line in wrapped(whole, "        ")]
     return head, clauses
-
-
-def contract_of(function):
-    """The lines of a function's head and of its clauses."""
-    return contract_lines(*parts_of_contract(function))
 
 
 def public_function(crate, owner, name):
@@ -215,12 +222,6 @@ SOURCE_LINK = re.compile(r"\[(`[^`]+`)\]\([\w:]+\)")
 
 def commented(mark, lines):
     return [f"{mark} {SOURCE_LINK.sub(lambda link: link[1], line)}" for line in lines if line.strip()]
-
-
-def shown_clause(clause):
-    """The lines of a clause or a tie in a fence."""
-    said = [] if isinstance(clause, Clause) else wrapped(clause.said, width=116)
-    return [*commented("///", said + clause.comment), *clause.lines]
 
 
 def below_crates(mark, ones, lines_of):
@@ -311,7 +312,7 @@ def chapter(one, written):
     speakers = [*(Clause(said, is_whole=False) for said in one.clauses), *(Tie(**tie) for tie in one.ties)]
     written.has_implied |= any(isinstance(one, Clause) and one.implied for one in speakers)
     out = ["", f"## {one.title}", "", *wrapped(f"{one.said} *Premises:* {one.premises}")]
-    out += fenced("rust", below_crates("//", speakers, shown_clause))
+    out += fenced("rust", below_crates("//", speakers, lambda one: one.shown()))
     for said in one.kit:
         out += of_kit(written=written, **said)
     return out + definitions_of(speakers, written, BRIEF)
@@ -348,7 +349,7 @@ def shown_of_kit(definition):
 
 
 def shown_function(function):
-    return [*commented("///", function.comment()), *contract_of(function)]
+    return contract_lines(*parts_of_contract(function), commented("///", function.comment()))
 
 
 def kit_definitions(file, names):
@@ -467,7 +468,7 @@ def write():
 def print_clauses(said):
     """Any clauses and what they rest on, on standard output."""
     speakers, written = [Clause(one) for one in said], Written(PAGES[0])
-    out = fenced("rust", below_crates("//", speakers, shown_clause)) + definitions_of(speakers, written, BRIEF)
+    out = fenced("rust", below_crates("//", speakers, lambda one: one.shown())) + definitions_of(speakers, written, BRIEF)
     library = [f"- `{module}`: " + ", ".join(f"`{name}`" for name in sorted(name for name in names if name))
                for module, names in sorted(written.library.items())]
     counts = f"{written.definitions} definitions, {written.lines} lines"

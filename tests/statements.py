@@ -14,7 +14,7 @@ from common.crates import CRATES, crate_of
 from common.definition_reader import parse_module, type_of, uncommented
 from common.rust_sources import source
 from common.statement_forms import definition_lines, type_lines, with_comment
-from common.statement_pages import contract_of
+from common.statement_pages import shown_function
 
 # Weaker laws of the routing table, each about nothing or nearly nothing: the old and the new text.
 LAWS = "crates/rt_rib/specs/Laws.antt"
@@ -203,8 +203,12 @@ def every_word_of_a_clause(copy):
              for one in source(file).functions if one.is_pub]
     expect("more than three hundred functions", len(found) > 300, True)
     for one in found:
-        written = one.written()[:one.clauses_end()]
-        expect(f"words of {one.name} in {one.file.name} on a page", type_words(contract_of(one)), type_words(written))
+        comment = [re.sub(r"\[(`[^`]+`)\]\([\w:]+\)", r"\1", line) for line in one.comment()]
+        written = re.sub(r'^ *pub (extern "C" )?', "", "\n".join(one.written()[:one.clauses_end()]))
+        shown = shown_function(one)
+        expect(f"words of {one.name} in {one.file.name} on a page", type_words(shown), type_words([*comment, written]))
+        expect(f"words of {one.name} in {one.file.name} outside of comments", type_words(code_of(shown)),
+               type_words(code_of([written])))
 
 
 def type_words(lines):
