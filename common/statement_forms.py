@@ -14,6 +14,7 @@ SPACE = "  "
 KEYWORDS = re.compile(r"^(\s*)(?:(?:pub|abbrev|unfoldable) )+")
 VARIABLE = re.compile(r"[^\W\d][\w']*")
 LITERAL = re.compile(r'"(?:[^"\\]|\\.)*"')
+BRACED = re.compile(r"(pub(\(\w+\))? )?(struct|enum|trait|impl)\b")
 OPEN, CLOSED = "([{⟦", ")]}⟧"
 # Where a term is broken rather than elsewhere: in front of these, between as few brackets as possible.
 OPERATORS = ("→", "↔", "⊎", "×", "then", "else", "in", "++", "∷", "≡")
@@ -61,15 +62,17 @@ def breaks(text):
 
 
 def packed(parts, gap=GAP):
-    """Returns the lines of these parts, each of which has its lines: parts of one line share a line as far as they fit."""
+    """Returns the lines of these parts, each of which has its lines: parts of one line and without a comment share a line as
+    far as they fit."""
     out, is_open = [], False
     for part in parts:
         line = part[0].strip()
-        if is_open and len(part) == 1 and len(out[-1] + gap + line) <= WIDTH:
+        is_short = len(part) == 1 and "//" not in line
+        if is_open and is_short and len(out[-1] + gap + line) <= WIDTH:
             out[-1] += gap + line
         else:
             out += part
-        is_open = len(part) == 1
+        is_open = is_short
     return out
 
 
@@ -191,15 +194,15 @@ def record_lines(lines):
 # -- types in src/
 
 def type_lines(comment, lines):
-    """Returns the comment and the lines of a type or a constant in src/."""
-    if not re.match(r"(pub )?(struct|enum) ", lines[0]) or lines[-1] != "}":
+    """Returns the comment and the lines of a type, a trait, an impl or a constant in src/."""
+    if not BRACED.match(lines[0]) or lines[-1] != "}":
         return comment, lines
     members, above = [], []
     for block in blocks_of(lines[1:-1], 4):
         text = joined(block).replace(", }", " }")
         if text.startswith("//"):
             above.append(text)
-        elif not text.endswith(",") or "//" in text:
+        elif not text.endswith((",", ";")) or "//" in text:
             return comment, lines
         else:
             members.append((above, text))
@@ -208,7 +211,7 @@ def type_lines(comment, lines):
 
 
 def member_lines(head, members):
-    """Returns the lines of a struct or an enum with these members, each with its comment."""
+    """Returns the lines of a type or an impl with these members, each with its comment. Those without one share a line."""
     if not any(above for above, _ in members):
         whole = f"{head} {' '.join(text for _, text in members)}".rstrip(",") + " }"
         if len(whole) <= WIDTH:
@@ -217,8 +220,8 @@ def member_lines(head, members):
     for above, text in members:
         behind = f"    {text} // " + " ".join(line.lstrip("/ ") for line in above)
         fits = above and len(behind) <= WIDTH
-        parts.append([behind] if fits else [*(f"    {line}" for line in above), f"    {text}"])
-    return [head, *(line for part in parts for line in part), "}"]
+        parts.append([behind] if fits else [*(f"    {line}" for line in above), *broken(text, "    ", "        ")])
+    return [head, *packed(parts, " "), "}"]
 
 
 def shown_parts(definition):
@@ -259,8 +262,8 @@ def contract_lines(head, clauses, comment=(), end=""):
     if len(comment) == len(head) == 1 and "//" not in head[0]:
         behind = comment[0].replace("///", "//", 1)
         found.append([head[0] + SPACE + behind, *packed(parts, SPACE)])
-        if not end and len(whole := packed([head, *parts, [behind]], SPACE)) == 1:
-            found.append(whole)
+        if not end and len(whole := packed([head, *parts], SPACE)) == 1:
+            found.append([whole[0] + SPACE + behind])
     found.append([*comment, *packed([head, *parts], SPACE)])
     found = [with_end(form, end) for form in found] if end else found
     return min((form for form in found if form == found[0] or all(len(line) <= WIDTH for line in form)), key=len)

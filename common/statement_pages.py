@@ -13,7 +13,7 @@ from .crates import CRATES, TOP, all_crates
 from .definition_reader import Definition, imports, parse_module, rests_on, rust_named, type_of, unique, words_of
 from .implied_clauses import implied
 from .rust_sources import source, sources
-from .statement_forms import WIDTH, contract_lines, joined, shown_parts, with_comment
+from .statement_forms import WIDTH, contract_lines, joined, shown_parts, type_lines, with_comment
 
 
 class Chapter:
@@ -67,7 +67,7 @@ class Tie:
 
     def shown(self):
         """Returns its lines in a fence."""
-        return with_comment(commented("///", wrapped(self.said, width=WIDTH - 4)), self.lines)
+        return with_comment(*type_lines(commented("///", wrapped(self.said, width=WIDTH - 4)), self.lines))
 
     def rests_on(self):
         ghosts, text = imports(source(self.file).text), "\n".join(self.lines[1:-1])

@@ -142,7 +142,7 @@ def all_definitions():
 
 def all_types():
     return [type_of(one.name, item) for one in sorted(CRATES.iterdir()) for file in sorted(one.glob("src/**/*.rt"))
-            for item in source(file).items if item.kind in ("struct", "enum", "const")]
+            for item in source(file).items if item.kind in ("struct", "enum", "trait", "const")]
 
 
 def words(lines):
