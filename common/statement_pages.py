@@ -13,7 +13,7 @@ from .crates import CRATES, TOP, all_crates
 from .definition_reader import Definition, imports, parse_module, rests_on, rust_named, type_of, unique, words_of
 from .implied_clauses import implied
 from .rust_sources import source, sources
-from .statement_forms import WIDTH, contract_lines, joined, shown_parts, type_lines, with_comment
+from .statement_forms import WIDTH, contract_lines, joined, shown_parts, split_at, type_lines, with_comment
 
 
 class Chapter:
@@ -197,22 +197,32 @@ def speaks_of(one):
     return rests_on(one) if isinstance(one, Definition) else one.rests_on()
 
 
-def shown(definition, brief=()):
-    """The lines of a definition in a fence: its comment, the parameters around it, and itself."""
+def shown(definition, brief=(), contexts=None):
+    """The lines of a definition in a fence: its comment, the parameters around it, and itself. `contexts` has the parameters
+    that the fence gives further up, by name: of these only the names are printed."""
     is_spec = definition.file.suffix == ".antt"
     mark, (comment, lines) = "--" if is_spec else "///", shown_parts(definition)
     if definition.key in brief:
         lines = [re.sub(r" (where|\{)$", "", definition.lines[0])]
         comment += wrapped(f"Only its first line: {brief[definition.key]}", width=116)
     if definition.context and is_spec:
-        said = f"for every {' '.join(definition.context)}"
+        said = f"for every {', '.join(context_of(definition, {} if contexts is None else contexts))}"
         fits = comment and len(f"-- {comment[-1]}; {said}") <= WIDTH
         comment[-1:] = [f"{comment[-1]}; {said}"] if fits else [*comment[-1:], said]
     return with_comment(commented(mark, comment), lines)
 
 
-def count(lines):
-    """Returns the number of lines in a fence, without those of comments."""
+def context_of(definition, contexts):
+    """Yields the parameters around a definition: the name of one that `contexts` has, and others with their types."""
+    for parameter in split_at(" ".join(definition.context), " "):
+        name = parameter[1:].partition(" :")[0]
+        yield name if contexts.get(name) == parameter else parameter
+        contexts[name] = parameter
+
+
+def count(definition):
+    """Returns the number of lines of a definition, without those of comments."""
+    lines = with_comment([], shown_parts(definition)[1])
     return sum(not line.strip().startswith(("--", "//")) for line in lines)
 
 
@@ -236,8 +246,10 @@ def below_crates(mark, ones, lines_of):
 
 def files_of(group):
     """Returns the files of definitions of a crate, as the line above them names these."""
-    files = dict.fromkeys(name_of_file(one.file) for one in group)
-    return f"{place_of(group[0])}: " + ", ".join("/".join(file.parts[1:]) for file in files)
+    folders = {}
+    for file in dict.fromkeys(name_of_file(one.file).with_suffix("") for one in group):
+        folders.setdefault(file.parts[1], []).append("/".join(file.parts[2:]))
+    return f"{place_of(group[0])}: " + "; ".join(f"{folder}/ {', '.join(files)}" for folder, files in folders.items())
 
 
 def name_of_file(file):
@@ -271,7 +283,7 @@ class Written:
 
     def has(self, definition, brief):
         self.home[definition.key] = None if definition.key in brief else self.page
-        self.counts(1, count(shown(definition, brief)))
+        self.counts(1, 1 if definition.key in brief else count(definition))
 
     def counts(self, definitions, lines):
         self.definitions += definitions
@@ -299,7 +311,8 @@ def definitions_of(speakers, written, brief):
         sys.exit("tools/statement: no comment says what this is: " + ", ".join(bare))
     spoken_of = {one.key for speaker in speakers + new for one in speaks_of(speaker) if isinstance(one, Definition)}
     out = from_others(old, spoken_of, written)
-    out += fenced("agda", below_crates("--", new, lambda definition: shown(definition, brief)))
+    contexts = {}
+    out += fenced("agda", below_crates("--", new, lambda definition: shown(definition, brief, contexts)))
     for definition in new:
         written.has(definition, brief)
     for module, names in words.items():
@@ -323,7 +336,7 @@ def lines_in_all(one):
     speakers = [*map(Clause, one.clauses), *(Tie(**tie) for tie in one.ties)]
     rest, _, _ = in_order(speakers, (), BRIEF)
     of_toolchain = [part for said in one.kit for parts in kit_parts(**said) for part in parts]
-    return sum(count(shown(part, BRIEF)) for part in rest) + sum(count(shown_of_kit(part)) for part in of_toolchain)
+    return sum(1 if part.key in BRIEF else count(part) for part in rest) + sum(map(count, of_toolchain))
 
 
 def kit_parts(types, definitions, **_):
@@ -336,7 +349,7 @@ def of_kit(said, types, functions, definitions, written):
     """What the toolchain says of a chapter: its types and the contracts of its functions, and the definitions in these.
     Each table has files, with the names to show from each."""
     kinds, terms = kit_parts(types, definitions)
-    written.counts(len(kinds + terms), sum(count(shown_of_kit(one)) for one in kinds + terms))
+    written.counts(len(kinds + terms), sum(map(count, kinds + terms)))
     calls = [call for file, names in functions.items() for call in kit_functions(file, names)]
     code = [*below_crates("//", kinds, shown_of_kit), "", *below_crates("//", calls, shown_function)]
     return ["", *wrapped(said), *fenced("rust", code), *fenced("agda", below_crates("--", terms, shown_of_kit))]

@@ -14,7 +14,7 @@ from common.crates import CRATES, crate_of
 from common.definition_reader import parse_module, type_of, uncommented
 from common.rust_sources import source
 from common.statement_forms import definition_lines, type_lines, with_comment
-from common.statement_pages import shown_function
+from common.statement_pages import context_of, shown_function
 
 # Weaker laws of the routing table, each about nothing or nearly nothing: the old and the new text.
 LAWS = "crates/rt_rib/specs/Laws.antt"
@@ -192,6 +192,16 @@ def every_word_of_a_comment(copy):
         expect(f"words of {one.key} outside of comments", code_of(shown), code_of(lines))
 
 
+# Catches a form that names a parameter without a type where another one of that name is further up.
+def every_parameter_of_a_definition(copy):
+    found, contexts, types = [one for one in all_definitions() if one.context], {}, {}
+    expect("more than twenty definitions with parameters around them", len(found) > 20, True)
+    for one in found:
+        shown = {said.partition(" :")[0].lstrip("({"): said for said in context_of(one, contexts)}
+        types.update({name: said for name, said in shown.items() if name != said})
+        expect(f"the parameters around {one.key}", " ".join(types[name] for name in shown), " ".join(one.context))
+
+
 def code_of(lines):
     """Returns the words of lines in order, without those of comments."""
     return re.findall(r"[^\s;]+", "\n".join(re.sub(r"(^|\s)(--|//).*", "", line) for line in lines))
@@ -225,7 +235,8 @@ def a_definition_that_moved(copy):
 CASES = (
     the_pages_as_they_are, a_weaker_law, a_law_on_no_page, a_definition_on_no_page, a_table_of_another_type,
     a_tie_that_is_gone, another_number_of_lines, a_clause_that_says_less, a_clause_that_is_gone, every_word_of_a_definition,
-    every_word_of_a_type, every_word_of_a_comment, every_word_of_a_clause, a_definition_that_moved)
+    every_word_of_a_type, every_word_of_a_comment, every_parameter_of_a_definition, every_word_of_a_clause,
+    a_definition_that_moved)
 
 
 def main():
