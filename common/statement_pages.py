@@ -239,7 +239,7 @@ def below_crates(mark, ones, lines_of):
     lines = []
     for _, group in itertools.groupby(ones, place_of):
         group = list(group)
-        lines += [*[""] * bool(lines), *wrapped(f"{mark}{mark} {files_of(group)}", f"{mark}{mark}   "),
+        lines += [*wrapped(f"{mark}{mark} {files_of(group)}", f"{mark}{mark}   "),
                   *(line for one in group for line in lines_of(one))]
     return lines
 
@@ -351,7 +351,7 @@ def of_kit(said, types, functions, definitions, written):
     kinds, terms = kit_parts(types, definitions)
     written.counts(len(kinds + terms), sum(map(count, kinds + terms)))
     calls = [call for file, names in functions.items() for call in kit_functions(file, names)]
-    code = [*below_crates("//", kinds, shown_of_kit), "", *below_crates("//", calls, shown_function)]
+    code = [*below_crates("//", kinds, shown_of_kit), *below_crates("//", calls, shown_function)]
     return ["", *wrapped(said), *fenced("rust", code), *fenced("agda", below_crates("--", terms, shown_of_kit))]
 
 
@@ -402,10 +402,9 @@ def rows(table):
 
 
 def head_of(page, table, written):
-    return [f"# {page.title}", "", *wrapped(page.said), "", *wrapped(
-        f"To judge the clauses, read them and the definitions below them, on this page {written.lines} lines in "
-        f"{written.definitions} definitions and types. [{SIGNS['title']}]({SIGNS['file']}) explains the form of the page, the "
-        "signs and the words of the kit."), "",
+    return [f"# {page.title}", "", *wrapped(
+        f"{page.said} To judge the clauses, read them and the definitions below them, on this page {written.lines} lines in "
+        f"{written.definitions} definitions and types. [{SIGNS['title']}]({SIGNS['file']}) explains their form and signs."), "",
         "| Chapter | New definitions | Their lines | Lines in all |", "|---|---|---|---|", *table,
         *["", *wrapped(WORDS["implied"]["said"])] * written.has_implied]
 
