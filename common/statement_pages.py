@@ -125,6 +125,8 @@ def is_labelled(clause, labels):
 
 # The words before `fn` that the clauses of a page have in common.
 PUBLIC = re.compile(r'^pub (extern "C" )?')
+# What a line of a head doesn't end with, and the space after it while the head is filled into lines.
+KEPT, HELD = re.compile(r"(->|:|&(?:'\w+ )?mut|&'\w+|\bfn|\bmut) "), "\u00a0"
 
 
 def parts_of_contract(function, owner=None):
@@ -136,9 +138,9 @@ def parts_of_contract(function, owner=None):
             clauses.append([])
         (clauses[-1] if clauses else head).append(line[function.margin:])
     if not any("//" in line for line in head):
-        whole = PUBLIC.sub("", joined(head).replace(",)", ")", 1).replace("-> ", "->_"))
+        whole = PUBLIC.sub("", joined(head).replace(",)", ")", 1))
         whole = whole.replace(f"fn {function.name}", f"fn {owner}::{function.name}", 1) if owner else whole
-        head = [line.replace("->_", "-> ") for line in wrapped(whole, "        ")]
+        head = [line.replace(HELD, " ") for line in wrapped(KEPT.sub(rf"\1{HELD}", whole), "        ")]
     return head, clauses
 
 
