@@ -39,8 +39,8 @@ def page_of(said):
 
 WORDS = tomllib.loads(pathlib.Path(__file__).with_suffix(".toml").read_text())
 # The page that explains signs and words, the signs that a reader has to know, the definitions whose first line is all that
-# the pages print, and the words of the kit's library.
-SIGNS, LEGEND, BRIEF, KIT = (WORDS[key] for key in ("signs_page", "signs", "brief", "words"))
+# the pages print, the words of the kit's library, and the page with one clause and all that it rests on.
+SIGNS, LEGEND, BRIEF, KIT, WHOLE = (WORDS[key] for key in ("signs_page", "signs", "brief", "words", "whole"))
 # The types and traits of the kit that the pages name.
 KIT_TYPES = WORDS["types"]
 PAGES = [page_of(said) for said in WORDS["page"]]
@@ -451,6 +451,7 @@ def check():
     """Ends with a fault if a page that is kept or a number of lines on the front page differs. Returns what the pages have."""
     readme, written = (TOP / "README.md").read_text(), Written()
     check_page(SIGNS["file"], signs_page())
+    check_page(WHOLE["file"], whole_promise())
     for page, text, lines in pages(written):
         check_page(page.name, text)
         (whole, lines), *chapters = figures(page, lines)
@@ -463,27 +464,44 @@ def check():
     return written
 
 
+def page_file(name):
+    return TOP / "docs" / name
+
+
 def check_page(name, text):
-    file = TOP / "docs" / name
+    file = page_file(name)
     if not file.exists() or file.read_text() != text:
         sys.exit(f"docs/{name} is not what tools/statement --write would write")
 
 
 def write():
     readme = TOP / "README.md"
-    (TOP / "docs" / SIGNS["file"]).write_text(signs_page())
+    page_file(SIGNS["file"]).write_text(signs_page())
+    page_file(WHOLE["file"]).write_text(whole_promise())
     for page, text, lines in pages(Written()):
-        (TOP / "docs" / page.name).write_text(text)
+        page_file(page.name).write_text(text)
         for pattern, number in figures(page, lines):
             readme.write_text(pattern.sub(lambda old: old[0].replace(old[1], str(number), 1), readme.read_text()))
         print(f"docs/{page.name}: {lines} lines")
 
 
-def print_clauses(said):
-    """Any clauses and what they rest on, on standard output."""
+def of_clauses(said):
+    """Returns the lines of any clauses and of what they rest on, and the numbers of these definitions and of their lines."""
     speakers, written = [Clause(one) for one in said], Written(PAGES[0])
     out = fenced("rust", below_crates("//", speakers, lambda one: one.shown())) + definitions_of(speakers, written, BRIEF)
     library = [f"- `{module}`: " + ", ".join(f"`{name}`" for name in sorted(name for name in names if name))
                for module, names in sorted(written.library.items())]
-    counts = f"{written.definitions} definitions, {written.lines} lines"
-    print("\n".join([*out, "", "Words of the kit's library:", "", *library, counts]))
+    return [*out, "", "Words of the kit's library:", "", *library], written.definitions, written.lines
+
+
+def print_clauses(said):
+    """Prints any clauses and what they rest on."""
+    lines, definitions, count_of_lines = of_clauses(said)
+    print("\n".join([*lines, f"{definitions} definitions, {count_of_lines} lines"]))
+
+
+def whole_promise():
+    """Returns the text of the page that prints one clause with all that it rests on, with these lines and their numbers."""
+    lines, definitions, count_of_lines = of_clauses([WHOLE["clause"]])
+    text = re.sub(r"```rust\n.*?(?=\n\n## )", lambda _: "\n".join(lines), page_file(WHOLE["file"]).read_text(), count=1, flags=re.S)
+    return re.sub(r"\d+ definitions of \d+ lines", f"{definitions} definitions of {count_of_lines} lines", text, count=1)
