@@ -215,11 +215,12 @@ def shown(definition, brief=(), contexts=None):
 
 
 def context_of(definition, contexts):
-    """Yields the parameters around a definition: the name of one that `contexts` has, and others with their types."""
+    """Yields the parameters around a definition: the names of those that `contexts` has, and others with their types."""
     for parameter in split_at(" ".join(definition.context), " "):
-        name = parameter[1:].partition(" :")[0]
-        yield name if contexts.get(name) == parameter else parameter
-        contexts[name] = parameter
+        names, _, kind = parameter[1:-1].partition(" : ")
+        given = dict.fromkeys(names.split(), (parameter[0], kind))
+        yield names if given.items() <= contexts.items() else parameter
+        contexts.update(given)
 
 
 def count(definition):
@@ -503,5 +504,6 @@ def print_clauses(said):
 def whole_promise():
     """Returns the text of the page that prints one clause with all that it rests on, with these lines and their numbers."""
     lines, definitions, count_of_lines = of_clauses([WHOLE["clause"]])
-    text = re.sub(r"```rust\n.*?(?=\n\n## )", lambda _: "\n".join(lines), page_file(WHOLE["file"]).read_text(), count=1, flags=re.S)
-    return re.sub(r"\d+ definitions of \d+ lines", f"{definitions} definitions of {count_of_lines} lines", text, count=1)
+    head, _, rest = page_file(WHOLE["file"]).read_text().partition("```rust\n")
+    head = re.sub(r"\d+ definitions of \d+ lines", f"{definitions} definitions of {count_of_lines} lines", head)
+    return "\n".join([*head.splitlines(), *lines, "", "## " + rest.partition("\n## ")[2]])

@@ -13,7 +13,7 @@ from common.checks import TOP, chosen, end, expect, run, run_case
 from common.crates import CRATES, crate_of
 from common.definition_reader import parse_module, type_of, uncommented
 from common.rust_sources import source
-from common.statement_forms import definition_lines, type_lines, with_comment
+from common.statement_forms import definition_lines, split_at, type_lines, with_comment
 from common.statement_pages import context_of, shown_function
 
 # Weaker laws of the routing table, each about nothing or nearly nothing: the old and the new text.
@@ -206,9 +206,17 @@ def every_parameter_of_a_definition(copy):
     found, contexts, types = [one for one in all_definitions() if one.context], {}, {}
     expect("more than twenty definitions with parameters around them", len(found) > 20, True)
     for one in found:
-        shown = {said.partition(" :")[0].lstrip("({"): said for said in context_of(one, contexts)}
-        types.update({name: said for name, said in shown.items() if name != said})
-        expect(f"the parameters around {one.key}", " ".join(types[name] for name in shown), " ".join(one.context))
+        shown = [typed(said) for said in context_of(one, contexts)]
+        types |= {name: kind for names, kind in shown for name in names if kind}
+        given = [typed(said) for said in split_at(" ".join(one.context), " ")]
+        expect(f"the parameters around {one.key}", [(name, types[name]) for names, _ in shown for name in names],
+               [(name, kind) for names, kind in given for name in names])
+
+
+def typed(said):
+    """Returns the names of a parameter and their type, which is empty if it has none, with its bracket."""
+    names, _, kind = said.strip("({})").partition(" : ")
+    return names.split(), kind and said[0] + kind
 
 
 def code_of(lines):
