@@ -1,7 +1,7 @@
 -- What entries and groups lead to while they are changed in place.
 use Rattle.std.proofs.Common.{◌≡◌, ◌≢◌, ℕ, ◌+◌, ◌*◌, ◌-◌, ◌^◌, ◌<◌, ◌≤◌, List, length, get_or, get_or-set_other, get_or-set_same, Option, subst, sym, refl, ap, ◌∙◌, inl, inr, arith}
 use Rattle.std.proofs.Math.ListN.{set}
-use Rattle.std.proofs.lemmas.Bool.{cases_eq}
+use Rattle.std.proofs.lemmas.Bool.{cases_eq, cases_lt}
 use Rattle.std.proofs.lemmas.List.{length-set}
 use Rattle.rt_rib.specs.declared.routes.Route.{Route}
 use Rattle.rt_rib.specs.LookUp.{look_up}
@@ -13,14 +13,15 @@ use Rattle.rt_fib.specs.inside.Slab.{SlabState, Has}
 use Rattle.rt_fib.specs.inside.Entries.{at, HasRoute, IsSince, Leads, IsEntry, AreMarked}
 use Rattle.rt_fib.specs.inside.Changes.{AnswerAlike, IsChange, IsNumberAfter, AreNumbersAfter, KeepsOthers, LeadsAfter, AreUntil}
 use Rattle.rt_fib.proofs.Placing.{each_set}
-use Rattle.rt_fib.proofs.Leading.{short_number, long_group, group_is, leads_still}
+use Rattle.rt_fib.proofs.Leading.{group_read, leads_still}
 
 -- what a replaced group of this slab has
 replaced : (old new : SlabState Group) (t place : ℕ) (was next : Group) → new.places.values ≡ set old.places.values place next
     → new.places.epochs ≡ old.places.epochs → Has old.places t place was → Has new.places t place next
 replaced old new t place was next values epochs has = rw (values, epochs) (record {
-  is_used = record { within = omega (arith, has.is_used.within, length-set old.places.values place next); used = has.is_used.used };
-  there = λ d. get_or-set_same old.places.values place next d has.is_used.within;
+  within = omega (arith, has.within, length-set old.places.values place next);
+  used = has.used;
+  there = λ d. get_or-set_same old.places.values place next d has.within;
 })
 
 -- every other group stays, where the replaced one is its owner's
@@ -32,7 +33,8 @@ others_stay i old new place group next read own values epochs t n other apart ha
       let e : other ≡ group = sym (has.there group) ∙ ap (λ (j : ℕ). get_or old.places.values j group) same ∙ sym read in
       absurd (apart (ap (λ (g : Group). g.owner) e ∙ own))
   | inr away ↦ rw (values, epochs) (record {
-    is_used = record { within = omega (arith, has.is_used.within, length-set old.places.values place next); used = has.is_used.used };
+    within = omega (arith, has.within, length-set old.places.values place next);
+    used = has.used;
     there = λ d. get_or-set_other old.places.values place n next d away ∙ has.there d;
   })
 ]
@@ -42,7 +44,7 @@ module _ {A : Type 0} where
   pub entry_goes : (slabs : Slabs A) (epoch i entry next : ℕ) (change : Change) → entry < 2 ^ 31
       → IsNumberAfter slabs epoch change entry next → LeadsAfter slabs slabs epoch change i entry next
   entry_goes slabs epoch i entry next change short goes t k answer within before leads =
-      inl (record { short = goes.short short; has = goes.after t answer before (short_number slabs t i entry k answer leads short) })
+      record { short = λ _. goes.after t answer before (leads.short short); long = λ long. absurd (omega (arith, goes.short short, long)) }
 
   -- and the entry that names it
   pub group_goes : (old new : Slabs A) (epoch i entry : ℕ) (change : Change) (group : Group) (numbers : List ℕ)
@@ -51,20 +53,16 @@ module _ {A : Type 0} where
       → new.groups.places.values ≡ set old.groups.places.values (entry - 2 ^ 31) (record { numbers = numbers; owner = i })
       → LeadsAfter old new epoch change i entry entry
   group_goes old new epoch i entry change group numbers long is are routes epochs values t k answer within before leads =
-      let names = long_group old t i entry k answer leads long in
-      let place : entry - 2 ^ 31 ≡ names.place = omega (arith, names.long, long) in
-      let e : group ≡ names.group = group_is old t i entry k answer group names is in
-      let next : Group = record { numbers = numbers; owner = i } in
-      let had : HasRoute old t (get_or group.numbers k 0) answer =
-      subst (λ (g : Group). HasRoute old t (get_or g.numbers k 0) answer) (sym e) names.number in
-      inr (record {
-        place = names.place;
-        group = next;
-        long = names.long;
-        named = replaced old.groups new.groups t names.place names.group next (rw place at values) epochs names.named;
-        own = refl;
-        number = rw routes ((are.each k within).after t answer before had);
-      })
+      let was = group_read old t i entry k answer group (leads.long long) is in
+      record {
+        short = λ short. absurd (omega (arith, short, long));
+        long = λ _. record {
+          group = record { numbers = numbers; owner = i };
+          named = replaced old.groups new.groups t (entry - 2 ^ 31) group _ values epochs was.0;
+          own = refl;
+          number = rw routes ((are.each k within).after t answer before was.2);
+        };
+      }
 
   -- the entries of others lead where they led
   leads_others : (old new : Slabs A) (i t j entry k : ℕ) (answer : Option Route)
@@ -92,6 +90,20 @@ module _ {A : Type 0} where
             (λ later fits since. absurd (omega (arith, later)))
             (λ i other later here since. others old t i other (are.behind t i (omega (arith, later)) here since));
       }
+
+  -- all of the span's are
+  pub until_all : (entries : List ℕ) (slabs : Slabs A) (epoch marked : ℕ) (change : Change) (span : Span) (old new : List Route)
+      → IsChange change.len change.answer span old new → marked ≤ 2 ^ 24 → AreUntil entries slabs epoch marked old new span.end
+      → AreMarked entries slabs epoch marked new
+  until_all entries slabs epoch marked change span old new is within are = record {
+    size = are.size;
+    within = within;
+    each = λ t i here since. elim (cases_lt i span.end) [
+      | inl before ↦ are.before t i before here since
+      | inr behind ↦ λ k small. subst (λ (a : Option Route). Leads slabs t i (get_or entries i 0) k a) (is.outside i k here small (inr behind))
+          (are.behind t i behind here since k small)
+    ];
+  }
 
   -- one more number of a group
   pub numbers_more : (slabs : Slabs A) (epoch : ℕ) (change : Change) (old new : List ℕ) (k number : ℕ) → k < 256

@@ -34,49 +34,30 @@ module _ {A : Type 0} where
       (subst (λ (m : ℕ). Leads slabs epoch (n / 256) m (n % 256) (look_up (at (n / 256 * 256 + n % 256)) table)) (sym is)
       (are.each epoch (n / 256) (omega arith) since (n % 256) (omega arith)))
 
-  module _ (slabs : Slabs A) (epoch i entry k : ℕ) (answer : Option Route) where
-    -- a short entry is the number of the answer
-    pub short_number : Leads slabs epoch i entry k answer → entry < 2 ^ 31 → HasRoute slabs epoch entry answer
-    short_number leads short = elim leads [
-      | inl whole ↦ whole.has
-      | inr names ↦ absurd (omega (arith, names.long))
-    ]
-
-    -- a long one names a group
-    pub long_group : Leads slabs epoch i entry k answer → 2 ^ 31 ≤ entry → NamesGroup slabs epoch i entry k answer
-    long_group leads long = elim leads [
-      | inl whole ↦ absurd (omega (arith, whole.short))
-      | inr names ↦ names
-    ]
-
-    -- and this is the group
-    pub group_is : (read : Group) → (names : NamesGroup slabs epoch i entry k answer) → read ≡ get_or slabs.groups.places.values (entry - 2 ^ 31) read
-        → read ≡ names.group
-    group_is read names is =
-        let e : entry - 2 ^ 31 ≡ names.place = omega (arith, names.long) in
-        subst (λ (b : ℕ). read ≡ get_or slabs.groups.places.values b read) e is ∙ names.named.there read
-
-    -- so what stands there has the number of the answer
-    pub group_read : (read : Group) → NamesGroup slabs epoch i entry k answer → read ≡ get_or slabs.groups.places.values (entry - 2 ^ 31) read
-        → HasRoute slabs epoch (get_or read.numbers k 0) answer
-    group_read read names is = subst (λ (g : Group). HasRoute slabs epoch (get_or g.numbers k 0) answer) (sym (group_is read names is)) names.number
+  -- what stands in the place that the entry names is its group
+  pub group_read : (slabs : Slabs A) (epoch i entry k : ℕ) (answer : Option Route) (read : Group) → NamesGroup slabs epoch i entry k answer
+      → read ≡ get_or slabs.groups.places.values (entry - 2 ^ 31) read
+      → Has slabs.groups.places epoch (entry - 2 ^ 31) read × (read.owner ≡ i) × HasRoute slabs epoch (get_or read.numbers k 0) answer
+  group_read slabs epoch i entry k answer read names is =
+      subst (λ (g : Group). Has slabs.groups.places epoch (entry - 2 ^ 31) g × (g.owner ≡ i) × HasRoute slabs epoch (get_or g.numbers k 0) answer)
+      (sym (is ∙ names.named.there read)) (names.named, names.own, names.number)
 
   -- an entry leads where it led, if the answers and its group stay
   pub leads_still : (old new : Slabs A) (s t i entry k : ℕ) (answer : Option Route)
       → ((n : ℕ) → HasRoute old s n answer → HasRoute new t n answer)
       → ((n : ℕ) (group : Group) → group.owner ≡ i → Has old.groups.places s n group → Has new.groups.places t n group)
       → Leads old s i entry k answer → Leads new t i entry k answer
-  leads_still old new s t i entry k answer routes groups leads = elim leads [
-    | inl whole ↦ inl (record { short = whole.short; has = routes entry whole.has })
-    | inr names ↦ inr (record {
-      place = names.place;
-      group = names.group;
-      long = names.long;
-      named = groups names.place names.group names.own names.named;
-      own = names.own;
-      number = routes (get_or names.group.numbers k 0) names.number;
-    })
-  ]
+  leads_still old new s t i entry k answer routes groups leads = record {
+    short = λ short. routes entry (leads.short short);
+    long = λ long.
+        let names = leads.long long in
+        record {
+          group = names.group;
+          named = groups (entry - 2 ^ 31) names.group names.own names.named;
+          own = names.own;
+          number = routes (get_or names.group.numbers k 0) names.number;
+        };
+  }
 
   pub leads_keeps : (old new : Slabs A) (epoch t i entry k : ℕ) (answer : Option Route)
       → KeepsBoth epoch old new → epoch ≤ t → Leads old t i entry k answer → Leads new t i entry k answer
@@ -94,20 +75,18 @@ module _ {A : Type 0} where
   pub group_entry : (table : List Route) (slabs : Slabs A) (epoch i j place : ℕ) (group : Group)
       → j ≡ i → group.owner ≡ i → Has slabs.groups.places epoch place group → AreNumbers table group.numbers slabs epoch (i * 256) 256
       → IsEntry table slabs epoch j (2 ^ 31 + place)
-  group_entry table slabs epoch i j place group same own has are k within = inr (record {
-    place = place;
-    group = group;
-    long = omega arith;
-    named = has;
-    own = omega (arith, own, same);
-    number = rw same (are k within);
-  })
+  group_entry table slabs epoch i j place group same own has are k within =
+      let named : 2 ^ 31 + place - 2 ^ 31 ≡ place = omega arith in
+      record {
+        short = λ short. absurd (omega (arith, short));
+        long = λ _. record { group = group; named = rw named has; own = omega (arith, own, same); number = rw same (are k within) };
+      }
 
   -- an answer's number, which is marked
   pub whole_on : (old new : Slabs A) (epoch entry : ℕ) → entry < 2 ^ 31
       → ((answer : Option Route) → HasRoute old epoch entry answer → HasRoute new (epoch + 1) entry answer) → LeadsOn old new epoch entry entry
   whole_on old new epoch entry short marked i k answer within leads =
-      inl (record { short = short; has = marked answer (short_number old epoch i entry k answer leads short) })
+      record { short = λ _. marked answer (leads.short short); long = λ long. absurd (omega (arith, short, long)) }
 
   -- a group's number
   pub group_on : (old new : Slabs A) (epoch entry : ℕ) (read : Group)
@@ -117,20 +96,11 @@ module _ {A : Type 0} where
       → HasRoute new (epoch + 1) (get_or read.numbers k 0) answer)
       → LeadsOn old new epoch entry entry
   group_on old new epoch entry read long is marked on i k answer within leads =
-      let names = long_group old epoch i entry k answer leads long in
-      let place : entry - 2 ^ 31 ≡ names.place = omega (arith, names.long) in
-      let e : read ≡ names.group = group_is old epoch i entry k answer read names is in
-      let was : Has old.groups.places epoch (entry - 2 ^ 31) names.group =
-      subst (λ (p : ℕ). Has old.groups.places epoch p names.group) (sym place) names.named in
-      inr (record {
-        place = names.place;
-        group = names.group;
-        long = names.long;
-        named = subst (λ (p : ℕ). Has new.groups.places (epoch + 1) p names.group) place (marked names.group was);
-        own = names.own;
-        number = subst (λ (g : Group). HasRoute new (epoch + 1) (get_or g.numbers k 0) answer) e
-            (on k answer within (group_read old epoch i entry k answer read names is));
-      })
+      let was = group_read old epoch i entry k answer read (leads.long long) is in
+      record {
+        short = λ short. absurd (omega (arith, short, long));
+        long = λ _. record { group = read; named = marked read was.0; own = was.1; number = on k answer within was.2 };
+      }
 
   -- a piece is one from each later address too
   pub piece_later : (table : List Route) (slabs : Slabs A) (t from later : ℕ) (piece : Piece)

@@ -1,5 +1,5 @@
 -- How numbers of next hops lead where the numbers of answers led.
-use Rattle.std.proofs.Common.{◌≡◌, ℕ, ◌+◌, ◌*◌, ◌/◌, ◌%◌, ◌<◌, ◌≤◌, inl, inr, List, [], ◌∷◌, ◌++◌, length, take, get_or, get_or-set_other, get_or-set_same, get_or-take, Option, Some, None, subst, sym, ap, ◌∙◌, arith}
+use Rattle.std.proofs.Common.{◌≡◌, ℕ, ◌+◌, ◌*◌, ◌/◌, ◌%◌, ◌^◌, ◌-◌, ◌<◌, ◌≤◌, inl, inr, List, [], ◌∷◌, ◌++◌, length, take, get_or, get_or-set_other, get_or-set_same, get_or-take, Option, Some, None, subst, sym, ap, ◌∙◌, arith}
 use Rattle.std.proofs.Math.ListN.{set}
 use Rattle.std.proofs.lemmas.Bool.{cases_eq, cases_lt}
 use Rattle.std.proofs.lemmas.List.{length-set, length-take, get_or_append_left, get_or_push, length_push}
@@ -91,24 +91,26 @@ view_shows entries shown old more numbers list routers slabs epoch marked table 
       λ n below found.
       subst (λ (a : Option Route). IsNumber routers (get_or numbers n 0) a) (found answer)
       (number_extends list routers (get_or numbers n 0) (get_or answers n answer) longer (hops.each n answer below)) in
-      elim (entry_leads entries slabs epoch marked table addr.0 (get_or entries i 0) all within (omega arith)) [
-        | inl whole ↦
-            let same : get_or shown i 0 ≡ get_or numbers (get_or entries i 0) 0 = there.short whole.short in
-            let hop = number (get_or entries i 0) whole.has.is_used.within whole.has.there in
-            inl (subst (λ (e : ℕ). IsNumber routers e answer) (sym same) hop)
-        | inr names ↦
-            let same : get_or shown i 0 ≡ get_or entries i 0 = there.long (omega (arith, names.long)) in
-            let group = names.named.is_used.within in
-            let hop = number (get_or names.group.numbers k 0) names.number.is_used.within names.number.there in
-            let n = names.place * 256 + k in
-            let is_place : n / 256 ≡ names.place = omega (arith, low) in
+      let leads = entry_leads entries slabs epoch marked table addr.0 (get_or entries i 0) all within (omega arith) in
+      elim (cases_lt (get_or entries i 0) (2 ^ 31)) [
+        | inl short ↦
+            let has = leads.short short in
+            inl (subst (λ (e : ℕ). IsNumber routers e answer) (sym (there.short short)) (number (get_or entries i 0) has.within has.there))
+        | inr long ↦
+            let names = leads.long long in
+            let same : get_or shown i 0 ≡ get_or entries i 0 = there.long long in
+            let block : ℕ = get_or entries i 0 - 2 ^ 31 in
+            let group : block < length slabs.groups.places.values = names.named.within in
+            let hop = number (get_or names.group.numbers k 0) names.number.within names.number.there in
+            let n = block * 256 + k in
+            let is_place : n / 256 ≡ block = omega (arith, low) in
             let is_k : n % 256 ≡ k = omega (arith, low) in
             let read : get_or more n 0 ≡ get_or numbers (get_or names.group.numbers k 0) 0 =
             rw (is_place, is_k) at (put.each n names.group (omega (arith, group, low)))
             ∙ ap (λ (g : Group). get_or numbers (get_or g.numbers k 0) 0) (names.named.there names.group) in
             inr (record {
-              block = names.place;
-              long = same ∙ names.long;
+              block = block;
+              long = omega (arith, same, long);
               within = omega (arith, group, low, fits, put.size);
               number = subst (λ (x : ℕ). IsAnswerNumber routers x answer) (sym read) hop.number;
             })

@@ -3,7 +3,7 @@ ghost use Rattle.std.specs.Prelude.{◌≡◌, ◌↔◌, ℕ, ◌+◌, ◌<◌,
 ghost use Rattle.rt_rib.specs.declared.routes.Route.{Route};
 ghost use Rattle.rt_fib.specs.Hops.{next_hop};
 ghost use Rattle.rt_fib.specs.inside.HopCodes.{hop_code};
-ghost use Rattle.rt_fib.specs.inside.Slab.{with_value, Fills, Has, IsBack, IsNumberOf, Keeps, Logs, Places};
+ghost use Rattle.rt_fib.specs.inside.Slab.{with_value, begun, Fills, Has, IsBack, IsNumberOf, Keeps, Places};
 
 use crate::bounds::Epoch;
 use crate::slab::Slab;
@@ -252,7 +252,8 @@ impl<A: Allocator + Copy> RouteSlab<A> {
 
     /// Begins a change. Returns how many places there are.
     pub(crate) fn begin(&mut self) -> usize
-        ensures { (epoch : ℕ) → Logs epoch result self.old.places self.new }
+        ensures count { result ≡ length self.old.places.values }
+        ensures state { self.new ≡ begun self.old.places }
     {
         self.slab.begin()
     }
@@ -265,7 +266,7 @@ impl<A: Allocator + Copy> RouteSlab<A> {
     /// Undoes a refused change that began with this number of places: the free places that it filled are free again, and it keeps
     /// only its first places.
     pub(crate) fn roll_back(&mut self, count: usize)
-        ensures { (epoch : ℕ) → (start : Places (Option Route)) → Logs epoch count start self.old → IsBack epoch start self.new.places }
+        ensures { (epoch : ℕ) → (start : Places (Option Route)) → count ≡ length start.values → Fills epoch (begun start) self.old → IsBack epoch start self.new.places }
     {
         self.slab.roll_back(count);
         self.codes.truncate(count);

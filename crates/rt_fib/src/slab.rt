@@ -1,7 +1,7 @@
 //! Lists whose places are used again. Each place has the epoch in which it was last marked as used. Whatever is in use has at least
 //! the epoch that the round began with, so a place with a lower one is free.
 ghost use Rattle.std.specs.Prelude.{◌≡◌, ℕ, ◌+◌, ◌<◌, ◌≤◌, ◌^◌, IfOk, IfSome, OnErr, [], length, get_or, slice_set, take};
-ghost use Rattle.rt_fib.specs.inside.Slab.{with_value, AreCleared, Fills, Has, IsBack, IsNumberOf, Keeps, Logs, Places};
+ghost use Rattle.rt_fib.specs.inside.Slab.{with_value, begun, AreCleared, Fills, Has, IsBack, IsNumberOf, Keeps, Places};
 
 use crate::bounds::Epoch;
 use crate::slabs::GROUP_FLAG;
@@ -175,8 +175,8 @@ impl<T: Copy, A: Allocator + Copy> Slab<T, A> {
 
     /// Begins a change. Returns how many places there are.
     pub(crate) fn begin(&mut self) -> usize
-        ensures log { (epoch : ℕ) → Logs epoch result self.old.places self.new }
-        ensures places { self.new.places ≡ self.old.places }
+        ensures count { result ≡ length self.old.places.values }
+        ensures state { self.new ≡ begun self.old.places }
     {
         self.undo_log.clear();
         self.values.len()
@@ -191,7 +191,7 @@ impl<T: Copy, A: Allocator + Copy> Slab<T, A> {
     /// Undoes a refused change that began with this number of places: the free places that it filled are free again, and the slab
     /// keeps only its first places.
     pub(crate) fn roll_back(&mut self, count: usize)
-        ensures back { (epoch : ℕ) → (start : Places T) → Logs epoch count start self.old → IsBack epoch start self.new.places }
+        ensures back { (epoch : ℕ) → (start : Places T) → count ≡ length start.values → Fills epoch (begun start) self.old → IsBack epoch start self.new.places }
         ensures values { self.new.places.values ≡ take count self.old.places.values }
     {
         clear_each(self.epochs.as_mut_slice(), self.undo_log.as_slice());

@@ -2,7 +2,7 @@
 ghost use Rattle.std.specs.Prelude.{◌≡◌, ℕ, ◌+◌, ◌<◌, ◌^◌, IfOk, IsTrue};
 ghost use Rattle.rt_fib.specs.declared.slabs.Slabs.{Slabs};
 ghost use Rattle.rt_fib.specs.inside.Slab.{Fills, IsNumberOf};
-ghost use Rattle.rt_fib.specs.inside.Entries.{AreBack, FillsBoth, LogsBoth};
+ghost use Rattle.rt_fib.specs.inside.Entries.{both_begun, counts_of, AreBack, FillsBoth};
 
 use crate::bounds::Epoch;
 use crate::routes::{ROUTE_BYTES, RouteSlab};
@@ -100,7 +100,8 @@ impl<A: Allocator + Copy> Slabs<A> {
 
     /// Begins a change. Returns how many groups and routes there are.
     pub(crate) fn begin(&mut self) -> Counts
-        ensures { (epoch : ℕ) → LogsBoth epoch result self.old self.new }
+        ensures counts { result ≡ counts_of self.old }
+        ensures state { self.new ≡ both_begun self.old }
     {
         let groups = self.groups.begin();
         let routes = self.routes.begin();
@@ -109,7 +110,7 @@ impl<A: Allocator + Copy> Slabs<A> {
 
     /// Undoes a refused change that began with these counts: what was free is free again.
     pub(crate) fn roll_back(&mut self, counts: Counts)
-        ensures { (epoch : ℕ) → (start : Slabs A) → LogsBoth epoch counts start self.old → AreBack epoch start self.new }
+        ensures { (epoch : ℕ) → (start : Slabs A) → counts ≡ counts_of start → FillsBoth epoch (both_begun start) self.old → AreBack epoch start self.new }
     {
         self.groups.roll_back(counts.groups);
         self.routes.roll_back(counts.routes);

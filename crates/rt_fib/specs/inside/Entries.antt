@@ -1,5 +1,5 @@
 -- How the entries of tbl24, the groups and the routes represent the table's answer to each address.
-use Rattle.std.specs.Prelude.{◌≡◌, ℕ, ◌+◌, ◌*◌, ◌/◌, ◌^◌, ◌<◌, ◌≤◌, ◌⊎◌, List, length, get_or, Option}
+use Rattle.std.specs.Prelude.{◌≡◌, ℕ, ◌+◌, ◌-◌, ◌*◌, ◌/◌, ◌^◌, ◌<◌, ◌≤◌, List, length, get_or, Option}
 use Rattle.rt_cidr.specs.declared.address.Addr.{Addr}
 use Rattle.rt_rib.specs.declared.routes.Route.{Route}
 use Rattle.rt_rib.specs.LookUp.{look_up}
@@ -9,7 +9,7 @@ use Rattle.rt_fib.specs.declared.filling.Piece.{Piece}
 use Rattle.rt_fib.specs.declared.slabs.Counts.{Counts}
 use Rattle.rt_fib.specs.declared.slabs.Group.{Group}
 use Rattle.rt_fib.specs.declared.slabs.Slabs.{Slabs}
-use Rattle.rt_fib.specs.inside.Slab.{Fills, Has, IsBack, IsNumberOf, Keeps, Logs}
+use Rattle.rt_fib.specs.inside.Slab.{begun, Fills, Has, IsBack, Keeps}
 
 -- the address of this number
 abbrev pub at : ℕ → Addr
@@ -36,10 +36,13 @@ module _ {A : Type 0} where
     pub groups : Fills epoch old.groups new.groups
     pub routes : Fills epoch old.routes new.routes
 
-  -- since a change began, it kept all in use, and the logs have the free places that it filled
-  pub record LogsBoth (epoch : ℕ) (counts : Counts) (start slabs : Slabs A) : Type 0 where
-    pub groups : Logs epoch counts.groups start.groups.places slabs.groups
-    pub routes : Logs epoch counts.routes start.routes.places slabs.routes
+  -- when a change begins, the logs are empty
+  abbrev pub both_begun : Slabs A → Slabs A
+  both_begun slabs = record { groups = begun slabs.groups.places; routes = begun slabs.routes.places }
+
+  -- how many places there are
+  abbrev pub counts_of : Slabs A → Counts
+  counts_of slabs = record { groups = length slabs.groups.places.values; routes = length slabs.routes.places.values }
 
   -- all in use is kept, all free places are free, and there are no more of them
   pub record AreBack (epoch : ℕ) (old new : Slabs A) : Type 0 where
@@ -52,16 +55,15 @@ module _ {A : Type 0} where
 
   -- the i-th entry names its own group, which has the number of the answer at this place
   pub record NamesGroup (slabs : Slabs A) (epoch i entry k : ℕ) (answer : Option Route) : Type 0 where
-    pub place : ℕ
     pub group : Group
-    pub long : entry ≡ 2 ^ 31 + place
-    pub named : Has slabs.groups.places epoch place group
+    pub named : Has slabs.groups.places epoch (entry - 2 ^ 31) group
     pub own : group.owner ≡ i
     pub number : HasRoute slabs epoch (get_or group.numbers k 0) answer
 
-  -- the i-th entry leads to the answer at this place
-  abbrev pub Leads : Slabs A → ℕ → ℕ → ℕ → ℕ → Option Route → Type 0
-  Leads slabs epoch i entry k answer = IsNumberOf slabs.routes.places epoch entry answer ⊎ NamesGroup slabs epoch i entry k answer
+  -- the i-th entry leads to the answer at this place: it is the answer's number, or it names a group
+  pub record Leads (slabs : Slabs A) (epoch i entry k : ℕ) (answer : Option Route) : Type 0 where
+    pub short : entry < 2 ^ 31 → HasRoute slabs epoch entry answer
+    pub long : 2 ^ 31 ≤ entry → NamesGroup slabs epoch i entry k answer
 
   -- the entry leads to the table's answer to each of the 256 addresses whose first 24 bits are i
   abbrev pub IsEntry : List Route → Slabs A → ℕ → ℕ → ℕ → Type 0

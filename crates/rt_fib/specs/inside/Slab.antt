@@ -1,5 +1,5 @@
 -- A slab: a list whose places are used again once nothing leads to them.
-use Rattle.std.specs.Prelude.{◌≡◌, ℕ, ◌+◌, ◌^◌, ◌<◌, ◌≤◌, ◌⊎◌, List, ◌∷◌, ◌++◌, length, get_or, take, drop}
+use Rattle.std.specs.Prelude.{◌≡◌, ℕ, ◌+◌, ◌^◌, ◌<◌, ◌≤◌, ◌⊎◌, List, [], ◌∷◌, ◌++◌, length, get_or, take, drop}
 use Rattle.std.specs.List.{Contains}
 
 -- the value at each place, and the epoch in which the place was last seen in use
@@ -23,14 +23,10 @@ module _ {T : Type 0} where
   abbrev pub with_value : List T → ℕ → T → List T
   with_value values n value = take n values ++ value ∷ drop (n + 1) values
 
-  -- the place is there, and in use since this epoch or a later one
-  pub record IsUsed (places : Places T) (epoch n : ℕ) : Type 0 where
+  -- the place is there, in use since this epoch or a later one, and has this value
+  pub record Has (places : Places T) (epoch n : ℕ) (value : T) : Type 0 where
     pub within : n < length places.values
     pub used : epoch ≤ get_or places.epochs n 0
-
-  -- and has this value
-  pub record Has (places : Places T) (epoch n : ℕ) (value : T) : Type 0 where
-    pub is_used : IsUsed places epoch n
     pub there : (d : T) → get_or places.values n d ≡ value
 
   -- the number of such a place is no group's
@@ -47,18 +43,24 @@ module _ {T : Type 0} where
   pub record Keeps (epoch : ℕ) (old new : Places T) : Type 0 where
     pub each : (t n : ℕ) (value : T) → epoch ≤ t → Has old t n value → Has new t n value
 
-  -- since a change began with these `count` places, it kept all in use, and the log has the free ones that it filled
-  pub record Logs (epoch count : ℕ) (start : Places T) (slab : SlabState T) : Type 0 where
-    pub size : length start.values ≡ count
-    pub longer : count ≤ length slab.places.values
-    pub keeps : Keeps epoch start slab.places
-    pub free : (n : ℕ) → IsFree start epoch n → IsFree slab.places epoch n ⊎ Contains slab.undo_log n
-    pub unused : (n : ℕ) (value : T) → Contains slab.undo_log n → ¬ Has start epoch n value
+  -- when a change begins, the log is empty
+  abbrev pub begun : Places T → SlabState T
+  begun places = record { places = places; undo_log = [] }
 
-  -- all in use is kept, and the log has whatever free places were filled
+  -- the place stays: with its value, and free if it was
+  pub record Stays (epoch : ℕ) (old new : Places T) (n : ℕ) : Type 0 where
+    pub value : (d : T) → get_or new.values n d ≡ get_or old.values n d
+    pub used : get_or old.epochs n 0 ≤ get_or new.epochs n 0
+    pub free : get_or old.epochs n 0 < epoch → get_or new.epochs n 0 < epoch
+
+  -- each place stays, or it was free and the log has it, and the log gained only free places
   pub record Fills (epoch : ℕ) (old new : SlabState T) : Type 0 where
-    pub keeps : Keeps epoch old.places new.places
-    pub logs : (count : ℕ) (start : Places T) → Logs epoch count start old → Logs epoch count start new
+    pub longer : length old.places.values ≤ length new.places.values
+    pub each : (n : ℕ) → n < length old.places.values
+        → Stays epoch old.places new.places n ⊎ (Contains new.undo_log n × (get_or old.places.epochs n 0 < epoch))
+    pub logged : (n : ℕ) → Contains old.undo_log n → Contains new.undo_log n
+    pub gained : (n : ℕ) → n < length old.places.values → Contains new.undo_log n
+        → Contains old.undo_log n ⊎ (get_or old.places.epochs n 0 < epoch)
 
   -- all in use is kept, all free places are free, and there are no more of them
   pub record IsBack (epoch : ℕ) (old new : Places T) : Type 0 where

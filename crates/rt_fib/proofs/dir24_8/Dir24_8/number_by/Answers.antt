@@ -1,20 +1,18 @@
 use Rattle.std.proofs.Common.{arith}
-use Rattle.rt_fib.proofs.Leading.{entry_leads, short_number, long_group, group_read}
+use Rattle.rt_fib.proofs.Leading.{entry_leads, group_read}
 use Rattle.rt_fib.proofs.dir24_8.Dir24_8.number_by.Goals as goal
 
 pub returns-then-entry-lt-GROUP_FLAG : goal.returns-then-entry-lt-GROUP_FLAG
 returns-then-entry-lt-GROUP_FLAG g c =
     let leads = entry_leads _ _ _ _ _ c.args.addr.0 c.args.entry c.requires.right (omega arith) c.requires.entry in
-    short_number _ _ _ _ _ _ leads c.if-entry-lt-GROUP_FLAG.true
+    leads.short c.if-entry-lt-GROUP_FLAG.true
 
 pub get-group-requires : goal.get-group-requires
 get-group-requires g c =
     let leads = entry_leads _ _ _ _ _ c.args.addr.0 c.args.entry c.requires.right (omega arith) c.requires.entry in
-    let names = long_group _ _ _ _ _ _ leads c.if-entry-lt-GROUP_FLAG.false in
-    omega (arith, names.long, names.named.is_used.within)
+    (leads.long c.if-entry-lt-GROUP_FLAG.false).named.within
 
 pub returns : goal.returns
 returns g c =
     let leads = entry_leads _ _ _ _ _ c.args.addr.0 c.args.entry c.requires.right (omega arith) c.requires.entry in
-    let names = long_group _ _ _ _ _ _ leads c.if-entry-lt-GROUP_FLAG.false in
-    group_read _ _ _ _ _ _ c.get-group.result.now names c.get-group.ensures
+    (group_read _ _ _ _ _ _ c.get-group.result.now (leads.long c.if-entry-lt-GROUP_FLAG.false) c.get-group.ensures).2

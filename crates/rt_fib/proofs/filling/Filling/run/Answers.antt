@@ -1,4 +1,4 @@
-use Rattle.std.proofs.Common.{◌≡◌, ◌+◌, ◌*◌, inl, refl, arith}
+use Rattle.std.proofs.Common.{◌≡◌, ◌+◌, ◌*◌, refl, arith}
 use Rattle.rt_fib.proofs.Leading.{goes_fills, goes_twice, group_entry, piece_later}
 use Rattle.rt_fib.proofs.filling.Filling.run.Goals as goal
 
@@ -6,7 +6,10 @@ pub returns-then-from-self-clause-entry : goal.returns-then-from-self-clause-ent
 returns-then-from-self-clause-entry g c = λ j from below k within.
     let on = c.go_on_to.ensures.goes in
     let there = rw (on.table, on.epoch) at c.in_ok-go_on_to.ensures.piece in
-    inl (record { short = there.short; has = there.each (j * 256 + k) (omega (arith, from)) (omega (arith, below, within)) })
+    record {
+      short = λ _. there.each (j * 256 + k) (omega (arith, from)) (omega (arith, below, within));
+      long = λ long. absurd (omega (arith, there.short, long));
+    }
 
 pub returns-clause-entry : goal.returns-clause-entry
 returns-clause-entry g c = λ j from below.

@@ -1,7 +1,4 @@
 use Rattle.rt_fib.proofs.routes.RouteSlab.begin.Goals as goal
 
 pub invariant_of-self : goal.invariant_of-self
-invariant_of-self g c = rw c.begin.ensures.places c.self.invariant
-
-pub returns : goal.returns
-returns g c = rw (← c.self.view_is) c.begin.ensures.log
+invariant_of-self g c = rw c.begin.ensures.state c.self.invariant

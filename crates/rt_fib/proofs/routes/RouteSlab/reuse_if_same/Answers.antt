@@ -13,4 +13,4 @@ returns-clause-number g c = λ yes.
     record { short = used.short; has = c.mark_used.ensures.marked _ _ has }
 
 pub returns-clause-fills : goal.returns-clause-fills
-returns-clause-fills g c = rw (← c.self.view_is) (c.mark_used.ensures.fills c.in-Some.ensures.has.is_used.used)
+returns-clause-fills g c = rw (← c.self.view_is) (c.mark_used.ensures.fills c.in-Some.ensures.has.used)

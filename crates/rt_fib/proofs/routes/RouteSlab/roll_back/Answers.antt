@@ -7,4 +7,4 @@ invariant_of-self g c =
     rw (c.truncate.ensures.items, c.roll_back.ensures.values, c.self.invariant) (take-map hop_code c.args.count c.self.inside.slab.places.values)
 
 pub returns : goal.returns
-returns g c = λ epoch start logs. c.roll_back.ensures.back epoch start (rw (← c.self.view_is) at logs)
+returns g c = λ epoch start size fills. c.roll_back.ensures.back epoch start size (rw (← c.self.view_is) at fills)

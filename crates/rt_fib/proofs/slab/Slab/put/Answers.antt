@@ -6,7 +6,7 @@ pub returns-in-Some-clause-fills : goal.returns-in-Some-clause-fills
 returns-in-Some-clause-fills g c =
     let free = rw c.as_slice.ensures.value at c.in-Some.ensures in
     rw (← c.self.view_is, c.in_ok-push.ensures.items)
-    (filled_fills _ _ _ _ _ (record { within = omega (arith, free.within, c.self.invariant); unused = free.unused }))
+    (filled_fills _ _ _ _ _ free.unused)
 
 pub returns-in-Some-clause-put : goal.returns-in-Some-clause-put
 returns-in-Some-clause-put g c =

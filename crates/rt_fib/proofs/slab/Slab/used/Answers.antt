@@ -8,7 +8,8 @@ returns g c =
     rw (← c.self.view_is) (record {
       short = omega arith;
       has = record {
-        is_used = record { within = omega arith; used = omega (arith, epoch) };
+        within = omega arith;
+        used = omega (arith, epoch);
         there = λ d. sym (get_or_read c.self.inside.values.items c.args.n c.index-2.result.now (omega arith) c.index-2.ensures d);
       };
     })

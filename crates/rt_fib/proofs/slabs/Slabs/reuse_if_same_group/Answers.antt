@@ -10,4 +10,4 @@ returns-clause-group g c = λ yes.
     record { short = used.short; has = c.mark_used.ensures.marked _ _ has }
 
 pub returns-clause-fills : goal.returns-clause-fills
-returns-clause-fills g c = c.mark_used.ensures.fills c.in-Some.ensures.has.is_used.used
+returns-clause-fills g c = c.mark_used.ensures.fills c.in-Some.ensures.has.used
