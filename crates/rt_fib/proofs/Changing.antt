@@ -80,6 +80,7 @@ module _ {A : Type 0} where
       λ table t i other entry_is k small. leads_others slabs more place t i (get_or entries i 0) k (look_up (at (i * 256 + k)) table) keeps other (entry_is k small) in
       record {
         size = length-set entries place next ∙ are.size;
+        coded = rw (keeps.codes, keeps.routes) are.coded;
         before = λ t. each_set (λ i x. i < place + 1 → i < 2 ^ 24 → IsSince epoch marked i t → IsEntry new more t i x) entries place next within
             (λ _ fits since k small.
             subst (λ (a : Option Route). Leads more t place next k a) (sym (is.within place k from below small))
@@ -98,6 +99,7 @@ module _ {A : Type 0} where
   until_all entries slabs epoch marked change span old new is within are = record {
     size = are.size;
     within = within;
+    coded = are.coded;
     each = λ t i here since. elim (cases_lt i span.end) [
       | inl before ↦ are.before t i before here since
       | inr behind ↦ λ k small. subst (λ (a : Option Route). Leads slabs t i (get_or entries i 0) k a) (is.outside i k here small (inr behind))
@@ -121,6 +123,7 @@ module _ {A : Type 0} where
   all_alike entries slabs epoch marked old new alike are = record {
     size = are.size;
     within = are.within;
+    coded = are.coded;
     each = λ t i here since k small.
         subst (λ (a : Option Route). Leads slabs t i (get_or entries i 0) k a) (alike i k here small) (are.each t i here since k small);
   }

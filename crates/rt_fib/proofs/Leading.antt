@@ -12,7 +12,7 @@ use Rattle.rt_fib.specs.declared.slabs.Group.{Group}
 use Rattle.rt_fib.specs.declared.slabs.Slabs.{Slabs}
 use Rattle.rt_fib.specs.declared.bounds.Span.{Span}
 use Rattle.rt_fib.specs.inside.Slab.{Has}
-use Rattle.rt_fib.specs.inside.Entries.{at, AreFrom, AreMarked, AreNumbers, FillsBoth, GoesOn, HasRoute, IsEntry, IsNumberedFrom, IsSince, KeepsBoth, Leads, LeadsOn, NamesGroup}
+use Rattle.rt_fib.specs.inside.Entries.{at, AreFrom, AreMarked, AreNumbers, FillsBoth, GoesOn, HasRoute, IsEntry, IsCoded, IsNumberedFrom, IsSince, KeepsBoth, Leads, LeadsOn, NamesGroup}
 use Rattle.rt_fib.specs.inside.Changes.{AreEntriesOf, ArePut, PreservesLookupsOutside}
 use Rattle.rt_fib.proofs.Placing.{both_fill_same, both_fill_twice, each_set, weaker}
 
@@ -136,10 +136,11 @@ module _ {A : Type 0} where
 
   -- all of them, from the first on
   pub all_from : (entries : List ℕ) (slabs : Slabs A) (table : List Route)
-      → AreFrom 0 entries slabs 1 table (2 ^ 24) → AreMarked entries slabs 0 0 table
-  all_from entries slabs table are = record {
+      → IsCoded slabs → AreFrom 0 entries slabs 1 table (2 ^ 24) → AreMarked entries slabs 0 0 table
+  all_from entries slabs table coded are = record {
     size = are.size;
     within = omega arith;
+    coded = coded;
     each = λ t i here since k within. leads_weaker slabs t 1 i (get_or entries i 0) k (look_up (at (i * 256 + k)) table) (omega (arith, since.upto))
         (subst (λ (n : ℕ). Leads slabs 1 n (get_or entries i 0) k (look_up (at (n * 256 + k)) table)) (zero-add i) (are.each i here k within));
   }
@@ -150,6 +151,7 @@ module _ {A : Type 0} where
   all_keep entries old new epoch marked table keeps are = record {
     size = are.size;
     within = are.within;
+    coded = keeps.codes are.coded;
     each = λ t i here since k within. leads_keeps old new epoch t i (get_or entries i 0) k (look_up (at (i * 256 + k)) table) keeps since.from
         (are.each t i here since k within);
   }
@@ -164,6 +166,7 @@ module _ {A : Type 0} where
       record {
         size = length-set entries marked next ∙ are.size;
         within = omega (arith, below);
+        coded = kept.coded;
         each = λ t. each_set (λ i e. i < 2 ^ 24 → IsSince epoch (marked + 1) i t → IsEntry table new t i e) entries marked next (omega (arith, below, are.size))
             (λ here since k within. leads_weaker new t (epoch + 1) marked next k (look_up (at (marked * 256 + k)) table) since.upto
             (on marked k (look_up (at (marked * 256 + k)) table) within
@@ -216,6 +219,7 @@ module _ {A : Type 0} (prefix : Prefix) (span : Span) (old new fresh : List ℕ)
       record {
         size = put.size ∙ was.size;
         within = was.within;
+        coded = keeps.codes was.coded;
         each = λ t i here since. elim (cases_lt i span.first) [
           | inl before ↦ stays t i here since (inl before) (put.before i before)
           | inr from ↦ elim (cases_lt i span.end) [

@@ -1,13 +1,13 @@
 -- Places that are filled and marked, and what then stays in use.
-use Rattle.std.proofs.Common.{◌≡◌, ◌≢◌, ℕ, ◌+◌, ◌<◌, ◌≤◌, List, [], ◌∷◌, ◌++◌, length, take, drop, add-one, get_or, get_or-set_other, get_or-set_same, get_or-take, Option, subst, sym, refl, ap, ◌∙◌, inl, inr, arith}
+use Rattle.std.proofs.Common.{◌≡◌, ◌≢◌, ℕ, ◌+◌, ◌<◌, ◌≤◌, List, [], ◌∷◌, ◌++◌, length, take, drop, add-one, get_or, get_or-set_other, get_or-set_same, get_or-take, subst, sym, refl, ap, ◌∙◌, inl, inr, arith}
 use Rattle.std.proofs.Math.ListN.{set}
 use Rattle.std.proofs.lemmas.List.{length-set, length-take, set_split, take_all, drop_all, get_or_default, get_or_append_left, length_push}
 use Rattle.std.proofs.lemmas.List.Elements.{Contains-append_left, Contains-push, Contains-push_cases}
 use Rattle.std.proofs.lemmas.Bool.{cases_eq}
-use Rattle.rt_rib.specs.declared.routes.Route.{Route}
+use Rattle.rt_fib.specs.declared.slabs.Counts.{Counts}
 use Rattle.rt_fib.specs.declared.slabs.Slabs.{Slabs}
 use Rattle.rt_fib.specs.inside.Slab.{with_value, begun, AreCleared, Fills, Has, IsBack, Keeps, Places, SlabState, Stays}
-use Rattle.rt_fib.specs.inside.Entries.{both_begun, AreBack, FillsBoth, KeepsBoth}
+use Rattle.rt_fib.specs.inside.Entries.{AreBack, FillsBoth, HasBegun, KeepsBoth, SamePlaces}
 
 -- what holds of each number of a list, once one is set
 pub each_set : (P : ℕ → ℕ → Type 0) (xs : List ℕ) (i x : ℕ) → i < length xs → P i x → ((j : ℕ) → j ≢ i → P j (get_or xs j 0))
@@ -175,38 +175,43 @@ module _ {T : Type 0} where
 
 module _ {A : Type 0} where
   -- the same of both slabs
-  pub same_places_keep : (epoch : ℕ) (old new : Slabs A) → new.groups.places ≡ old.groups.places → new.routes.places ≡ old.routes.places → KeepsBoth epoch old new
-  same_places_keep epoch old new groups routes =
-      record { groups = rw groups (keeps_same epoch old.groups.places); routes = rw routes (keeps_same epoch old.routes.places) }
+  pub same_keep : (epoch : ℕ) (old new : Slabs A) → SamePlaces old new → KeepsBoth epoch old new
+  same_keep epoch old new same = record {
+    groups = rw same.groups (keeps_same epoch old.groups.places);
+    routes = rw same.routes (keeps_same epoch old.routes.places);
+    codes = λ coded. rw (same.codes, same.routes) coded;
+  }
 
   pub both_fill_same : (epoch : ℕ) (xs : Slabs A) → FillsBoth epoch xs xs
-  both_fill_same epoch xs = record { groups = fills_same epoch xs.groups; routes = fills_same epoch xs.routes }
+  both_fill_same epoch xs = record { groups = fills_same epoch xs.groups; routes = fills_same epoch xs.routes; codes = λ coded. coded }
 
   pub both_fill_twice : (epoch : ℕ) (xs ys zs : Slabs A) → FillsBoth epoch xs ys → FillsBoth epoch ys zs → FillsBoth epoch xs zs
   both_fill_twice epoch xs ys zs first then = record {
     groups = fills_twice epoch _ _ _ first.groups then.groups;
     routes = fills_twice epoch _ _ _ first.routes then.routes;
+    codes = λ coded. then.codes (first.codes coded);
   }
 
-  -- what fills only the routes
-  pub routes_fill : (epoch : ℕ) (old : Slabs A) (new : SlabState (Option Route)) → Fills epoch old.routes new → FillsBoth epoch old (record { groups = old.groups; routes = new })
-  routes_fill epoch old new fills = record { groups = fills_same epoch old.groups; routes = fills }
+  -- what fills only the routes, and none with another answer
+  pub routes_fill : (epoch : ℕ) (old new : Slabs A) → new.groups ≡ old.groups → new.codes.items ≡ old.codes.items
+      → Fills epoch old.routes new.routes → new.routes.places.values ≡ old.routes.places.values → FillsBoth epoch old new
+  routes_fill epoch old new groups codes fills values =
+      record { groups = rw groups (fills_same epoch old.groups); routes = fills; codes = λ coded. rw (codes, values) coded }
 
   pub fills_keep : (epoch : ℕ) (old new : Slabs A) → FillsBoth epoch old new → KeepsBoth epoch old new
-  fills_keep epoch old new fills = record { groups = fills_kept epoch _ _ fills.groups; routes = fills_kept epoch _ _ fills.routes }
+  fills_keep epoch old new fills =
+      record { groups = fills_kept epoch _ _ fills.groups; routes = fills_kept epoch _ _ fills.routes; codes = fills.codes }
 
-  -- since a change began, all in use is kept, and so it is once the change is rolled back
-  pub begun_keep : (epoch : ℕ) (start new : Slabs A) → FillsBoth epoch (both_begun start) new → KeepsBoth epoch start new
-  begun_keep epoch start new fills = record {
-    groups = fills_kept epoch (begun start.groups.places) new.groups fills.groups;
-    routes = fills_kept epoch (begun start.routes.places) new.routes fills.routes;
-  }
+  -- since a change began, all in use is kept
+  pub begun_keep : (epoch : ℕ) (counts : Counts) (start old new : Slabs A) → HasBegun start old counts → FillsBoth epoch old new → KeepsBoth epoch start new
+  begun_keep epoch counts start old new begun fills =
+      let kept = fills_keep epoch old new fills in
+      record {
+        groups = rw begun.groups at kept.groups;
+        routes = rw begun.routes at kept.routes;
+        codes = λ coded. kept.codes (rw (begun.codes, begun.routes) coded);
+      }
 
+  -- and so it is once the change is rolled back
   pub back_keep : (epoch : ℕ) (start new : Slabs A) → AreBack epoch start new → KeepsBoth epoch start new
-  back_keep epoch start new back = record { groups = back.groups.keeps; routes = back.routes.keeps }
-
-  -- what fills only the routes, once the change began
-  pub begun_routes : (epoch : ℕ) (start old : Slabs A) (new : SlabState (Option Route)) → old ≡ both_begun start → Fills epoch old.routes new
-      → FillsBoth epoch (both_begun start) (record { groups = old.groups; routes = new })
-  begun_routes epoch start old new is fills =
-      subst (λ (slabs : Slabs A). FillsBoth epoch slabs (record { groups = old.groups; routes = new })) is (routes_fill epoch old new fills)
+  back_keep epoch start new back = record { groups = back.groups.keeps; routes = back.routes.keeps; codes = back.codes }

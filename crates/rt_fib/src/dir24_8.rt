@@ -72,7 +72,7 @@ impl<A: Allocator + Copy, B: Allocator + Copy> Dir24_8<A, B> {
         requires entry { entry ≡ entry_at self.now.tbl24.items addr }
         ensures { result ≡ look_up addr self.now.table.value.routes }
     {
-        self.slabs.routes.answer(self.number_by(entry, addr))
+        *self.slabs.routes.get(self.number_by(entry, addr))
     }
 
     /// Returns the number of the address's answer, by its entry.

@@ -130,7 +130,7 @@ impl<A: Allocator + Copy, B: Allocator + Copy> Fib<A, B> {
     {
         let entry = self.dir.tbl24[addr.0 as usize / GROUP_SIZE];
         let number = self.dir.number_by(entry, addr);
-        self.dir.slabs.routes.hop(number)
+        self.dir.slabs.hop(number)
     }
 
     /// Follows the last command that the table has answered. After an `add`, a `replace` or a `withdraw` it renews the answers of the

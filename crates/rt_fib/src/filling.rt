@@ -50,7 +50,7 @@ impl<'a, B: Allocator + Copy> Filling<'a, B> {
         }
         let (answer, last) = self.table.lookup_range(addr);
         let previous = slabs.previous_number(self.previous, addr);
-        let number = slabs.routes.number_of(self.epoch, previous, answer)?;
+        let number = slabs.number_of(self.epoch, previous, answer)?;
         let end = u64::from(last.0) + 1;
         self.piece = Piece { number, end };
         Ok(())
@@ -127,7 +127,6 @@ impl<'a, B: Allocator + Copy> Filling<'a, B> {
             AreFrom span.first fresh.items slabs.new (self.old.epoch.number + 1) self.old.table (span.end - span.first)) }
     {
         let mut entries = Vec::with_capacity(alloc, (span.end - span.first) as usize)?;
-        slabs.keep_left_number(self.previous, Addr(span.first * 256));
         let mut i = span.first;
         'entries: while i < span.end {
             let run = self.run(slabs, i, span.end)?;
@@ -163,7 +162,7 @@ impl<A: Allocator + Copy> Slabs<A> {
             AreFrom span.first fresh.items self.new (epoch.number + 1) table.now.routes (span.end - span.first)) }
         ensures back { OnErr result (AreBack epoch.number self.old self.new) }
     {
-        let counts = self.begin();
+        let counts = self.begin(previous, Addr(span.first * 256));
         let mut filling = Filling {
             table: table.lookup_cursor(),
             previous,

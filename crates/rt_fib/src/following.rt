@@ -9,7 +9,7 @@ ghost use Rattle.rt_fib.specs.inside.Changes.{AreEntriesOf, is_longer, AnswerAli
 
 use crate::bounds::{ENTRIES, Epoch, Span};
 use crate::dir24_8::Dir24_8;
-use crate::routes::is_same;
+use crate::slab::Same;
 use crate::slabs::{GROUP_FLAG, GROUP_SIZE, Group, Slabs};
 use crate::spans::is_whole;
 use rt_cidr::laws::{nested, ranges};
@@ -55,7 +55,7 @@ fn is_longer(answer: Option<Route>, len: u8) -> bool
 impl<A: Allocator + Copy> Slabs<A> {
     /// Returns true if the number is of an answer that is no route to a prefix longer than this.
     fn is_uncovered(&self, len: u8, number: u32) -> bool {
-        (number as usize) < self.routes.len() && !is_longer(self.routes.answer(number), len)
+        (number as usize) < self.routes.len() && !is_longer(*self.routes.get(number), len)
     }
 
     /// Returns which of the entry's addresses has an answer that is no route to a prefix longer than this.
@@ -91,10 +91,9 @@ impl<A: Allocator + Copy> Slabs<A> {
         ensures number { IfOk result (λ number. IsNumberOf self.new.routes.places (epoch.number + 1) number own.now.answer) }
         ensures back { OnErr result (AreBack epoch.number self.old self.new) }
     {
-        let counts = self.begin();
-        self.keep_left_number(entries, first);
+        let counts = self.begin(entries, first);
         let previous = self.previous_number(entries, own.addr);
-        match self.routes.number_of(epoch, previous, own.answer) {
+        match self.number_of(epoch, previous, own.answer) {
             Ok(number) => Ok(number),
             Err(refused) => {
                 self.roll_back(counts);
@@ -111,7 +110,7 @@ impl<A: Allocator + Copy> Slabs<A> {
         if number as usize >= self.routes.len() {
             return number;
         }
-        if is_longer(self.routes.answer(number), change.len) {
+        if is_longer(*self.routes.get(number), change.len) {
             return number;
         }
         change.number
@@ -219,7 +218,7 @@ impl<A: Allocator + Copy, B: Allocator + Copy> Dir24_8<A, B> {
         ranges();
         table.holds();
         let answer = table.look_up(addr);
-        let is_same = is_same(before, answer);
+        let is_same = before.is_same(&answer);
         Some(UncoveredAnswer {
             addr,
             answer,

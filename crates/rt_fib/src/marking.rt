@@ -26,8 +26,8 @@ impl<A: Allocator + Copy> Slabs<A> {
         if entry as usize >= self.routes.len() {
             return entry;
         }
-        let answer = self.routes.answer(entry);
-        if self.routes.reuse_if_same(epoch, last, answer) {
+        let answer = *self.routes.get(entry);
+        if self.routes.reuse_if_same(epoch, last, &answer) {
             return last;
         }
         self.routes.mark_used(epoch, entry);

@@ -1,6 +1,6 @@
 //! Lists whose places are used again. Each place has the epoch in which it was last marked as used. Whatever is in use has at least
 //! the epoch that the round began with, so a place with a lower one is free.
-ghost use Rattle.std.specs.Prelude.{◌≡◌, ℕ, ◌+◌, ◌<◌, ◌≤◌, ◌^◌, IfOk, IfSome, OnErr, [], length, get_or, slice_set, take};
+ghost use Rattle.std.specs.Prelude.{◌≡◌, ℕ, ◌+◌, ◌<◌, ◌≤◌, ◌^◌, IfOk, IfSome, IsTrue, OnErr, [], length, get_or, slice_set, take};
 ghost use Rattle.rt_fib.specs.inside.Slab.{with_value, begun, AreCleared, Fills, Has, IsBack, IsNumberOf, Keeps, Places};
 
 use crate::bounds::Epoch;
@@ -11,6 +11,13 @@ use std::marker::Model;
 
 /// Says how many places a search for a free one looks at.
 const MOST_TRIES: u32 = 8;
+
+/// Compares values of a slab.
+pub(crate) trait Same: Copy {
+    /// Returns true only if the other value is the same.
+    fn is_same(&self, other: &Self) -> bool
+        ensures { IsTrue result → self.now ≡ other.now };
+}
 
 /// Holds values, and the epoch of each place. The epochs are a separate list: so a look-up reads only values, and marking reads 4
 /// bytes of each place.
@@ -197,6 +204,24 @@ impl<T: Copy, A: Allocator + Copy> Slab<T, A> {
         clear_each(self.epochs.as_mut_slice(), self.undo_log.as_slice());
         self.values.truncate(count);
         self.epochs.truncate(count);
+    }
+}
+
+impl<T: Same, A: Allocator + Copy> Slab<T, A> {
+    /// Returns true if this is the place of that value: then it is in use from the next epoch on.
+    pub(crate) fn reuse_if_same(&mut self, epoch: Epoch, n: u32, value: &T) -> bool
+        ensures fills { Fills epoch.number self.old self.new }
+        ensures number { IsTrue result → IsNumberOf self.new.places (epoch.number + 1) n value.now }
+        ensures values { self.new.places.values ≡ self.old.places.values }
+    {
+        let Some(used) = self.used(epoch, n) else {
+            return false;
+        };
+        if !used.is_same(value) {
+            return false;
+        }
+        self.mark_used(epoch, n);
+        true
     }
 }
 

@@ -1,14 +1,14 @@
 //! The groups and the routes: what the entries lead to.
-ghost use Rattle.std.specs.Prelude.{◌≡◌, ℕ, ◌+◌, ◌<◌, ◌^◌, IfOk, IsTrue};
+ghost use Rattle.std.specs.Prelude.{◌≡◌, ℕ, ◌+◌, IfOk};
 ghost use Rattle.rt_fib.specs.declared.slabs.Slabs.{Slabs};
-ghost use Rattle.rt_fib.specs.inside.Slab.{Fills, IsNumberOf};
-ghost use Rattle.rt_fib.specs.inside.Entries.{both_begun, counts_of, AreBack, FillsBoth};
+ghost use Rattle.rt_fib.specs.inside.Slab.{IsNumberOf};
+ghost use Rattle.rt_fib.specs.inside.Entries.{AreBack, FillsBoth, HasBegun, IsCoded, SamePlaces};
 
 use crate::bounds::Epoch;
-use crate::routes::{ROUTE_BYTES, RouteSlab};
-use crate::slab::Slab;
+use crate::routes::{CODE_BYTES, LENGTHS, ROUTE_BYTES, trim_codes};
+use crate::slab::{Same, Slab};
 use rt_cidr::Addr;
-use rt_rib::Refused;
+use rt_rib::{Refused, Route};
 use std::alloc::Allocator;
 
 /// An entry from this number on names a group. A lower one is the number of an answer.
@@ -35,11 +35,10 @@ pub(crate) struct Group {
     pub(crate) owner: u32,
 }
 
-/// Returns true if two groups are the same.
-fn is_same_group(one: &Group, other: &Group) -> bool
-    ensures { IsTrue result → one.now ≡ other.now }
-{
-    one.owner == other.owner && one.numbers == other.numbers
+impl Same for Group {
+    fn is_same(&self, other: &Group) -> bool {
+        self.owner == other.owner && self.numbers == other.numbers
+    }
 }
 
 /// Holds how many groups and routes there are.
@@ -68,26 +67,39 @@ fn most_waste(groups: usize) -> usize {
 #[derive(Drop)]
 pub(crate) struct Slabs<A: Allocator + Copy> {
     pub(crate) groups: Slab<Group, A>,
-    pub(crate) routes: RouteSlab<A>,
+    pub(crate) routes: Slab<Option<Route>, A>,
+    /// The code of each answer's next hop. They are a separate list: so 16 of them share a cache line.
+    pub(crate) codes: Vec<u32, A>,
+    /// The number that an answer got last, by its prefix's length. No clause mentions them.
+    pub(crate) last_numbers: [u32; LENGTHS],
 }
 
 impl<A: Allocator + Copy> Slabs<A> {
     /// Makes slabs with nothing in them.
-    pub(crate) fn empty(alloc: A) -> Slabs<A> {
+    pub(crate) fn empty(alloc: A) -> Slabs<A>
+        ensures { IsCoded result }
+    {
         Slabs {
             groups: Slab::empty(alloc),
-            routes: RouteSlab::empty(alloc),
+            routes: Slab::empty(alloc),
+            codes: Vec::new(alloc),
+            last_numbers: [GROUP_FLAG; LENGTHS],
         }
     }
 
     /// Copies them into memory of the allocator.
     pub(crate) fn copy(&self, alloc: A) -> Result<Slabs<A>, Refused>
-        ensures groups { IfOk result (λ copy. copy.groups.places ≡ self.now.groups.places) }
-        ensures routes { IfOk result (λ copy. copy.routes.places ≡ self.now.routes.places) }
+        ensures { IfOk result (λ copy. SamePlaces self.now copy) }
     {
         let groups = self.groups.copy(alloc)?;
         let routes = self.routes.copy(alloc)?;
-        Ok(Slabs { groups, routes })
+        let codes = Vec::from_slice(alloc, &self.codes)?;
+        Ok(Slabs {
+            groups,
+            routes,
+            codes,
+            last_numbers: self.last_numbers,
+        })
     }
 
     /// Returns how many groups and routes there are.
@@ -98,11 +110,12 @@ impl<A: Allocator + Copy> Slabs<A> {
         }
     }
 
-    /// Begins a change. Returns how many groups and routes there are.
-    pub(crate) fn begin(&mut self) -> Counts
-        ensures counts { result ≡ counts_of self.old }
-        ensures state { self.new ≡ both_begun self.old }
+    /// Begins a change of the answers from this address on. The number of the answer before it is kept as that which such an answer got
+    /// last. Returns how many groups and routes there are.
+    pub(crate) fn begin(&mut self, entries: &[u32], addr: Addr) -> Counts
+        ensures { HasBegun self.old self.new result }
     {
+        self.keep_left_number(entries, addr);
         let groups = self.groups.begin();
         let routes = self.routes.begin();
         Counts { groups, routes }
@@ -110,37 +123,42 @@ impl<A: Allocator + Copy> Slabs<A> {
 
     /// Undoes a refused change that began with these counts: what was free is free again.
     pub(crate) fn roll_back(&mut self, counts: Counts)
-        ensures { (epoch : ℕ) → (start : Slabs A) → counts ≡ counts_of start → FillsBoth epoch (both_begun start) self.old → AreBack epoch start self.new }
+        ensures { (epoch : ℕ) → (start begun : Slabs A) → HasBegun start begun counts → FillsBoth epoch begun self.old → AreBack epoch start self.new }
     {
         self.groups.roll_back(counts.groups);
         self.routes.roll_back(counts.routes);
+        self.codes.truncate(counts.routes);
     }
 
     /// Gets room for the places that two rounds may leave unused, so that no change has to copy a long list. A short list gets room
     /// for as much again as it has.
     pub(crate) fn reserve_waste(&mut self)
-        ensures { self.new ≡ self.old }
+        ensures { SamePlaces self.old self.new }
     {
         let Counts { groups, routes } = self.counts();
         let waste = most_waste(groups);
+        let more = routes.min(waste / ROUTE_BYTES);
         self.groups.reserve(groups.min(waste / GROUP_BYTES));
-        self.routes.reserve(routes.min(waste / ROUTE_BYTES));
+        self.routes.reserve(more);
+        let _ = self.codes.reserve_exact(more);
     }
 
     /// Gives back the room that isn't needed.
     pub(crate) fn trim(&mut self)
-        ensures { self.new ≡ self.old }
+        ensures { SamePlaces self.old self.new }
     {
         let waste = most_waste(self.groups.len());
         self.groups.trim(waste / GROUP_BYTES);
         self.routes.trim(waste / ROUTE_BYTES);
+        trim_codes(&mut self.codes, waste / ROUTE_BYTES);
     }
 
     /// Returns how many bytes they take.
     pub(crate) fn bytes(&self) -> usize {
-        self.groups
-            .bytes(GROUP_BYTES)
-            .saturating_add(self.routes.bytes())
+        let groups = self.groups.bytes(GROUP_BYTES);
+        let routes = self.routes.bytes(ROUTE_BYTES - CODE_BYTES);
+        let codes = self.codes.capacity().saturating_mul(CODE_BYTES);
+        groups.saturating_add(routes).saturating_add(codes)
     }
 
     /// Returns the number that the entries lead the address to, or a number without an answer.
@@ -160,31 +178,6 @@ impl<A: Allocator + Copy> Slabs<A> {
         self.groups.get(place).numbers[addr.0 as usize % GROUP_SIZE]
     }
 
-    /// Keeps the number of the answer to the address before this one, as that which such an answer got last.
-    pub(crate) fn keep_left_number(&mut self, entries: &[u32], addr: Addr)
-        ensures { self.new ≡ self.old }
-    {
-        let left = Addr(addr.0.saturating_sub(1));
-        let number = self.previous_number(entries, left);
-        self.routes.keep_number(number);
-    }
-
-    /// Returns true if this is the place of that group: then it is in use from the next epoch on.
-    fn reuse_if_same_group(&mut self, epoch: Epoch, place: u32, group: &Group) -> bool
-        ensures routes { self.new.routes ≡ self.old.routes }
-        ensures fills { Fills epoch.number self.old.groups self.new.groups }
-        ensures group { IsTrue result → IsNumberOf self.new.groups.places (epoch.number + 1) place group.now }
-    {
-        let Some(used) = self.groups.used(epoch, place) else {
-            return false;
-        };
-        if !is_same_group(used, group) {
-            return false;
-        }
-        self.groups.mark_used(epoch, place);
-        true
-    }
-
     /// Returns the place of the group: the previous one, if it is that group's, and else one that was free.
     #[tactic(auto, using(crate::proofs::Placing::fills_same))]
     pub(crate) fn place_of_group(
@@ -197,7 +190,7 @@ impl<A: Allocator + Copy> Slabs<A> {
         ensures fills { FillsBoth epoch.number self.old self.new }
         ensures group { IfOk result (λ place. IsNumberOf self.new.groups.places (epoch.number + 1) place group) }
     {
-        if self.reuse_if_same_group(epoch, previous, &group) {
+        if self.groups.reuse_if_same(epoch, previous, &group) {
             return Ok(previous);
         }
         self.groups.put(epoch, group)

@@ -13,7 +13,7 @@ use Rattle.rt_fib.specs.declared.slabs.Group.{Group}
 use Rattle.rt_fib.specs.declared.slabs.Slabs.{Slabs}
 use Rattle.rt_fib.specs.declared.bounds.Span.{Span}
 use Rattle.rt_fib.specs.inside.Slab.{Has, IsNumberOf}
-use Rattle.rt_fib.specs.inside.Entries.{at, HasRoute, IsSince, Leads, IsEntry}
+use Rattle.rt_fib.specs.inside.Entries.{at, HasRoute, IsCoded, IsSince, Leads, IsEntry}
 
 -- both tables answer alike each address that the prefix doesn't cover
 abbrev pub PreservesLookupsOutside : Prefix → List Route → List Route → Type 0
@@ -75,9 +75,10 @@ module _ {A : Type 0} where
     pub size : length new ≡ 256
     pub each : (k : ℕ) → k < count → IsNumberAfter slabs epoch change (get_or old k 0) (get_or new k 0)
 
-  -- the routes and the groups of all other entries stay
+  -- the routes with their codes and the groups of all other entries stay
   pub record KeepsOthers (i : ℕ) (old new : Slabs A) : Type 0 where
     pub routes : new.routes ≡ old.routes
+    pub codes : new.codes ≡ old.codes
     pub groups : (t n : ℕ) (group : Group) → group.owner ≢ i → Has old.groups.places t n group → Has new.groups.places t n group
 
   -- for every answer to which the i-th entry led, `next` leads to the answer after the change
@@ -89,5 +90,6 @@ module _ {A : Type 0} where
   -- the entries before this place lead to the new table's answers, the others to the old table's
   pub record AreUntil (entries : List ℕ) (slabs : Slabs A) (epoch marked : ℕ) (old new : List Route) (place : ℕ) : Type 0 where
     pub size : length entries ≡ 2 ^ 24
+    pub coded : IsCoded slabs
     pub before : (t i : ℕ) → i < place → i < 2 ^ 24 → IsSince epoch marked i t → IsEntry new slabs t i (get_or entries i 0)
     pub behind : (t i : ℕ) → place ≤ i → i < 2 ^ 24 → IsSince epoch marked i t → IsEntry old slabs t i (get_or entries i 0)

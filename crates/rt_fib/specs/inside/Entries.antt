@@ -1,5 +1,5 @@
 -- How the entries of tbl24, the groups and the routes represent the table's answer to each address.
-use Rattle.std.specs.Prelude.{◌≡◌, ℕ, ◌+◌, ◌-◌, ◌*◌, ◌/◌, ◌^◌, ◌<◌, ◌≤◌, List, length, get_or, Option}
+use Rattle.std.specs.Prelude.{◌≡◌, ℕ, ◌+◌, ◌-◌, ◌*◌, ◌/◌, ◌^◌, ◌<◌, ◌≤◌, List, length, get_or, map, Option}
 use Rattle.rt_cidr.specs.declared.address.Addr.{Addr}
 use Rattle.rt_rib.specs.declared.routes.Route.{Route}
 use Rattle.rt_rib.specs.LookUp.{look_up}
@@ -9,6 +9,7 @@ use Rattle.rt_fib.specs.declared.filling.Piece.{Piece}
 use Rattle.rt_fib.specs.declared.slabs.Counts.{Counts}
 use Rattle.rt_fib.specs.declared.slabs.Group.{Group}
 use Rattle.rt_fib.specs.declared.slabs.Slabs.{Slabs}
+use Rattle.rt_fib.specs.inside.HopCodes.{hop_code}
 use Rattle.rt_fib.specs.inside.Slab.{begun, Fills, Has, IsBack, Keeps}
 
 -- the address of this number
@@ -26,28 +27,41 @@ pub record IsSince (epoch marked i t : ℕ) : Type 0 where
   pub unmarked : marked ≤ i → t ≤ epoch
 
 module _ {A : Type 0} where
+  -- the codes are those of the answers' next hops
+  abbrev pub IsCoded : Slabs A → Type 0
+  IsCoded slabs = slabs.codes.items ≡ map hop_code slabs.routes.places.values
+
+  -- all places and codes are the same
+  pub record SamePlaces (old new : Slabs A) : Type 0 where
+    pub groups : new.groups.places ≡ old.groups.places
+    pub routes : new.routes.places ≡ old.routes.places
+    pub codes : new.codes.items ≡ old.codes.items
+
   -- what is in use in both slabs since this epoch or a later one stays so, with its value
   pub record KeepsBoth (epoch : ℕ) (old new : Slabs A) : Type 0 where
     pub groups : Keeps epoch old.groups.places new.groups.places
     pub routes : Keeps epoch old.routes.places new.routes.places
+    pub codes : IsCoded old → IsCoded new
 
   -- and the logs have whatever free places were filled
   pub record FillsBoth (epoch : ℕ) (old new : Slabs A) : Type 0 where
     pub groups : Fills epoch old.groups new.groups
     pub routes : Fills epoch old.routes new.routes
+    pub codes : IsCoded old → IsCoded new
 
-  -- when a change begins, the logs are empty
-  abbrev pub both_begun : Slabs A → Slabs A
-  both_begun slabs = record { groups = begun slabs.groups.places; routes = begun slabs.routes.places }
-
-  -- how many places there are
-  abbrev pub counts_of : Slabs A → Counts
-  counts_of slabs = record { groups = length slabs.groups.places.values; routes = length slabs.routes.places.values }
+  -- a change begins with these counts, and the logs are empty
+  pub record HasBegun (old new : Slabs A) (counts : Counts) : Type 0 where
+    pub groups : new.groups ≡ begun old.groups.places
+    pub routes : new.routes ≡ begun old.routes.places
+    pub codes : new.codes.items ≡ old.codes.items
+    pub group_count : counts.groups ≡ length old.groups.places.values
+    pub route_count : counts.routes ≡ length old.routes.places.values
 
   -- all in use is kept, all free places are free, and there are no more of them
   pub record AreBack (epoch : ℕ) (old new : Slabs A) : Type 0 where
     pub groups : IsBack epoch old.groups.places new.groups.places
     pub routes : IsBack epoch old.routes.places new.routes.places
+    pub codes : IsCoded old → IsCoded new
 
   -- the number is that of the answer's place
   abbrev pub HasRoute : Slabs A → ℕ → ℕ → Option Route → Type 0
@@ -79,6 +93,7 @@ module _ {A : Type 0} where
   pub record AreMarked (entries : List ℕ) (slabs : Slabs A) (epoch marked : ℕ) (table : List Route) : Type 0 where
     pub size : length entries ≡ 2 ^ 24
     pub within : marked ≤ 2 ^ 24
+    pub coded : IsCoded slabs
     pub each : (t i : ℕ) → i < 2 ^ 24 → IsSince epoch marked i t → IsEntry table slabs t i (get_or entries i 0)
 
   -- `next` leads to every answer to which `entry` led, in use in the next epoch too

@@ -7,9 +7,9 @@ pub entries-init : goal.entries-init
 entries-init g c = record {
   onward = omega arith;
   within = omega arith;
-  goes = rw c.keep_left_number.ensures (goes_same _ _);
+  goes = goes_same _ _;
   made = record { size = omega (arith, c.in_ok-entries.ensures.len); each = λ i below. absurd (omega (arith, below)) };
-  piece = rw c.keep_left_number.ensures c.requires;
+  piece = c.requires;
 }
 
 pub entries-preserved : goal.entries-preserved

@@ -10,5 +10,6 @@ returns-clause-leads g c =
 pub returns-clause-others : goal.returns-clause-others
 returns-clause-others g c = record {
   routes = refl;
+  codes = refl;
   groups = others_stay c.args.i c.args.self.now.groups c.replace.new.self (c.args.entry - 2 ^ 31) _ _ c.get.ensures c.if-group-i.false c.replace.ensures.values c.replace.ensures.epochs;
 }

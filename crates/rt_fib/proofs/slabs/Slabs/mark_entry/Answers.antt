@@ -6,7 +6,7 @@ use Rattle.rt_fib.proofs.slabs.Slabs.mark_entry.Goals as goal
 
 pub numbers-init : goal.numbers-init
 numbers-init g c = record {
-  keeps = record { groups = c.mark_used.ensures.keeps; routes = keeps_same _ _ };
+  keeps = record { groups = c.mark_used.ensures.keeps; routes = keeps_same _ _; codes = λ coded. coded };
   group = c.mark_used.ensures.marked c.args.epoch.number;
   on = λ i answer below has. absurd (omega (arith, below));
 }
@@ -17,7 +17,11 @@ numbers-preserved g c =
     let marked = c.mark_used-in-numbers.ensures in
     let epoch = c.args.epoch.number in
     record {
-      keeps = record { groups = v.keeps.groups; routes = keeps_twice _ _ _ _ v.keeps.routes marked.keeps };
+      keeps = record {
+        groups = v.keeps.groups;
+        routes = keeps_twice _ _ _ _ v.keeps.routes marked.keeps;
+        codes = λ coded. rw marked.values (v.keeps.codes coded);
+      };
       group = v.group;
       on = λ i answer below has. elim (cases_lt i c.numbers.k) [
         | inl before ↦ marked.keeps.each (epoch + 1) _ answer (omega arith) (v.on i answer before has)

@@ -4,7 +4,11 @@ use Rattle.rt_fib.proofs.Leading.{whole_on}
 use Rattle.rt_fib.proofs.slabs.Slabs.mark_number.Goals as goal
 
 pub returns-then-entry-last-clause-keeps : goal.returns-then-entry-last-clause-keeps
-returns-then-entry-last-clause-keeps g c = record { groups = keeps_same _ _; routes = c.mark_used.ensures.keeps }
+returns-then-entry-last-clause-keeps g c = record {
+  groups = keeps_same _ _;
+  routes = c.mark_used.ensures.keeps;
+  codes = λ coded. rw c.mark_used.ensures.values coded;
+}
 
 pub returns-then-entry-last-clause-leads : goal.returns-then-entry-last-clause-leads
 returns-then-entry-last-clause-leads g c =
@@ -14,6 +18,7 @@ pub returns-clause-keeps : goal.returns-clause-keeps
 returns-clause-keeps g c = record {
   groups = keeps_same _ _;
   routes = keeps_twice _ _ _ _ (fills_kept _ _ _ c.reuse_if_same.ensures.fills) c.mark_used-2.ensures.keeps;
+  codes = λ coded. rw (c.mark_used-2.ensures.values, c.reuse_if_same.ensures.values) coded;
 }
 
 pub returns-clause-leads : goal.returns-clause-leads
