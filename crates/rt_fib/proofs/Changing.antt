@@ -1,7 +1,7 @@
 -- What entries and groups lead to while they are changed in place.
-use Rattle.std.proofs.Common.{◌≡◌, ◌≢◌, ℕ, ◌+◌, ◌*◌, ◌-◌, ◌^◌, ◌<◌, ◌≤◌, List, length, get_or, get_or-set_other, get_or-set_same, Option, subst, sym, refl, ap, ◌∙◌, inl, inr, arith}
+use Rattle.std.proofs.Common.{◌≡◌, ◌≢◌, ℕ, ◌+◌, ◌*◌, ◌-◌, ◌^◌, ◌<◌, ◌≤◌, List, length, get_or, get_or-set_same, Option, subst, sym, refl, ◌∙◌, inl, inr, arith}
 use Rattle.std.proofs.Math.ListN.{set}
-use Rattle.std.proofs.lemmas.Bool.{cases_eq, cases_lt}
+use Rattle.std.proofs.lemmas.Bool.{cases_lt}
 use Rattle.std.proofs.lemmas.List.{length-set}
 use Rattle.rt_rib.specs.declared.routes.Route.{Route}
 use Rattle.rt_rib.specs.LookUp.{look_up}
@@ -10,8 +10,8 @@ use Rattle.rt_fib.specs.declared.slabs.Slabs.{Slabs}
 use Rattle.rt_fib.specs.declared.following.Change.{Change}
 use Rattle.rt_fib.specs.declared.bounds.Span.{Span}
 use Rattle.rt_fib.specs.inside.Slab.{SlabState, Has}
-use Rattle.rt_fib.specs.inside.Entries.{at, HasRoute, IsSince, Leads, IsEntry, AreMarked}
-use Rattle.rt_fib.specs.inside.Changes.{AnswerAlike, IsChange, IsNumberAfter, AreNumbersAfter, KeepsOthers, LeadsAfter, AreUntil}
+use Rattle.rt_fib.specs.inside.Entries.{at, IsSince, Leads, IsEntry, AreMarked}
+use Rattle.rt_fib.specs.inside.Changes.{IsChange, IsNumberAfter, AreNumbersAfter, KeepsOthers, LeadsAfter, AreUntil}
 use Rattle.rt_fib.proofs.Placing.{each_set}
 use Rattle.rt_fib.proofs.Leading.{group_read, leads_still}
 
@@ -23,21 +23,6 @@ replaced old new t place was next values epochs has = rw (values, epochs) (recor
   used = has.used;
   there = λ d. get_or-set_same old.places.values place next d has.within;
 })
-
--- every other group stays, where the replaced one is its owner's
-pub others_stay : (i : ℕ) (old new : SlabState Group) (place : ℕ) (group next : Group) → group ≡ get_or old.places.values place group → group.owner ≡ i
-    → new.places.values ≡ set old.places.values place next → new.places.epochs ≡ old.places.epochs
-    → (t n : ℕ) (other : Group) → other.owner ≢ i → Has old.places t n other → Has new.places t n other
-others_stay i old new place group next read own values epochs t n other apart has = elim (cases_eq n place) [
-  | inl same ↦
-      let e : other ≡ group = sym (has.there group) ∙ ap (λ (j : ℕ). get_or old.places.values j group) same ∙ sym read in
-      absurd (apart (ap (λ (g : Group). g.owner) e ∙ own))
-  | inr away ↦ rw (values, epochs) (record {
-    within = omega (arith, has.within, length-set old.places.values place next);
-    used = has.used;
-    there = λ d. get_or-set_other old.places.values place n next d away ∙ has.there d;
-  })
-]
 
 module _ {A : Type 0} where
   -- an entry that is a number
@@ -115,15 +100,4 @@ module _ {A : Type 0} where
     size = length-set new k number ∙ are.size;
     each = each_set (λ j n. j < k + 1 → IsNumberAfter slabs epoch change (get_or old j 0) n) new k number (omega (arith, below, are.size)) (λ _. goes)
         (λ j other earlier. are.each j (omega (arith, earlier, other)));
-  }
-
-  -- the entries of one table are those of another that answers alike
-  pub all_alike : (entries : List ℕ) (slabs : Slabs A) (epoch marked : ℕ) (old new : List Route) → AnswerAlike old new
-      → AreMarked entries slabs epoch marked old → AreMarked entries slabs epoch marked new
-  all_alike entries slabs epoch marked old new alike are = record {
-    size = are.size;
-    within = are.within;
-    coded = are.coded;
-    each = λ t i here since k small.
-        subst (λ (a : Option Route). Leads slabs t i (get_or entries i 0) k a) (alike i k here small) (are.each t i here since k small);
   }

@@ -1,5 +1,4 @@
 pub mod Placing
-pub mod HopCodes
 pub mod Leading
 pub mod Others
 pub mod Changing

@@ -4,10 +4,9 @@ use Rattle.std.proofs.Math.ListN.{set}
 use Rattle.std.proofs.lemmas.List.{length-set, length-take, set_split, take_all, drop_all, get_or_default, get_or_append_left, length_push}
 use Rattle.std.proofs.lemmas.List.Elements.{Contains-append_left, Contains-push, Contains-push_cases}
 use Rattle.std.proofs.lemmas.Bool.{cases_eq}
-use Rattle.rt_fib.specs.declared.slabs.Counts.{Counts}
 use Rattle.rt_fib.specs.declared.slabs.Slabs.{Slabs}
 use Rattle.rt_fib.specs.inside.Slab.{with_value, begun, AreCleared, Fills, Has, IsBack, Keeps, Places, SlabState, Stays}
-use Rattle.rt_fib.specs.inside.Entries.{AreBack, FillsBoth, HasBegun, KeepsBoth, SamePlaces}
+use Rattle.rt_fib.specs.inside.Entries.{AreBack, FillsBoth, KeepsBoth, SamePlaces}
 
 -- what holds of each number of a list, once one is set
 pub each_set : (P : ℕ → ℕ → Type 0) (xs : List ℕ) (i x : ℕ) → i < length xs → P i x → ((j : ℕ) → j ≢ i → P j (get_or xs j 0))
@@ -202,16 +201,6 @@ module _ {A : Type 0} where
   fills_keep epoch old new fills =
       record { groups = fills_kept epoch _ _ fills.groups; routes = fills_kept epoch _ _ fills.routes; codes = fills.codes }
 
-  -- since a change began, all in use is kept
-  pub begun_keep : (epoch : ℕ) (counts : Counts) (start old new : Slabs A) → HasBegun start old counts → FillsBoth epoch old new → KeepsBoth epoch start new
-  begun_keep epoch counts start old new begun fills =
-      let kept = fills_keep epoch old new fills in
-      record {
-        groups = rw begun.groups at kept.groups;
-        routes = rw begun.routes at kept.routes;
-        codes = λ coded. kept.codes (rw (begun.codes, begun.routes) coded);
-      }
-
-  -- and so it is once the change is rolled back
+  -- a change that was rolled back kept all in use
   pub back_keep : (epoch : ℕ) (start new : Slabs A) → AreBack epoch start new → KeepsBoth epoch start new
   back_keep epoch start new back = record { groups = back.groups.keeps; routes = back.routes.keeps; codes = back.codes }

@@ -1,8 +1,7 @@
 -- How numbers of next hops lead where the numbers of answers led.
-use Rattle.std.proofs.Common.{◌≡◌, ℕ, ◌+◌, ◌*◌, ◌/◌, ◌%◌, ◌^◌, ◌-◌, ◌<◌, ◌≤◌, inl, inr, List, [], ◌∷◌, ◌++◌, length, take, get_or, get_or-set_other, get_or-set_same, get_or-take, Option, Some, None, subst, sym, ap, ◌∙◌, arith}
-use Rattle.std.proofs.Math.ListN.{set}
-use Rattle.std.proofs.lemmas.Bool.{cases_eq, cases_lt}
-use Rattle.std.proofs.lemmas.List.{length-set, length-take, get_or_append_left, get_or_push, length_push}
+use Rattle.std.proofs.Common.{◌≡◌, ℕ, ◌+◌, ◌*◌, ◌/◌, ◌%◌, ◌^◌, ◌-◌, ◌<◌, ◌≤◌, inl, inr, List, [], ◌∷◌, ◌++◌, length, take, get_or, get_or-take, Option, Some, None, subst, sym, ap, ◌∙◌, arith}
+use Rattle.std.proofs.lemmas.Bool.{cases_lt}
+use Rattle.std.proofs.lemmas.List.{length-take, get_or_append_left, get_or_push, length_push}
 use Rattle.rt_rib.specs.declared.routes.Hop.{Hop}
 use Rattle.rt_rib.specs.declared.routes.Hop.TheVariants.{Via, Discard}
 use Rattle.rt_rib.specs.declared.routes.Route.{Route}
@@ -47,20 +46,6 @@ hops_push old new numbers answers n number answer more are is there = record {
         (subst (λ (a : Option Route). IsNumber new number a) (sym found) is)
   ];
 }
-
--- one more number of a block
-pub blocks_more : (numbers : List ℕ) (blocks : List Group) (old shown : List ℕ) (block : Group) (i : ℕ) → i < length shown
-    → AreShownBlocks numbers blocks old shown i → ((d : Group) → get_or blocks (i / 256) d ≡ block)
-    → AreShownBlocks numbers blocks old (set shown i (get_or numbers (get_or block.numbers (i % 256) 0) 0)) (i + 1)
-blocks_more numbers blocks old shown block i within are there =
-    let number : ℕ = get_or numbers (get_or block.numbers (i % 256) 0) 0 in
-    record {
-      size = length-set shown i number ∙ are.size;
-      each = λ j d below. elim (cases_eq j i) [
-        | inl same ↦ rw same (get_or-set_same shown i number 0 within ∙ ap (λ (b : Group). get_or numbers (get_or b.numbers (i % 256) 0) 0) (sym (there d)))
-        | inr other ↦ get_or-set_other shown i j number 0 other ∙ are.each j d (omega (arith, below, other))
-      ];
-    }
 
 -- the list, once it is put into the caller's
 pub put_extends : (old new list : List ℕ) → length list ≤ length old → ArePut old new list 0 (length list) → Extends list (take (length list) new)

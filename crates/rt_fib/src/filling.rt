@@ -157,7 +157,7 @@ impl<A: Allocator + Copy> Slabs<A> {
         epoch: Epoch,
         span: Span,
     ) -> Result<Vec<u32, A>, Refused>
-        ensures keeps { KeepsBoth epoch.number self.old self.new }
+        ensures keeps { OnOk result (KeepsBoth epoch.number self.old self.new) }
         ensures entries { IfOk result (λ fresh.
             AreFrom span.first fresh.items self.new (epoch.number + 1) table.now.routes (span.end - span.first)) }
         ensures back { OnErr result (AreBack epoch.number self.old self.new) }

@@ -1,6 +1,6 @@
 //! Following one command. Within its prefix the answers of longer prefixes stay, and all other addresses get one answer. So each entry
 //! and each number of a group is changed in place, by the answer that it leads to, and the table is asked once.
-ghost use Rattle.std.specs.Prelude.{◌≡◌, ◌+◌, ◌<◌, ◌≤◌, ◌^◌, IfOk, IfSome, IsTrue, OnErr};
+ghost use Rattle.std.specs.Prelude.{◌≡◌, ◌+◌, ◌<◌, ◌≤◌, ◌^◌, IfOk, IfSome, IsTrue, OnOk, OnErr};
 ghost use Rattle.rt_rib.specs.Table.{IsTable};
 ghost use Rattle.rt_fib.specs.Laws.{PreservesOtherRoutes};
 ghost use Rattle.rt_fib.specs.inside.Slab.{IsNumberOf};
@@ -87,7 +87,7 @@ impl<A: Allocator + Copy> Slabs<A> {
         first: Addr,
         own: &UncoveredAnswer,
     ) -> Result<u32, Refused>
-        ensures keeps { KeepsBoth epoch.number self.old self.new }
+        ensures keeps { OnOk result (KeepsBoth epoch.number self.old self.new) }
         ensures number { IfOk result (λ number. IsNumberOf self.new.routes.places (epoch.number + 1) number own.now.answer) }
         ensures back { OnErr result (AreBack epoch.number self.old self.new) }
     {

@@ -3,8 +3,5 @@ use Rattle.rt_rib.specs.declared.routes.Route.{Route}
 use Rattle.rt_fib.specs.Hops.{next_hop}
 use Rattle.rt_fib.proofs.fib.Fib.look_up_hop.Goals as goal
 
-pub hop-requires : goal.hop-requires
-hop-requires g c = record { coded = c.self.invariant.coded; within = c.number_by-number.ensures.within }
-
 pub returns : goal.returns
 returns g c = rw (← c.self.view_is) (c.hop.ensures ∙ ap (λ (a : Option Route). next_hop a) (c.number_by-number.ensures.there None))

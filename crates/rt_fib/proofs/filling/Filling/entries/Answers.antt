@@ -1,16 +1,7 @@
 use Rattle.std.proofs.Common.{arith, refl, ◌-◌}
 use Rattle.rt_fib.proofs.Placing.{fills_keep}
-use Rattle.rt_fib.proofs.Leading.{from_run, goes_same, goes_twice}
+use Rattle.rt_fib.proofs.Leading.{from_run, goes_twice}
 use Rattle.rt_fib.proofs.filling.Filling.entries.Goals as goal
-
-pub entries-init : goal.entries-init
-entries-init g c = record {
-  onward = omega arith;
-  within = omega arith;
-  goes = goes_same _ _;
-  made = record { size = omega (arith, c.in_ok-entries.ensures.len); each = λ i below. absurd (omega (arith, below)) };
-  piece = c.requires;
-}
 
 pub entries-preserved : goal.entries-preserved
 entries-preserved g c =

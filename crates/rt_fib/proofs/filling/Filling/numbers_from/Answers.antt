@@ -1,16 +1,8 @@
-use Rattle.std.proofs.Common.{arith, refl, ◌+◌}
+use Rattle.std.proofs.Common.{arith, ◌+◌}
 use Rattle.std.proofs.lemmas.List.{length-set}
 use Rattle.rt_fib.proofs.Placing.{fills_keep}
-use Rattle.rt_fib.proofs.Leading.{goes_same, goes_twice, piece_later, numbers_set}
+use Rattle.rt_fib.proofs.Leading.{goes_twice, piece_later, numbers_set}
 use Rattle.rt_fib.proofs.filling.Filling.numbers_from.Goals as goal
-
-pub numbers-init : goal.numbers-init
-numbers-init g c = record {
-  goes = goes_same _ _;
-  full = refl;
-  made = λ k below. absurd (omega (arith, below));
-  piece = piece_later _ _ _ c.args.first (c.args.first + 0) _ (omega arith) c.requires.piece;
-}
 
 pub numbers-preserved : goal.numbers-preserved
 numbers-preserved g c =

@@ -4,6 +4,3 @@ pub returns-clause-number : goal.returns-clause-number
 returns-clause-number g c = λ yes.
     let used = rw (c.is_same.ensures c.if-not-is_same.false) at c.in-Some.ensures in
     record { short = used.short; has = c.mark_used.ensures.marked _ _ used.has }
-
-pub returns-clause-fills : goal.returns-clause-fills
-returns-clause-fills g c = c.mark_used.ensures.fills c.in-Some.ensures.has.used

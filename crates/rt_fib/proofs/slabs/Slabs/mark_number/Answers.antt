@@ -3,13 +3,6 @@ use Rattle.rt_fib.proofs.Placing.{fills_kept, keeps_same, keeps_twice}
 use Rattle.rt_fib.proofs.Leading.{whole_on}
 use Rattle.rt_fib.proofs.slabs.Slabs.mark_number.Goals as goal
 
-pub returns-then-entry-last-clause-keeps : goal.returns-then-entry-last-clause-keeps
-returns-then-entry-last-clause-keeps g c = record {
-  groups = keeps_same _ _;
-  routes = c.mark_used.ensures.keeps;
-  codes = λ coded. rw c.mark_used.ensures.values coded;
-}
-
 pub returns-then-entry-last-clause-leads : goal.returns-then-entry-last-clause-leads
 returns-then-entry-last-clause-leads g c =
     whole_on _ _ _ c.args.entry c.requires (λ answer has. c.mark_used.ensures.marked c.args.epoch.number answer has)
