@@ -1,6 +1,7 @@
 -- What entries and groups lead to while they are changed in place.
-use Rattle.std.proofs.Common.{◌≡◌, ◌≢◌, ℕ, ◌+◌, ◌*◌, ◌-◌, ◌^◌, ◌<◌, ◌≤◌, List, length, get_or, get_or-set_same, Option, subst, sym, refl, ◌∙◌, inl, inr, arith}
+use Rattle.std.proofs.Common.{◌≡◌, ◌≢◌, ℕ, ◌+◌, ◌*◌, ◌-◌, ◌^◌, ◌<◌, ◌≤◌, List, length, get_or, Option, subst, sym, refl, ◌∙◌, inl, inr, arith}
 use Rattle.std.proofs.Math.ListN.{set}
+use Rattle.std.proofs.lemmas.Grind.{common_steps}
 use Rattle.std.proofs.lemmas.Bool.{cases_lt}
 use Rattle.std.proofs.lemmas.List.{length-set}
 use Rattle.rt_rib.specs.declared.routes.Route.{Route}
@@ -18,11 +19,7 @@ use Rattle.rt_fib.proofs.Leading.{group_read, leads_still}
 -- what a replaced group of this slab has
 replaced : (old new : SlabState Group) (t place : ℕ) (was next : Group) → new.places.values ≡ set old.places.values place next
     → new.places.epochs ≡ old.places.epochs → Has old.places t place was → Has new.places t place next
-replaced old new t place was next values epochs has = rw (values, epochs) (record {
-  within = omega (arith, has.within, length-set old.places.values place next);
-  used = has.used;
-  there = λ d. get_or-set_same old.places.values place next d has.within;
-})
+replaced old new t place was next values epochs has = grind (arith, common_steps)
 
 module _ {A : Type 0} where
   -- an entry that is a number

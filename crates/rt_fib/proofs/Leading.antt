@@ -1,7 +1,8 @@
 -- What entries, pieces and numbers lead to, while places are filled and marked, and entries are renewed.
-use Rattle.std.proofs.Common.{◌≡◌, ℕ, ◌+◌, ◌*◌, ◌-◌, ◌/◌, ◌%◌, ◌^◌, ◌<◌, ◌≤◌, ◌⊎◌, List, [], ◌++◌, length, take, drop, get_or, Option, subst, sym, refl, ◌∙◌, zero-add, inl, inr, arith}
+use Rattle.std.proofs.Common.{◌≡◌, ℕ, ◌+◌, ◌*◌, ◌-◌, ◌/◌, ◌%◌, ◌^◌, ◌<◌, ◌≤◌, ◌⊎◌, List, ◌++◌, length, take, drop, get_or, Option, subst, sym, refl, ◌∙◌, zero-add, inl, inr, arith}
 use Rattle.std.proofs.Math.ListN.{set}
-use Rattle.std.proofs.lemmas.List.{append-nil, drop_all, length-set, take_all}
+use Rattle.std.proofs.lemmas.Grind.{common_steps}
+use Rattle.std.proofs.lemmas.List.{length-set}
 use Rattle.std.proofs.lemmas.Bool.{cases_lt}
 use Rattle.rt_cidr.specs.declared.prefixes.Prefix.{Prefix}
 use Rattle.rt_rib.specs.declared.routes.Route.{Route}
@@ -14,13 +15,11 @@ use Rattle.rt_fib.specs.declared.bounds.Span.{Span}
 use Rattle.rt_fib.specs.inside.Slab.{Has}
 use Rattle.rt_fib.specs.inside.Entries.{at, AreFrom, AreMarked, AreNumbers, FillsBoth, GoesOn, HasRoute, IsEntry, IsCoded, IsNumberedFrom, IsSince, KeepsBoth, Leads, LeadsOn, NamesGroup}
 use Rattle.rt_fib.specs.inside.Changes.{AreEntriesOf, ArePut, PreservesLookupsOutside}
-use Rattle.rt_fib.proofs.Placing.{both_fill_same, both_fill_twice, each_set, weaker}
+use Rattle.rt_fib.proofs.Placing.{both_fill_same, each_set}
 
 -- a slice that was lent whole
 pub lent_whole : (old new : List ℕ) (n : ℕ) → n ≡ length old → length new ≡ length old → take n (new ++ drop (length new) old) ≡ new
-lent_whole old new n size same =
-    let none : drop (length new) old ≡ [] = drop_all (length new) old (omega (arith, same)) in
-    rw (none, append-nil new) (take_all n new (omega (arith, size, same)))
+lent_whole old new n size same = grind (arith, common_steps)
 
 module _ {A : Type 0} where
   -- an address's entry leads to its answer
@@ -38,9 +37,7 @@ module _ {A : Type 0} where
   pub group_read : (slabs : Slabs A) (epoch i entry k : ℕ) (answer : Option Route) (read : Group) → NamesGroup slabs epoch i entry k answer
       → read ≡ get_or slabs.groups.places.values (entry - 2 ^ 31) read
       → Has slabs.groups.places epoch (entry - 2 ^ 31) read × (read.owner ≡ i) × HasRoute slabs epoch (get_or read.numbers k 0) answer
-  group_read slabs epoch i entry k answer read names is =
-      subst (λ (g : Group). Has slabs.groups.places epoch (entry - 2 ^ 31) g × (g.owner ≡ i) × HasRoute slabs epoch (get_or g.numbers k 0) answer)
-      (sym (is ∙ names.named.there read)) (names.named, names.own, names.number)
+  group_read slabs epoch i entry k answer read names is = grind arith
 
   -- an entry leads where it led, if the answers and its group stay
   pub leads_still : (old new : Slabs A) (s t i entry k : ℕ) (answer : Option Route)
@@ -67,20 +64,13 @@ module _ {A : Type 0} where
   -- to what is in use since an earlier epoch too
   pub leads_weaker : (slabs : Slabs A) (s t i entry k : ℕ) (answer : Option Route)
       → s ≤ t → Leads slabs t i entry k answer → Leads slabs s i entry k answer
-  leads_weaker slabs s t i entry k answer before =
-      leads_still slabs slabs t s i entry k answer (λ n. weaker slabs.routes.places s t n answer before)
-      (λ n group _. weaker slabs.groups.places s t n group before)
+  leads_weaker slabs s t i entry k answer before = grind arith
 
   -- an entry that names its group of the numbers
   pub group_entry : (table : List Route) (slabs : Slabs A) (epoch i j place : ℕ) (group : Group)
       → j ≡ i → group.owner ≡ i → Has slabs.groups.places epoch place group → AreNumbers table group.numbers slabs epoch (i * 256) 256
       → IsEntry table slabs epoch j (2 ^ 31 + place)
-  group_entry table slabs epoch i j place group same own has are k within =
-      let named : 2 ^ 31 + place - 2 ^ 31 ≡ place = omega arith in
-      record {
-        short = λ short. absurd (omega (arith, short));
-        long = λ _. record { group = group; named = rw named has; own = omega (arith, own, same); number = rw same (are k within) };
-      }
+  group_entry table slabs epoch i j place group same own has are k within = grind arith
 
   -- an answer's number, which is marked
   pub whole_on : (old new : Slabs A) (epoch entry : ℕ) → entry < 2 ^ 31
@@ -148,13 +138,7 @@ module _ {A : Type 0} where
   -- the same entries lead where they led
   pub all_keep : (entries : List ℕ) (old new : Slabs A) (epoch marked : ℕ) (table : List Route)
       → KeepsBoth epoch old new → AreMarked entries old epoch marked table → AreMarked entries new epoch marked table
-  all_keep entries old new epoch marked table keeps are = record {
-    size = are.size;
-    within = are.within;
-    coded = keeps.codes are.coded;
-    each = λ t i here since k within. leads_keeps old new epoch t i (get_or entries i 0) k (look_up (at (i * 256 + k)) table) keeps since.from
-        (are.each t i here since k within);
-  }
+  all_keep entries old new epoch marked table keeps are = grind (arith, leads_keeps)
 
   -- one more of them is marked
   pub marked_more : (entries : List ℕ) (old new : Slabs A) (epoch marked entry next : ℕ) (table : List Route)
@@ -181,15 +165,10 @@ module _ {A B : Type 0} where
   goes_same f xs = record { table = refl; epoch = refl; fills = both_fill_same f.epoch.number xs }
 
   pub goes_fills : (f g : Filling B) (xs ys zs : Slabs A) → GoesOn f g xs ys → FillsBoth g.epoch.number ys zs → GoesOn f g xs zs
-  goes_fills f g xs ys zs goes fills =
-      record { table = goes.table; epoch = goes.epoch; fills = both_fill_twice f.epoch.number xs ys zs goes.fills (rw goes.epoch at fills) }
+  goes_fills f g xs ys zs goes fills = grind arith
 
   pub goes_twice : (f g h : Filling B) (xs ys zs : Slabs A) → GoesOn f g xs ys → GoesOn g h ys zs → GoesOn f h xs zs
-  goes_twice f g h xs ys zs first then = record {
-    table = then.table ∙ first.table;
-    epoch = then.epoch ∙ first.epoch;
-    fills = (goes_fills f g xs ys zs first then.fills).fills;
-  }
+  goes_twice f g h xs ys zs first then = grind arith
 
 module _ {A : Type 0} (prefix : Prefix) (span : Span) (old new fresh : List ℕ) (slabs more : Slabs A) (epoch : ℕ) (table next : List Route) where
   -- the span's entries are those that were put

@@ -1,12 +1,12 @@
 -- What a command leaves of the routes to other prefixes, and what follows for look-ups: the answers of longer prefixes stay, and all
 -- other addresses of the prefix have one answer.
-use Rattle.std.proofs.Common.{◌≡◌, ◌↔◌, ℕ, ◌+◌, ◌*◌, ◌/◌, ◌^◌, ◌<◌, ◌≤◌, ◌≢◌, ◌==◌, Bool, true, false, inl, inr, List, Option, None, Some, eqb, nat_le, if◌then◌else◌, subst, sym, refl, ap, ◌∙◌, arith}
-use Rattle.std.proofs.lemmas.Bool.{cases_Bool, cases_lt, and_from, and_parts, both_ways, eq-eqb, eqb-true, ltb-true, ltb-false, cond-true, cond-false}
+use Rattle.std.proofs.Common.{◌≡◌, ◌↔◌, ℕ, ◌+◌, ◌*◌, ◌^◌, ◌<◌, ◌≤◌, ◌≢◌, ◌==◌, Bool, true, false, inl, inr, List, Option, None, Some, eqb, nat_le, if◌then◌else◌, subst, sym, refl, ap, ◌∙◌, arith}
+use Rattle.std.proofs.lemmas.Grind.{common_steps}
+use Rattle.std.proofs.lemmas.Bool.{cases_Bool, cases_lt, and_from, and_parts, both_ways, eq-eqb, eqb-true, ltb-true, cond-true, cond-false}
 use Rattle.std.specs.List.{Contains}
 use Rattle.rt_cidr.specs.declared.address.Addr.{Addr}
 use Rattle.rt_cidr.specs.declared.prefixes.Prefix.{Prefix}
 use Rattle.rt_cidr.specs.Prefix.{covers, contains, same_prefix}
-use Rattle.rt_cidr.specs.Cidr.{size_of}
 use Rattle.rt_cidr.specs.Laws.{CoversItsRange, ContainsWhatItCovers, CoveringAreNested}
 use Rattle.rt_rib.specs.declared.routes.Route.{Route}
 use Rattle.rt_rib.specs.declared.commands.Cmd.{Cmd}
@@ -24,10 +24,7 @@ use Rattle.rt_fib.specs.inside.Changes.{PreservesLookupsOutside, AreEntriesOf, I
 
 -- the same prefix covers the same addresses
 same_covers : (p q : Prefix) (addr : Addr) → same_prefix p q ≡ true → covers p addr ≡ covers q addr
-same_covers p q addr same =
-    let parts = and_parts (p.base == q.base) (p.len == q.len) same in
-    ap (λ (b : ℕ). (addr.0 / size_of p.len) == (b / size_of p.len)) (eqb-true p.base q.base parts.0)
-    ∙ ap (λ (l : ℕ). (addr.0 / size_of l) == (q.base / size_of l)) (eqb-true p.len q.len parts.1)
+same_covers p q addr same = grind arith
 
 -- the routes of one table that cover one address are those of the other that cover the other one
 abbrev CoverAlike : Addr → Addr → List Route → List Route → Type 0
@@ -35,14 +32,7 @@ CoverAlike a b t u = (x : Route) → (Contains t x × (covers x.prefix a ≡ tru
 
 -- so what is best in one is best in the other
 best_in_both : (a b : Addr) (t u : List Route) (r : Route) → CoverAlike a b t u → IsBestMatch a t r → IsBestMatch b u r
-best_in_both a b t u r alike is =
-    let here = (alike r).0 (is.contained, is.covering) in
-    record {
-      contained = here.0;
-      covering = here.1;
-      longest = λ s there covering. let was = (alike s).1 (there, covering) in is.longest s was.0 was.1;
-      best = λ s there covering long. let was = (alike s).1 (there, covering) in is.best s was.0 was.1 long;
-    }
+best_in_both a b t u r alike is = grind arith
 
 -- and look-ups find the same
 found_alike : (a b : Addr) (t u : List Route) → LookUpFindsBest → IsTable t → IsTable u → CoverAlike a b t u → look_up a t ≡ look_up b u
@@ -122,10 +112,7 @@ served_others old new feed cmd reply adds leaves serves =
 
 -- a prefix of another length is another
 another_length : (p q : Prefix) → p.len ≢ q.len → same_prefix p q ≡ false
-another_length p q differ = elim (cases_Bool (same_prefix p q)) [
-  | inl same ↦ absurd (differ (eqb-true _ _ ((and_parts (p.base == q.base) (p.len == q.len) same).1)))
-  | inr other ↦ other
-]
+another_length p q differ = grind arith
 
 module _ (prefix : Prefix) (t u : List Route) (finds : LookUpFindsBest) (of_t : IsTable t) (of_u : IsTable u) (others : PreservesOtherRoutes prefix t u) where
   -- an address that the prefix doesn't cover has the same answer
@@ -171,17 +158,7 @@ module _ (prefix : Prefix) (t : List Route) (finds : LookUpFindsBest) (of_t : Is
   -- where the answer isn't of a longer prefix, no longer one covers the address
   none_longer : (addr : Addr) → is_longer prefix.len (look_up addr t) ≡ false → (x : Route) → Contains t x → covers x.prefix addr ≡ true
       → x.prefix.len ≤ prefix.len
-  none_longer addr =
-      let Q : Type 0 = (x : Route) → Contains t x → covers x.prefix addr ≡ true → x.prefix.len ≤ prefix.len in
-      let P : Option Route → Type 0 = λ v. look_up addr t ≡ v → is_longer prefix.len v ≡ false → Q in
-      let at_each : (v : Option Route) → look_up addr t ≡ v → is_longer prefix.len v ≡ false → Q = λ v. elim v as P [
-        | Some r ↦ λ e short x there covering.
-            let best = ((finds addr t of_t).0 r).0 e in
-            let low : r.prefix.len ≤ prefix.len = ltb-false _ _ short in
-            omega (arith, low, best.longest x there covering)
-        | None ↦ λ e short x there covering. absurd (both_ways _ ((finds addr t of_t).1.0 e x there) covering)
-      ] in
-      at_each (look_up addr t) refl
+  none_longer addr = grind (arith, common_steps)
 
   -- so what covers it covers the whole prefix
   covers_both : (a b : Addr) → b.0 < 2 ^ 32 → covers prefix a ≡ true → covers prefix b ≡ true → is_longer prefix.len (look_up a t) ≡ false
@@ -193,10 +170,7 @@ module _ (prefix : Prefix) (t : List Route) (finds : LookUpFindsBest) (of_t : Is
   -- and all such addresses have one answer
   pub own_alike : (a b : Addr) → a.0 < 2 ^ 32 → b.0 < 2 ^ 32 → covers prefix a ≡ true → covers prefix b ≡ true
       → is_longer prefix.len (look_up a t) ≡ false → is_longer prefix.len (look_up b t) ≡ false → look_up a t ≡ look_up b t
-  own_alike a b fits_a fits_b of_a of_b own_a own_b =
-      found_alike a b t t finds of_t of_t
-      (λ x.
-      ((λ is. (is.0, covers_both a b fits_b of_a of_b own_a x is.0 is.1)), (λ is. (is.0, covers_both b a fits_a of_b of_a own_b x is.0 is.1))))
+  own_alike a b fits_a fits_b of_a of_b own_a own_b = grind (arith, found_alike, covers_both)
 
 module _ (prefix : Prefix) (span : Span) (t : List Route) (finds : LookUpFindsBest) (covering_nest : CoveringAreNested) (covers_all : ContainsWhatItCovers) (range : CoversItsRange) (of_t : IsTable t) (are : AreEntriesOf prefix span) (wholly : IsWholly prefix span) (own : Addr) (fits_own : own.0 < 2 ^ 32) (of_own : covers prefix own ≡ true) (is_own : is_longer prefix.len (look_up own t) ≡ false) where
   -- the answer to each of the prefix's addresses after the change

@@ -1,7 +1,8 @@
 -- How numbers of next hops lead where the numbers of answers led.
-use Rattle.std.proofs.Common.{◌≡◌, ℕ, ◌+◌, ◌*◌, ◌/◌, ◌%◌, ◌^◌, ◌-◌, ◌<◌, ◌≤◌, inl, inr, List, [], ◌∷◌, ◌++◌, length, take, get_or, get_or-take, Option, Some, None, subst, sym, ap, ◌∙◌, arith}
+use Rattle.std.proofs.Common.{◌≡◌, ℕ, ◌+◌, ◌*◌, ◌/◌, ◌%◌, ◌^◌, ◌-◌, ◌<◌, ◌≤◌, inl, inr, List, [], ◌∷◌, ◌++◌, length, take, get_or, Option, Some, None, subst, sym, ap, ◌∙◌, arith}
+use Rattle.std.proofs.lemmas.Grind.{common_steps}
 use Rattle.std.proofs.lemmas.Bool.{cases_lt}
-use Rattle.std.proofs.lemmas.List.{length-take, get_or_append_left, get_or_push, length_push}
+use Rattle.std.proofs.lemmas.List.{get_or_append_left, get_or_push, length_push}
 use Rattle.rt_rib.specs.declared.routes.Hop.{Hop}
 use Rattle.rt_rib.specs.declared.routes.Hop.TheVariants.{Via, Discard}
 use Rattle.rt_rib.specs.declared.routes.Route.{Route}
@@ -49,12 +50,7 @@ hops_push old new numbers answers n number answer more are is there = record {
 
 -- the list, once it is put into the caller's
 pub put_extends : (old new list : List ℕ) → length list ≤ length old → ArePut old new list 0 (length list) → Extends list (take (length list) new)
-put_extends old new list fits put = record {
-  longer = omega (arith, fits, put.size, length-take (length list) new);
-  same = λ n below.
-      let zero : 0 + n ≡ n = omega arith in
-      get_or-take (length list) new n 0 below ∙ subst (λ (m : ℕ). get_or new m 0 ≡ get_or list n 0) zero (put.there n below);
-}
+put_extends old new list fits put = grind (arith, common_steps)
 
 -- what is written leads each address to the number of its answer
 pub view_shows : {A : Type 0} → (entries shown old more numbers list routers : List ℕ) (slabs : Slabs A) (epoch marked : ℕ) (table : List Route)
