@@ -58,16 +58,8 @@ pub(crate) struct Dir24_8<A: Allocator + Copy, B: Allocator + Copy> {
 pub(crate) const AT_ONCE: usize = 16;
 
 impl<A: Allocator + Copy, B: Allocator + Copy> Dir24_8<A, B> {
-    /// Looks up the address.
-    pub(crate) fn look_up(&self, addr: Addr) -> Option<Route>
-        requires { IsForwarding self.now }
-        ensures { result ≡ look_up addr self.now.table.value.routes }
-    {
-        self.answer_by(self.tbl24[addr.0 as usize / GROUP_SIZE], addr)
-    }
-
     /// Looks up the address, by its entry.
-    fn answer_by(&self, entry: u32, addr: Addr) -> Option<Route>
+    pub(crate) fn answer_by(&self, entry: u32, addr: Addr) -> Option<Route>
         requires right { IsForwarding self.now }
         requires entry { entry ≡ entry_at self.now.tbl24.items addr }
         ensures { result ≡ look_up addr self.now.table.value.routes }

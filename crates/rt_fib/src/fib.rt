@@ -107,7 +107,8 @@ impl<A: Allocator + Copy, B: Allocator + Copy> Fib<A, B> {
     pub fn look_up(&self, addr: Addr) -> Option<Route>
         ensures { result ≡ look_up addr self.now }
     {
-        self.dir.look_up(addr)
+        let entry = self.dir.tbl24[addr.0 as usize / GROUP_SIZE];
+        self.dir.answer_by(entry, addr)
     }
 
     /// Looks up each address, in order. The answers replace what their list had, which is as long as the list of addresses.
@@ -243,7 +244,8 @@ impl<A: Allocator + Copy, B: Allocator + Copy> Fib<A, B> {
         ensures followed { IfSome result.1 (λ fib. fib ≡ table.new.routes) }
     {
         let count = table.count(feed);
-        let prefixes = prefixes_to_withdraw(self.allocator(), table, feed, count);
+        let alloc = self.allocator();
+        let prefixes = prefixes_to_withdraw(alloc, table, feed, count).unwrap_or(Vec::new(alloc));
         let fib = withdraw_each(self, table, feed, &prefixes).ok();
         (Reply::Purged(count), purge_rest(fib, table, feed))
     }

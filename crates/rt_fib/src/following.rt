@@ -209,7 +209,7 @@ impl<A: Allocator + Copy, B: Allocator + Copy> Dir24_8<A, B> {
             return None;
         }
         let addr = self.uncovered_address(prefix.len(), span)?;
-        let before = self.look_up(addr);
+        let before = self.answer_by(self.tbl24[addr.0 as usize / GROUP_SIZE], addr);
         if !prefix.covers(addr) || is_longer(before, prefix.len()) {
             return None;
         }

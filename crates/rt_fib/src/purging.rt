@@ -15,31 +15,26 @@ use std::alloc::Allocator;
 /// Says how many entries the withdrawn prefixes may have in total: a quarter of all entries.
 const MOST_ENTRIES: usize = 1 << 22;
 
-/// Returns the prefixes of the feed's routes, `count` of them, or none if a rebuild takes less time than their renewals or memory runs
-/// out. No clause mentions them: the purge removes each route that isn't withdrawn.
+/// Returns the prefixes of the feed's routes, `count` of them, or `None` if there are none, a rebuild takes less time than their
+/// renewals, or memory runs out. No clause mentions them: the purge removes each route that isn't withdrawn.
 pub(crate) fn prefixes_to_withdraw<A: Allocator + Copy, B: Allocator + Copy>(
     alloc: A,
     table: &Table<B>,
     feed: u32,
     count: u32,
-) -> Vec<Prefix, A> {
+) -> Option<Vec<Prefix, A>> {
     // As many renewals of a few entries take less time than a rebuild.
     let most = (table.len() / 16).saturating_add(1 << 13);
     if count == 0 || count > most {
-        return Vec::new(alloc);
+        return None;
     }
-    let Ok(prefixes) = table.likely_prefixes(alloc, feed, count as usize) else {
-        return Vec::new(alloc);
-    };
+    let prefixes = table.likely_prefixes(alloc, feed, count as usize).ok()?;
     let mut entries = 0usize;
     for prefix in &prefixes {
         let span = span_of(prefix);
         entries = entries.saturating_add((span.end - span.first) as usize);
     }
-    if entries > MOST_ENTRIES {
-        return Vec::new(alloc);
-    }
-    prefixes
+    (entries <= MOST_ENTRIES).then_some(prefixes)
 }
 
 /// Withdraws the feed's routes to the prefixes from the table, and follows. Error M1 (`Refused`) if memory runs out.

@@ -2,8 +2,7 @@
 //! seldom the answer.
 ghost use Rattle.std.specs.Prelude.{◌≡◌, ◌+◌, ◌<◌, ◌≤◌, IfOk, None, get_or, length, vec_len, vec_capacity};
 ghost use Rattle.rt_fib.specs.Hops.{next_hop};
-ghost use Rattle.rt_fib.specs.inside.Entries.{FillsBoth, IsCoded};
-ghost use Rattle.rt_fib.specs.inside.HopCodes.{hop_code};
+ghost use Rattle.rt_fib.specs.inside.Entries.{hop_code, FillsBoth, IsCoded};
 ghost use Rattle.rt_fib.specs.inside.Slab.{with_value, IsNumberOf};
 
 use crate::bounds::Epoch;

@@ -1,6 +1,8 @@
 -- How the entries of tbl24, the groups and the routes represent the table's answer to each address.
-use Rattle.std.specs.Prelude.{◌≡◌, ℕ, ◌+◌, ◌-◌, ◌*◌, ◌/◌, ◌^◌, ◌<◌, ◌≤◌, List, length, get_or, map, Option}
+use Rattle.std.specs.Prelude.{◌≡◌, ℕ, ◌+◌, ◌-◌, ◌*◌, ◌/◌, ◌^◌, ◌<◌, ◌≤◌, List, length, get_or, map, max, Option, Some, None}
 use Rattle.rt_cidr.specs.declared.address.Addr.{Addr}
+use Rattle.rt_rib.specs.declared.routes.Hop.{Hop}
+use Rattle.rt_rib.specs.declared.routes.Hop.TheVariants.{Via, Discard}
 use Rattle.rt_rib.specs.declared.routes.Route.{Route}
 use Rattle.rt_rib.specs.LookUp.{look_up}
 use Rattle.rt_fib.specs.declared.dir24_8.Dir24_8.{Dir24_8}
@@ -9,7 +11,6 @@ use Rattle.rt_fib.specs.declared.filling.Piece.{Piece}
 use Rattle.rt_fib.specs.declared.slabs.Counts.{Counts}
 use Rattle.rt_fib.specs.declared.slabs.Group.{Group}
 use Rattle.rt_fib.specs.declared.slabs.Slabs.{Slabs}
-use Rattle.rt_fib.specs.inside.HopCodes.{hop_code}
 use Rattle.rt_fib.specs.inside.Slab.{begun, Fills, Has, IsBack, Keeps}
 
 -- the address of this number
@@ -19,6 +20,16 @@ at n = record { 0 = n }
 -- the entry of the address's first 24 bits
 abbrev pub entry_at : List ℕ → Addr → ℕ
 entry_at entries addr = get_or entries (addr.0 / 256) 0
+
+-- a next hop's code: 1 if packets are discarded, else the router's address, or 2 in place of a lower one
+abbrev pub code_of : Hop → ℕ
+code_of (Via a) = max a.0 2
+code_of Discard = 1
+
+-- the code of an answer's next hop: 0 if there is no route
+abbrev pub hop_code : Option Route → ℕ
+hop_code None = 0
+hop_code (Some r) = code_of r.hop
 
 -- what the i-th entry leads to is in use since the epoch t, which is the next one only for the first `marked` entries
 pub record IsSince (epoch marked i t : ℕ) : Type 0 where

@@ -1,7 +1,7 @@
 use Rattle.std.proofs.Common.{◌≡◌, ℕ, ◌+◌, ◌≤◌, List, ◌∷◌, length, map, take, drop, Option, sym, refl, ap, ◌∙◌, arith}
 use Rattle.std.proofs.lemmas.List.{length-map, map-append, take-map, drop-map}
 use Rattle.rt_rib.specs.declared.routes.Route.{Route}
-use Rattle.rt_fib.specs.inside.HopCodes.{hop_code}
+use Rattle.rt_fib.specs.inside.Entries.{hop_code}
 use Rattle.rt_fib.specs.inside.Slab.{with_value}
 use Rattle.rt_fib.proofs.Placing.{fills_same, fills_twice, routes_fill}
 use Rattle.rt_fib.proofs.slabs.Slabs.number_of.Goals as goal

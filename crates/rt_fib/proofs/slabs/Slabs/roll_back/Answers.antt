@@ -1,5 +1,5 @@
 use Rattle.std.proofs.lemmas.List.{take-map}
-use Rattle.rt_fib.specs.inside.HopCodes.{hop_code}
+use Rattle.rt_fib.specs.inside.Entries.{hop_code}
 use Rattle.rt_fib.proofs.slabs.Slabs.roll_back.Goals as goal
 
 pub returns : goal.returns
