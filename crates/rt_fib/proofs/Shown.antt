@@ -1,8 +1,9 @@
 -- How numbers of next hops lead where the numbers of answers led.
-use Rattle.std.proofs.Common.{◌≡◌, ℕ, ◌+◌, ◌*◌, ◌/◌, ◌%◌, ◌^◌, ◌-◌, ◌<◌, ◌≤◌, inl, inr, List, [], ◌∷◌, ◌++◌, length, take, get_or, Option, Some, None, subst, sym, ap, ◌∙◌, arith}
+use Rattle.std.proofs.Common.{◌≡◌, ℕ, ◌+◌, ◌*◌, ◌/◌, ◌%◌, ◌^◌, ◌-◌, ◌<◌, ◌≤◌, inl, inr, List, [], ◌∷◌, ◌++◌, length, take, map, get_or, Option, Some, None, subst, sym, ap, ◌∙◌, arith}
 use Rattle.std.proofs.lemmas.Grind.{common_steps}
 use Rattle.std.proofs.lemmas.Bool.{cases_lt}
-use Rattle.std.proofs.lemmas.List.{get_or_append_left, get_or_push, length_push}
+use Rattle.std.proofs.lemmas.Bool.Decides.{nat_tests}
+use Rattle.std.proofs.lemmas.List.{get_or-map, get_or_append_left, get_or_push, length-map, length_push}
 use Rattle.rt_rib.specs.declared.routes.Hop.{Hop}
 use Rattle.rt_rib.specs.declared.routes.Hop.TheVariants.{Via, Discard}
 use Rattle.rt_rib.specs.declared.routes.Route.{Route}
@@ -11,7 +12,7 @@ use Rattle.rt_fib.specs.Views.{IsHopNumber, IsAnswerNumber, IsNumber, ViewShows}
 use Rattle.rt_fib.specs.declared.slabs.Group.{Group}
 use Rattle.rt_fib.specs.declared.slabs.Slabs.{Slabs}
 use Rattle.rt_fib.specs.inside.Entries.{AreMarked}
-use Rattle.rt_fib.specs.inside.Shown.{Extends, AreHopsOf, AreShownEntries, AreShownBlocks}
+use Rattle.rt_fib.specs.inside.Shown.{shown_entry, Extends, AreHopsOf, AreShownBlocks}
 use Rattle.rt_fib.specs.inside.Changes.{ArePut}
 use Rattle.rt_fib.proofs.Leading.{entry_leads}
 
@@ -55,11 +56,11 @@ put_extends old new list fits put = grind (arith, common_steps)
 -- what is written leads each address to the number of its answer
 pub view_shows : {A : Type 0} → (entries shown old more numbers list routers : List ℕ) (slabs : Slabs A) (epoch marked : ℕ) (table : List Route)
     → AreMarked entries slabs epoch marked table → AreHopsOf list numbers slabs.routes.places.values (length slabs.routes.places.values) → Extends list routers
-    → AreShownEntries numbers entries shown (length entries)
+    → shown ≡ map (shown_entry numbers) entries
     → AreShownBlocks numbers slabs.groups.places.values old more (length slabs.groups.places.values * 256)
     → length slabs.groups.places.values * 256 ≤ length old → ViewShows shown more routers table
 view_shows entries shown old more numbers list routers slabs epoch marked table all hops longer are put fits = record {
-  size = are.size ∙ all.size;
+  size = ap (λ (l : List ℕ). length l) are ∙ length-map entries (shown_entry numbers) ∙ all.size;
   each = λ addr within.
       let i = addr.0 / 256 in
       let k = addr.0 % 256 in
@@ -67,7 +68,7 @@ view_shows entries shown old more numbers list routers slabs epoch marked table 
       let answers = slabs.routes.places.values in
       let low : k < 256 = omega arith in
       let here : i < length entries = omega (arith, within, all.size) in
-      let there = are.each i here in
+      let there : get_or shown i 0 ≡ shown_entry numbers (get_or entries i 0) = rw are (get_or-map (shown_entry numbers) entries i 0 0 here) in
       let number : (n : ℕ) → n < length answers → ((d : Option Route) → get_or answers n d ≡ answer) → IsNumber routers (get_or numbers n 0) answer =
       λ n below found.
       subst (λ (a : Option Route). IsNumber routers (get_or numbers n 0) a) (found answer)
@@ -76,10 +77,11 @@ view_shows entries shown old more numbers list routers slabs epoch marked table 
       elim (cases_lt (get_or entries i 0) (2 ^ 31)) [
         | inl short ↦
             let has = leads.short short in
-            inl (subst (λ (e : ℕ). IsNumber routers e answer) (sym (there.short short)) (number (get_or entries i 0) has.within has.there))
+            let same : get_or shown i 0 ≡ get_or numbers (get_or entries i 0) 0 = grind (arith, nat_tests) in
+            inl (subst (λ (e : ℕ). IsNumber routers e answer) (sym same) (number (get_or entries i 0) has.within has.there))
         | inr long ↦
             let names = leads.long long in
-            let same : get_or shown i 0 ≡ get_or entries i 0 = there.long long in
+            let same : get_or shown i 0 ≡ get_or entries i 0 = grind (arith, nat_tests) in
             let block : ℕ = get_or entries i 0 - 2 ^ 31 in
             let group : block < length slabs.groups.places.values = names.named.within in
             let hop = number (get_or names.group.numbers k 0) names.number.within names.number.there in

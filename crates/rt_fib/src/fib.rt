@@ -93,11 +93,8 @@ impl<A: Allocator + Copy, B: Allocator + Copy> Fib<A, B> {
         let dir = Dir24_8 {
             tbl24,
             slabs,
-            epoch: self.dir.epoch,
-            marked: self.dir.marked,
-            seen: self.dir.seen,
-            is_wasteful: self.dir.is_wasteful,
             table: Snapshot::of(table),
+            ..self.dir
         };
         Ok(Fib { dir })
     }

@@ -62,16 +62,6 @@ fn put_code<A: Allocator + Copy>(codes: &mut Vec<u32, A>, n: u32, code: u32)
     let _ = codes.push(code);
 }
 
-/// Gives back room, if the list has over twice what it needs with `count` further codes.
-pub(crate) fn trim_codes<A: Allocator + Copy>(codes: &mut Vec<u32, A>, count: usize)
-    ensures { codes.new.items ≡ codes.old.items }
-{
-    let enough = codes.len().saturating_add(count);
-    if codes.capacity() > enough.saturating_mul(2) {
-        codes.shrink_to(enough);
-    }
-}
-
 /// Says how many lengths a last number is kept for: those of prefixes, and one for no route.
 pub(crate) const LENGTHS: usize = 34;
 

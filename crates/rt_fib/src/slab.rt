@@ -105,11 +105,8 @@ impl<T: Copy, A: Allocator + Copy> Slab<T, A> {
     pub(crate) fn trim(&mut self, count: usize)
         ensures { self.new ≡ self.old }
     {
-        let enough = self.values.len().saturating_add(count);
-        if self.values.capacity() > enough.saturating_mul(2) {
-            self.values.shrink_to(enough);
-            self.epochs.shrink_to(enough);
-        }
+        trim_list(&mut self.values, count);
+        trim_list(&mut self.epochs, count);
     }
 
     /// Returns how many bytes it takes, if each place takes `size` of them.
@@ -222,6 +219,16 @@ impl<T: Same, A: Allocator + Copy> Slab<T, A> {
         }
         self.mark_used(epoch, n);
         true
+    }
+}
+
+/// Gives back room, if the list has over twice what it needs with `count` further elements.
+pub(crate) fn trim_list<T, A: Allocator + Copy>(list: &mut Vec<T, A>, count: usize)
+    ensures { list.new.items ≡ list.old.items }
+{
+    let enough = list.len().saturating_add(count);
+    if list.capacity() > enough.saturating_mul(2) {
+        list.shrink_to(enough);
     }
 }
 

@@ -5,8 +5,8 @@ ghost use Rattle.rt_fib.specs.inside.Slab.{IsNumberOf};
 ghost use Rattle.rt_fib.specs.inside.Entries.{AreBack, FillsBoth, HasBegun, IsCoded, SamePlaces};
 
 use crate::bounds::Epoch;
-use crate::routes::{CODE_BYTES, LENGTHS, ROUTE_BYTES, trim_codes};
-use crate::slab::{Same, Slab};
+use crate::routes::{CODE_BYTES, LENGTHS, ROUTE_BYTES};
+use crate::slab::{Same, Slab, trim_list};
 use rt_cidr::Addr;
 use rt_rib::{Refused, Route};
 use std::alloc::Allocator;
@@ -150,7 +150,7 @@ impl<A: Allocator + Copy> Slabs<A> {
         let waste = most_waste(self.groups.len());
         self.groups.trim(waste / GROUP_BYTES);
         self.routes.trim(waste / ROUTE_BYTES);
-        trim_codes(&mut self.codes, waste / ROUTE_BYTES);
+        trim_list(&mut self.codes, waste / ROUTE_BYTES);
     }
 
     /// Returns how many bytes they take.

@@ -1,8 +1,8 @@
 //! Views: the next hops of a forwarding table as arrays of numbers, in memory of the caller.
-ghost use Rattle.std.specs.Prelude.{◌≡◌, ◌+◌, ◌*◌, ◌<◌, ◌≤◌, ◌^◌, IfOk, IfSome, get_or, length};
+ghost use Rattle.std.specs.Prelude.{◌≡◌, ◌+◌, ◌*◌, ◌<◌, ◌≤◌, ◌^◌, IfOk, IfSome, get_or, length, map};
 ghost use Rattle.rt_rib.specs.declared.routes.Hop.TheVariants.{Via};
 ghost use Rattle.rt_fib.specs.Views.{IsHopNumber, IsNumber};
-ghost use Rattle.rt_fib.specs.inside.Shown.{Extends, AreHopsOf, AreShownEntries, AreShownBlocks};
+ghost use Rattle.rt_fib.specs.inside.Shown.{shown_entry, Extends, AreHopsOf, AreShownBlocks};
 
 use crate::slabs::{GROUP_FLAG, GROUP_SIZE, Group};
 use rt_cidr::Addr;
@@ -100,7 +100,7 @@ fn number_at(numbers: &[u32], n: u32) -> u32
 /// Writes the entries, with the numbers of next hops.
 pub(crate) fn show_entries(entries: &[u32], numbers: &[u32], shown: &mut [u32])
     requires { length shown.old ≡ length entries.now }
-    ensures { AreShownEntries numbers.now entries.now shown.new (length entries.now) }
+    ensures { shown.new ≡ map (shown_entry numbers.now) entries.now }
 {
     'entries: for i in 0..entries.len() {
         let entry = entries[i];

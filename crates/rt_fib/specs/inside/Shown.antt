@@ -1,5 +1,5 @@
 -- Numbers of next hops that stand for the numbers of answers.
-use Rattle.std.specs.Prelude.{◌≡◌, ℕ, ◌/◌, ◌%◌, ◌^◌, ◌<◌, ◌≤◌, List, length, get_or, Option}
+use Rattle.std.specs.Prelude.{◌≡◌, ℕ, ◌/◌, ◌%◌, ◌^◌, ◌<◌, ◌≤◌, nat_lt, if◌then◌else◌, List, length, get_or, Option}
 use Rattle.rt_rib.specs.declared.routes.Route.{Route}
 use Rattle.rt_fib.specs.Views.{IsNumber}
 use Rattle.rt_fib.specs.declared.slabs.Group.{Group}
@@ -14,15 +14,9 @@ pub record AreHopsOf (routers numbers : List ℕ) (answers : List (Option Route)
   pub size : length numbers ≡ count
   pub each : (n : ℕ) (d : Option Route) → n < count → IsNumber routers (get_or numbers n 0) (get_or answers n d)
 
--- the number of an answer became that of its next hop, and the name of a block stayed
-pub record IsShownEntry (numbers : List ℕ) (entry shown : ℕ) : Type 0 where
-  pub short : entry < 2 ^ 31 → shown ≡ get_or numbers entry 0
-  pub long : 2 ^ 31 ≤ entry → shown ≡ entry
-
--- this is so for the first `count` entries
-pub record AreShownEntries (numbers entries shown : List ℕ) (count : ℕ) : Type 0 where
-  pub size : length shown ≡ length entries
-  pub each : (i : ℕ) → i < count → IsShownEntry numbers (get_or entries i 0) (get_or shown i 0)
+-- the number of an answer becomes that of its next hop, and the name of a block stays
+abbrev pub shown_entry : List ℕ → ℕ → ℕ
+shown_entry numbers entry = if nat_lt entry (2 ^ 31) then get_or numbers entry 0 else entry
 
 -- the first `count` numbers of the blocks, one block after another, became those of their next hops
 pub record AreShownBlocks (numbers : List ℕ) (blocks : List Group) (old shown : List ℕ) (count : ℕ) : Type 0 where
