@@ -91,13 +91,15 @@ class Item:
 
     def impl_name(self):
         """Returns the name of an impl as the prover writes it: `T` for the methods of a type, or of `Drop` for it; `T+A` for
-        those of only the type `T<A>`; `TTrA` for those of the trait `Tr<A>` for `T`, or `TTr` if `A` is `T` or missing."""
+        those of only the type `T<A>`; `TTrA` for those of the trait `Tr<A>` for `T`, or `TTr` if `A` is `T` or missing; `TATr`
+        for those of a trait for only the type `T<A>`."""
         trait, owner = self.of_impl()
         if trait in (None, "Drop"):
             only = re.match(rf"impl {owner}<(\w+)>", self.lines[0].strip())
             return f"{owner}+{only[1]}" if only else owner
+        only = re.match(rf"impl {trait} for {owner}<(\w+)>", self.lines[0].strip())
         given = re.search(rf"\b{trait}<(?:\w+::)*(\w+)>", " ".join(self.lines))
-        return f"{owner}{trait}{given[1] if given and given[1] != owner else ''}"
+        return f"{owner}{only[1] if only else ''}{trait}{given[1] if given and given[1] != owner else ''}"
 
     def members(self):
         """Returns the members of an impl, a trait or a module."""
