@@ -17,6 +17,11 @@ returns-then-reuse_if_same-2-clause-fills g c =
     routes_fill _ _ _ refl refl (fills_twice _ _ _ _ c.reuse_if_same.ensures.fills c.reuse_if_same-2.ensures.fills)
     (c.reuse_if_same-2.ensures.values ∙ c.reuse_if_same.ensures.values)
 
+pub returns-in_err-reserve-clause-fills : goal.returns-in_err-reserve-clause-fills
+returns-in_err-reserve-clause-fills g c =
+    routes_fill _ _ _ refl c.reserve.ensures.items (fills_twice _ _ _ _ c.reuse_if_same.ensures.fills c.reuse_if_same-2.ensures.fills)
+    (c.reuse_if_same-2.ensures.values ∙ c.reuse_if_same.ensures.values)
+
 pub returns-in_err-number-clause-fills : goal.returns-in_err-number-clause-fills
 returns-in_err-number-clause-fills g c =
     let reused = fills_twice _ _ _ _ c.reuse_if_same.ensures.fills c.reuse_if_same-2.ensures.fills in
