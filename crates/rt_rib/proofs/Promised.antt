@@ -17,3 +17,5 @@ pub use Rattle.rt_rib.proofs.Journals.{IsLawfulJournal-nil, IsLawfulJournal-push
 pub use Rattle.rt_rib.proofs.Lists.{AllPairs-head, AllPairs-tail}
 -- a purge leaves the same after a withdrawal of the feed; what a purge leaves; a purge in steps
 pub use Rattle.rt_rib.proofs.PurgeSteps.{withdrawn_rest, purged_routes, purged_limit, serves_purge}
+-- selecting routes at once, and by one filter after another
+pub use Rattle.rt_rib.proofs.Selections.{selected_by_filters}

@@ -3,7 +3,7 @@ use Rattle.std.proofs.Common.{◌≡◌, ℕ, sym, Bool, true, false, cond, eqb,
 use Rattle.std.specs.Prelude.{◌==◌, ◌&&◌, length, Option, Some, None, if◌then◌else◌}
 use Rattle.std.specs.List.{filter}
 use Rattle.std.proofs.lemmas.Bool.{cases_Bool, and_parts, eqb-true, ltb-true, false_from_ne_true, true≢false}
-use Rattle.std.proofs.lemmas.List.Elements.{filter-append}
+use Rattle.std.proofs.lemmas.List.Elements.{filter-append, filter_agree}
 use Rattle.std.proofs.lemmas.List.{append-nil}
 use Rattle.rt_cidr.specs.declared.prefixes.Prefix.{Prefix}
 use Rattle.rt_cidr.specs.Prefix.{same_prefix}
@@ -142,3 +142,22 @@ selected_of_part asked table h = by_best asked.only_best where
       ≡ filter (λ r. is_in asked.part r.prefix && is_by asked.feeds.now r && is_via asked.hop r) (cond only_best (best_routes table) table)
   by_best true = ap kept (best_passing (is_in asked.part) table h) ∙ three (best_routes table)
   by_best false = three table
+
+-- two tests that are always true change nothing
+and_always : (a b c : Bool) → (a && true && true) && b && c ≡ a && b && c
+and_always true b c = refl
+and_always false b c = refl
+
+-- the same routes are selected at once and by one filter after another: first for any feed and next hop
+pub selected_by_filters : (asked every : Selection) (table : List Route)
+    → every.part ≡ asked.part → every.only_best ≡ asked.only_best → every.feeds.now ≡ [] → every.hop ≡ None
+    → filter (is_via asked.hop) (filter (is_by asked.feeds.now) (selected every table)) ≡ selected asked table
+selected_by_filters asked every table is_part is_best is_feeds is_hop =
+    rw (is_part, is_best, is_feeds, is_hop) (
+    let routes = if asked.only_best then best_routes table else table in
+    let part : Route → Bool = λ r. is_in asked.part r.prefix && true && true in
+    ap (filter (is_via asked.hop)) (filter-filter part (is_by asked.feeds.now) routes)
+    ∙ filter-filter (λ r. part r && is_by asked.feeds.now r) (is_via asked.hop) routes
+    ∙ filter_agree (λ r. part r && is_by asked.feeds.now r && is_via asked.hop r)
+    (λ r. is_in asked.part r.prefix && is_by asked.feeds.now r && is_via asked.hop r)
+    (λ r. and_always (is_in asked.part r.prefix) (is_by asked.feeds.now r) (is_via asked.hop r)) routes)

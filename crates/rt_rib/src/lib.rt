@@ -73,5 +73,5 @@ pub use limits::{MAX_FEEDS, MAX_ROUTES_PER_FEED, feed_ok, limit_ok};
 pub use places::RoutesFrom;
 pub use refused::Refused;
 pub use routes::{Hop, Reason, Route, keep_best};
-pub use selection::{PrefixFilter, Selection};
+pub use selection::{PrefixFilter, Selection, keep_feeds, keep_hop};
 pub use table::Table;

@@ -99,8 +99,8 @@ pub(crate) fn keep_selected<A: Allocator>(routes: &mut Vec<Route, A>, asked: &Se
     keep_hop(routes, asked.hop);
 }
 
-/// Keeps the routes of the feeds; all routes if there are no feeds.
-fn keep_feeds<A: Allocator>(routes: &mut Vec<Route, A>, feeds: &[u32])
+/// Keeps the routes of the feeds; all routes if there are no feeds. The order is unchanged. Doesn't allocate.
+pub fn keep_feeds<A: Allocator>(routes: &mut Vec<Route, A>, feeds: &[u32])
     ensures { routes.new.items ≡ filter (is_by feeds.now) routes.old.items }
 {
     if !feeds.is_empty() {
@@ -108,8 +108,8 @@ fn keep_feeds<A: Allocator>(routes: &mut Vec<Route, A>, feeds: &[u32])
     }
 }
 
-/// Keeps the routes with the next hop, or all of them.
-fn keep_hop<A: Allocator>(routes: &mut Vec<Route, A>, hop: Option<Hop>)
+/// Keeps the routes with the next hop; all routes if there is no next hop. The order is unchanged. Doesn't allocate.
+pub fn keep_hop<A: Allocator>(routes: &mut Vec<Route, A>, hop: Option<Hop>)
     ensures { routes.new.items ≡ filter (is_via hop) routes.old.items }
 {
     if let Some(hop) = hop {

@@ -9,5 +9,4 @@ pub mod Answering
 pub mod Improving
 pub mod Halves
 pub mod Lengths
-pub mod Filtering
 pub mod Ranges

@@ -1,14 +1,14 @@
 //! Selecting routes of several tables: each table selects its own, and the lists are merged. Both halves of the tables do so
 //! at the same time, if a thread can be created, and so do the pieces of two long lists.
-ghost use Rattle.std.specs.Prelude.{◌≡◌, ◌≤◌, ◌/◌, length, filter, map, take, drop, IfOk};
+ghost use Rattle.std.specs.Prelude.{◌≡◌, ◌≤◌, ◌/◌, length, map, take, drop, IfOk};
 ghost use Rattle.std.specs.Thread.{IsSync};
-ghost use Rattle.rt_rib.specs.Selection.{is_by, is_via, selected};
+ghost use Rattle.rt_rib.specs.Selection.{selected};
 ghost use Rattle.rt_tables.specs.Unions.{union_of};
 ghost use Rattle.rt_tables.specs.inside.Tables.{AreTables, asked_of, IsBeforeFilters};
 
 use crate::pieces::merge_on_threads;
-use rt_rib::{Hop, Refused, Route, Selection, Table, keep_best};
-use std::alloc::{Allocator, Global};
+use rt_rib::{Refused, Route, Selection, Table, keep_best};
+use std::alloc::Global;
 use std::thread::{self, Threads};
 
 /// Returns the selected routes of all tables. The selection must not filter the best routes by feeds or next hop: a
@@ -93,22 +93,4 @@ pub(crate) fn select_halves<R: Threads + Sync>(
         },
     );
     Ok((first?, second?))
-}
-
-/// Keeps the routes of the feeds; all routes if there are no feeds.
-pub(crate) fn keep_feeds<A: Allocator>(routes: &mut Vec<Route, A>, feeds: &[u32])
-    ensures { routes.new.items ≡ filter (is_by feeds.now) routes.old.items }
-{
-    if !feeds.is_empty() {
-        routes.retain(|route| feeds.contains(&route.feed));
-    }
-}
-
-/// Keeps the routes with the next hop, or all of them.
-pub(crate) fn keep_hop<A: Allocator>(routes: &mut Vec<Route, A>, hop: Option<Hop>)
-    ensures { routes.new.items ≡ filter (is_via hop) routes.old.items }
-{
-    if let Some(hop) = hop {
-        routes.retain(|route| route.hop == hop);
-    }
 }

@@ -3,7 +3,7 @@ use Rattle.std.specs.List.{filter}
 use Rattle.rt_rib.specs.Selection.{is_by, is_via, selected}
 use Rattle.rt_tables.specs.Unions.{union_of}
 use Rattle.rt_tables.specs.inside.Tables.{asked_of}
-use Rattle.rt_tables.proofs.Filtering.{selected_by_filters}
+use Rattle.rt_rib.proofs.Promised.{selected_by_filters}
 use Rattle.rt_tables.proofs.Halves.{routes_of_each}
 use Rattle.rt_tables.proofs.tables.TableUnion+Global.select.Goals as goal
 
