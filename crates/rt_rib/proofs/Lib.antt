@@ -20,6 +20,7 @@ pub mod Purges
 pub mod PurgeSteps
 pub mod MapChanges
 pub mod MapLookUps
+pub mod ChunkAnswers
 pub mod MapMatches
 pub mod BestRoutes
 pub mod Selections

@@ -3,6 +3,8 @@
 
 -- each kind of command
 pub use Rattle.rt_rib.proofs.CommandCases.{each_command}
+-- the answers to one address more; answers that depend on no earlier ones; one of these, read in a longer list
+pub use Rattle.rt_rib.proofs.ChunkAnswers.{answered_more, answered-map, answer_read}
 -- which of its types may be sent to another thread
 pub use Rattle.rt_rib.proofs.Crossing.{table_send, book_send}
 -- `==` of its types decides whether they are equal

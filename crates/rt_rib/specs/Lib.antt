@@ -1,6 +1,7 @@
 pub mod Order
 pub mod Table
 pub mod LookUp
+pub mod Chunks
 pub mod Sequential
 pub mod Book
 pub mod Maps

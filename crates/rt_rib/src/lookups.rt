@@ -1,12 +1,13 @@
 //! Look-ups in the map: of an address, of many addresses whose descents are done together, and of all matches of an
 //! address.
-ghost use Rattle.std.specs.Prelude.{◌≡◌, ℕ, ◌+◌, ◌<◌, ◌≤◌, ◌++◌, length, map, reverse, IfOk, OnOk};
+ghost use Rattle.std.specs.Prelude.{◌≡◌, ◌++◌, length, map, reverse, IfOk, OnOk};
 ghost use Rattle.rt_cidr.specs.declared.address.Addr.{Addr};
-ghost use Rattle.rt_trie.specs.Map.{pair_copied, address_at, IsLongest};
+ghost use Rattle.rt_trie.specs.Map.{pair_copied, IsLongest};
 ghost use Rattle.rt_rib.specs.LookUp.{look_up, look_up_all};
 ghost use Rattle.rt_rib.specs.Maps.{Map, route_by, routes_of, IsMap};
-ghost use Rattle.rt_rib.specs.inside.Maps.{route_at, look_up_each};
+ghost use Rattle.rt_rib.specs.inside.Maps.{look_up_each};
 
+use crate::chunks::{ChunkLookup, look_up_in_chunks};
 use crate::map::OfferMap;
 use crate::offers::{Offer, Offers, route_by};
 use crate::refused::Refused;
@@ -70,36 +71,32 @@ pub(crate) fn best_of_each<A: Allocator + Copy>(
     addresses: &[Addr],
     answers: &mut [Option<Route>],
 )
-    requires size { length answers.old ≡ length addresses.now }
+    requires { length answers.old ≡ length addresses.now }
     ensures { answers.new ≡ look_up_each addresses.now (routes_of map.now.pairs) }
 {
-    let mut start = 0;
-    while start < addresses.len() {
-        let size = (addresses.len() - start).min(LANES);
-        best_of_chunk(map, addresses, answers, start, size);
-        start += size;
-    }
+    look_up_in_chunks(map, addresses, answers);
 }
 
-/// Computes the answers for `size` addresses from `start` on, with their descents done together.
-fn best_of_chunk<A: Allocator + Copy>(
-    map: &OfferMap<A>,
-    addresses: &[Addr],
-    answers: &mut [Option<Route>],
-    start: usize,
-    size: usize,
-)
-    requires chunk { size ≤ LANES }
-    requires within { start + size ≤ length addresses.now }
-    requires size { length answers.old ≡ length addresses.now }
-    ensures each { (j : ℕ) → j < size
-        → route_at answers.new (start + j) ≡ look_up (address_at addresses.now (start + j)) (routes_of map.now.pairs) }
-    ensures rest { (k : ℕ) → k < start → route_at answers.new k ≡ route_at answers.old k }
-{
-    let mut longest = [None; LANES];
-    map.trie
-        .longest_many(&addresses[start..start + size], &mut longest[..size]);
-    for k in 0..size {
-        answers[start + k] = best_at(longest[k]);
+/// Each address is answered by `best_of`, with the descents of a chunk done together.
+impl<A: Allocator + Copy> ChunkLookup<Addr, Option<Route>> for OfferMap<A> {
+    ghost use Rattle.rt_trie.specs.declared.search.TheConstants.{LANES};
+    ghost use Rattle.rt_rib.specs.LookUp.{look_up};
+    ghost use Rattle.rt_rib.specs.Maps.{routes_of};
+
+    ghost chunk_size = { λ _. LANES };
+
+    ghost answer = { λ map addr _. look_up addr (routes_of map.pairs) };
+
+    fn chunk_size(&self) -> usize {
+        LANES
+    }
+
+    fn look_up_chunk(&self, addresses: &[Addr], answers: &mut [Option<Route>]) {
+        let mut longest = [None; LANES];
+        self.trie
+            .longest_many(addresses, &mut longest[..addresses.len()]);
+        for k in 0..addresses.len() {
+            answers[k] = best_at(longest[k]);
+        }
     }
 }

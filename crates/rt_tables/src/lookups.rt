@@ -1,17 +1,17 @@
 //! Look-ups in several tables: the best of their answers, and all of their matches.
-ghost use Rattle.std.specs.Prelude.{◌≡◌, ℕ, ◌+◌, ◌<◌, ◌≤◌, None, length, map, IfOk};
+ghost use Rattle.std.specs.Prelude.{◌≡◌, ℕ, ◌<◌, None, length, map, IfOk};
 ghost use Rattle.rt_rib.specs.LookUp.{look_up, look_up_all};
 ghost use Rattle.rt_tables.specs.Unions.{union_of};
-ghost use Rattle.rt_tables.specs.inside.Answers.{better_of, route_at, AreImproved};
+ghost use Rattle.rt_tables.specs.inside.Answers.{better_of, route_at};
 ghost use Rattle.rt_tables.specs.inside.Tables.{AreTables};
 
 use crate::merge::{ListOrder, merge};
 use rt_cidr::Addr;
-use rt_rib::{Refused, Route, Table};
+use rt_rib::{ChunkLookup, Refused, Route, Table, look_up_in_chunks};
 use std::alloc::Allocator;
 
-/// A table is asked for this many addresses at a time.
-const PIECE: usize = 256;
+/// The number of addresses that a table is asked for at a time.
+const CHUNK: usize = 256;
 
 /// Returns the better of the answers of two tables to one address.
 pub(crate) fn better_of(first: Option<Route>, second: Option<Route>) -> Option<Route>
@@ -36,7 +36,7 @@ pub(crate) fn best_of_each<A: Allocator + Copy>(
 {
     forget_each(answers);
     for table in tables {
-        improve_each(table, addresses, answers);
+        look_up_in_chunks(&Improvement { table }, addresses, answers);
     }
 }
 
@@ -49,40 +49,32 @@ fn forget_each(answers: &mut [Option<Route>])
     }
 }
 
-/// Replaces each answer by the table's answer to the address with the same index, if that is better.
-fn improve_each<A: Allocator + Copy>(
-    table: &Table<A>,
-    addresses: &[Addr],
-    answers: &mut [Option<Route>],
-)
-    requires { length answers.old ≡ length addresses.now }
-    ensures { AreImproved addresses.now table.now.routes answers.old answers.new 0 (length addresses.now) }
-{
-    let mut start = 0;
-    while start < addresses.len() {
-        let size = (addresses.len() - start).min(PIECE);
-        improve_piece(table, addresses, answers, start, size);
-        start += size;
-    }
+/// Look-ups in a table that replace an earlier answer only by a better one.
+#[derive(Drop)]
+struct Improvement<'t, A: Allocator + Copy> {
+    table: &'t Table<A>,
 }
 
-/// Does this for `size` addresses from `start` on.
-fn improve_piece<A: Allocator + Copy>(
-    table: &Table<A>,
-    addresses: &[Addr],
-    answers: &mut [Option<Route>],
-    start: usize,
-    size: usize,
-)
-    requires piece { size ≤ PIECE }
-    requires within { start + size ≤ length addresses.now }
-    requires size { length answers.old ≡ length addresses.now }
-    ensures { AreImproved addresses.now table.now.routes answers.old answers.new start (start + size) }
-{
-    let mut found = [None; PIECE];
-    table.look_up_each(&addresses[start..start + size], &mut found[..size]);
-    for k in 0..size {
-        answers[start + k] = better_of(answers[start + k], found[k]);
+impl<A: Allocator + Copy> ChunkLookup<Addr, Option<Route>> for Improvement<'_, A> {
+    ghost use Rattle.rt_rib.specs.LookUp.{look_up};
+    ghost use Rattle.rt_tables.specs.declared.lookups.TheConstants.{CHUNK};
+    ghost use Rattle.rt_tables.specs.inside.Answers.{better_of};
+
+    ghost chunk_size = { λ _. CHUNK };
+
+    ghost answer = { λ better addr earlier. better_of earlier (look_up addr better.table.now.routes) };
+
+    fn chunk_size(&self) -> usize {
+        CHUNK
+    }
+
+    fn look_up_chunk(&self, addresses: &[Addr], answers: &mut [Option<Route>]) {
+        let mut found = [None; CHUNK];
+        self.table
+            .look_up_each(addresses, &mut found[..addresses.len()]);
+        for k in 0..addresses.len() {
+            answers[k] = better_of(answers[k], found[k]);
+        }
     }
 }
 

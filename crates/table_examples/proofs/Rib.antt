@@ -5,6 +5,7 @@ pub mod Order
 pub mod Table
 pub mod Places
 pub mod LookUp
+pub mod Chunks
 pub mod Selection
 pub mod Changes
 pub mod HopCounts

@@ -1,5 +1,5 @@
 -- The offers at a prefix, and the answers to several look-ups.
-use Rattle.std.specs.Prelude.{ℕ, List, [], ◌∷◌, ◌++◌, Option, Some, None, map, slice_index_or}
+use Rattle.std.specs.Prelude.{List, [], ◌∷◌, ◌++◌, Option, Some, None, map}
 use Rattle.std.specs.List.{Contains}
 use Rattle.rt_cidr.specs.declared.address.Addr.{Addr}
 use Rattle.rt_cidr.specs.declared.prefixes.Prefix.{Prefix}
@@ -18,10 +18,6 @@ offers_in (Some offers) = offers
 -- the offers of the map at a prefix
 abbrev pub offers_at : Map → Prefix → List Offer
 offers_at m p = offers_in (get m p)
-
--- the route at an index of the answers to look-ups, if there is one
-abbrev pub route_at : List (Option Route) → ℕ → Option Route
-route_at answers k = slice_index_or answers k None
 
 -- the answer to a look-up of each address
 abbrev pub look_up_each : List Addr → List Route → List (Option Route)

@@ -1,5 +1,5 @@
 -- The better of two answers to a look-up.
-use Rattle.std.specs.Prelude.{◌≡◌, ℕ, ◌<◌, ◌≤◌, if◌then◌else◌, List, Option, Some, None, slice_index_or}
+use Rattle.std.specs.Prelude.{◌≡◌, ℕ, ◌≤◌, if◌then◌else◌, List, Option, Some, None, slice_index_or}
 use Rattle.rt_cidr.specs.declared.address.Addr.{Addr}
 use Rattle.rt_rib.specs.declared.routes.Route.{Route}
 use Rattle.rt_rib.specs.LookUp.{look_up, beats}
@@ -13,17 +13,6 @@ better_of (Some r) (Some s) = if beats s r then Some s else Some r
 -- the answer with this index
 abbrev pub route_at : List (Option Route) → ℕ → Option Route
 route_at answers k = slice_index_or answers k None
-
--- the address with this index
-abbrev pub address_at : List Addr → ℕ → Addr
-address_at addresses k = slice_index_or addresses k (record { 0 = 0 })
-
--- from `start` on and before `end` each answer is the better one of the old answer and the table's; the others are as
--- before
-pub record AreImproved (addresses : List Addr) (table : List Route) (old new : List (Option Route)) (start end : ℕ) : Type 0 where
-  pub inside : (k : ℕ) → start ≤ k → k < end → route_at new k ≡ better_of (route_at old k) (look_up (address_at addresses k) table)
-  pub below : (k : ℕ) → k < start → route_at new k ≡ route_at old k
-  pub above : (k : ℕ) → end ≤ k → route_at new k ≡ route_at old k
 
 -- every address from the first to the last has this answer in the table
 abbrev pub HoldsFromTo : List Route → Addr → Addr → Option Route → Type 0
