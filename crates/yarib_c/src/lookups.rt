@@ -1,17 +1,15 @@
 //! Look-ups for C: of a single address, or of many, whose answers are written into a list of the caller.
-ghost use Rattle.std.specs.Prelude.{◌≡◌, ℕ, ◌+◌, ◌<◌, ◌≤◌, length, map};
-ghost use Rattle.rt_trie.specs.Map.{address_at};
+ghost use Rattle.std.specs.Prelude.{◌≡◌, ◌≤◌, length, map};
 ghost use Rattle.rt_rib.specs.LookUp.{look_up};
 ghost use Rattle.yarib_c.specs.Kinds.{routes_in};
 ghost use Rattle.yarib_c.specs.Forms.{answer_as, router_as};
 ghost use Rattle.yarib_c.specs.Calls.{addr, answers_in, routers_in};
-ghost use Rattle.yarib_c.specs.inside.Places.{number_at, told_at};
 
 use crate::held::Held;
 use crate::routes::{YaribRoute, router_by, router_number};
 use rt_cidr::Addr;
 use rt_fib::Fib;
-use rt_rib::Route;
+use rt_rib::{ChunkLookup, Route, look_up_in_chunks};
 use std::alloc::Global;
 
 /// The number of addresses that are looked up together.
@@ -22,47 +20,45 @@ pub(crate) fn answer_each(held: &Held, addresses: &[u32], answers: &mut [YaribRo
     requires { length answers.old ≡ length addresses.now }
     ensures { answers.new ≡ answers_in (routes_in held.now) addresses.now }
 {
-    let mut start = 0;
-    while start < addresses.len() {
-        let size = (addresses.len() - start).min(CHUNK);
-        answer_chunk(held, addresses, answers, start, size);
-        start += size;
+    look_up_in_chunks(held, addresses, answers);
+}
+
+/// Each number of an address is answered by a route in the form of C.
+impl ChunkLookup<u32, YaribRoute> for Held {
+    ghost use Rattle.rt_rib.specs.LookUp.{look_up};
+    ghost use Rattle.yarib_c.specs.declared.lookups.TheConstants.{CHUNK};
+    ghost use Rattle.yarib_c.specs.Calls.{addr};
+    ghost use Rattle.yarib_c.specs.Forms.{answer_as};
+    ghost use Rattle.yarib_c.specs.Kinds.{routes_in};
+
+    ghost chunk_size = { λ _. CHUNK };
+
+    ghost answer = { λ held address _. answer_as (look_up (addr address) (routes_in held)) };
+
+    fn chunk_size(&self) -> usize {
+        CHUNK
+    }
+
+    fn look_up_chunk(&self, addresses: &[u32], answers: &mut [YaribRoute]) {
+        let mut found = [None; CHUNK];
+        look_up_numbers(self, addresses, &mut found[..addresses.len()]);
+        for k in 0..addresses.len() {
+            answers[k] = YaribRoute::answer(found[k]);
+        }
     }
 }
 
-/// Writes the answers to `size` addresses from an index on.
-fn answer_chunk(
-    held: &Held,
-    addresses: &[u32],
-    answers: &mut [YaribRoute],
-    start: usize,
-    size: usize,
-)
-    requires chunk { size ≤ CHUNK }
-    requires within { start + size ≤ length addresses.now }
+/// Looks up at most `CHUNK` addresses by their numbers.
+fn look_up_numbers(held: &Held, addresses: &[u32], answers: &mut [Option<Route>])
+    requires chunk { length addresses.now ≤ CHUNK }
     requires size { length answers.old ≡ length addresses.now }
-    ensures each { (j : ℕ) → j < size
-        → told_at answers.new (start + j) ≡ answer_as (look_up (addr (number_at addresses.now (start + j))) (routes_in held.now)) }
-    ensures rest { (k : ℕ) → k < start → told_at answers.new k ≡ told_at answers.old k }
+    ensures { answers.new ≡ map (λ address. look_up (addr address) (routes_in held.now)) addresses.now }
 {
     let mut asked = [Addr(0); CHUNK];
-    copy_chunk(addresses, &mut asked, start, size);
-    let mut found = [None; CHUNK];
-    look_up_each(held, &asked[..size], &mut found[..size]);
-    for k in 0..size {
-        answers[start + k] = YaribRoute::answer(found[k]);
+    for k in 0..addresses.len() {
+        asked[k] = Addr(addresses[k]);
     }
-}
-
-/// Copies `size` addresses from an index on.
-fn copy_chunk(addresses: &[u32], asked: &mut [Addr], start: usize, size: usize)
-    requires chunk { size ≤ length asked.old }
-    requires within { start + size ≤ length addresses.now }
-    ensures { (j : ℕ) → j < size → address_at asked.new j ≡ addr (number_at addresses.now (start + j)) }
-{
-    for k in 0..size {
-        asked[k] = Addr(addresses[start + k]);
-    }
+    look_up_each(held, &asked[..addresses.len()], answers);
 }
 
 /// Looks up the addresses in the contents of the handle.
@@ -106,7 +102,14 @@ pub(crate) fn route_each(
 {
     match held.forwarding() {
         Some(fib) => route_by(fib, addresses, no_route, discard, routers),
-        None => route_chunks(held, addresses, no_route, discard, routers),
+        None => {
+            let lookup = RouterLookup {
+                held,
+                no_route,
+                discard,
+            };
+            look_up_in_chunks(&lookup, addresses, routers);
+        }
     }
 }
 
@@ -127,41 +130,34 @@ fn router_in(fib: &Fib<Global>, address: u32, no_route: u32, discard: u32) -> u3
     router_by(fib.look_up_hop(Addr(address)), no_route, discard)
 }
 
-/// Does the same, a few dozen addresses together.
-fn route_chunks(held: &Held, addresses: &[u32], no_route: u32, discard: u32, routers: &mut [u32])
-    requires { length routers.old ≡ length addresses.now }
-    ensures { routers.new ≡ routers_in no_route discard (routes_in held.now) addresses.now }
-{
-    let mut start = 0;
-    while start < addresses.len() {
-        let size = (addresses.len() - start).min(CHUNK);
-        route_chunk(held, addresses, no_route, discard, routers, start, size);
-        start += size;
-    }
-}
-
-/// Does the same for `size` addresses from an index on.
-fn route_chunk(
-    held: &Held,
-    addresses: &[u32],
+/// Look-ups whose answers are the numbers of routers.
+#[derive(Drop)]
+struct RouterLookup<'h> {
+    held: &'h Held,
     no_route: u32,
     discard: u32,
-    routers: &mut [u32],
-    start: usize,
-    size: usize,
-)
-    requires chunk { size ≤ CHUNK }
-    requires within { start + size ≤ length addresses.now }
-    requires size { length routers.old ≡ length addresses.now }
-    ensures each { (j : ℕ) → j < size → number_at routers.new (start + j)
-        ≡ router_as no_route discard (look_up (addr (number_at addresses.now (start + j))) (routes_in held.now)) }
-    ensures rest { (k : ℕ) → k < start → number_at routers.new k ≡ number_at routers.old k }
-{
-    let mut asked = [Addr(0); CHUNK];
-    copy_chunk(addresses, &mut asked, start, size);
-    let mut found = [None; CHUNK];
-    look_up_each(held, &asked[..size], &mut found[..size]);
-    for k in 0..size {
-        routers[start + k] = router_number(found[k], no_route, discard);
+}
+
+impl ChunkLookup<u32, u32> for RouterLookup<'_> {
+    ghost use Rattle.rt_rib.specs.LookUp.{look_up};
+    ghost use Rattle.yarib_c.specs.declared.lookups.TheConstants.{CHUNK};
+    ghost use Rattle.yarib_c.specs.Calls.{addr};
+    ghost use Rattle.yarib_c.specs.Forms.{router_as};
+    ghost use Rattle.yarib_c.specs.Kinds.{routes_in};
+
+    ghost chunk_size = { λ _. CHUNK };
+
+    ghost answer = { λ asked address _. router_as asked.no_route asked.discard (look_up (addr address) (routes_in asked.held.now)) };
+
+    fn chunk_size(&self) -> usize {
+        CHUNK
+    }
+
+    fn look_up_chunk(&self, addresses: &[u32], routers: &mut [u32]) {
+        let mut found = [None; CHUNK];
+        look_up_numbers(self.held, addresses, &mut found[..addresses.len()]);
+        for k in 0..addresses.len() {
+            routers[k] = router_number(found[k], self.no_route, self.discard);
+        }
     }
 }
