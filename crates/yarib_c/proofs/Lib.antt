@@ -8,4 +8,4 @@ pub mod Outcomes
 pub mod ParsedAddresses
 pub mod ShownParts
 pub mod TextLengths
-pub mod SelectionOrder
+pub mod SelectionParts

@@ -9,6 +9,7 @@ ghost use Rattle.yarib_c.specs.Statuses.{IsOneOf};
 ghost use Rattle.yarib_c.specs.declared.status.TheConstants.{DONE, NOTHING, BAD_NUMBER, NO_MEMORY, BAD_LENGTH, BAD_BITS, WRONG_KIND};
 
 use crate::handle::{Yarib, with_held};
+use crate::held::Held;
 use crate::lists::put;
 use crate::routes::YaribRoute;
 use crate::status::{BAD_BITS, BAD_LENGTH, BAD_NUMBER, DONE, NO_MEMORY, WRONG_KIND};
@@ -70,7 +71,7 @@ impl YaribSelection {
     }
 
     /// Returns the filter of prefixes that the numbers denote.
-    #[tactic(auto, using(crate::proofs::SelectionOrder::all_parts, crate::proofs::SelectionOrder::prefix_part))]
+    #[tactic(auto, using(crate::proofs::SelectionParts::all_parts, crate::proofs::SelectionParts::prefix_part))]
     fn read_part(&self) -> Result<PrefixFilter, TextFault>
         requires { self.now.part ≤ 3 }
         ensures { PartReading self.now result }
@@ -121,19 +122,7 @@ pub extern "C" fn yarib_select(
     ensures order { WithHeld table.old (SelectionStatus asked.now 0) result }
     ensures known { IsOneOf (DONE ∷ NOTHING ∷ BAD_NUMBER ∷ NO_MEMORY ∷ BAD_LENGTH ∷ BAD_BITS ∷ WRONG_KIND ∷ []) result }
 {
-    with_held!(table, alloc, held => match asked.read(None) {
-        Err(status) => status,
-        Ok(selection) => match held.table() {
-            None => WRONG_KIND,
-            Some(table) => match table.select(alloc, &selection) {
-                Err(_) => NO_MEMORY,
-                Ok(found) => {
-                    *total = put(found.as_slice(), skip, routes);
-                    DONE
-                }
-            },
-        },
-    })
+    with_held!(table, alloc, held => select(&held, alloc, asked, 0, 0, skip, routes, total))
 }
 
 /// Writes those of the selected routes that have this next hop, as `yarib_select` writes them. `hop` is 0 for any next hop, 1 for the
@@ -163,18 +152,43 @@ pub extern "C" fn yarib_select_by_hop(
     with_held!(table, alloc, held => if hop > 2 {
         BAD_NUMBER
     } else {
-        match asked.read(read_hop(hop, via)) {
-            Err(status) => status,
-            Ok(selection) => match held.table() {
-                None => WRONG_KIND,
-                Some(table) => match table.select(alloc, &selection) {
-                    Err(_) => NO_MEMORY,
-                    Ok(found) => {
-                        *total = put(found.as_slice(), skip, routes);
-                        DONE
-                    }
-                },
-            },
-        }
+        select(&held, alloc, asked, hop, via, skip, routes, total)
     })
+}
+
+/// Writes the selected routes as `yarib_select_by_hop` does. Returns the status.
+fn select(
+    held: &Held,
+    alloc: Global,
+    asked: &YaribSelection,
+    hop: u32,
+    via: u32,
+    skip: usize,
+    routes: &mut [YaribRoute],
+    total: &mut usize,
+) -> u32
+    requires { hop ≤ 2 }
+    ensures done { result ≡ DONE → ShowsSelected asked.now hop via (routes_in held.now) skip routes.new total.new }
+    ensures number { result ≡ BAD_NUMBER → IsOutOfRange asked.now }
+    ensures length { result ≡ BAD_LENGTH → 32 < asked.now.len }
+    ensures bits { result ≡ BAD_BITS → (asked.now.len ≤ 32) × ¬ IsPrefix asked.now.base asked.now.len }
+    ensures kind { result ≡ WRONG_KIND → IsForwarding held.now }
+    ensures silent { result ≢ DONE → (routes.new ≡ routes.old) × (total.new ≡ total.old) }
+    ensures order { SelectionStatus asked.now hop held.now result }
+    ensures known { IsOneOf (DONE ∷ BAD_NUMBER ∷ NO_MEMORY ∷ BAD_LENGTH ∷ BAD_BITS ∷ WRONG_KIND ∷ []) result }
+{
+    let selection = match asked.read(read_hop(hop, via)) {
+        Err(status) => return status,
+        Ok(selection) => selection,
+    };
+    let Some(table) = held.table() else {
+        return WRONG_KIND;
+    };
+    match table.select(alloc, &selection) {
+        Err(_) => NO_MEMORY,
+        Ok(found) => {
+            *total = put(found.as_slice(), skip, routes);
+            DONE
+        }
+    }
 }
