@@ -70,7 +70,7 @@ impl<'a, B: Allocator + Copy> Filling<'a, B> {
         ensures piece { OnOk result (IsFrom self.new slabs.new (first + 256)) }
     {
         let mut numbers = [0u32; GROUP_SIZE];
-        'numbers: for k in 0..256u32 {
+        'numbers: for k in 0..GROUP_SIZE as u32 {
             self.go_on_to(slabs, Addr(first + k))?;
             numbers[k as usize] = self.piece.number;
         }
@@ -95,12 +95,12 @@ impl<'a, B: Allocator + Copy> Filling<'a, B> {
             → IsEntry self.old.table slabs.new (self.old.epoch.number + 1) j run.entry) }
         ensures piece { IfOk result (λ run. IsFrom self.new slabs.new (run.end * 256)) }
     {
-        let first = i * 256;
+        let first = i * GROUP_SIZE as u32;
         self.go_on_to(slabs, Addr(first))?;
-        if u64::from(first) + 256 <= self.piece.end {
+        if u64::from(first) + GROUP_SIZE as u64 <= self.piece.end {
             return Ok(Run {
                 entry: self.piece.number,
-                end: u64::from(end).min(self.piece.end / 256) as u32,
+                end: u64::from(end).min(self.piece.end / GROUP_SIZE as u64) as u32,
             });
         }
         let numbers = self.numbers_from(slabs, first)?;
@@ -162,7 +162,7 @@ impl<A: Allocator + Copy> Slabs<A> {
             AreFrom span.first fresh.items self.new (epoch.number + 1) table.now.routes (span.end - span.first)) }
         ensures back { OnErr result (AreBack epoch.number self.old self.new) }
     {
-        let counts = self.begin(previous, Addr(span.first * 256));
+        let counts = self.begin(previous, Addr(span.first * GROUP_SIZE as u32));
         let mut filling = Filling {
             table: table.lookup_cursor(),
             previous,

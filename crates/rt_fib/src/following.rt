@@ -70,7 +70,7 @@ impl<A: Allocator + Copy> Slabs<A> {
             return None;
         }
         let group = self.groups.get(place);
-        'numbers: for k in 0..256u32 {
+        'numbers: for k in 0..GROUP_SIZE as u32 {
             if self.is_uncovered(len, group.numbers[k as usize]) {
                 return Some(k);
             }
@@ -127,7 +127,7 @@ impl<A: Allocator + Copy> Slabs<A> {
         ensures { AreNumbersAfter self.now epoch.number change.now numbers.now result 256 }
     {
         let mut after = [0u32; GROUP_SIZE];
-        'numbers: for k in 0..256usize {
+        'numbers: for k in 0..GROUP_SIZE {
             after[k] = self.number_after(epoch, change, numbers[k]);
         }
         after
@@ -184,7 +184,7 @@ impl<A: Allocator + Copy, B: Allocator + Copy> Dir24_8<A, B> {
                 return None;
             }
             if let Some(k) = self.slabs.uncovered_index(len, self.tbl24[i as usize]) {
-                return Some(Addr(i * 256 + k));
+                return Some(Addr(i * GROUP_SIZE as u32 + k));
             }
         }
         None

@@ -4,6 +4,7 @@ ghost use Rattle.rt_cidr.specs.Cidr.{size_of};
 ghost use Rattle.rt_fib.specs.inside.Changes.{AreEntriesOf, IsWholly};
 
 use crate::bounds::{ENTRIES, Span};
+use crate::slabs::GROUP_SIZE;
 use rt_cidr::Prefix;
 
 /// Returns the entries of the prefix's addresses.
@@ -13,8 +14,10 @@ pub(crate) fn span_of(prefix: &Prefix) -> Span
     let base = u64::from(prefix.base());
     let size = 1u64 << (32 - prefix.len());
     Span {
-        first: (base / 256) as u32,
-        end: ((base + size + 255) / 256).min(ENTRIES as u64) as u32,
+        first: (base / GROUP_SIZE as u64) as u32,
+        end: (base + size)
+            .div_ceil(GROUP_SIZE as u64)
+            .min(ENTRIES as u64) as u32,
     }
 }
 
@@ -24,5 +27,6 @@ pub(crate) fn is_whole(prefix: &Prefix, span: Span) -> bool
 {
     let base = u64::from(prefix.base());
     let size = 1u64 << (32 - prefix.len());
-    u64::from(span.first) * 256 == base && u64::from(span.end) * 256 == base + size
+    let group_size = GROUP_SIZE as u64;
+    u64::from(span.first) * group_size == base && u64::from(span.end) * group_size == base + size
 }
