@@ -36,4 +36,5 @@ mod spans;
 mod views;
 
 pub use fib::Fib;
+pub use slabs::{GROUP_FLAG, GROUP_SIZE};
 pub use views::ViewSizes;

@@ -11,11 +11,11 @@ use rt_cidr::Addr;
 use rt_rib::{Refused, Route};
 use std::alloc::Allocator;
 
-/// An entry from this number on names a group. A lower one is the number of an answer.
-pub(crate) const GROUP_FLAG: u32 = 1 << 31;
+/// An entry from this number on names a group: this number and the group's place. A lower one is the number of an answer.
+pub const GROUP_FLAG: u32 = 1 << 31;
 
-/// Says how many addresses an entry has.
-pub(crate) const GROUP_SIZE: usize = 256;
+/// The number of addresses of an entry, and of numbers in a group.
+pub const GROUP_SIZE: usize = 256;
 
 /// Says how many bytes a group takes, with its epoch.
 pub(crate) const GROUP_BYTES: usize = 1032;

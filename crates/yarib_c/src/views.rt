@@ -11,10 +11,8 @@ ghost use Rattle.yarib_c.specs.declared.status.TheConstants.{DONE, NOTHING, NO_M
 
 use crate::handle::{Yarib, with_held};
 use crate::status::{BAD_SIZE, DONE, NO_MEMORY, WRONG_KIND};
+use rt_fib::{GROUP_FLAG, GROUP_SIZE};
 use std::alloc::Global;
-
-/// An entry from this number on names a block.
-const LONG: u32 = 1 << 31;
 
 /// The arrays of a view, which a look-up only reads. They belong to the caller.
 #[repr(C)]
@@ -87,15 +85,15 @@ pub extern "C" fn yarib_view_write(
 fn number_in(view: &YaribView, address: u32) -> u32
     ensures { AnswersByNumber view.now.entries.now view.now.blocks.now view.now.routers.now address result }
 {
-    let i = (address / 256) as usize;
+    let i = address as usize / GROUP_SIZE;
     if i >= view.entries.len() {
         return 0;
     }
     let entry = view.entries[i];
-    if entry < LONG {
+    if entry < GROUP_FLAG {
         return entry;
     }
-    let at = (entry - LONG) as usize * 256 + (address % 256) as usize;
+    let at = (entry - GROUP_FLAG) as usize * GROUP_SIZE + address as usize % GROUP_SIZE;
     if at >= view.blocks.len() {
         return 0;
     }
