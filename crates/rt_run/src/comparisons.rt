@@ -1,12 +1,12 @@
 //! Comparisons of two runs: the addresses for which their final tables give different answers.
-ghost use Rattle.std.specs.Prelude.{◌≡◌, ◌↔◌, ◌⊎◌, ◌≤◌, ℕ, max, [], length, drop, IfOk};
+ghost use Rattle.std.specs.Prelude.{◌≡◌, ◌≢◌, ◌↔◌, ◌⊎◌, ◌≤◌, ℕ, max, [], length, drop, IfOk};
 ghost use Rattle.rt_run.specs.RunText.{WritesOrFails, in_batches};
 ghost use Rattle.rt_run.specs.TableText.{tallies_status, IsGivenBack};
-ghost use Rattle.rt_run.specs.DiffText.{differ_status, IsDiffText, IsCountText};
+ghost use Rattle.rt_run.specs.DiffText.{differ_status, IsComparison, IsDiffText, IsCountText};
 
 use crate::faults::AppFault;
 use crate::input::RunInput;
-use crate::output::{differences_of, write_differences, write_numbers, write_through};
+use crate::output::{write_differences, write_numbers};
 use crate::rendering::Workers;
 use crate::sides::run_both;
 use crate::status::Status;
@@ -44,15 +44,10 @@ pub fn diff_texts<R: Threads + Sync, W: Write>(
     ensures new_given_back { IfOk result (λ given. IsGivenBack new_input.old (drop (length old_input.old.texts) given.tallies.items) new_input.new) }
     ensures no_text { (result ≡ Err (AppFault.Run RunFault.NoText)) ↔ ((old_input.old.texts ≡ []) ⊎ (new_input.old.texts ≡ [])) }
 {
-    let (old_tables, new_tables, tallies) = run_both(rt, alloc, threads, old_input, new_input)?;
     let workers = Workers { rt, alloc, threads };
-    let differences = differences_of(&workers, options, &old_tables, &new_tables)?;
-    mem::forget((old_tables, new_tables));
-    let list = differences.as_slice();
+    let (differences, given) = compare(&workers, old_input, new_input, options)?;
     let room = OutputRoom::new(alloc)?;
-    let status = status_with(tallies.as_slice(), list);
-    let given = RunSummary { status, tallies };
-    write_differences(&workers, w, room, options, list, given)
+    write_differences(&workers, w, room, options, differences.as_slice(), given)
 }
 
 /// Does the same as `diff_texts`, but instead of the ranges it writes their number and that of their addresses: of all, of each
@@ -73,19 +68,38 @@ pub fn count_diff_texts<R: Threads + Sync, W: Write>(
     ensures new_given_back { IfOk result (λ given. IsGivenBack new_input.old (drop (length old_input.old.texts) given.tallies.items) new_input.new) }
     ensures no_text { (result ≡ Err (AppFault.Run RunFault.NoText)) ↔ ((old_input.old.texts ≡ []) ⊎ (new_input.old.texts ≡ [])) }
 {
-    let (old_tables, new_tables, tallies) = run_both(rt, alloc, threads, old_input, new_input)?;
     let workers = Workers { rt, alloc, threads };
-    let differences = differences_of(&workers, options, &old_tables, &new_tables)?;
-    mem::forget((old_tables, new_tables));
-    let list = differences.as_slice();
-    let counts = count_changes(alloc, list)?;
+    let (differences, given) = compare(&workers, old_input, new_input, options)?;
+    let counts = count_changes(alloc, differences.as_slice())?;
     let room = OutputRoom::new(alloc)?;
-    let status = status_with(tallies.as_slice(), list);
-    let given = RunSummary { status, tallies };
-    let numbers = counts.as_slice();
-    write_through(w, room, false, given, |out| {
-        write_numbers(out, options, numbers)
-    })
+    write_numbers(w, room, options, counts.as_slice(), given)
+}
+
+/// Executes both sides and compares their tables, as `diff_texts` does. Returns all ranges of addresses for which the tables
+/// give different answers, in ascending order, and the summary. Errors: F1 if there is no old text or no new text; F3 if memory
+/// ran out outside of a command. Leaks the tables.
+fn compare<R: Threads + Sync>(
+    workers: &Workers<'_, R>,
+    old_input: &mut RunInput,
+    new_input: &mut RunInput,
+    options: &DiffOptions,
+) -> Result<(Vec<Difference>, RunSummary), RunFault>
+    ensures compared { IfOk result (λ found. (old_batch new_batch : ℕ) → 1 ≤ old_batch → 1 ≤ new_batch
+        → IsComparison options.now (in_batches old_batch old_input.old) (in_batches new_batch new_input.old) (λ list. list ≡ found.0.items) found.1) }
+    ensures old_given_back { IfOk result (λ found. IsGivenBack old_input.old found.1.tallies.items old_input.new) }
+    ensures new_given_back { IfOk result (λ found. IsGivenBack new_input.old (drop (length old_input.old.texts) found.1.tallies.items) new_input.new) }
+    ensures refused { result ≢ Err RunFault.FeedCount }
+    ensures no_text { (result ≡ Err RunFault.NoText) ↔ ((old_input.old.texts ≡ []) ⊎ (new_input.old.texts ≡ [])) }
+{
+    let Workers { rt, alloc, threads } = *workers;
+    let (old_tables, new_tables, tallies) = run_both(rt, alloc, threads, old_input, new_input)?;
+    let tables = options.compared_tables(&old_tables, &new_tables);
+    let Ok(differences) = tables.differences(rt, alloc, threads) else {
+        return Err(RunFault::Memory);
+    };
+    mem::forget((old_tables, new_tables));
+    let status = status_with(tallies.as_slice(), differences.as_slice());
+    Ok((differences, RunSummary { status, tallies }))
 }
 
 /// Returns the status, from the tallies of both runs and all differences between their tables.

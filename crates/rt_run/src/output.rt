@@ -1,17 +1,18 @@
 //! Output: the parts of a run's text, the answers to questions, and the differences between two tables. Each part goes to
 //! any writer; `write_through` writes an output through one buffer.
-ghost use Rattle.std.specs.Prelude.{◌≡◌, ◌==◌, ◌&&◌, ◌++◌, [], ◌≤◌, ℕ, List, Option, length, IfOk, IfErr};
+ghost use Rattle.std.specs.Prelude.{◌≡◌, ◌==◌, ◌&&◌, ◌++◌, [], ◌^◌, ◌<◌, ◌≤◌, ℕ, List, Option, length, IfErr};
 ghost use Rattle.std.specs.Fn.{FnOnceReturnsAtMut};
-ghost use Rattle.std.specs.List.{flat_map};
+ghost use Rattle.std.specs.List.{flat_map, sum_by};
 ghost use Rattle.rt_cidr.specs.Output.{WritesText};
 ghost use Rattle.rt_print.specs.Buffer.{buffered};
 ghost use Rattle.rt_rib.specs.declared.limits.TheConstants.{MAX_FEEDS};
+ghost use Rattle.rt_print.specs.declared.change_counts.ChangeCount.{ChangeCount};
 ghost use Rattle.rt_print.specs.ChangeCounts.{change_counts_as};
 ghost use Rattle.rt_print.specs.DifferenceText.{differences_as, differences_header};
 ghost use Rattle.rt_print.specs.Routes.{table_text};
 ghost use Rattle.rt_print.specs.Styles.{rows_as, rows_header};
 ghost use Rattle.rt_run.specs.RunText.{reports_text};
-ghost use Rattle.rt_run.specs.inside.Outputs.{with_invalid, Writes, list_of, AreSomeCounts};
+ghost use Rattle.rt_run.specs.inside.Outputs.{with_invalid, Writes};
 
 use crate::faults::AppFault;
 use crate::rendering::{Rows, Workers, write_on_threads};
@@ -23,8 +24,6 @@ use rt_print::{
     write_difference, write_invalid_line, write_table,
 };
 use rt_rib::Route;
-use rt_tables::TableUnion;
-use std::alloc::{AllocError, Global};
 use std::io::{self, Write};
 use std::thread::Threads;
 
@@ -286,27 +285,20 @@ fn write_headed_ranges<R: Threads + Sync, W: Write>(
     write_on_threads(workers, w, options, list)
 }
 
-/// Returns the differences between two tables, in ascending order, found on this many threads.
-pub(crate) fn differences_of<R: Threads + Sync>(
-    workers: &Workers<'_, R>,
-    options: &DiffOptions,
-    old: &TableUnion<Global>,
-    new: &TableUnion<Global>,
-) -> Result<Vec<Difference>, AllocError>
-    ensures { IfOk result (λ list. list.items ≡ list_of options.now old.now new.now) }
-{
-    let tables = options.compared_tables(old, new);
-    tables.differences(workers.rt, workers.alloc, workers.threads)
-}
-
-/// Writes the numbers of differences, by these counts.
-pub(crate) fn write_numbers<W: Write>(
+/// Writes the numbers of differences, by these counts, through a new buffer over the writer, as `write_through` does.
+pub(crate) fn write_numbers<W: Write, X: Drop>(
     w: &mut W,
+    room: OutputRoom,
     options: &DiffOptions,
     counts: &[ChangeCount],
-) -> Result<(), io::Error>
-    requires { AreSomeCounts counts.now }
-    ensures { WritesText (W.contents w.old) (W.contents w.new) (change_counts_as options.now counts.now) result }
+    given: X,
+) -> Result<X, AppFault>
+    requires new { room ≡ [] }
+    requires ranges { sum_by (λ (c : ChangeCount). c.ranges) counts.now < 2 ^ 64 }
+    requires addresses { sum_by (λ (c : ChangeCount). c.addresses) counts.now < 2 ^ 64 }
+    ensures { Writes (change_counts_as options.now counts.now) given (W.contents w.old) (W.contents w.new) result }
 {
-    write_change_counts(w, options, counts)
+    write_through(w, room, false, given, |out| {
+        write_change_counts(out, options, counts)
+    })
 }

@@ -1,7 +1,7 @@
 -- The effect of an output on its writer, the answers for addresses with invalid lines between them, and the output of a
 -- comparison of two tables.
-use Rattle.std.specs.Prelude.{◌≡◌, ℕ, List, [], ◌∷◌, Option, Result, Ok, Err, ◌++◌, ◌-◌, ◌^◌, ◌≤◌, map, take, drop}
-use Rattle.std.specs.List.{flat_map, All, sum_by}
+use Rattle.std.specs.Prelude.{◌≡◌, ℕ, List, [], ◌∷◌, Option, Result, Ok, Err, ◌++◌, ◌-◌, map, take, drop}
+use Rattle.std.specs.List.{flat_map}
 use Rattle.std.specs.Io.KnownBytes.{Appends}
 use Rattle.rt_cidr.specs.Output.{AppendsBeginning}
 use Rattle.rt_feed.specs.declared.addresses.InvalidLine.{InvalidLine}
@@ -16,15 +16,8 @@ use Rattle.std.specs.declared.alloc.Global.{Global}
 use Rattle.rt_cidr.specs.declared.address.Addr.{Addr}
 use Rattle.rt_rib.specs.declared.routes.Route.{Route}
 use Rattle.rt_rib.specs.LookUp.{look_up, look_up_all}
-use Rattle.rt_diff.specs.declared.comparison.Difference.{Difference}
-use Rattle.rt_diff.specs.Answers.{own_numbers}
-use Rattle.rt_diff.proofs.Promised.{differences_of}
-use Rattle.rt_print.specs.declared.change_counts.ChangeCount.{ChangeCount}
-use Rattle.rt_print.specs.ChangeCounts.{range_size, AreChangeCounts}
-use Rattle.rt_print.specs.DifferenceText.{DiffContents}
 use Rattle.rt_run.specs.declared.question.Question.{Question}
 use Rattle.rt_run.specs.declared.tallies.RejectedInput.{RejectedInput}
-use Rattle.rt_run.specs.DiffText.{renumbered_new}
 use Rattle.rt_run.specs.TableText.{AsksAbout}
 
 -- for each address, in order, the result of looking it up in the table, in the style
@@ -67,14 +60,3 @@ pub record AddsTally (question : Question) (tallies all : List RejectedInput) : 
   pub others : List RejectedInput
   pub asks : AsksAbout question rows others
   pub added : all ≡ tallies ++ others
-
--- all differences of the two tables
-abbrev pub list_of : DiffContents → List Route → List Route → List Difference
-list_of asked old new = differences_of asked.by (own_numbers old) (renumbered_new asked new)
-
--- the counts of some ranges, which have at most all addresses
-pub record AreSomeCounts (counts : List ChangeCount) : Type 0 where
-  pub list : List Difference
-  pub counted : AreChangeCounts list counts
-  pub some : All (λ (d : Difference). d.first.0 ≤ d.last.0) list
-  pub fits : sum_by range_size list ≤ 2 ^ 32

@@ -1,13 +1,7 @@
-use Rattle.std.proofs.Common.{arith}
-use Rattle.rt_run.proofs.Comparing.{ranges_below, ranges_fit, addresses_fit}
+use Rattle.std.proofs.Common.{rules}
+use Rattle.rt_run.proofs.Comparing.{changes-some}
+use Rattle.rt_run.proofs.Outputs.{has_byte}
 use Rattle.rt_run.proofs.output.write_numbers.Goals as goal
 
-pub write_change_counts-requires-clause-ranges : goal.write_change_counts-requires-clause-ranges
-write_change_counts-requires-clause-ranges g c =
-    let is = c.requires in
-    omega (arith, ranges_fit is.list c.args.counts.now is.counted, ranges_below is.list is.some, is.fits)
-
-pub write_change_counts-requires-clause-addresses : goal.write_change_counts-requires-clause-addresses
-write_change_counts-requires-clause-addresses g c =
-    let is = c.requires in
-    omega (arith, addresses_fit is.list c.args.counts.now is.counted is.fits)
+pub returns : goal.returns
+returns g c = c.write_through.ensures.text _ (has_byte _ (changes-some c.args.options.now c.args.counts.now)) (λ old written new called. search rules)
