@@ -4,7 +4,7 @@ use Rattle.std.specs.Prelude.{◌&&◌}
 use Rattle.std.proofs.Math.Seq.{take-append_seam, drop-append_seam}
 use Rattle.std.proofs.lemmas.Bool.Decides.{nat_tests}
 use Rattle.std.proofs.lemmas.Grind.{common_steps}
-use Rattle.std.proofs.lemmas.List.{take-map, drop-map, take_min, drop_min, length-map}
+use Rattle.std.proofs.lemmas.List.{take-map, drop-map, take_min, drop_min}
 use Rattle.std.proofs.lemmas.List.Folds.{flat_map-map}
 use Rattle.std.specs.Io.KnownBytes.{Appends}
 use Rattle.rt_cidr.specs.declared.address.Addr.{Addr}
@@ -116,9 +116,3 @@ matches_rows style table addresses invalid all same =
     with_invalid-map style.syntax (λ (m : Addr × Vec Route Global). (m.0, m.1.items)) text 0 all invalid
     ∙ (ap (λ pairs. with_invalid style.syntax (flat_map text) 0 pairs invalid) same
     ∙ sym (with_invalid-map style.syntax (λ (addr : Addr). (addr, look_up_all addr table)) text 0 addresses invalid))
-
--- as many are found as are looked up
-pub found-count : (table : List Route) (addresses : List Addr) (all : List (Addr × Vec Route Global)) → matches_found all ≡ matches_in table addresses → length addresses ≡ length all
-found-count table addresses all same =
-    sym (length-map addresses (λ (addr : Addr). (addr, look_up_all addr table)))
-    ∙ (sym (ap length same) ∙ length-map all (λ (one : Addr × Vec Route Global). (one.0, one.1.items)))

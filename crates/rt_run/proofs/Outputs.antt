@@ -104,19 +104,19 @@ all_found_as-some Json label addr (first ∷ others) = grind (arith, common_step
 all_found_as-some Csv label addr [] = grind (arith, common_steps, found_as-some)
 all_found_as-some Csv label addr (first ∷ others) = grind (arith, common_steps, found_as-some)
 
-module _ (style : StyleContents) (empty : Bool) where
-  pub rows-empty : (routes : List Route) → empty ≡ (length routes == 0) → empty ≡ (length (rows_as style routes) == 0)
-  rows-empty = texts-empty (row_as style.syntax (label_of style.labels)) (row_as-some style.syntax (label_of style.labels)) empty
+module _ (style : StyleContents) where
+  pub rows-empty : (empty : Bool) (routes : List Route) → empty ≡ (length routes == 0) → empty ≡ (length (rows_as style routes) == 0)
+  rows-empty = texts-empty (row_as style.syntax (label_of style.labels)) (row_as-some style.syntax (label_of style.labels))
 
-  pub answers-empty : (table : List Route) (addresses : List Addr) → empty ≡ (length addresses == 0) → empty ≡ (length (found_text style addresses table) == 0)
-  answers-empty table =
+  pub answers-empty : (table : List Route) (addresses : List Addr) → (length addresses == 0) ≡ (length (found_text style addresses table) == 0)
+  answers-empty table addresses =
       texts-empty (λ addr. found_as style.syntax (label_of style.labels) addr (look_up addr table))
-      (λ addr. found_as-some style.syntax (label_of style.labels) addr (look_up addr table)) empty
+      (λ addr. found_as-some style.syntax (label_of style.labels) addr (look_up addr table)) _ addresses refl
 
-  pub matches-empty : (all : List (Addr × Vec Route Global)) → empty ≡ (length all == 0) → empty ≡ (length (matches_text style all) == 0)
-  matches-empty =
+  pub matches-empty : (all : List (Addr × Vec Route Global)) → (length all == 0) ≡ (length (matches_text style all) == 0)
+  matches-empty all =
       texts-empty (λ one. all_found_as style.syntax (label_of style.labels) one.0 one.1.items)
-      (λ one. all_found_as-some style.syntax (label_of style.labels) one.0 one.1.items) empty
+      (λ one. all_found_as-some style.syntax (label_of style.labels) one.0 one.1.items) _ all refl
 
 -- a text isn't empty if its beginning isn't
 pub first-some : (front rest : List ℕ) → 0 < length front → 0 < length (front ++ rest)

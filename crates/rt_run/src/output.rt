@@ -91,7 +91,7 @@ pub(crate) fn write_run<W: Write>(
 }
 
 /// Writes the header, the rows of the items, and the invalid lines in their places, through a new buffer over the writer, as
-/// `write_through` does. `no_rows` is true if there are neither rows nor invalid lines.
+/// `write_through` does. Each item has a row.
 pub(crate) fn write_rows_through<R: Threads + Sync, W: Write, I: Sync, P: Rows<I> + Sync, X: Drop>(
     workers: &Workers<'_, R>,
     w: &mut W,
@@ -101,30 +101,36 @@ pub(crate) fn write_rows_through<R: Threads + Sync, W: Write, I: Sync, P: Rows<I
     rows: &P,
     items: &[I],
     invalid: &[InvalidLine],
-    no_rows: bool,
     given: X,
 ) -> Result<X, AppFault>
     requires new { room ≡ [] }
-    requires empty { no_rows ≡ (length (with_invalid style.now.syntax (flat_map (P.row_of rows.now)) 0 items.now invalid.now) == 0) }
+    requires empty { (length items.now == 0) ≡ (length (flat_map (P.row_of rows.now) items.now) == 0) }
     ensures { Writes (header.now ++ with_invalid style.now.syntax (flat_map (P.row_of rows.now)) 0 items.now invalid.now) given (W.contents w.old) (W.contents w.new) result }
 {
-    let is_empty = is_output_empty(header, no_rows);
+    let is_empty = is_output_empty(header, have_no_rows(items, invalid));
     let mut out = OutputBuffer::new(w, room);
-    let written = write_with_header(workers, &mut out, header, style, rows, items, invalid);
+    let written = write_with_invalid(workers, &mut out, header, style, rows, items, invalid);
     let told = finish(&mut out, written, is_empty, given);
     let _ = out.into_writer();
     told
 }
 
 /// Returns true if an output with this header is empty; `no_rows` is true if nothing follows the header.
-pub(crate) fn is_output_empty(header: &[u8], no_rows: bool) -> bool
+fn is_output_empty(header: &[u8], no_rows: bool) -> bool
     ensures { result ≡ ((length header.now == 0) && no_rows) }
 {
     header.is_empty() && no_rows
 }
 
+/// Returns true if there is neither an item nor an invalid line.
+fn have_no_rows<I>(items: &[I], invalid: &[InvalidLine]) -> bool
+    ensures { result ≡ ((length items.now == 0) && (length invalid.now == 0)) }
+{
+    items.is_empty() && invalid.is_empty()
+}
+
 /// Writes the header, the rows of the items, and the invalid lines in their places.
-fn write_with_header<R: Threads + Sync, W: Write, X: Sync, P: Rows<X> + Sync>(
+fn write_with_invalid<R: Threads + Sync, W: Write, X: Sync, P: Rows<X> + Sync>(
     workers: &Workers<'_, R>,
     w: &mut W,
     header: &[u8],
@@ -137,21 +143,6 @@ fn write_with_header<R: Threads + Sync, W: Write, X: Sync, P: Rows<X> + Sync>(
         (header.now ++ with_invalid style.now.syntax (flat_map (P.row_of rows.now)) 0 items.now invalid.now) result }
 {
     put(w, header)?;
-    write_with_invalid(workers, w, style, rows, items, invalid)
-}
-
-/// Writes the rows of the items, and the invalid lines in their places.
-fn write_with_invalid<R: Threads + Sync, W: Write, X: Sync, P: Rows<X> + Sync>(
-    workers: &Workers<'_, R>,
-    w: &mut W,
-    style: &Style,
-    rows: &P,
-    items: &[X],
-    invalid: &[InvalidLine],
-) -> Result<(), io::Error>
-    ensures { WritesText (W.contents w.old) (W.contents w.new)
-        (with_invalid style.now.syntax (flat_map (P.row_of rows.now)) 0 items.now invalid.now) result }
-{
     let (mut rest, mut lines, mut done) = (items, invalid, 0);
     while let Some((line, later)) = lines.split_first() {
         let (piece, behind) = rest.split_at(line.before.saturating_sub(done).min(rest.len()));

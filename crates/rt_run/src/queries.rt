@@ -1,5 +1,5 @@
 //! Queries: a question to the finished table of a run, and the output of the answer.
-ghost use Rattle.std.specs.Prelude.{◌≡◌, ◌↔◌, ◌≤◌, ◌==◌, ◌&&◌, ◌++◌, ℕ, [], List, IfOk, length};
+ghost use Rattle.std.specs.Prelude.{◌≡◌, ◌↔◌, ◌≤◌, ◌++◌, ℕ, [], List, IfOk};
 ghost use Rattle.rt_feed.specs.Addresses.{AddressRow};
 ghost use Rattle.rt_print.specs.Styles.{found_header, all_found_header};
 ghost use Rattle.rt_run.specs.RunText.{WritesOrFails, in_batches};
@@ -18,7 +18,7 @@ use crate::rows::LookupTables;
 use crate::tallies::{RejectedInput, RunSummary, tallies_status};
 use rt_cidr::Addr;
 use rt_feed::laws::one_address_text;
-use rt_feed::{AddressText, InvalidLine, RunFault};
+use rt_feed::{AddressText, RunFault};
 use rt_print::{OutputRoom, Style, write_counts, write_routes_and_total};
 use rt_rib::{Refused, Route};
 use rt_tables::TableUnion;
@@ -152,10 +152,9 @@ fn write_best<R: Threads + Sync, W: Write>(
         tables,
         fib: &fib,
     };
-    let no_rows = are_empty(addresses, invalid);
     let header = style.found_header();
     write_rows_through(
-        workers, w, room, header, style, &rows, addresses, invalid, no_rows, given,
+        workers, w, room, header, style, &rows, addresses, invalid, given,
     )
 }
 
@@ -177,19 +176,18 @@ fn write_all<R: Threads + Sync, W: Write>(
 {
     let (addresses, invalid) = (read.addresses.as_slice(), read.invalid.as_slice());
     let all = matches_of(workers.alloc, tables, addresses)?;
-    let all = all.as_slice();
-    let no_rows = are_empty(addresses, invalid);
     let header = style.all_found_header();
     write_rows_through(
-        workers, w, room, header, style, style, all, invalid, no_rows, given,
+        workers,
+        w,
+        room,
+        header,
+        style,
+        style,
+        all.as_slice(),
+        invalid,
+        given,
     )
-}
-
-/// Returns true if there is neither an address nor an invalid line.
-fn are_empty(addresses: &[Addr], invalid: &[InvalidLine]) -> bool
-    ensures { result ≡ ((length addresses.now == 0) && (length invalid.now == 0)) }
-{
-    addresses.is_empty() && invalid.is_empty()
 }
 
 /// Returns each address, in order, and all routes of the tables that cover it, the best first.

@@ -8,9 +8,9 @@ use Rattle.rt_run.proofs.output.write_with_invalid.Given as goal
 abbrev pub invariant-loop-line : goal.invariant-loop-line
 invariant-loop-line g l = record {
   text : List ℕ;
-  written : Appends (g.W.Write.contents l.initial.w) (g.W.Write.contents l.w) text;
+  written : Appends (g.W.Write.contents l.fn.w) (g.W.Write.contents l.w) text;
   whole : text ++ with_invalid l.style.syntax (flat_map (g.P.Rows.row_of l.rows)) l.done l.rest l.lines
-      ≡ with_invalid l.style.syntax (flat_map (g.P.Rows.row_of l.rows)) 0 l.fn.items l.fn.invalid;
+      ≡ l.fn.header ++ with_invalid l.style.syntax (flat_map (g.P.Rows.row_of l.rows)) 0 l.fn.items l.fn.invalid;
 }
 
 abbrev pub decreases-loop-line : goal.decreases-loop-line
