@@ -9,21 +9,16 @@ use Rattle.rt_run.proofs.Outputs.{writes_or_fails}
 use Rattle.rt_run.proofs.Comparing.{are_printed, these_differ, sizes_fit, each_some, sums_fit}
 use Rattle.rt_run.proofs.comparisons.count_diff_texts.Goals as goal
 
-pub count_changes-requires-clause-fits : goal.count_changes-requires-clause-fits
-count_changes-requires-clause-fits g c =
-    rw c.as_slice.ensures.value (sizes_fit _ _ _ _ (these_differ _ _ _ _ _ (c.in_ok-differences.ensures.compared 1 1 (omega arith) (omega arith))))
+pub count_changes-requires : goal.count_changes-requires
+count_changes-requires g c =
+    let differ = these_differ _ _ _ _ _ (c.in_ok-differences.ensures.compared 1 1 (omega arith) (omega arith)) in
+    rw c.as_slice.ensures.value (record { fits = sizes_fit _ _ _ _ differ; some = each_some _ _ _ _ differ })
 
-pub count_changes-requires-clause-some : goal.count_changes-requires-clause-some
-count_changes-requires-clause-some g c =
-    rw c.as_slice.ensures.value (each_some _ _ _ _ (these_differ _ _ _ _ _ (c.in_ok-differences.ensures.compared 1 1 (omega arith) (omega arith))))
-
-pub write_numbers-requires-clause-ranges : goal.write_numbers-requires-clause-ranges
-write_numbers-requires-clause-ranges g c =
-    rw c.as_slice-2.ensures.value (sums_fit _ _ _ _ _ (these_differ _ _ _ _ _ (c.in_ok-differences.ensures.compared 1 1 (omega arith) (omega arith))) (rw c.as_slice.ensures.value at c.in_ok-counts.ensures)).0
-
-pub write_numbers-requires-clause-addresses : goal.write_numbers-requires-clause-addresses
-write_numbers-requires-clause-addresses g c =
-    rw c.as_slice-2.ensures.value (sums_fit _ _ _ _ _ (these_differ _ _ _ _ _ (c.in_ok-differences.ensures.compared 1 1 (omega arith) (omega arith))) (rw c.as_slice.ensures.value at c.in_ok-counts.ensures)).1
+pub write_numbers-requires : goal.write_numbers-requires
+write_numbers-requires g c =
+    let differ = these_differ _ _ _ _ _ (c.in_ok-differences.ensures.compared 1 1 (omega arith) (omega arith)) in
+    let fit = sums_fit _ _ _ _ _ differ (rw c.as_slice.ensures.value at c.in_ok-counts.ensures) in
+    rw c.as_slice-2.ensures.value (record { new = c.in_ok-room.ensures; ranges = fit.0; addresses = fit.1 })
 
 pub returns-clause-text : goal.returns-clause-text
 returns-clause-text g c old_batch new_batch old_some new_some =
