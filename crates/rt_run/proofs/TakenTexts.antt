@@ -1,5 +1,5 @@
 -- The texts of an input, taken out into parts, one for each share.
-use Rattle.std.proofs.Common.{◌≡◌, ℕ, ◌+◌, ◌<◌, ◌≤◌, inl, inr, false, List, [], ◌∷◌, ◌++◌, length, map, get_or, replicate, refl, sym, ap, subst, ◌∙◌, arith, eqb-true, length-append}
+use Rattle.std.proofs.Common.{◌≡◌, ℕ, ◌+◌, ◌<◌, ◌≤◌, inl, inr, Bool, false, if◌then◌else◌, List, [], ◌∷◌, ◌++◌, length, map, get_or, replicate, refl, sym, ap, subst, ◌∙◌, arith, eqb-true, length-append}
 use Rattle.std.specs.Bool.{◌==◌}
 use Rattle.std.proofs.lemmas.Bool.{cases_Bool, cases_lt, cond-true, cond-false, ne_eqb}
 use Rattle.std.proofs.lemmas.List.{length-map, length-replicate, get_or-map, get_or-replicate, get_or_append_left, get_or_push, ext_get_or}
@@ -15,25 +15,27 @@ some_element : {X : Type 0} (xs : List X) (k : ℕ) → k < length xs → X
 some_element [] k here = absurd (omega (arith, here))
 some_element (x ∷ xs) k here = x
 
+-- a place that took its element from one of two lists has what that element contains
+element_map : {X Y : Type 0} (f : X → Y) (taken : Bool) (one other new : List X) (k : ℕ) (none : Y) → k < length one → length other ≡ length one → length new ≡ length one
+    → ((some : X) → get_or new k some ≡ (if taken then get_or other k some else get_or one k some))
+    → get_or (map f new) k none ≡ (if taken then get_or (map f other) k none else get_or (map f one) k none)
+element_map {X} f taken one other new k none here same as_many is =
+    let some : X = some_element one k here in
+    get_or-map f new k some none (omega (arith, here, as_many))
+    ∙ (ap f (is some)
+    ∙ grind (arith, get_or-map f other k some none (omega (arith, here, same)), get_or-map f one k some none here))
+
 -- lists that exchanged elements exchanged what the elements contain
 pub exchanged_map : {X Y : Type 0} (f : X → Y) (dealt : List ℕ) (share : ℕ) (one other one' other' : List X) → length one ≡ length other
     → AreExchanged dealt share one other one' other' → AreExchanged dealt share (map f one) (map f other) (map f one') (map f other')
-exchanged_map {X} f dealt share one other one' other' same is = record {
+exchanged_map f dealt share one other one' other' same is = record {
   as_many = (length-map one' f ∙ (is.as_many.0 ∙ sym (length-map one f)), length-map other' f ∙ (is.as_many.1 ∙ sym (length-map other f)));
   one_has = λ k none within.
       let here : k < length one = omega (arith, within, length-map one f) in
-      let there : k < length other = omega (arith, here, same) in
-      let some : X = some_element one k here in
-      get_or-map f one' k some none (omega (arith, here, is.as_many))
-      ∙ (ap f (is.one_has k some here)
-      ∙ grind (arith, get_or-map f other k some none there, get_or-map f one k some none here));
+      element_map f (share_with dealt k == share) one other one' k none here (sym same) is.as_many.0 (λ some. is.one_has k some here);
   other_has = λ k none within.
       let here : k < length one = omega (arith, within, length-map one f) in
-      let there : k < length other = omega (arith, here, same) in
-      let some : X = some_element one k here in
-      get_or-map f other' k some none (omega (arith, there, is.as_many))
-      ∙ (ap f (is.other_has k some here)
-      ∙ grind (arith, get_or-map f other k some none there, get_or-map f one k some none here));
+      element_map f (share_with dealt k == share) other one other' k none (omega (arith, here, same)) same is.as_many.1 (λ some. is.other_has k some here);
 }
 
 -- the texts that are still in the input: those of this share and of later ones
