@@ -43,13 +43,13 @@ sizes_from from (d ∷ list) some later rising fits =
     let sum = sum_by-cons range_size d list in
     omega (arith, here.0, onward, rest, sum)
 
-pub sizes_fit : (by : CompareBy) (old new : RenumberedTable) (list : List Difference) → AreDifferences by old new list → sum_by range_size list ≤ 2 ^ 32
-sizes_fit by old new list are =
+pub sizes_fit : {by : CompareBy} {old new : RenumberedTable} {list : List Difference} → AreDifferences by old new list → sum_by range_size list ≤ 2 ^ 32
+sizes_fit {by} {old} {new} {list} are =
     let all = sizes_from 0 list (λ k d inside. let one = are.each k d inside in (one.some, one.fits)) (λ k d inside. omega arith) are.rising (omega arith) in
     omega (arith, all)
 
-pub each_some : (by : CompareBy) (old new : RenumberedTable) (list : List Difference) → AreDifferences by old new list → All (λ (d : Difference). d.first.0 ≤ d.last.0) list
-each_some by old new list are k d inside = (are.each k d inside).some
+pub each_some : {by : CompareBy} {old new : RenumberedTable} {list : List Difference} → AreDifferences by old new list → All (λ (d : Difference). d.first.0 ≤ d.last.0) list
+each_some are k d inside = (are.each k d inside).some
 
 -- each range has an address
 ranges_below : (list : List Difference) → All (λ (d : Difference). d.first.0 ≤ d.last.0) list → length list ≤ sum_by range_size list
@@ -73,11 +73,11 @@ addresses_fit list counts are fits =
     omega (arith, all, fits)
 
 -- hence both sums are below 2^64
-pub sums_fit : (by : CompareBy) (old new : RenumberedTable) (list : List Difference) (counts : List ChangeCount) → AreDifferences by old new list → AreChangeCounts list counts
+pub sums_fit : {by : CompareBy} {old new : RenumberedTable} {list : List Difference} {counts : List ChangeCount} → AreDifferences by old new list → AreChangeCounts list counts
     → (sum_by (λ (c : ChangeCount). c.ranges) counts < 2 ^ 64) × (sum_by (λ (c : ChangeCount). c.addresses) counts < 2 ^ 64)
-sums_fit by old new list counts are counted =
-    let sizes = sizes_fit by old new list are in (
-      omega (arith, ranges_fit list counts counted, ranges_below list (each_some by old new list are), sizes),
+sums_fit {by} {old} {new} {list} {counts} are counted =
+    let sizes = sizes_fit are in (
+      omega (arith, ranges_fit list counts counted, ranges_below list (each_some are), sizes),
       omega (arith, addresses_fit list counts counted sizes),
     )
 
@@ -95,7 +95,7 @@ changes-some asked counts =
     (number-some asked.old.syntax (ranges_by (λ old new. true) counts) (addresses_by (λ old new. true) counts))
 
 -- a comparison that found this list
-module _ (asked : DiffContents) (old_asked new_asked : RunContents) (list : List Difference) (given : RunSummary)
+module _ {asked : DiffContents} {old_asked new_asked : RunContents} {list : List Difference} {given : RunSummary}
     (is : IsComparison asked old_asked new_asked (λ found. found ≡ list) given) where
   pub these_differ : AreDifferences asked.by (own_numbers is.old_table) (renumbered_new asked is.new_table) list
   these_differ = rw is.printed at is.differences

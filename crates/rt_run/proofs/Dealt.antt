@@ -49,49 +49,66 @@ in_some_share dealt shares some each k = elim (cases_lt k (length dealt)) [
   | inr past ↦ omega (arith, some, get_or_past dealt k 0 past)
 ]
 
--- the parts that were executed are those of the shares
-pub ended_each : (input : InputContents) (dealt : List ℕ) (shares : ℕ) (parts : List InputContents) (runs : List PartRun) → length parts ≡ shares → length runs ≡ shares
-    → ((share : ℕ) (none : InputContents) → share < shares → get_or parts share none ≡ part_of input dealt share) → EndEachPart parts runs → EndEach input dealt runs
-ended_each input dealt shares parts runs count ran are ended share none here =
-    let within : share < shares = omega (arith, here, ran) in
-    subst (λ part. EndsPart part (get_or runs share none)) (are share input within) (ended share input none (omega (arith, within, count)))
+-- the part of each share was executed, memory ran out in none, and these are their tables, their tallies and the parts afterwards
+pub record SharesEnd (input : InputContents) (dealt : List ℕ) (shares : ℕ) (tables : List (List Route)) (told : List (List RejectedInput)) (parts : List InputContents) : Type 0 where
+  pub some : 1 ≤ shares
+  pub each : All (λ share. share < shares) dealt
+  pub runs : List PartRun
+  pub counted : length runs ≡ shares
+  pub ended : EndEach input dealt runs
+  pub split : AreOfRuns runs tables told parts
 
-module _ (input : InputContents) (dealt : List ℕ) (shares : ℕ) (runs : List PartRun) (tables : List (List Route)) (told : List (List RejectedInput))
-    (parts : List InputContents) (some : 1 ≤ shares) (each : All (λ share. share < shares) dealt) (counted : length runs ≡ shares)
-    (ended : EndEach input dealt runs) (split : AreOfRuns runs tables told parts) where
+-- the parts that were executed are those of the shares
+pub shares_end : {input : InputContents} {dealt : List ℕ} {shares : ℕ} {runs : List PartRun} {tables : List (List Route)} {told : List (List RejectedInput)} {parts : List InputContents}
+    (taken : List InputContents) → 1 ≤ shares → All (λ share. share < shares) dealt → length taken ≡ shares → length runs ≡ length taken
+    → ((share : ℕ) (none : InputContents) → share < shares → get_or taken share none ≡ part_of input dealt share) → EndEachPart taken runs → AreOfRuns runs tables told parts
+    → SharesEnd input dealt shares tables told parts
+shares_end {input} {dealt} {shares} {runs} taken some each count same are ended split = record {
+  some = some;
+  each = each;
+  runs = runs;
+  counted = same ∙ count;
+  ended = λ share none here.
+      let within : share < shares = omega (arith, here, same, count) in
+      subst (λ part. EndsPart part (get_or runs share none)) (are share input within) (ended share input none (omega (arith, within, count)));
+  split = split;
+}
+
+module _ {input : InputContents} {dealt : List ℕ} {shares : ℕ} {tables : List (List Route)} {told : List (List RejectedInput)} {parts : List InputContents}
+    (end : SharesEnd input dealt shares tables told parts) where
   left_at : (share : ℕ) → share < shares → LeavesInAnyBatches (part_of input dealt share) (get_or tables share []) (get_or told share [])
       × IsGivenBack (part_of input dealt share) (get_or told share []) (get_or parts share input)
   left_at share here =
       let none : PartRun = Err alloc_error in
-      let within : share < length runs = omega (arith, counted, here) in
+      let within : share < length end.runs = omega (arith, end.counted, here) in
       rw (
-        split.tables_left,
-        split.told,
-        split.parts_left,
-        get_or-map routes_left runs share none [] within,
-        get_or-map tallies_left runs share none [] within,
-        get_or-map part_left runs share none input within,
+        end.split.tables_left,
+        end.split.told,
+        end.split.parts_left,
+        get_or-map routes_left end.runs share none [] within,
+        get_or-map tallies_left end.runs share none [] within,
+        get_or-map part_left end.runs share none input within,
       )
-      (left_by_ran (part_of input dealt share) (get_or runs share none) (All-get_or IsOk runs share none within split.ran) (ended share none within))
+      (left_by_ran (part_of input dealt share) (get_or end.runs share none) (All-get_or IsOk end.runs share none within end.split.ran) (end.ended share none within))
 
   pub table_count : length tables ≡ shares
-  table_count = ap length split.tables_left ∙ (length-map runs routes_left ∙ counted)
+  table_count = ap length end.split.tables_left ∙ (length-map end.runs routes_left ∙ end.counted)
 
   tally_count : length told ≡ shares
-  tally_count = ap length split.told ∙ (length-map runs tallies_left ∙ counted)
+  tally_count = ap length end.split.told ∙ (length-map end.runs tallies_left ∙ end.counted)
 
   pub part_count : length parts ≡ shares
-  part_count = ap length split.parts_left ∙ (length-map runs part_left ∙ counted)
+  part_count = ap length end.split.parts_left ∙ (length-map end.runs part_left ∙ end.counted)
 
   pub are_shares : (batch : ℕ) → 1 ≤ batch → AreShares (in_batches batch input) dealt tables told
   are_shares batch any = record {
-    dealt_to_some = λ k here. omega (arith, table_count, in_some_share dealt shares some each k);
+    dealt_to_some = λ k here. omega (arith, table_count, in_some_share dealt shares end.some end.each k);
     left = λ share here. (left_at share (omega (arith, table_count, here))).0 batch any;
   }
 
   pub are_tallies_of_each : AreTalliesOfEach (length input.texts) dealt told
   are_tallies_of_each = record {
-    dealt_to_some = λ k here. omega (arith, tally_count, in_some_share dealt shares some each k);
+    dealt_to_some = λ k here. omega (arith, tally_count, in_some_share dealt shares end.some end.each k);
     as_many = λ share here.
         as_many_tallies (in_batches 1 (part_of input dealt share)) (get_or tables share []) (get_or told share [])
         ((left_at share (omega (arith, tally_count, here))).0 1 (omega arith))
@@ -112,7 +129,7 @@ module _ (input : InputContents) (dealt : List ℕ) (shares : ℕ) (runs : List 
     as_many = as_many;
     each = λ k none here.
         let share = share_with dealt k in
-        let within : share < shares = in_some_share dealt shares some each k in
+        let within : share < shares = in_some_share dealt shares end.some end.each k in
         let has : get_or (part_of input dealt share).texts k [] ≡ get_or input.texts k [] = has_text_at (in_batches 1 input) dealt share k refl in
         back k input here (omega (arith, part_count, within))
         ∙ ((left_at share within).1.each k none (omega (arith, here, kept_length (is_of_other dealt share) 1 input.texts))

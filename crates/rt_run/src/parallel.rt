@@ -112,7 +112,7 @@ fn run_each<R: Threads + Sync>(
     alloc: Global,
     parts: Vec<RunInput>,
 ) -> Result<Vec<PartRun>, AllocError>
-    ensures count { IfOk result (λ runs. vec_len runs ≡ vec_len parts) }
+    ensures count { IfOk result (λ runs. length runs.items ≡ length parts.items) }
     ensures each { IfOk result (λ runs. EndEachPart parts.items runs.items) }
 {
     thread::map_vec(

@@ -17,7 +17,7 @@ pub(crate) fn take_parts(
     shares: usize,
 ) -> Result<Vec<RunInput>, AllocError>
     ensures parts { IfOk result (λ parts. (share : ℕ) (none : InputContents) → share < shares → get_or parts.items share none ≡ part_of input.old dealt.now share) }
-    ensures count { IfOk result (λ parts. vec_len parts ≡ shares) }
+    ensures count { IfOk result (λ parts. length parts.items ≡ shares) }
     ensures as_many { length input.new.texts ≡ length input.old.texts }
     ensures limit { input.new.limit ≡ input.old.limit }
 {

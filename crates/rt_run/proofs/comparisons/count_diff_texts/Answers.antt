@@ -11,13 +11,13 @@ use Rattle.rt_run.proofs.comparisons.count_diff_texts.Goals as goal
 
 pub count_changes-requires : goal.count_changes-requires
 count_changes-requires g c =
-    let differ = these_differ _ _ _ _ _ (c.in_ok-differences.ensures.compared 1 1 (omega arith) (omega arith)) in
-    rw c.as_slice.ensures.value (record { fits = sizes_fit _ _ _ _ differ; some = each_some _ _ _ _ differ })
+    let differ = these_differ (c.in_ok-differences.ensures.compared 1 1 (omega arith) (omega arith)) in
+    rw c.as_slice.ensures.value (record { fits = sizes_fit differ; some = each_some differ })
 
 pub write_numbers-requires : goal.write_numbers-requires
 write_numbers-requires g c =
-    let differ = these_differ _ _ _ _ _ (c.in_ok-differences.ensures.compared 1 1 (omega arith) (omega arith)) in
-    let fit = sums_fit _ _ _ _ _ differ (rw c.as_slice.ensures.value at c.in_ok-counts.ensures) in
+    let differ = these_differ (c.in_ok-differences.ensures.compared 1 1 (omega arith) (omega arith)) in
+    let fit = sums_fit differ (rw c.as_slice.ensures.value at c.in_ok-counts.ensures) in
     rw c.as_slice-2.ensures.value (record { new = c.in_ok-room.ensures; ranges = fit.0; addresses = fit.1 })
 
 pub returns-clause-text : goal.returns-clause-text
@@ -27,7 +27,7 @@ returns-clause-text g c old_batch new_batch old_some new_some =
     let new_asked = in_batches new_batch c.args.new_input.now in
     let text = change_counts_as asked c.as_slice-2.result.now in
     writes_or_fails (IsCountText asked old_asked new_asked) text _ _ _ c.write_numbers.result
-    (are_printed asked old_asked new_asked _ _ (c.in_ok-differences.ensures.compared old_batch new_batch old_some new_some)
+    (are_printed (c.in_ok-differences.ensures.compared old_batch new_batch old_some new_some)
     (λ list. TellsCounts asked list text)
     (record { counts = c.as_slice-2.result.now; counted = rw (c.as_slice-2.ensures.value, ← c.as_slice.ensures.value) c.in_ok-counts.ensures; printed = refl }))
     c.write_numbers.ensures

@@ -10,7 +10,7 @@ use Rattle.rt_run.proofs.comparisons.diff_texts.Goals as goal
 
 pub write_differences-requires-clause-empty : goal.write_differences-requires-clause-empty
 write_differences-requires-clause-empty g c lifetimes outlive =
-    rw c.as_slice.ensures.value (lines-empty c.args.options.now _ _ _ (these_differ _ _ _ _ _ (c.in_ok-differences.ensures.compared 1 1 (omega arith) (omega arith))))
+    rw c.as_slice.ensures.value (lines-empty c.args.options.now _ _ _ (these_differ (c.in_ok-differences.ensures.compared 1 1 (omega arith) (omega arith))))
 
 pub returns-clause-text : goal.returns-clause-text
 returns-clause-text g c old_batch new_batch old_some new_some =
@@ -19,7 +19,7 @@ returns-clause-text g c old_batch new_batch old_some new_some =
     let new_asked = in_batches new_batch c.args.new_input.now in
     let text = diff_text asked c.as_slice.result.now in
     writes_or_fails (IsDiffText asked old_asked new_asked) text _ _ _ c.write_differences.result
-    (are_printed asked old_asked new_asked _ _ (c.in_ok-differences.ensures.compared old_batch new_batch old_some new_some)
+    (are_printed (c.in_ok-differences.ensures.compared old_batch new_batch old_some new_some)
     (λ list. text ≡ diff_text asked list) (ap (diff_text asked) c.as_slice.ensures.value))
     c.write_differences.ensures
 
