@@ -91,15 +91,19 @@ class Item:
 
     def impl_name(self):
         """Returns the name of an impl as the prover writes it: `T` for the methods of a type, or of `Drop` for it; `T+A` for
-        those of only the type `T<A>`; `TTrA` for those of the trait `Tr<A>` for `T`, or `TTr` if `A` is `T` or missing; `TATr`
-        for those of a trait for only the type `T<A>`."""
+        those of only the type `T<A>`; `TTrAB` for those of the trait `Tr<A<B>>` for `T`, without parameters of the impl, or `TTr`
+        if that is `Tr<T>` or `Tr`; `TATr` for those of a trait for only the type `T<A>`."""
         trait, owner = self.of_impl()
         if trait in (None, "Drop"):
             only = re.match(rf"impl {owner}<(\w+)>", self.lines[0].strip())
             return f"{owner}+{only[1]}" if only else owner
         only = re.match(rf"impl {trait} for {owner}<(\w+)>", self.lines[0].strip())
-        given = re.search(rf"\b{trait}<(?:\w+::)*(\w+)>", " ".join(self.lines))
-        return f"{owner}{only[1] if only else ''}{trait}{given[1] if given and given[1] != owner else ''}"
+        head = " ".join(self.lines)
+        own = parameters(head[4:closing(head, 4, "<>")]) if head.startswith("impl<") else []
+        start = re.search(rf"\b{trait}\b", head).end()
+        given = re.sub(r"\w+::", "", head[start:closing(head, start, "<>")] if head[start] == "<" else "")
+        given = "".join(type_name(word) for word in re.findall(r"\w+", given) if word not in own)
+        return f"{owner}{only[1] if only else ''}{trait}{given if given != owner else ''}"
 
     def members(self):
         """Returns the members of an impl, a trait or a module."""

@@ -1,6 +1,6 @@
 //! The table DIR-24-8: an entry for each value of the first 24 bits of an address (`tbl24`), groups for the last 8 (`tbl8`), and a
 //! list of answers.
-ghost use Rattle.std.specs.Prelude.{◌≡◌, ℕ, ◌+◌, ◌<◌, ◌≤◌, ◌^◌, get_or, length, map, take};
+ghost use Rattle.std.specs.Prelude.{◌≡◌, ℕ, ◌<◌, ◌≤◌, ◌^◌, get_or, length};
 ghost use Rattle.rt_rib.specs.LookUp.{look_up};
 ghost use Rattle.rt_fib.specs.inside.Entries.{at, entry_at, HasRoute, IsForwarding};
 
@@ -80,41 +80,16 @@ impl<A: Allocator + Copy, B: Allocator + Copy> Dir24_8<A, B> {
         group.numbers[addr.0 as usize % GROUP_SIZE]
     }
 
-    /// Looks up this number of the addresses, from this place on. Their entries are read first: no read waits for another, so the
-    /// memory fetches all of them at once.
-    pub(crate) fn look_up_some(
-        &self,
-        addresses: &[Addr],
-        answers: &mut [Option<Route>],
-        start: usize,
-        size: usize,
-    )
-        requires right { IsForwarding self.now }
-        requires few { size ≤ AT_ONCE }
-        requires within { start + size ≤ length addresses.now }
-        requires size { length answers.old ≡ length addresses.now }
-        requires before { take start answers.old ≡ map (λ addr. look_up addr self.now.table.value.routes) (take start addresses.now) }
-        ensures size { length answers.new ≡ length answers.old }
-        ensures each { take (start + size) answers.new
-            ≡ map (λ addr. look_up addr self.now.table.value.routes) (take (start + size) addresses.now) }
-    {
-        let entries = self.entries_at(addresses, start, size);
-        'answers: for k in 0..size {
-            answers[start + k] = self.answer_by(entries[k], addresses[start + k]);
-        }
-    }
-
-    /// Returns the entries of this number of the addresses, from this place on.
-    fn entries_at(&self, addresses: &[Addr], start: usize, size: usize) -> [u32; AT_ONCE]
+    /// Returns the entries of the addresses. No read waits for another, so the memory fetches all of them at once.
+    pub(crate) fn entries_at(&self, addresses: &[Addr]) -> [u32; AT_ONCE]
         requires all { length self.now.tbl24.items ≡ 2 ^ 24 }
-        requires few { size ≤ AT_ONCE }
-        requires within { start + size ≤ length addresses.now }
-        ensures { (k : ℕ) → k < size
-            → get_or result k 0 ≡ entry_at self.now.tbl24.items (get_or addresses.now (start + k) (at 0)) }
+        requires few { length addresses.now ≤ AT_ONCE }
+        ensures { (k : ℕ) → k < length addresses.now
+            → get_or result k 0 ≡ entry_at self.now.tbl24.items (get_or addresses.now k (at 0)) }
     {
         let mut entries = [0u32; AT_ONCE];
-        'entries: for k in 0..size {
-            entries[k] = self.tbl24[addresses[start + k].0 as usize / GROUP_SIZE];
+        'entries: for k in 0..addresses.len() {
+            entries[k] = self.tbl24[addresses[k].0 as usize / GROUP_SIZE];
         }
         entries
     }

@@ -19,7 +19,7 @@ use crate::spans::span_of;
 use crate::views::{ViewSizes, hop_numbers, show_blocks, show_entries};
 use rt_cidr::{Addr, Prefix};
 use rt_rib::laws::look_up_finds_best;
-use rt_rib::{Cmd, Hop, Refused, Reply, Route, Table};
+use rt_rib::{ChunkLookup, Cmd, Hop, Refused, Reply, Route, Table, look_up_in_chunks};
 use std::alloc::Allocator;
 use std::fmt;
 use std::marker::Model;
@@ -113,12 +113,7 @@ impl<A: Allocator + Copy, B: Allocator + Copy> Fib<A, B> {
         requires { length answers.old ≡ length addresses.now }
         ensures { answers.new ≡ map (λ addr. look_up addr self.now) addresses.now }
     {
-        let mut start = 0usize;
-        'each: while start < addresses.len() {
-            let size = (addresses.len() - start).min(AT_ONCE);
-            self.dir.look_up_some(addresses, answers, start, size);
-            start += size;
-        }
+        look_up_in_chunks(self, addresses, answers);
     }
 
     /// Looks up the address's next hop: that of the route that `look_up` returns, or `None` if no prefix covers the address. It reads 4
@@ -301,5 +296,26 @@ impl<A: Allocator + Copy, B: Allocator + Copy> Fib<A, B> {
     {
         let entries = self.dir.tbl24.capacity().saturating_mul(4);
         entries.saturating_add(self.dir.slabs.bytes())
+    }
+}
+
+/// Each address is answered by its entry. The entries of a chunk are read before the first answer.
+impl<A: Allocator + Copy, B: Allocator + Copy> ChunkLookup<Addr, Option<Route>> for Fib<A, B> {
+    ghost use Rattle.rt_rib.specs.LookUp.{look_up};
+    ghost use Rattle.rt_fib.specs.declared.dir24_8.TheConstants.{AT_ONCE};
+
+    ghost chunk_size = { λ _. AT_ONCE };
+
+    ghost answer = { λ fib addr _. look_up addr fib };
+
+    fn chunk_size(&self) -> usize {
+        AT_ONCE
+    }
+
+    fn look_up_chunk(&self, addresses: &[Addr], answers: &mut [Option<Route>]) {
+        let entries = self.dir.entries_at(addresses);
+        'answers: for k in 0..addresses.len() {
+            answers[k] = self.dir.answer_by(entries[k], addresses[k]);
+        }
     }
 }

@@ -1,6 +1,6 @@
 //! Lists whose places are used again. Each place has the epoch in which it was last marked as used. Whatever is in use has at least
 //! the epoch that the round began with, so a place with a lower one is free.
-ghost use Rattle.std.specs.Prelude.{◌≡◌, ℕ, ◌+◌, ◌<◌, ◌≤◌, ◌^◌, IfOk, IfSome, IsTrue, OnErr, [], length, get_or, slice_set, take};
+ghost use Rattle.std.specs.Prelude.{◌≡◌, ◌↔◌, ℕ, ◌+◌, ◌<◌, ◌≤◌, ◌^◌, IfOk, IfSome, IsTrue, OnErr, [], length, get_or, slice_set, take};
 ghost use Rattle.rt_fib.specs.inside.Slab.{with_value, begun, AreCleared, Fills, Has, IsBack, IsNumberOf, Keeps, Places};
 
 use crate::bounds::Epoch;
@@ -14,9 +14,9 @@ const MOST_TRIES: u32 = 8;
 
 /// Compares values of a slab.
 pub(crate) trait Same: Copy {
-    /// Returns true only if the other value is the same.
+    /// Returns true if the other value is the same.
     fn is_same(&self, other: &Self) -> bool
-        ensures { IsTrue result → self.now ≡ other.now };
+        ensures { IsTrue result ↔ (self.now ≡ other.now) };
 }
 
 /// Holds values, and the epoch of each place. The epochs are a separate list: so a look-up reads only values, and marking reads 4
