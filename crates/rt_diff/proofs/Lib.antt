@@ -1,4 +1,3 @@
-pub mod Promised
 pub mod Lists
 pub mod Rest
 pub mod Parts
@@ -6,4 +5,3 @@ pub mod Deciding
 pub mod Equality
 pub mod Existence
 pub mod Uniqueness
-pub mod Whole

@@ -1,5 +1,5 @@
 -- The list of a part of the addresses: how it grows, and how the lists of two parts are joined.
-use Rattle.std.proofs.Common.{◌≡◌, ℕ, ◌+◌, ◌*◌, ◌^◌, ◌<◌, ◌≤◌, ◌⊎◌, inl, inr, List, [], ◌∷◌, ◌++◌, length, get_or, Option, Some, None, Result, Ok, Err, append_assoc, append-nil, refl, sym, subst, ◌∙◌, arith}
+use Rattle.std.proofs.Common.{◌≡◌, ℕ, ◌+◌, ◌*◌, ◌^◌, ◌<◌, ◌≤◌, inl, inr, List, [], ◌∷◌, ◌++◌, length, get_or, Option, Some, None, Result, Ok, Err, append_assoc, append-nil, sym, subst, ◌∙◌, arith}
 use Rattle.std.specs.Prelude.{IfOk}
 use Rattle.std.specs.declared.vec.Vec.{Vec}
 use Rattle.std.specs.declared.alloc.Global.{Global}
@@ -7,9 +7,9 @@ use Rattle.std.specs.declared.alloc.AllocError.{AllocError}
 use Rattle.std.proofs.lemmas.Bool.{cases_lt}
 use Rattle.rt_cidr.specs.declared.address.Addr.{Addr}
 use Rattle.rt_diff.specs.declared.comparison.Difference.{Difference}
-use Rattle.rt_diff.specs.Differences.{Compared, IsAlike, IsDifference, HasAnswers, IsNextDifference, IsFirstDifference, AreDifferences}
+use Rattle.rt_diff.specs.Differences.{Compared, IsNextDifference, IsFirstDifference, AreDifferences}
 use Rattle.rt_diff.specs.inside.Rest.{AreRest}
-use Rattle.rt_diff.specs.inside.Parts.{AreAllAlike, IsNextWithin, IsFirstWithin, AreOfPart, ListsBlock, ListEach, GoesOnIn, up_to, ArePutAfter, AreJoinedAt, AreJoined, addresses_from, IsListing}
+use Rattle.rt_diff.specs.inside.Parts.{AreAllAlike, IsNextWithin, IsFirstWithin, AreOfPart, ListEach, GoesOnIn, up_to, ArePutAfter, AreJoined, addresses_from, IsListing}
 use Rattle.rt_diff.proofs.Rest.{at, rest_none, rest_next, whole}
 
 -- an absent difference is `None`

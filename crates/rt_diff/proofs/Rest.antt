@@ -34,29 +34,6 @@ module _ (by : CompareBy) (old new : RenumberedTable) where
     fewest = AllPairs-none IsApart;
   }
 
-  -- if each address up to this end has the same answer in both tables, the list from the end on is the list from here on
-  pub rest_later : (from end : ℕ) (list : List Difference) → from ≤ end → ((addr : Addr) → from ≤ addr.0 → addr.0 < end → IsAlike by old new addr)
-      → AreRest by old new end list → AreRest by old new from list
-  rest_later from end list before alike are = record {
-    onward = All-weaker (λ (d : Difference). end ≤ d.first.0) (λ (d : Difference). from ≤ d.first.0) (λ d behind. omega (arith, before)) list are.onward;
-    each = are.each;
-    all = λ addr here fits unlike. elim (cases_lt addr.0 end) [
-      | inl inside ↦ absurd (unlike (alike addr here inside))
-      | inr later ↦ are.all addr later fits unlike
-    ];
-    rising = are.rising;
-    fewest = are.fewest;
-  }
-
-  -- a range that begins before such an address doesn't reach it
-  pub ends_before : (d : Difference) (end : Addr) → IsDifference by old new d → d.first.0 < end.0 → IsAlike by old new end → d.last.0 < end.0
-  ends_before d end is begins alike = elim (cases_lt d.last.0 end.0) [
-    | inl ends ↦ ends
-    | inr goes_on ↦
-        let answers = is.each end (omega (arith, begins), goes_on) in
-        absurd (is.differ (sym answers.0 ∙ alike ∙ answers.1))
-  ]
-
   -- and only then
   pub rest_alike_all : (from : ℕ) → AreRest by old new from [] → (addr : Addr) → from ≤ addr.0 → addr.0 < 2 ^ 32 → IsAlike by old new addr
   rest_alike_all from are addr here fits = elim (answer_cases (answer_of by addr old) (answer_of by addr new)) [
