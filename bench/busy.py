@@ -14,9 +14,10 @@ import subprocess
 import sys
 import tempfile
 
-from common import checks, figures
-from common.inputs import changing_table, deal, write
-from common.timed import measure
+sys.path.insert(1, str(pathlib.Path(__file__).resolve().parents[1]))
+from dev import checks, figures
+from dev.models.inputs import changing_table, deal, write
+from dev.timed import measure
 
 FILES = (2, 4, 16, 64)
 BATCHES = (1, 256)

@@ -19,9 +19,10 @@ import sys
 import tempfile
 import time
 
-from common import figures
-from common.inputs import real_prefixes, write_apart
-from common.table_model import dotted, row
+sys.path.insert(1, str(pathlib.Path(__file__).resolve().parents[1]))
+from dev import figures
+from dev.models.inputs import real_prefixes, write_apart
+from dev.models.table_model import dotted, row
 
 PEERS, OF_TABLES = 20, 8
 # seconds between two samples of memory

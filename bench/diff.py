@@ -9,6 +9,7 @@ processor time that `diff` takes beyond these two runs, also as a part of theirs
 In turn with these runs a program in plain Rust does the same (bench/diff_peer.rs). If the system's python3 has py-radix
 (Debian's python3-radix), it is loaded with both tables and looks up each boundary.
 """
+import sys
 import pathlib
 import random
 import resource
@@ -16,8 +17,9 @@ import subprocess
 import tempfile
 import time
 
-from common import checks, figures
-from common.table_model import dotted
+sys.path.insert(1, str(pathlib.Path(__file__).resolve().parents[1]))
+from dev import checks, figures
+from dev.models.table_model import dotted
 
 # The number of prefixes of this length among a hundred.
 LENGTHS = [24] * 60 + [23] * 9 + [22] * 11 + [21] * 4 + [20] * 5 + [19] * 3 + [18] * 2 + [17] + [16] * 3 + [14, 12]

@@ -6,11 +6,13 @@ time_by_processors.svg, lock_by_threads.svg and trie_by_size.svg into docs/pictu
 what it would write.
 Each axis begins at zero, but for the lower ones, which have one place for each number that was measured.
 """
+import pathlib
 import html
 import statistics
 import sys
 
-from common import figures
+sys.path.insert(1, str(pathlib.Path(__file__).resolve().parents[1]))
+from dev import figures
 
 FOLDER = figures.TOP / "docs/pictures"
 INK, QUIET, BLUE, GREEN, ORANGE = "#222", "#777", "#1f5fa8", "#1a7f37", "#b3541e"

@@ -16,7 +16,8 @@ import subprocess
 import sys
 import tempfile
 
-from common import checks, figures
+sys.path.insert(1, str(pathlib.Path(__file__).resolve().parents[1]))
+from dev import checks, figures
 from others import built_lpm, drawn, has_patricia, patricia_rows, printed, radix_rows, write_input
 
 ASKED = 1 << 20

@@ -6,13 +6,15 @@ and a table of 70,000 prefixes with the lengths of a real one. Prints each part'
 the functions that the compiler kept: an inlined function counts for its caller, as reading ahead does for executing
 commands.
 """
+import sys
 import pathlib
 import re
 import subprocess
 import tempfile
 
-from common import checks, figures
-from common.inputs import one_prefix, real_table
+sys.path.insert(1, str(pathlib.Path(__file__).resolve().parents[1]))
+from dev import checks, figures
+from dev.models.inputs import one_prefix, real_table
 
 # The first pattern found in a function's name determines its part.
 PARTS = [

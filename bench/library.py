@@ -19,8 +19,9 @@ import subprocess
 import sys
 import tempfile
 
-from common import checks, figures
-from common.table_model import dotted
+sys.path.insert(1, str(pathlib.Path(__file__).resolve().parents[1]))
+from dev import checks, figures
+from dev.models.table_model import dotted
 from others import built_lpm, call_each, drawn, each, has_patricia, patricia_rows, printed, radix_rows, write_input
 
 ASKED = 1 << 17

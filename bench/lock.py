@@ -12,8 +12,9 @@ import subprocess
 import sys
 import tempfile
 
-from common import checks, figures
-from common.timed import taken
+sys.path.insert(1, str(pathlib.Path(__file__).resolve().parents[1]))
+from dev import checks, figures
+from dev.timed import taken
 
 ALONE = [(levels, 1) for levels in range(1, 7)]
 TOGETHER = [(1, 2), *((levels, threads) for levels in range(2, 7) for threads in (2, 4)), (6, 16), (6, 64)]

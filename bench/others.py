@@ -6,8 +6,8 @@ import subprocess
 import sys
 import time
 
-from common import checks
-from common.table_model import dotted
+from dev import checks
+from dev.models.table_model import dotted
 
 # The lengths that the benchmarks in Rattle draw: a length by a number below 1000.
 LENGTHS = ((600, 24), (720, 22), (820, 23), (870, 21), (915, 20), (945, 19), (970, 16), (980, 18), (985, 17), (995, 28),

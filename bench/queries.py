@@ -15,10 +15,11 @@ import subprocess
 import sys
 import tempfile
 
-from common import checks, figures
-from common.inputs import real_prefixes, write_apart
-from common.table_model import dotted
-from common.timed import measure
+sys.path.insert(1, str(pathlib.Path(__file__).resolve().parents[1]))
+from dev import checks, figures
+from dev.models.inputs import real_prefixes, write_apart
+from dev.models.table_model import dotted
+from dev.timed import measure
 
 PREFIXES, ADDRESSES = 1_050_000, 300_000
 LIMIT = ["--limit", "1000000"]

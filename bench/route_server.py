@@ -14,10 +14,11 @@ import random
 import sys
 import tempfile
 
-from common import checks, figures
-from common.inputs import add, count_lines, real_prefixes, write
-from common.table_model import dotted
-from common.timed import measure, measured, shown
+sys.path.insert(1, str(pathlib.Path(__file__).resolve().parents[1]))
+from dev import checks, figures
+from dev.models.inputs import add, count_lines, real_prefixes, write
+from dev.models.table_model import dotted
+from dev.timed import measure, measured, shown
 
 FILES = (1, 4, 16, 64)
 

@@ -11,9 +11,10 @@ import pathlib
 import sys
 import tempfile
 
-from common import checks, figures
-from common.inputs import changing_table, count_lines, deal, one_prefix, real_table, write
-from common.timed import measure, measured, shown
+sys.path.insert(1, str(pathlib.Path(__file__).resolve().parents[1]))
+from dev import checks, figures
+from dev.models.inputs import changing_table, count_lines, deal, one_prefix, real_table, write
+from dev.timed import measure, measured, shown
 
 SIZES = (10_000, 30_000, 100_000, 300_000, 1_000_000)
 

@@ -7,13 +7,15 @@ processor time (user and system), and their ratios to the mutex. For one thread 
 only slow it down; for several they are the median, since single rounds differ much. The last rows are for two
 processors only.
 """
+import pathlib
 import os
 import statistics
 import subprocess
 import sys
 
-from common import checks, figures
-from common.timed import taken
+sys.path.insert(1, str(pathlib.Path(__file__).resolve().parents[1]))
+from dev import checks, figures
+from dev.timed import taken
 
 CASES = [(threads, batch) for threads in (1, 4, 16, 64) for batch in (1, 16, 256)]
 ON_TWO = [(threads, batch) for threads in (2, 64) for batch in (1, 256)]

@@ -7,12 +7,14 @@
 A table is between `<!-- figures: NAME -->` and `<!-- end -->`, and bench/figures/NAME.json has the results of its
 benchmark. For a long table the page shows the rows at both ends and some between, the worst among them, and the ratios
 of processor times. Results with nothing to compare with are listed below the table."""
+import pathlib
 import re
 import sys
 import textwrap
 
-from common import figures
-from common.crates import TOP
+sys.path.insert(1, str(pathlib.Path(__file__).resolve().parents[1]))
+from dev import figures
+from dev.crates import TOP
 
 PAGE = TOP / "docs/PERFORMANCE.md"
 MARKED = re.compile(r"(<!-- figures: (\w+) -->\n).*?(<!-- end -->)", re.S)

@@ -13,7 +13,8 @@ import subprocess
 import sys
 import tempfile
 
-from common import checks, figures
+sys.path.insert(1, str(pathlib.Path(__file__).resolve().parents[1]))
+from dev import checks, figures
 
 
 def timed(program, prefixes):

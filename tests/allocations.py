@@ -9,12 +9,14 @@ request between two writes, and writes a full output buffer at once. At its end,
 a run holds as much as a run with the same number of `dump`s. A table that has routes is left to the system. The launchers'
 settings change no request, only the place of the memory; so everything is run once.
 """
+import sys
 import pathlib
 import struct
 import tempfile
 
-from common.checks import chosen, compiled, end, expect, run, run_each
-from common.table_model import dotted
+sys.path.insert(1, str(pathlib.Path(__file__).resolve().parents[1]))
+from dev.checks import chosen, compiled, end, expect, run, run_each
+from dev.models.table_model import dotted
 
 # The number of further requests that a text of twice the length may make: for its bytes, the reports, the batch and the
 # journal.

@@ -1,10 +1,11 @@
 #!/usr/bin/env python3
-"""Calls tools/build with the real prover on a repository with a single crate of one file: what counts as built was
+"""Calls dev/build/build with the real prover on a repository with a single crate of one file: what counts as built was
 proved.
 
 tests/built.py [CASE..], or --list for the names of the cases. Needs the toolchain, gcc and python3, and about half a
-minute of processor time. tests/launcher.py tests everything else of tools/build with a stub of the prover.
+minute of processor time. tests/launcher.py tests everything else of dev/build/build with a stub of the prover.
 """
+import sys
 import os
 import pathlib
 import shutil
@@ -12,7 +13,8 @@ import signal
 import subprocess
 import time
 
-from common.checks import TOP, chosen, end, expect, run, run_each
+sys.path.insert(1, str(pathlib.Path(__file__).resolve().parents[1]))
+from dev.checks import TOP, chosen, end, expect, run, run_each
 
 RIGHT = """\
 #![tactic(auto)]
@@ -35,13 +37,13 @@ class Repository:
 
     def __init__(self):
         self.top = pathlib.Path.cwd() / "repository"
-        for folder in ("tools", "common"):
+        for folder in ("dev", "packaging"):
             shutil.copytree(TOP / folder, self.top / folder, ignore=shutil.ignore_patterns("__pycache__"))
         (self.top / "crates.txt").write_text("one staticlib:\n")
         self.source, self.log = self.top / "crates/one/src/lib.rt", self.top / "out/build/one.log"
         self.source.parent.mkdir(parents=True)
         self.source.write_text(RIGHT)
-        self.words = [self.top / "tools/build", "one"]
+        self.words = [self.top / "dev/build/build", "one"]
 
     def begin(self):
         """A build whose prover is at work, and the prover's number."""
@@ -96,7 +98,7 @@ def built_twice(new):
     first = run(one.words)[1].strip()
     elsewhere = pathlib.Path.cwd() / "another place"
     shutil.copytree(one.top, elsewhere, ignore=shutil.ignore_patterns("out"))
-    again = ["taskset", "-c", str(min(os.sched_getaffinity(0))), elsewhere / "tools/build", "one"]
+    again = ["taskset", "-c", str(min(os.sched_getaffinity(0))), elsewhere / "dev/build/build", "one"]
     if os.geteuid() == 0:
         os.chown(elsewhere, 65534, 65534)
         pathlib.Path.cwd().chmod(0o755)

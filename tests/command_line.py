@@ -3,12 +3,13 @@
 
 tests/command_line.py [PROGRAM [CASE..]], or --list for the names of the cases. Linux, python3.
 
-The program's own outputs are compared whole, to the byte; calls that need no preparation are in common/calls.py. A
+The program's own outputs are compared whole, to the byte; calls that need no preparation are in dev/models/calls.py. A
 message of the library that parses the command line only has to be an error that names the argument. The help pages are
 those of docs/CLI.md. A replay is compared with a model of the tree, written from docs/FORMATS.md. Another feed that
 takes turns with the first one observes the number of commands in a batch: its `dump`s change only at the end of a batch of
 each feed. Each case's directory contains row.feed, empty.feed and faulty.feed.
 """
+import sys
 import collections
 import contextlib
 import ipaddress
@@ -25,11 +26,12 @@ import textwrap
 import time
 import tty
 
-from common import calls
-from common.checks import TOP, Program, chosen, close_all, compare, end, expect, is_unproved, run_each
-from common.table_model import (E1, E3, E8, MAX_FEEDS, TOO_MANY_FILES, Table, csv_of, differences_text, dotted, json_text,
+sys.path.insert(1, str(pathlib.Path(__file__).resolve().parents[1]))
+from dev.models import calls
+from dev.checks import TOP, Program, chosen, close_all, compare, end, expect, is_unproved, run_each
+from dev.models.table_model import (E1, E3, E8, MAX_FEEDS, TOO_MANY_FILES, Table, csv_of, differences_text, dotted, json_text,
                                 members, row, shown)
-from common.versions import VERSION
+from dev.versions import VERSION
 from schedules import in_turns, loaded
 from texts import ROW, ROW_OUT
 

@@ -10,6 +10,7 @@ factor: passages of a mutex in C, or what the same call has used before its firs
 to three times the measured value, and holds for the best of some rounds; a mutant stays below it in none. With --tell
 it prints what it measures.
 """
+import sys
 import pathlib
 import random
 import struct
@@ -17,8 +18,9 @@ import subprocess
 import tempfile
 from typing import NamedTuple
 
-from common.checks import chosen, compiled, end, expect, run, run_each
-from common.table_model import dotted
+sys.path.insert(1, str(pathlib.Path(__file__).resolve().parents[1]))
+from dev.checks import chosen, compiled, end, expect, run, run_each
+from dev.models.table_model import dotted
 
 WORDS = 1000
 # A word's counts in tests/waits.c: its address, the counts of Waits, and its thread.

@@ -2,9 +2,10 @@
 """Runs ./test in a repository of stubs, each of which can fail, and checks its verdict on them.
 
 tests/gate.py [CASE..], or --list for the names of the cases. Needs git and python3, proves nothing, and takes about half a
-minute. In the repository, ./test, .ci/run, tools/verdict and what this uses are the real ones. Each other script is a
+minute. In the repository, ./test, .ci/run, dev/build/verdict and what this uses are the real ones. Each other script is a
 stub, which ends as BREAKS says, a list of `SCRIPT=END`, and notes its words and the variables of ./test.
 """
+import sys
 import concurrent.futures
 import datetime
 import json
@@ -17,8 +18,9 @@ import subprocess
 import tempfile
 import time
 
-from common.checks import TOP, chosen, end, expect, of_thread, run, run_case
-from common.gate_scripts import gate_texts, scripts_in
+sys.path.insert(1, str(pathlib.Path(__file__).resolve().parents[1]))
+from dev.checks import TOP, chosen, end, expect, of_thread, run, run_case
+from dev.build.gate_scripts import gate_texts, scripts_in
 
 # How many tests each tool lists; one of the mutants' is a control.
 LISTED = {"mutants": 4, "definitions": 2}
@@ -48,10 +50,10 @@ case " $BREAKS " in
   *" $name=no-count "*) echo "mutant x/y: refused, as it must be: z"; exit ;;
 esac
 case $name in
-  tools/mutants) echo "mutant x/y: refused, as it must be: z"; echo "COUNT passed, 0 failed" ;;
-  tools/definitions) echo "definition x/y: refused, as it must be: z"; echo "COUNT passed, 0 failed" ;;
-  tools/archive) mkdir -p crates/yarib_c/out; echo a >crates/yarib_c/out/libyarib_c.a ;;
-  tools/unproved) echo "$PWD/prog" ;;
+  dev/mutants/mutants) echo "mutant x/y: refused, as it must be: z"; echo "COUNT passed, 0 failed" ;;
+  dev/mutants/definitions) echo "definition x/y: refused, as it must be: z"; echo "COUNT passed, 0 failed" ;;
+  dev/build/archive) mkdir -p crates/yarib_c/out; echo a >crates/yarib_c/out/libyarib_c.a ;;
+  dev/build/unproved) echo "$PWD/prog" ;;
   *) echo "$name: done" ;;
 esac
 """
@@ -73,7 +75,7 @@ esac
 echo "20 passed, 0 failed"
 """
 ONCE = """#!/usr/bin/env bash
-echo "tools/once $*;" >>"$NOTES"
+echo "dev/build/once $*;" >>"$NOTES"
 if [ "$1" = --anew ]; then shift; fi
 words=()
 for word; do if [ "$word" = : ]; then break; fi; words+=("$word"); done
@@ -93,15 +95,15 @@ class Repository:
 
     def write(self):
         self.made.mkdir(parents=True)
-        for name in ("test", ".ci/run", "tools/verdict", "tools/common.py", ".gitignore"):
+        for name in ("test", ".ci/run", "dev/build/verdict", ".gitignore"):
             (self.top / name).parent.mkdir(parents=True, exist_ok=True)
             shutil.copy(TOP / name, self.top / name)
-        shutil.copytree(TOP / "common", self.top / "common", ignore=shutil.ignore_patterns("__pycache__"))
+        shutil.copytree(TOP / "dev", self.top / "dev", ignore=shutil.ignore_patterns("__pycache__"))
         for name in SCRIPTS:
             count = LISTED.get(name.removeprefix("tools/"), 0)
             self.put(name, STUB.replace("NAME", name).replace("COUNT_LESS", str(count - 1)).replace("COUNT", str(count)))
-        self.put("tools/once", ONCE)
-        self.put("tools/progress", "#!/bin/sh\nexec cat\n")
+        self.put("dev/build/once", ONCE)
+        self.put("dev/build/progress", "#!/bin/sh\nexec cat\n")
         self.put("prog", "a program\n")
         self.put("changed.rt", "//\n")
         self.put("tracked.pyc", "a file that git knows and would ignore\n")
@@ -157,8 +159,8 @@ def each(new, rows, judge):
 # Catches a gate that passes over a script that fails, is killed or is missing, or that counts it as passed: `the status of
 # ./test if ..`, `the last line if ..`.
 def failing_scripts(new):
-    # tools/check is run first, and the run ends with it; tools/unproved is only for --quick.
-    rows = [(script, "status") for script in SCRIPTS if script not in ("tools/unproved", "tools/check")]
+    # dev/check is run first, and the run ends with it; dev/build/unproved is only for --quick.
+    rows = [(script, "status") for script in SCRIPTS if script not in ("dev/build/unproved", "dev/check")]
     rows += [(f"tools/{name}", "killed") for name in ("mutants", "definitions", "archive")]
     rows += [("tests/rows.py", "killed"), ("tests/rows.py", "missing"), ("map/test", "killed")]
 
@@ -173,7 +175,7 @@ def failing_scripts(new):
         expect(f"what failed if {script} ends so: {end}", any(script in name for name in one.verdict()["failed"]), True)
 
     each(new, rows, judge)
-    for breaks in ("tools/check=status", "rt=status", "rt=no-count"):
+    for breaks in ("dev/check=status", "rt=status", "rt=no-count"):
         one = new()
         expect(f"the status of ./test if {breaks}", one.test(breaks=breaks)[0] != 0, True)
         expect(f"the verdict if {breaks}", one.verdict()["verdict"], "stopped")
@@ -197,7 +199,7 @@ def quick(new):
 
 
 # Catches a gate that doesn't look at the number of mutants that were tried, or at the status of their script: `.. of
-# tools/mutants`.
+# dev/mutants/mutants`.
 def counts(new):
     def judge(one, row):
         tool, end = row
@@ -244,12 +246,12 @@ def anew(new):
         expect(f"the status of ./test {words}", status, 0)
         expect(f"what is left of earlier runs {words}", [name for name in old if (one.top / name).exists()], [])
         called = [line.partition(";")[0].split() for line in noted.splitlines()]
-        for tool in ("tools/mutants", "tools/definitions", "tools/archive", "tools/once"):
-            # What follows the first word of tools/once is a script's.
-            its = [more[:1] if tool == "tools/once" else more for name, *more in called if name == tool and "--sum" not in more]
+        for tool in ("dev/mutants/mutants", "dev/mutants/definitions", "dev/build/archive", "dev/build/once"):
+            # What follows the first word of dev/build/once is a script's.
+            its = [more[:1] if tool == "dev/build/once" else more for name, *more in called if name == tool and "--sum" not in more]
             expect(f"{tool} is called with --anew by ./test {words}", {"--anew" in more for more in its}, {bool(words)})
         expect(f"tests/libraries.py leaves out what passed {words}", ["tests/libraries.py", "--kept"] in called, not words)
-        expect(f"what the archive is made of {words}", ["tools/archive", "yarib_c", "--sources", "1"] in [its[:4] for its in called], True)
+        expect(f"what the archive is made of {words}", ["dev/build/archive", "yarib_c", "--sources", "1"] in [its[:4] for its in called], True)
 
 
 # Catches a .ci/run that doesn't do what its head says: `.ci/run ..`.
@@ -271,7 +273,7 @@ def continuous_integration(new):
 def verdicts(new):
     one = new()
     commit = one.git("rev-parse", "HEAD")
-    kept = ("tests/launcher.py", "tools/archive", "tools/definitions")
+    kept = ("tests/launcher.py", "dev/build/archive", "dev/mutants/definitions")
     status, lines, _ = one.test(breaks=" ".join(["tests/rows.py=leaves-out", *(f"{script}=is-kept" for script in kept)]))
     verdict = one.verdict()
     expect("the verdict of a clean tree", (status, verdict["verdict"], verdict["commit"], verdict["tree"], verdict["differing"],
@@ -294,7 +296,7 @@ def verdicts(new):
     expect("git's own files are as they were", one.git("status", "--porcelain"), "M changed.rt\n?? docs/")
     for end, kept in (("none-kept", []), ("some-kept", ["small: 3 of 4 mutants were as they must be in earlier runs on this machine"])):
         some = new()
-        some.test(breaks=f"tools/mutants={end}")
+        some.test(breaks=f"dev/mutants/mutants={end}")
         expect(f"what was kept of mutants: {end}", some.verdict()["kept"], ["rt: rt_diff is kept: it was proved here", *kept])
     for words, mode in (([], "full"), (["--anew"], "anew")):
         own = new()
@@ -339,8 +341,8 @@ def lost_verdicts(new):
     verdict = bare.verdict()
     expect("the verdict without a commit", (status, verdict["verdict"], verdict["commit"]), (0, "passed", None))
     expect("what is judged without a commit", (verdict["tree"] is not None, "test" in verdict["unknown"]), (True, True))
-    status, _, err = run([bare.top / "tools/verdict", "end", bare.folder], cwd=bare.top)
-    expect("tools/verdict with a word too few", (status, "tools/verdict end NOTES MODE STATUS" in err), (1, True))
+    status, _, err = run([bare.top / "dev/build/verdict", "end", bare.folder], cwd=bare.top)
+    expect("dev/build/verdict with a word too few", (status, "dev/build/verdict end NOTES MODE STATUS" in err), (1, True))
 
 
 # Catches a gate that is ended and leaves an older verdict, or its files: `.. of a run that was ended`.

@@ -9,6 +9,7 @@ standard output; or with status 5 and the model's output without the commands re
 a signal. Limits under which it can't be loaded at all are left out. Then each request of a look-up and of a list is
 refused in turn, as refused_growth.py does it for all kinds of runs, and requests of a forwarding table.
 """
+import sys
 import os
 import pathlib
 import re
@@ -17,8 +18,9 @@ import signal
 import subprocess
 import time
 
-from common.checks import close_all, expect, launched, run, run_on_program
-from common.table_model import MAX_FEEDS, row, run_text
+sys.path.insert(1, str(pathlib.Path(__file__).resolve().parents[1]))
+from dev.checks import close_all, expect, launched, run, run_on_program
+from dev.models.table_model import MAX_FEEDS, row, run_text
 from refusing import Wrong, answered_addresses, check_shown, refuse_each, refuser, run_refused
 from texts import AGAIN, FORWARDED, ROW, ROW_OUT, many_routes, own_text, written
 

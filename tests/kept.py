@@ -1,10 +1,10 @@
 #!/usr/bin/env python3
-"""Calls what keeps verdicts for later runs of ./test in a small repository, with a stub of the toolchain: tools/once, tools/archive,
-tools/definitions, tools/mutants, tests/libraries.py and bindings/test keep a verdict for the files that were judged, and for
-nothing else. It also sees what tools/definitions says of each change, and bindings/test of mutants.
+"""Calls what keeps verdicts for later runs of ./test in a small repository, with a stub of the toolchain: dev/build/once, dev/build/archive,
+dev/mutants/definitions, dev/mutants/mutants, tests/libraries.py and bindings/test keep a verdict for the files that were judged, and for
+nothing else. It also sees what dev/mutants/definitions says of each change, and bindings/test of mutants.
 
 tests/kept.py [CASE..], or --list for the names of the cases. Needs python3, proves nothing, and takes a minute. A stub can
-change a file of the repository while it works: its command is $MEANWHILE. tests/mutants.py calls tools/mutants with the
+change a file of the repository while it works: its command is $MEANWHILE. tests/mutants.py calls dev/mutants/mutants with the
 real prover.
 """
 import functools
@@ -15,8 +15,9 @@ import shutil
 import sys
 import tempfile
 
-from common.checks import TOP, chosen, end, expect, run, run_each
-from common.watched import WAITS, watched
+sys.path.insert(1, str(pathlib.Path(__file__).resolve().parents[1]))
+from dev.checks import TOP, chosen, end, expect, run, run_each
+from dev.build.watched import WAITS, watched
 
 RT = """#!/bin/sh
 case $1 in
@@ -139,9 +140,9 @@ class Repository:
     def __init__(self):
         self.room = pathlib.Path(tempfile.mkdtemp(dir=".")).resolve()
         self.top, self.kit, self.notes = self.room / "top", self.room / "kit", self.room / "notes"
-        for folder in ("tools", "common"):
+        for folder in ("dev", "packaging"):
             shutil.copytree(TOP / folder, self.top / folder, ignore=shutil.ignore_patterns("__pycache__"))
-        for name in ("tests/libraries.py", "tests/common.py", "bindings/test", "bindings/common.py", "yarib", "VERSION"):
+        for name in ("tests/libraries.py", "bindings/test", "yarib", "VERSION"):
             (self.top / name).parent.mkdir(exist_ok=True)
             shutil.copy(TOP / name, self.top / name)
         for name, text in FILES.items():
@@ -170,8 +171,8 @@ class Repository:
         return status, out + err, len(self.notes.read_text().splitlines())
 
     def once(self, *words, **how):
-        """The status of a script by tools/once, and how often it ran: the script and the files with these words, or one of each."""
-        status, _, calls = self.call("tools/once", *(words or ("tests/one.sh", ":", "read.txt")), **how)
+        """The status of a script by dev/build/once, and how often it ran: the script and the files with these words, or one of each."""
+        status, _, calls = self.call("dev/build/once", *(words or ("tests/one.sh", ":", "read.txt")), **how)
         return status, calls
 
     def change(self, name, old, new):
@@ -184,13 +185,13 @@ class Repository:
 # Catches a missing file that counts as an empty one: `no such file`.
 def once(new):
     one = new()
-    own = lambda *names, **how: one.call("tools/once", "tests/one.sh", "word", ":", *(names or ("read.txt",)), **how)
+    own = lambda *names, **how: one.call("dev/build/once", "tests/one.sh", "word", ":", *(names or ("read.txt",)), **how)
     ran = lambda ended: (ended[0], ended[2])
     expect("at first", ran(own()), (0, 1))
     ended = own()
     expect("again", (ran(ended), "tests/one.sh word: passed in an earlier run on this machine" in ended[1]), ((0, 0), True))
-    expect("again, --anew", ran(one.call("tools/once", "--anew", "tests/one.sh", "word", ":", "read.txt")), (0, 1))
-    expect("with another word", ran(one.call("tools/once", "tests/one.sh", "more", ":", "read.txt")), (0, 1))
+    expect("again, --anew", ran(one.call("dev/build/once", "--anew", "tests/one.sh", "word", ":", "read.txt")), (0, 1))
+    expect("with another word", ran(one.call("dev/build/once", "tests/one.sh", "more", ":", "read.txt")), (0, 1))
     expect("a file that isn't named", ran(own(more="other.txt")), (0, 0))
     for name, text in (("read.txt", "right, more\n"), ("tests/one.sh", SCRIPT + "# more\n")):
         before = (one.top / name).read_text()
@@ -203,8 +204,8 @@ def once(new):
     status, said, calls = own("read.txt", "none.txt")
     expect("no such file", (status, "none.txt" in said, calls), (2, True, 0))
     for words in (["tests/one.sh"], ["tests/one.sh", ":"], [":", "read.txt"], ["tests/one.sh", *[":", "read.txt"] * 3]):
-        status, said, calls = one.call("tools/once", *words)
-        expect(f"no script, no file, or one part too many: {words}", (status, "\nUsage: tools/once" in said, calls), (1, True, 0))
+        status, said, calls = one.call("dev/build/once", *words)
+        expect(f"no script, no file, or one part too many: {words}", (status, "\nUsage: dev/build/once" in said, calls), (1, True, 0))
     one = new()
     expect("a file that isn't named, but read", ran(own(more="other.txt")), (1, 1))
     expect("it passes once it is named", ran(own("read.txt", "other.txt", more="other.txt")), (0, 1))
@@ -218,10 +219,10 @@ def once(new):
     expect("the wrong one again", ran(own()), (1, 1))
     expect("what failed isn't kept", ran(own()), (1, 1))
     one = new()
-    expect("at first, --anew", ran(one.call("tools/once", "--anew", "tests/one.sh", "word", ":", "read.txt")), (0, 1))
+    expect("at first, --anew", ran(one.call("dev/build/once", "--anew", "tests/one.sh", "word", ":", "read.txt")), (0, 1))
     expect("after --anew", ran(own()), (0, 0))
     expect("what it prints on standard error", "wrong\n" in one.call(
-        "tools/once", "--anew", "tests/one.sh", ":", "read.txt", meanwhile="echo wrong >&2")[1], True)
+        "dev/build/once", "--anew", "tests/one.sh", ":", "read.txt", meanwhile="echo wrong >&2")[1], True)
     expect("what it prints that is no text", one.once("--anew", "tests/one.sh", ":", "read.txt", meanwhile="printf '\\377\\n'"), (0, 1))
     is_top = 'test "$PWD" = "$(cd "$(dirname "$0")/.." && pwd -P)" || exit 9'
     expect("where it runs", own("read.txt", "other.txt", meanwhile=is_top)[0], 0)
@@ -232,7 +233,7 @@ def once(new):
 # Catches a pass without a command that stays when the command is there, or another one of the name: `.. other is there`.
 def commands(new):
     one = new()
-    needing = lambda *names, **how: one.call("tools/once", "tests/one.sh", ":", "read.txt", ":", *(names or ["other"]), **how)
+    needing = lambda *names, **how: one.call("dev/build/once", "tests/one.sh", ":", "read.txt", ":", *(names or ["other"]), **how)
     for calls in (1, 0):
         status, said, called = needing()
         expect("other isn't there", (status, "left out: what needs other\n" in said, called), (0, True, calls))
@@ -282,7 +283,7 @@ def machines(new):
 # directory`.
 def directories(new):
     one = new()
-    own = lambda: one.call("tools/once", "tests/one.sh", ":", "read.txt", "read")[::2]
+    own = lambda: one.call("dev/build/once", "tests/one.sh", ":", "read.txt", "read")[::2]
     one.put(one.top / "read/more/a.txt", "a\n")
     one.put(one.top / "read/b.txt", "a\n")
     (one.top / "read/link").symlink_to("b.txt")
@@ -309,7 +310,7 @@ def directories(new):
 # `sources that were changed since`.
 def archive(new):
     one, made = new(), lambda: (one.top / "crates/above/out/libabove.a").read_text()
-    build = lambda *words, **how: one.call("tools/archive", "above", *words, **how)[::2]
+    build = lambda *words, **how: one.call("dev/build/archive", "above", *words, **how)[::2]
     text, changed = FILES["crates/above/src/lib.rt"], FILES["crates/above/src/lib.rt"].replace("text", "letters")
     expect("an archive", (build(), made()), ((0, 1), text))
     words = one.notes.read_text().split()
@@ -318,7 +319,7 @@ def archive(new):
             "build", "above", "staticlib", "1", f"{one.kit}/toolchain", "llvm", f"{one.top}/crates/above/out/incremental"])
     shutil.rmtree(one.top / "crates/above/out")
     expect("an archive again", (build(), made()), ((0, 0), text))
-    expect("what is no archive", one.call("tools/archive", "one")[::2], (2, 0))
+    expect("what is no archive", one.call("dev/build/archive", "one")[::2], (2, 0))
     expect("an archive --anew", build("--anew"), (0, 1))
     one = new()
     expect("the source is changed meanwhile", (build(meanwhile=one.change("crates/above/src/lib.rt", "text", "letters")), made()),
@@ -327,7 +328,7 @@ def archive(new):
     one.put(one.top / "crates/above/src/lib.rt", text)
     expect("the source as it was", (build(), made()), ((0, 0), text))
     for name in ("crates/one/src/lib.rt", "crates/one/specs/One.antt"):
-        _, before, _ = one.call("tools/archive", "above", "--sum")
+        _, before, _ = one.call("dev/build/archive", "above", "--sum")
         expect(f"the sum from before, {name}", build("--sources", before.strip()), (0, 0))
         one.put(one.top / name, FILES[name] + "-- more\n")
         expect(f"sources that were changed since: {name}", build("--sources", before.strip()), (1, 0))
@@ -375,21 +376,21 @@ def libraries(new):
 # meanwhile`.
 def definitions(new):
     one = new()
-    tried = lambda *words, **how: one.call("tools/definitions", "--gate", *words, **how)
+    tried = lambda *words, **how: one.call("dev/mutants/definitions", "--gate", *words, **how)
     status, said, calls = tried()
     expect("a change", (status, said.endswith("definition one/two: refused, as it must be: one_is_one\n1 passed, 0 failed\n"), calls),
            (0, True, 1))
     status, said, calls = tried()
     expect("a change again", (status, said.endswith("\n1 passed, 0 failed\n"), calls), (0, True, 0))
     expect("--anew", tried("--anew")[::2], (0, 1))
-    for name in ("crates/one/specs/One.antt", "crates/one_examples/proofs/Examples.antt", "common/definition_reader.py"):
+    for name in ("crates/one/specs/One.antt", "crates/one_examples/proofs/Examples.antt", "dev/statements/definition_reader.py"):
         one = new()
         more = f"""printf '\\n# more\\n' >>'{one.top / name}'""" if name.endswith(".py") else one.change(name, "1$", "1 ")
         expect(f"{name} is saved meanwhile", tried(meanwhile=more)[::2], (0, 1))
         expect(f"{name} as it was saved", tried()[2], 1)
     one = new()
     tried()
-    for name in ("tools/definitions", *(f"common/{module}.py" for module in (
+    for name in ("dev/mutants/definitions", *(f"dev/{module}.py" for module in (
             "definition_copies", "definition_reader", "mutant_lists", "prover", "rust_sources", "workspaces")),
                  "crates/one/must-fail/definitions.md", "crates/low/specs/Low.antt", "crates/one_examples/proofs/Examples.antt"):
         before = (one.top / name).read_text()
@@ -409,7 +410,7 @@ def definitions(new):
                (status, "\ndefinition one/two: NOT TRIED" in f"\n{said}", calls), (1, True, 1))
     expect("a change that is refused now", tried()[::2], (0, 1))
     # Without --gate the changes are tried by `rt check`, which the stub of rt doesn't know.
-    expect("without --gate nothing is taken from an earlier run", one.call("tools/definitions")[0], 1)
+    expect("without --gate nothing is taken from an earlier run", one.call("dev/mutants/definitions")[0], 1)
 
 
 # Definitions, and examples of them.
@@ -473,7 +474,7 @@ def changes(new):
 
     def tried(text, meanwhile):
         one.put(one.top / "crates/one/must-fail/definitions.md", f"# Changes\n\n{text}")
-        status, said, calls = one.call("tools/definitions", "--gate", meanwhile=meanwhile)
+        status, said, calls = one.call("dev/mutants/definitions", "--gate", meanwhile=meanwhile)
         return status, dict(re.findall(r"^definition one/([\w-]+): (.*)$", said, re.M)), said.splitlines()[-1], calls
 
     more = listed({"of-no-file": CHANGES["refused"]}, "specs/None.antt") + "## of-no-form\n\nNothing.\n"
@@ -504,17 +505,17 @@ DECIDING = (
     ("crates.txt", "low:", "low: std"), ("crates.txt", "small: low", "small: low std"),
     ("crates.txt", "base:", "base: std"), ("crates/small/src/lib.rt", "//! Small", "//! Tiny"),
     ("crates/small/src/other.rt", "result ≡ 2", "result ≡ 2 + 0"), ("crates/small/specs/Small.antt", "small = 1", "small = 2"),
-    ("crates/small/proofs/Lemma.antt", "lemma", "theorem"), ("tools/mutants", "not proved|no proof", "no proof|not proved"),
-    ("common/mutant_copy.py", "= 200_000,", "= 200_001,"), ("common/mutant_lists.py", "it isn't written", "it is not written"),
-    ("common/mutant_copy.py", '"loop {}"', '"loop { }"'), ("common/mutant_lists.py", "own.append(found.start()", "own.append(0 + found.start()"),
-    ("common/prover.py", '"--jobs", "1"', '"--jobs", "2"'), ("common/rust_sources.py", '" " * 16', '" " * 17'),
-    ("common/crates.py", '"staticlib" in kind', '"staticlib" in [*kind]'),
+    ("crates/small/proofs/Lemma.antt", "lemma", "theorem"), ("dev/mutants/mutants", "not proved|no proof", "no proof|not proved"),
+    ("dev/mutants/mutant_copy.py", "= 200_000,", "= 200_001,"), ("dev/mutants/mutant_lists.py", "it isn't written", "it is not written"),
+    ("dev/mutants/mutant_copy.py", '"loop {}"', '"loop { }"'), ("dev/mutants/mutant_lists.py", "own.append(found.start()", "own.append(0 + found.start()"),
+    ("dev/prover.py", '"--jobs", "1"', '"--jobs", "2"'), ("dev/rust_sources.py", '" " * 16', '" " * 17'),
+    ("dev/crates.py", '"staticlib" in kind', '"staticlib" in [*kind]'),
 )
 WITHOUT_WEIGHT = (
     ("crates/low/src/lib.rt", "{\n    1\n}\n\npub", "{\n    1 + 0\n}\n\npub"), ("crates/low/proofs/low/Answers.antt", "answer", "reply"),
-    ("crates/small/src/other.rt", "    2\n", "    1 + 1\n"), ("tools/mutants", "import argparse", "# more\nimport argparse"),
-    ("common/prover.py", '"""Runs the prover', '"""Calls the prover'),
-    ("common/prover.py", '"""Returns the directory', '"""Finds the directory'),
+    ("crates/small/src/other.rt", "    2\n", "    1 + 1\n"), ("dev/mutants/mutants", "import argparse", "# more\nimport argparse"),
+    ("dev/prover.py", '"""Runs the prover', '"""Calls the prover'),
+    ("dev/prover.py", '"""Returns the directory', '"""Finds the directory'),
     ("crates/one/src/lib.rt", "One", "Eins"), ("read.txt", "right", "left"), ("crates.txt", "one_examples: one", "one_examples: one std"),
 )
 
@@ -522,7 +523,7 @@ WITHOUT_WEIGHT = (
 def gate_of_small(one, *words, **how):
     """How the mutants of `small` are tried: the status, the last line, the functions that the prover looked at, and the names of
     the mutants and controls that are as they must be."""
-    status, said, _ = one.call("tools/mutants", "--gate", "--crate", "small", *words, **how)
+    status, said, _ = one.call("dev/mutants/mutants", "--gate", "--crate", "small", *words, **how)
     tried = {line.split()[1].removesuffix("_mutant_2") for line in one.notes.read_text().splitlines()}
     lines = re.findall(r"^(?:mutant|control) small/([\w-]+): (?:refused|taken), as it must be", said, re.M)
     return status, said.splitlines()[-1], tried, sorted(lines)
@@ -542,7 +543,7 @@ def mutants(new):
     expect("the first run", gate(), whole)
     expect("the run again: only the mutant that isn't refused", gate(), (*whole[:2], kept, whole[3]))
     expect("the run again: what it says", "small: 3 of 4 mutants were as they must be in earlier runs" in one.call(
-        "tools/mutants", "--gate", "--crate", "small")[1], True)
+        "dev/mutants/mutants", "--gate", "--crate", "small")[1], True)
     expect("--anew", gate("--anew"), whole)
     shutil.rmtree(one.room / "cache")
     expect("--anew without what was kept", gate("--anew"), whole)
@@ -572,7 +573,7 @@ def mutants(new):
     for name in ("helper/Cited", "twice/Answers"):
         # Only the mutants of `twice` depend on these.
         one.put(one.top / f"crates/small/proofs/{name}.antt", FILES[f"crates/small/proofs/{name}.antt"] + "-- more\n")
-        tried = one.call("tools/mutants", "--gate", "--crate", "small", "one-wrong", "other-wrong")
+        tried = one.call("dev/mutants/mutants", "--gate", "--crate", "small", "one-wrong", "other-wrong")
         expect(f"{name} is changed: the mutant of twice", ("1 of 2 mutants" in tried[1], tried[2]), (True, 1))
     is_changed(one.top / "crates/small/must-fail/mutants.md", "    wrong⏎", "    wrong + 1⏎", whole[2])
     is_changed(one.top / "crates/small/must-fail/controls.md", "    n + 0⏎", "    0 + n⏎", whole[2])
@@ -583,7 +584,7 @@ def mutants(new):
     list_of.write_text(list_of.read_text().replace("in: same\n", "in: same: returns-in-Ok\n"))
     expect("a mutant that leaves another goal open", gate(), (1, "2 passed, 2 failed", whole[2], ["one-wrong", "the-same"]))
     list_of.write_text(list_of.read_text().replace("in: same: returns-in-Ok\n", "in: same\n"))
-    one.call("tools/mutants", "--crate", "small", "--goals")
+    one.call("dev/mutants/mutants", "--crate", "small", "--goals")
     expect("the goal of each kept verdict is named", re.findall(r"in: same(.*)", (
         one.top / "crates/small/must-fail/mutants.md").read_text()), [": returns"])
     expect("mutants with the named goals", gate(), (*whole[:2], kept, whole[3]))
@@ -594,7 +595,7 @@ def mutants(new):
     one.put(one.top / "crates/small/must-fail/controls.md", FILES["crates/small/must-fail/controls.md"])
     for name, old, text in (
             ("crates/small/specs/Small.antt", "small = 1", "small = 3"), ("crates.txt", "low: base", "low: base std"),
-            ("crates/small/src/lib.rt", "Small", "Tiny"), ("tools/mutants", "not proved|no proof", "no proof|not proved")):
+            ("crates/small/src/lib.rt", "Small", "Tiny"), ("dev/mutants/mutants", "not proved|no proof", "no proof|not proved")):
         before = (one.top / name).read_text()
         shutil.rmtree(one.room / "cache")
         gate(meanwhile=one.change(name, old, text))
@@ -637,7 +638,7 @@ def proofs(new):
     one.put(one.kit / "bin/rattle", CHECK)
 
     def tried():
-        status, said, _ = one.call("tools/mutants", "--gate", "--crate", "deep")
+        status, said, _ = one.call("dev/mutants/mutants", "--gate", "--crate", "deep")
         return status, said.splitlines()[-1], {line.split()[1] for line in one.notes.read_text().splitlines()}
 
     every, of_all = set(OF_DEEP), {"down", "given", "plain"}
@@ -686,7 +687,7 @@ def bindings(new):
     # The model of the table reads it.
     one.put(one.top / "crates/rt_rib/src/limits.rt", (TOP / "crates/rt_rib/src/limits.rt").read_text())
     # These tests read no test vectors, which take two seconds to write.
-    one.put(one.top / "common/table_vectors.py", "def write(file):\n    pass\n")
+    one.put(one.top / "dev/models/table_vectors.py", "def write(file):\n    pass\n")
 
     def tried(**how):
         names = {"YARIB_ARCHIVE": str(one.top / "bindings/archive"), "YARIB_KEPT": "1", "RT_JOBS": "1"} | how
@@ -701,7 +702,7 @@ def bindings(new):
     expect("mutants again", (status, "the mutants of python failed in an earlier run" in said, calls), (0, True, 0))
     expect("mutants again, without YARIB_KEPT", tried(YARIB_KEPT="")[::2], (0, 3))
     for name in ("bindings/archive", "bindings/c/one.h", "bindings/python/one.py", "bindings/python/test_yarib.py", "bindings/mutants.py",
-                 "bindings/build", "bindings/test", "common/table_model.py", "common/table_vectors.py"):
+                 "bindings/build", "bindings/test", "dev/models/table_model.py", "dev/models/table_vectors.py"):
         one.put(one.top / name, (one.top / name).read_text() + ("/* More. */\n" if name.endswith(".h") else "# more\n"))
         expect(f"{name} of the binding is changed", tried()[::2], (0, 3))
     one.put(one.top / "bindings/python/__pycache__/one.pyc", "built\n")

@@ -8,6 +8,7 @@ routes each. The script convert/bgpdump-to-feeds makes these tables from a dump.
 choice by BGP's rules, and the answers to 20,000 addresses with a plain longest match. It is called like the benchmarks,
 with --store and --default-memory.
 """
+import sys
 import itertools
 import os
 import pathlib
@@ -15,10 +16,11 @@ import random
 import subprocess
 import tempfile
 
-from common import checks, figures
-from common.inputs import real_prefixes, write_apart
-from common.table_model import dotted
-from common.timed import taken
+sys.path.insert(1, str(pathlib.Path(__file__).resolve().parents[1]))
+from dev import checks, figures
+from dev.models.inputs import real_prefixes, write_apart
+from dev.models.table_model import dotted
+from dev.timed import taken
 from texts import AGAIN
 
 ROWS = []

@@ -19,11 +19,12 @@ import sys
 import tempfile
 import time
 
-from common.built import LOGIC
-from common.calls import help_texts
-from common.checks import TOP, chosen, compiled, end, expect, library_stub, run, run_case, text_of
-from common.crates import all_crates, below, needs
-from common.prover import kit
+sys.path.insert(1, str(pathlib.Path(__file__).resolve().parents[1]))
+from dev.build.built import LOGIC
+from dev.models.calls import help_texts
+from dev.checks import TOP, chosen, compiled, end, expect, library_stub, run, run_case, text_of
+from dev.crates import all_crates, below, needs
+from dev.prover import kit
 
 # The stub of `rt` prints the toolchain's path and version.
 RT = """#!/bin/sh
@@ -86,8 +87,8 @@ class Copy:
                 path = self.top / "crates" / crate / file
                 path.parent.mkdir(parents=True)
                 path.write_text("//\n")
-        common = [f"common/{name}.py" for name in ("built", "building", "crates", "prover", "versions")]
-        for name in ("yarib", "VERSION", "crates.txt", "tools/build", "tools/common.py", *common, "bindings/build",
+        common = ["dev/__init__.py", "dev/build/__init__.py", "dev/build/built.py", "dev/build/building.py", *(f"dev/{name}.py" for name in ("crates", "prover", "versions"))]
+        for name in ("yarib", "VERSION", "crates.txt", "dev/build/build", *common, "bindings/build",
                      "bindings/c/yarib.map", "bindings/c/yarib.h", "bindings/c/layer.h",
                      "bindings/c/places.c", "bindings/c/handles.c", "bindings/c/readers.c", "bindings/c/copies.c", "bindings/c/files.c", "bindings/c/about.c",
                      "bindings/c/heap.c"):
@@ -222,7 +223,7 @@ def what_is_built_anew(copy):
     copy.change("crates/rt_app/src/main.rt")
     copy.start("run", "x", names={"VERSION": "2"})
     expect("built where the toolchain is another", begun(copy.built()), whole)
-    rule, other = copy.top / "common/built.py", "0123456789abcdef"
+    rule, other = copy.top / "dev/build/built.py", "0123456789abcdef"
     rule.write_text(rule.read_text().replace(LOGIC, other))
     expect("built where the logic is another", copy.start("run", "x", names={"LOGIC": other})[0], 0)
     expect("what is built where the logic is another", begun(copy.built()), whole)
@@ -360,7 +361,7 @@ def beside_the_gate(copy):
             path.write_text(f"of the {round} run of ./test")
         copy.change("crates/rt_app/src/main.rt")
         copy.start("run", "x")
-        copy.start("yarib_c", by=copy.top / "tools/build")
+        copy.start("yarib_c", by=copy.top / "dev/build/build")
         expect(f"the files of ./test after the {round} run",
                (kept.read_text(), [path.read_text() for path in judged.values()]),
                ("kept\n", [f"of the {round} run of ./test"] * 2))
@@ -439,7 +440,7 @@ def interrupted(copy):
         with begun_build(copy, "rt_rib") as (call, prover):
             expect("where a build has its files", len([*copy.folder.iterdir()]), 1)
             if number == signal.SIGKILL:
-                builder = next(pid for pid in children(call.pid) if b"tools/build" in command(pid))
+                builder = next(pid for pid in children(call.pid) if b"dev/build/build" in command(pid))
                 os.kill(builder, number)
             else:
                 os.kill(call.pid, number)
@@ -506,7 +507,7 @@ def words_for_the_prover(copy):
                ("build", set()))
         expect("the logic that is named", words[words.index("--antt-project") + 1],
                f"{copy.tools}/kit/rattle/logic/antt-project.json")
-    copy.start("yarib_c", by=copy.top / "tools/build")
+    copy.start("yarib_c", by=copy.top / "dev/build/build")
     for line in pathlib.Path(f"{copy.notes}.words").read_text().splitlines():
         words = line.split()
         crate = words[words.index("--crate-name") + 1]
@@ -546,7 +547,7 @@ def one_at_a_time(copy):
     expect("four calls at once build once", copy.built().count("begin rt_app"), 1)
     copy.change("crates/rt_cidr/src/lib.rt")
     with concurrent.futures.ThreadPoolExecutor(2) as pool:
-        builds = list(pool.map(lambda name: copy.start(name, by=copy.top / "tools/build")[0], ("rt_app", "rt_app")))
+        builds = list(pool.map(lambda name: copy.start(name, by=copy.top / "dev/build/build")[0], ("rt_app", "rt_app")))
     expect("two builds at once prove each crate once", (builds, copy.built().count("begin rt_trie")), ([0, 0], 1))
 
 
@@ -630,7 +631,7 @@ def without_a_program(copy):
              for flag in ("--help", "-h")]
     known += [(["help", name], page[name]) for name in ("run", "replay")]
     known += [(["run", "--help", "one.feed"], page["run"])]
-    about = copy.start("--about", "rt_app", by=copy.top / "tools/build")[1]
+    about = copy.start("--about", "rt_app", by=copy.top / "dev/build/build")[1]
     known += [([word], stored("version") + about) for word in ("--version", "-V")]
     known += [([word], page["yarib"]) for word in ("--help", "-h", "help")]
     for words, text in known:
@@ -691,7 +692,7 @@ def nothing_to_build_with(copy):
 def offered(*words):
     """The completions for the last argument, and whether it may be a file."""
     script = (
-        'source completions/yarib.bash; compopt() { echo "files"; }; COMP_WORDS=("$@"); COMP_CWORD=$(($# - 1)); _yarib; '
+        'source packaging/completions/yarib.bash; compopt() { echo "files"; }; COMP_WORDS=("$@"); COMP_CWORD=$(($# - 1)); _yarib; '
         'printf "%s\\n" "${COMPREPLY[@]}"'
     )
     ended = subprocess.run(["bash", "-c", script, "bash", "yarib", *words], cwd=TOP,
@@ -721,7 +722,7 @@ def completions(copy):
         takes_files = re.search(r"^  <(FILE|OLD)>", text, re.M)
         expect(f"an operand of {name}", offered(name, "x") == "files", bool(takes_files))
         expect(f"a second operand of {name}", offered(name, "x", "x") == "files", bool(takes_files))
-    listed = subprocess.run(["bash", "-c", "source completions/yarib.bash; complete -p"], cwd=TOP,
+    listed = subprocess.run(["bash", "-c", "source packaging/completions/yarib.bash; complete -p"], cwd=TOP,
                             stdout=subprocess.PIPE)
     expect("what is completed", re.findall(r"_yarib (\S+)$", text_of(listed.stdout), re.M), ["yarib", "./yarib"])
 

@@ -14,7 +14,7 @@ same commands have led to the same table.
 The judge is for texts whose lines are valid or have the fault E1, and for runs with ample memory: it doesn't accept a
 refusal as an answer.
 """
-from common.table_model import Table, command_of, table_text
+from dev.models.table_model import Table, command_of, table_text
 
 
 def read(text):

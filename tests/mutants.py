@@ -1,5 +1,5 @@
 #!/usr/bin/env python3
-"""Runs tools/mutants on mutants of a small crate, and checks its verdict on each.
+"""Runs dev/mutants/mutants on mutants of a small crate, and checks its verdict on each.
 
 tests/mutants.py, with the toolchain on PATH. Among the mutants are equivalent ones, by an answer and by a named goal, one
 that can't be read and is in a round with another, and one whose function calls another that is refused in the same
@@ -18,10 +18,11 @@ import threading
 from importlib.machinery import SourceFileLoader
 from importlib.util import module_from_spec, spec_from_loader
 
-from common.checks import TOP
-from common.crates import CRATES
-from common.mutant_lists import BadMutant, controls_of, listing_crates, mutants_of
-from common.rust_sources import Source
+sys.path.insert(1, str(pathlib.Path(__file__).resolve().parents[1]))
+from dev.checks import TOP
+from dev.crates import CRATES
+from dev.mutants.mutant_lists import BadMutant, controls_of, listing_crates, mutants_of
+from dev.rust_sources import Source
 
 SOURCE = """\
 //! A number twice, and four times.
@@ -172,8 +173,8 @@ def listed(name, old, new, function, what="refused"):
 
 # Prints what is kept of two mutants of a crate, and keeps that the first was refused.
 KEEPS = """
-from common.kept_verdicts import Kept
-from common.mutant_lists import mutants_of
+from dev.build.kept_verdicts import Kept
+from dev.mutants.mutant_lists import mutants_of
 kept, (one, other, *_) = Kept("rt_cidr"), mutants_of("rt_cidr")
 print("kept" if kept.said_of(one) else None, kept.said_of(other))
 kept.keep({one: (True, f"`{one.goal}` kept")})
@@ -197,8 +198,8 @@ def changes(top):
     for file, old, new, stays in (
             (cidr / "must-fail/mutants.md", "\nold: ", "\nold:  ", False),
             (top / "crates.txt", "rt_cidr:", "rt_cidr: std", False),
-            (top / "tools/mutants", "import argparse", "# more\nimport argparse", True),
-            (top / "tools/mutants", "not proved|no proof", "not proved", False)):
+            (top / "dev/mutants/mutants", "import argparse", "# more\nimport argparse", True),
+            (top / "dev/mutants/mutants", "not proved|no proof", "not proved", False)):
         yield file, file.read_text().replace(old, new, 1), stays
 
 
@@ -220,7 +221,7 @@ def wrongly_kept():
     depends on."""
     with tempfile.TemporaryDirectory(prefix="kept-") as room:
         top, wrong = pathlib.Path(room) / "top", []
-        for folder in ("tools", "common"):
+        for folder in ("dev", "packaging"):
             shutil.copytree(TOP / folder, top / folder)
         shutil.copytree(TOP / "crates/rt_cidr", top / "crates/rt_cidr", ignore=shutil.ignore_patterns("out"))
         shutil.copy(TOP / "crates.txt", top)
@@ -271,18 +272,18 @@ def broken_by_equal_texts():
 
 # Catches a run during `rt ci` that passes over the mutants of a crate which isn't proved, or never ends: `mutants of a crate`.
 def during(room, proved, *names):
-    """The output of tools/mutants, for all mutants or those of these names, during an `rt ci` that has ended and printed
+    """The output of dev/mutants/mutants, for all mutants or those of these names, during an `rt ci` that has ended and printed
     this of the crate."""
     printed = pathlib.Path(room) / "printed"
     printed.write_text(proved + "1 passed, 0 failed\n")
-    return subprocess.run([TOP / "tools/mutants", *names, "--of", room, "--during", printed], stdout=subprocess.PIPE,
+    return subprocess.run([TOP / "dev/mutants/mutants", *names, "--of", room, "--during", printed], stdout=subprocess.PIPE,
                           text=True).stdout
 
 
 # Catches mutants of the crate that is proved last which wait for those of all others: `the order of crates`.
 def order():
     """The order of three crates for a single worker; two of them are proved while it tries the first."""
-    loader = SourceFileLoader("mutants", str(TOP / "tools/mutants"))
+    loader = SourceFileLoader("mutants", str(TOP / "dev/mutants/mutants"))
     module = module_from_spec(spec_from_loader("mutants", loader))
     loader.exec_module(module)
     is_begun, are_proved, tried = threading.Event(), threading.Event(), []
@@ -317,7 +318,7 @@ def main():
         (folder / "must-fail/mutants.md").write_text("\n".join(["# Mutants\n", *sections]))
         sections = [listed(name, *control[:3], "taken") for name, control in sorted(CONTROLS.items())]
         (folder / "must-fail/controls.md").write_text("\n".join(["# Controls\n", *sections]))
-        ran = subprocess.run([TOP / "tools/mutants", "--of", room], stdout=subprocess.PIPE, text=True)
+        ran = subprocess.run([TOP / "dev/mutants/mutants", "--of", room], stdout=subprocess.PIPE, text=True)
         early, late = during(room, ""), during(room, "rt: small proved\n", LATE)
     lines = dict(re.sub("^(mutant|control) small/", "", line).split(": ", 1) for line in ran.stdout.splitlines()
                  if line.startswith(("mutant ", "control ")))
@@ -333,8 +334,8 @@ def main():
     right = sum(one[3].startswith(("refused", "taken")) for one in listed_all.values())
     if wrong or ran.returncode != 1 or not ran.stdout.endswith(f"\n{right} passed, {len(listed_all) - right} failed\n"):
         said = ", ".join(wrong) or "their number"
-        sys.exit(f"tests/mutants.py: tools/mutants tells of {said} something else than is so\n{ran.stdout}")
-    print(f"tests/mutants.py: tools/mutants tells what is so of {len(listed_all)} mutants and controls")
+        sys.exit(f"tests/mutants.py: dev/mutants/mutants tells of {said} something else than is so\n{ran.stdout}")
+    print(f"tests/mutants.py: dev/mutants/mutants tells what is so of {len(listed_all)} mutants and controls")
 
 
 if __name__ == "__main__":

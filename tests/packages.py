@@ -2,7 +2,7 @@
 """Makes the packages of a program and of the library, and uses them without a toolchain.
 
 tests/packages.py [PROGRAM [CASE..]], or --list for the names of the cases. Needs git, gcc, binutils and python3. The library
-is made of the archive that YARIB_ARCHIVE names, or else of that of tools/build.
+is made of the archive that YARIB_ARCHIVE names, or else of that of dev/build/build.
 
 The packages are installed in roots of Debian. YARIB_ROOTS names directories that have one, with python3, gcc, libc6-dev and
 pkg-config; they are copied. Without it mmdebstrap makes a root of Debian 12 and one of 13, once for this machine, in the
@@ -17,11 +17,12 @@ import sys
 import tarfile
 import tempfile
 
-from common.checks import TOP, built_file, chosen, end, expect, run, run_each
-from common.crates import cache
-from common.evidence import git, sum_of
-from common.packages import Release, tools, tracked
-from common.versions import VERSION
+sys.path.insert(1, str(pathlib.Path(__file__).resolve().parents[1]))
+from dev.checks import TOP, built_file, chosen, end, expect, run, run_each
+from dev.crates import cache
+from packaging.evidence import git, sum_of
+from packaging.packages import Release, tools, tracked
+from dev.versions import VERSION
 from texts import ROW, ROW_OUT
 
 SUITES = ("bookworm", "trixie")
@@ -74,7 +75,7 @@ def made_twice(packages):
 
 
 # Stubs of a commit that is proved again: a build, and a release whose evidence names the files that it was made of.
-STUBS = {"tools/build": "#!/bin/sh\necho of \"$1\"\n", "release": """#!/bin/sh
+STUBS = {"dev/build/build": "#!/bin/sh\necho of \"$1\"\n", "release": """#!/bin/sh
 mkdir -p "$2"
 cp "${0%/*}/EVIDENCE" "$2/EVIDENCE.json"
 """}
@@ -82,7 +83,7 @@ cp "${0%/*}/EVIDENCE" "$2/EVIDENCE.json"
 
 def released(top):
     """Makes a repository with this one's ./release, and a release of a commit of it; stubs prove and build."""
-    shutil.copytree(TOP / "common", top / "common", ignore=shutil.ignore_patterns("__pycache__"))
+    shutil.copytree(TOP / "dev", top / "dev", ignore=shutil.ignore_patterns("__pycache__"))
     shutil.copy(TOP / "VERSION", top)
     said = {name: name for name in ("sha256", "crates", "unproved files", "tree", "logic")}
     for name, text in (STUBS | {"EVIDENCE": json.dumps(said)}).items():

@@ -10,10 +10,12 @@ refusal, and once more with all requests after the refused one refused as well. 
 kind of refusal. The program is built without proofs, and without the sanitizer of other unproved programs, which has its
 own memory. tests/refused_growth.py does the same with a proved program, and also refuses requests of the program.
 """
+import sys
 import pathlib
 import tempfile
 
-from common import checks
+sys.path.insert(1, str(pathlib.Path(__file__).resolve().parents[1]))
+from dev import checks
 from refused_growth import KINDS_OF_CALLS, OF_BENCHES, Called
 from refusing import refuser
 

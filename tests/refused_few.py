@@ -12,13 +12,15 @@ A comparison of two large tables executes its sides on two threads, and a query 
 read on several threads. All are run with each request refused, by itself and with all later ones, with a second thread and
 without one.
 """
+import sys
 import itertools
 import os
 import pathlib
 import re
 import tempfile
 
-from common import checks
+sys.path.insert(1, str(pathlib.Path(__file__).resolve().parents[1]))
+from dev import checks
 from refused_growth import Called, Case, SIX_COMMANDS, check_run, check_same
 from refusing import Wrong, refuse_each, refuser, run_refused
 from texts import own_text, written

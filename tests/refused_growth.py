@@ -12,13 +12,15 @@ signal. All cases together must have met each kind of refusal. The requests are 
 So the launchers' settings change nothing here, and each case is run once. ./test runs the cases of bench/benches
 unproved (tests/refused_calls.py), and a few requests of some runs (tests/refused_few.py).
 """
+import sys
 import collections
 import pathlib
 import re
 import tempfile
 
-from common import checks
-from common.table_model import MAX_FEEDS, Table, dotted, run_text, shown
+sys.path.insert(1, str(pathlib.Path(__file__).resolve().parents[1]))
+from dev import checks
+from dev.models.table_model import MAX_FEEDS, Table, dotted, run_text, shown
 from refusing import Wrong, agree, check_shown, refuse_each, refuser
 from texts import own_text, written
 

@@ -4,7 +4,7 @@ import itertools
 import os
 import re
 
-from common.checks import compiled, run
+from dev.checks import compiled, run
 
 # The end of a run, whether one of its requests was refused, and the number of threads that it wasn't given.
 Ending = collections.namedtuple("Ending", "status out err refused threads")

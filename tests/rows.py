@@ -3,7 +3,7 @@
 
 tests/rows.py [PROGRAM [CASE..]], or --list for the names of the cases. Linux, python3.
 
-Worked runs and replays are in common/worked.py. Hostile lines are read by a plain reader, written from docs/FORMATS.md.
+Worked runs and replays are in dev/models/worked.py. Hostile lines are read by a plain reader, written from docs/FORMATS.md.
 If the plain reader accepts a line as a command, other lines are put around it, and their answers show everything that
 the program read in that line. Runs of random feeds on threads are judged by tests/linearizability.py: some order of the feeds'
 batches has to explain each.
@@ -21,10 +21,11 @@ import sys
 import time
 from typing import NamedTuple
 
-from common.checks import compare, expect, is_unproved, run_on_program
-from common.table_model import (E1, E3, E8, HAS_CR, MAX_FEEDS, ROUTE_COLUMNS, TOO_MANY_FILES, Table, command_of, csv_of, dotted, json_text,
+sys.path.insert(1, str(pathlib.Path(__file__).resolve().parents[1]))
+from dev.checks import compare, expect, is_unproved, run_on_program
+from dev.models.table_model import (E1, E3, E8, HAS_CR, MAX_FEEDS, ROUTE_COLUMNS, TOO_MANY_FILES, Table, command_of, csv_of, dotted, json_text,
                                 members, route_text, run_text, table_text)
-from common.worked import REPLAYS, SIX, WORKED, report
+from dev.models.worked import REPLAYS, SIX, WORKED, report
 import linearizability
 from schedules import in_turns
 

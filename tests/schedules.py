@@ -4,7 +4,7 @@ import pathlib
 import struct
 import tempfile
 
-from common.checks import compiled
+from dev.checks import compiled
 
 SIZES = 4096
 ROUTES = 1_000

@@ -18,14 +18,16 @@ choice of feeds by `diff`, and `--count` with names or JSON. All cases run with 
 in cases that fill large pages. In these (`OF_MEMORY`) each `run` is called with both; the other commands have one
 thread. The other cases are about numbers in the code.
 """
+import sys
 import hashlib
 import ipaddress
 import os
 import pathlib
 import subprocess
 
-from common.checks import LAUNCHED, Program, chosen, compare, end, expect, launched, run_each
-from common.table_model import (MAX_FEEDS, all_answers_text, answers_text, csv_of, dotted, json_text, members, ran, row,
+sys.path.insert(1, str(pathlib.Path(__file__).resolve().parents[1]))
+from dev.checks import LAUNCHED, Program, chosen, compare, end, expect, launched, run_each
+from dev.models.table_model import (MAX_FEEDS, all_answers_text, answers_text, csv_of, dotted, json_text, members, ran, row,
                                 run_text, told_text)
 from texts import FORWARDED, many_routes
 

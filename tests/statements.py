@@ -1,20 +1,22 @@
 #!/usr/bin/env python3
-"""Changes laws and pages in a copy of the repository, and checks that `tools/statement --check` refuses each change that
+"""Changes laws and pages in a copy of the repository, and checks that `dev/statements/statement --check` refuses each change that
 means something, and no other.
 
 tests/statements.py [CASE..], or --list for the names of the cases. Needs the toolchain and python3, and about a minute.
 """
+import sys
 import pathlib
 import re
 import shutil
 import tempfile
 
-from common.checks import TOP, chosen, end, expect, run, run_case
-from common.crates import CRATES, crate_of
-from common.definition_reader import parse_module, type_of, uncommented
-from common.rust_sources import source
-from common.statement_forms import definition_lines, split_at, type_lines, with_comment
-from common.statement_pages import context_of, shown_function
+sys.path.insert(1, str(pathlib.Path(__file__).resolve().parents[1]))
+from dev.checks import TOP, chosen, end, expect, run, run_case
+from dev.crates import CRATES, crate_of
+from dev.statements.definition_reader import parse_module, type_of, uncommented
+from dev.rust_sources import source
+from dev.statements.statement_forms import definition_lines, split_at, type_lines, with_comment
+from dev.statements.statement_pages import context_of, shown_function
 
 # Weaker laws of the routing table, each about nothing or nearly nothing: the old and the new text.
 LAWS = "crates/rt_rib/specs/Laws.antt"
@@ -51,7 +53,7 @@ class Copy:
 
     def __init__(self, top):
         self.top = top
-        for folder in ("tools", "common", "docs", "crates"):
+        for folder in ("dev", "packaging", "docs", "crates"):
             shutil.copytree(TOP / folder, self.top / folder, ignore=shutil.ignore_patterns("__pycache__", "out", "must-fail"))
         for name in ("README.md", "crates.txt"):
             shutil.copy(TOP / name, self.top / name)
@@ -64,7 +66,7 @@ class Copy:
 
     def expect_check(self, what, status, said=""):
         """Expects this status of the check, and this at the end of its message."""
-        ended = run([self.top / "tools/statement", "--check"])
+        ended = run([self.top / "dev/statements/statement", "--check"])
         expect(what, (ended[0], ended[2].rstrip("\n")[-len(said):] if said else ended[2]), (status, said))
 
 
@@ -77,28 +79,28 @@ def the_pages_as_they_are(copy):
 def a_weaker_law(copy):
     for what, (old, new) in WEAKER.items():
         copy.change(LAWS, old, new)
-        copy.expect_check(what, 1, "docs/STATEMENT-LIBRARIES.md is not what tools/statement --write would write")
+        copy.expect_check(what, 1, "docs/STATEMENT-LIBRARIES.md is not what dev/statements/statement --write would write")
         copy.change(LAWS, new, old)
 
 
 # Catches a new law that nobody put on a page.
 def a_law_on_no_page(copy):
-    copy.change("common/statement_pages.toml", '  "rt_rib::laws::best_routes",\n', "")
-    run([copy.top / "tools/statement", "--write"])
+    copy.change("dev/statements/statement_pages.toml", '  "rt_rib::laws::best_routes",\n', "")
+    run([copy.top / "dev/statements/statement", "--write"])
     copy.expect_check("a law on no page", 1, "BestRoutesSuffice is on no statement page, and no example tests it")
 
 
 # Catches a clause of a call whose definition neither a page nor an example has.
 def a_definition_on_no_page(copy):
-    copy.change("common/statement_pages.toml", '  "rt_trie::Trie::retain",\n', "")
-    run([copy.top / "tools/statement", "--write"])
+    copy.change("dev/statements/statement_pages.toml", '  "rt_trie::Trie::retain",\n', "")
+    run([copy.top / "dev/statements/statement", "--write"])
     copy.expect_check("definitions on no page", 1, "with_pair is on no statement page, and no example tests it")
 
 
 # Catches a page that doesn't say which table the lock has.
 def a_table_of_another_type(copy):
     copy.change("crates/ya_lock/src/tree_lock.rt", "    pub(crate) table: LockTable<V>,", "    pub(crate) table: FreeTable<V>,")
-    copy.expect_check("a table of another type", 1, "docs/STATEMENT-LOCK.md is not what tools/statement --write would write")
+    copy.expect_check("a table of another type", 1, "docs/STATEMENT-LOCK.md is not what dev/statements/statement --write would write")
 
 
 # Catches a page that goes on saying what nothing ties to the sources any more.
@@ -121,7 +123,7 @@ def another_whole_promise(copy):
     counted = re.search(r"\d+ definitions of", (copy.top / "docs/LIBRARY-C.md").read_text())[0]
     for old, new in (("AnswersByNumber view.now", "AnswersByNumber view.old"), (counted, "9" + counted)):
         copy.change("docs/LIBRARY-C.md", old, new)
-        copy.expect_check(f"{new!r} on a page", 1, "docs/LIBRARY-C.md is not what tools/statement --write would write")
+        copy.expect_check(f"{new!r} on a page", 1, "docs/LIBRARY-C.md is not what dev/statements/statement --write would write")
         copy.change("docs/LIBRARY-C.md", new, old)
 
 
@@ -130,7 +132,7 @@ def a_clause_that_says_less(copy):
     for what, (old, new) in LESS.items():
         kept = (copy.top / VIEWS).read_text()
         copy.change(VIEWS, old, new)
-        copy.expect_check(what, 1, "docs/STATEMENT-LIBRARIES.md is not what tools/statement --write would write")
+        copy.expect_check(what, 1, "docs/STATEMENT-LIBRARIES.md is not what dev/statements/statement --write would write")
         (copy.top / VIEWS).write_text(kept)
 
 
@@ -138,7 +140,7 @@ def a_clause_that_says_less(copy):
 def a_clause_that_is_gone(copy):
     kept = (copy.top / VIEWS).read_text()
     copy.change(VIEWS, f"    ensures silent {{ {OF_SIZES} }}\n", "")
-    copy.expect_check("a clause that is gone", 1, "docs/STATEMENT-LIBRARIES.md is not what tools/statement --write would write")
+    copy.expect_check("a clause that is gone", 1, "docs/STATEMENT-LIBRARIES.md is not what dev/statements/statement --write would write")
     (copy.top / VIEWS).write_text(kept)
     copy.change("crates/yarib_c/src/status.rt", "pub const NOTHING: u32 = 1;", "pub const NOTHING: u32 = 0;")
     copy.expect_check("two statuses with one number", 1, "two statuses of yarib_c have the same number")

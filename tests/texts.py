@@ -2,7 +2,7 @@
 import functools
 import pathlib
 
-from common.table_model import dotted, row, shown
+from dev.models.table_model import dotted, row, shown
 
 ROW = "add 10.0.0.0/8 100 192.0.2.1\n"
 ROW_OUT = "1:1 added\ntable 1\n" + row("10.0.0.0/8", 1, 100)

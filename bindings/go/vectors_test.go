@@ -19,7 +19,7 @@ type section struct {
 	lines []line
 }
 
-// sections returns the sections of this kind. common/table_vectors.py writes and describes them.
+// sections returns the sections of this kind. dev/models/table_vectors.py writes and describes them.
 func sections(t *testing.T, kind string) []section {
 	t.Helper()
 	file := os.Getenv("YARIB_VECTORS")

@@ -1,7 +1,7 @@
 """Compares every call of Python's binding, with arguments in every form, with test vectors: every field of every element, both
 sides of each difference, every journal entry, and lists at every page boundary.
 
-    python3 -m common.table_vectors FILE
+    python3 -m dev.models.table_vectors FILE
     PYTHONPATH=. YARIB_VECTORS=FILE YARIB_LIBRARY=bindings/out/libyarib.so.0 python3 bindings/python/test_calls.py
 """
 import array
@@ -21,7 +21,7 @@ import tempfile
 import unittest
 
 import yarib
-from common.table_model import MAX_FEEDS
+from dev.models.table_model import MAX_FEEDS
 
 NETWORK, ADDRESS = ipaddress.IPv4Network, ipaddress.IPv4Address
 LAST = (1 << 32) - 1
@@ -35,7 +35,7 @@ def in_order(route):
 
 def sections(kind):
     """Returns the sections of this kind: the words of the first line, and of each other line the words of its call and of its
-    answer. common/table_vectors.py describes them."""
+    answer. dev/models/table_vectors.py describes them."""
     found = []
     for line in pathlib.Path(os.environ["YARIB_VECTORS"]).read_text().splitlines():
         call, is_call, answer = line.partition(" =")

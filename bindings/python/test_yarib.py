@@ -18,7 +18,7 @@ import time
 import unittest
 from unittest import mock
 
-from common import table_model
+from dev.models import table_model
 from test_calls import in_order
 import yarib
 from yarib import _library as c

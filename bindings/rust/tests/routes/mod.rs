@@ -50,7 +50,7 @@ pub fn line(route: &Route) -> String {
 /// A call and its answer, each as words.
 pub type Line = (Vec<&'static str>, Vec<&'static str>);
 
-/// Returns the sections of this kind: the words of the first line of each, and its other lines. `common/table_vectors.py`
+/// Returns the sections of this kind: the words of the first line of each, and its other lines. `dev/models/table_vectors.py`
 /// writes and describes them.
 pub fn sections(kind: &str) -> Vec<(Vec<&'static str>, Vec<Line>)> {
     let file = std::env::var("YARIB_VECTORS").unwrap_or_else(|_| "../out/vectors".to_string());

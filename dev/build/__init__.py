@@ -1,0 +1,1 @@
+"""Builds programs and libraries, and judges a tree."""

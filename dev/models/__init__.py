@@ -1,0 +1,1 @@
+"""Models of tables and runs, with which tests compare the program."""

@@ -1,0 +1,1 @@
+"""Plants wrong bodies and changed definitions, and has the prover refuse them."""

@@ -1,0 +1,1 @@
+"""Prints statements from the sources onto pages."""

@@ -1,0 +1,286 @@
+"""Definitions in specs/ and types in src/: their positions, their lines, and the definitions that they use."""
+import functools
+import re
+import sys
+
+from dev.crates import CRATES, crate_of, needs
+from dev.rust_sources import indent_of, source, sources
+
+# The libraries that have definitions, in the order of crates.txt: each after its dependencies.
+LIBRARY_CRATES = tuple(
+    crate for crate in needs() if (CRATES / crate / "specs").is_dir() and (CRATES / crate / "src/lib.rt").exists()
+    and not crate.endswith("_tests"))
+
+WORD = re.compile(r"(\.?)([^\W\d][\w'?]*(?:-[^\W\d][\w']*)*|\d+)|(\"(?:[^\"\\]|\\.)*\")|([^\s\w(){}\[\],;.\"'\\]+)")
+IMPORT = re.compile(r"^\s*(?:ghost )?(?:pub )?use (Rattle[\w.«»?]*|mathlib[\w.«»?]*|lib[\w.«»?]*?)"
+                    r"(?:\.\{([^}]*)\})?(?: as (\w+))?;?\s*$", re.M)
+DECLARED = re.compile(r"(?:abbrev |unfoldable )?(?:pub )?(?:abbrev |unfoldable )?(?:(record|data|ruleset) )?([^\s:(){}]+)")
+RUST_TYPES = ("struct", "enum", "trait", "type", "const")
+
+
+class Definition:
+    """A definition in specs/ or a type in src/: its position, its comment, its lines, and the parameters around it."""
+
+    def __init__(self, key, file, line, comment, lines, context=()):
+        self.key, self.file, self.line, self.comment, self.lines = key, file, line, comment, lines
+        self.context = context
+        self.name = key.rpartition(".")[2]
+
+    def count(self):
+        """Returns the number of its lines that aren't comments."""
+        return sum(not line.strip().startswith(("--", "//")) for line in self.lines)
+
+
+def uncommented(text):
+    return re.sub(r"(?m)(?:^|(?<=\s))--.*$", "", text)
+
+
+def imports(text):
+    """Returns what each word of a file denotes: a name of a module, or (without a name) the module itself."""
+    found = {}
+    for module, items, alias in IMPORT.findall(text):
+        if items:
+            for item in items.split(","):
+                name, _, other = item.strip().partition(" as ")
+                if name:
+                    found[other or name] = (module, name)
+        else:
+            found[alias or module.rpartition(".")[2]] = (module, None)
+    return found
+
+
+@functools.cache
+def spec_module(module):
+    """Returns the definitions of a module of specs/ by name, and what its other words denote; None for modules of the kit."""
+    match = re.fullmatch(r"Rattle\.(\w+)\.(?:specs|proofs)\.(.+)", module)
+    if not match:
+        return None
+    kind = module.split(".")[2]
+    file = CRATES / match[1] / kind / (match[2].replace(".", "/") + ".antt")
+    if not file.exists():
+        return None
+    return parse_module(module, file), imports(file.read_text())
+
+
+def parse_module(module, file, text=None):
+    """Returns the definitions of a file, or of another text of it, by name."""
+    reader = ModuleReader(module, file, (file.read_text() if text is None else text).split("\n"))
+    while reader.number < len(reader.lines):
+        reader.read_line()
+    for definition in reader.found.values():
+        while not definition.lines[-1].strip():
+            definition.lines.pop()
+        margin = indent_of(definition.lines[0])
+        definition.lines = [line[margin:] for line in definition.lines]
+    return reader.found
+
+
+class ModuleReader:
+    """Reads a file line by line. It keeps the definitions that it has found, the comment above the next one, the current
+    one, and the margins of the surrounding sections, each with its parameters."""
+
+    def __init__(self, module, file, lines):
+        self.module, self.file, self.lines, self.number = module, file, lines, 0
+        self.found, self.comment, self.current, self.levels = {}, [], None, [(0, None)]
+
+    def read_line(self):
+        line = self.lines[self.number]
+        self.number += 1
+        if not line.strip():
+            self.read_blank()
+        elif self.current and indent_of(line) > self.levels[-1][0]:
+            self.current.lines.append(line)
+        else:
+            while indent_of(line) < self.levels[-1][0]:
+                self.levels.pop()
+            self.read_at_margin(line, line.strip())
+
+    def read_blank(self):
+        """Continues a definition after an empty line if the next line is indented."""
+        more = self.lines[self.number] if self.number < len(self.lines) else ""
+        if not self.current:
+            self.comment = []
+        elif indent_of(more) <= self.levels[-1][0]:
+            self.current = None
+
+    def read_at_margin(self, line, text):
+        if text.startswith("--"):
+            self.comment, self.current = [] if self.current else self.comment, None
+            self.comment.append(text[2:].strip())
+        elif re.match(r"(pub )?(use|mod|open)\b", text):
+            self.comment, self.current = [], None
+        elif re.match(r"module _|mutual\b", text):
+            self.read_section(text)
+        else:
+            self.read_declaration(line, text)
+
+    def read_section(self, head):
+        margin = indent_of(self.lines[self.number - 1]) + 2
+        while not re.search(r"\bwhere$|^mutual$", head):
+            head += " " + self.lines[self.number].strip()
+            self.number += 1
+        said = re.fullmatch(r"module _ ?(.*?) ?where", head)
+        self.levels.append((margin, said[1] if said else None))
+        self.comment, self.current = [], None
+
+    def read_declaration(self, line, text):
+        declared = DECLARED.match(text)
+        name = declared[2] if declared and text[0] not in "]})" else "unfolding"
+        if name in self.found and not re.match(r"(abbrev|unfoldable|pub|record|data) ", text):
+            self.current = self.found[name]
+        if name == "unfolding" or self.current and name == self.current.name:
+            if self.current:
+                self.current.lines.append(line)
+        else:
+            context = [params for _, params in self.levels if params]
+            self.current = Definition(f"{self.module}.{name}", self.file, self.number, self.comment, [line], context)
+            self.found[name], self.comment = self.current, []
+
+
+def constructors(definition):
+    if not re.match(r"(pub )?data ", definition.lines[0]):
+        return set()
+    return {match[1] for line in definition.lines[1:] if (match := re.match(r"\s+(\S+) :", line))}
+
+
+def is_type(item, name):
+    return item.name == name and item.kind in RUST_TYPES
+
+
+@functools.cache
+def rust_type(crate, name):
+    """Returns a struct, enum, trait, type or constant of the crate as written in its source."""
+    return next((type_of(crate, item) for one in sources(crate) for item in one.items if is_type(item, name)), None)
+
+
+def type_of(crate, item):
+    body = [line for line in item.written() if line.strip() and not line.strip().startswith("#[")]
+    model = next((other for other in item.source.items if other.kind == "impl"
+                  and other.of_impl() == ("Model", item.name)), None)
+    value = model and re.search(r"ghost Value = (\{.*?\});", "\n".join(model.written()))
+    if value:
+        body = [re.sub(r"\s*[{;].*", "", body[0]) + f" // contracts see it as {value[1]}"]
+    return Definition(f"{crate}::{item.file.stem}.{item.name}", item.file, item.start + 1, item.comment(), body)
+
+
+def rust_words(definition):
+    """Yields the types of the repository that a Rust type names, and what its ghost parts name, except in proofs of
+    fields."""
+    ghosts = imports(source(definition.file).text)
+    code = "\n".join(re.sub(r"//(?! contracts see it as).*", "", line) for line in definition.lines)
+    for word in re.findall(r"[A-Za-z_]\w*", re.sub(r"\} by \{[^}]*\}", "}", code)):
+        if word in ghosts:
+            yield from resolved(*ghosts[word])
+        elif word[0].isupper() and word != definition.name:
+            yield from rust_named(definition.file, word)
+
+
+@functools.cache
+def rust_named(file, word):
+    """Returns the type of the repository that a word of a source file names, in a list that is empty if there is none."""
+    if any(is_type(item, word) for item in source(file).items):
+        found = rust_type(crate_of(file), word)
+    else:
+        crate, _, rest = source(file).uses.get(word, "").partition("::")
+        crate = crate_of(file) if crate == "crate" else crate
+        found = crate in needs() and rust_type(crate, rest.rpartition("::")[2])
+    return [found] if found else []
+
+
+def resolved(module, name):
+    """Yields the definition that a name of a module denotes, or (module, name) if it belongs to the kit's library."""
+    declared = re.fullmatch(r"Rattle\.(\w+)\.specs\.declared\.(.+)", module)
+    if declared and (CRATES / declared[1]).is_dir():
+        parts = declared[2].split(".")
+        if parts[-1] in ("TheVariants", "TheInside"):
+            named = parts[-2]
+        elif parts[-1] == "TheConstants":
+            named = name
+        else:
+            named = parts[-1]
+        found = rust_type(declared[1], named)
+        if not found:
+            sys.exit(f"dev/statements/definition_reader.py: no type {named} in {declared[1]}")
+        yield found
+        return
+    ours = spec_module(module)
+    if not ours:
+        yield (module, name)
+        return
+    definitions, used = ours
+    if name in definitions:
+        yield definitions[name]
+        return
+    for definition in definitions.values():
+        if name in constructors(definition):
+            yield definition
+            return
+    if name in used:
+        yield from resolved(*used[name])
+        return
+    sys.exit(f"dev/statements/definition_reader.py: no {name} in {module}")
+
+
+def words_of(text, local, used):
+    """Yields what the words of a term denote: definitions of the repository, and (module, name) for the kit's library. A
+    variable with the name of a definition counts as that definition: the page may have one too many, but misses none."""
+    text = uncommented(text)
+    tokens = [(match[1], match[2], match[4], match.start(), match.end()) for match in WORD.finditer(text)]
+    seen = {token[1] for token in tokens if token[1]} | {token[2] for token in tokens if token[2]}
+    for dot, word, sign, start, end in tokens:
+        if sign or not word:
+            continue
+        is_projection = dot and start and re.match(r"[\w')\]⟧]", text[start - 1])
+        is_field = re.search(r"\bpub $", text[:start]) or (
+            re.match(r"\s*=(?!=)", text[end:]) and re.search(r"(?:[{;]\s*|\n\s+)$", text[:start + len(dot)]))
+        if is_projection or is_field:
+            continue
+        if word in local:
+            yield local[word]
+        elif (maker := next((d for d in local.values() if word in constructors(d)), None)):
+            yield maker
+        elif word in used:
+            target, name = used[word]
+            if name is None:
+                follows = re.match(r"\.([^\W\d][\w'?]*)", text[end:])
+                if follows:
+                    yield from resolved(target, follows[1])
+            else:
+                yield from resolved(target, name)
+    for name, (target, item) in used.items():
+        if item and "◌" in item and set(part for part in item.split("◌") if part) <= seen:
+            yield (target, item)
+
+
+@functools.cache
+def rests_on(definition):
+    """Returns what the definition uses: definitions of the repository, and (module, name) for the kit's library."""
+    if definition.file.suffix == ".rt":
+        return unique(rust_words(definition), definition)
+    module = definition.key.rpartition(".")[0]
+    local, used = spec_module(module)
+    text = "\n".join(definition.lines) + "\n" + "\n".join(definition.context)
+    return unique(words_of(text, local, used), definition)
+
+
+def unique(found, but=None):
+    seen, kept = set(), []
+    for one in found:
+        key = one.key if isinstance(one, Definition) else one
+        if key not in seen and not (but and key == but.key):
+            seen.add(key)
+            kept.append(one)
+    return kept
+
+
+@functools.cache
+def example_files():
+    """Returns the files of examples of each crate whose definitions they test. A library's examples are in a crate of
+    examples, in a file with the second part of the library's name and in a directory of that name; those of the program are
+    in its proofs/."""
+    found = {crate_of(file): [file] for file in CRATES.glob("*/proofs/Examples.antt")}
+    for crate in LIBRARY_CRATES:
+        name = crate.partition("_")[2].capitalize()
+        files = [*CRATES.glob(f"*_examples/proofs/{name}.antt"), *sorted(CRATES.glob(f"*_examples/proofs/{name}/*.antt"))]
+        found |= {crate: files} if files else {}
+    return found

@@ -1,0 +1,509 @@
+"""The pages of statements: public clauses, and below them the definitions that they rest on (dev/statements/statement). Their
+sentences are in statement_pages.toml. A chapter has one fence of clauses and one of definitions. A line in a fence names the
+files of the definitions and clauses below it. It has no numbers of lines, so a page changes only if its statements do."""
+import itertools
+import pathlib
+import re
+import sys
+import textwrap
+import tomllib
+
+from dev import prover
+from dev.crates import CRATES, TOP, all_crates
+from dev.statements.definition_reader import Definition, imports, parse_module, rests_on, rust_named, type_of, unique, words_of
+from dev.statements.implied_clauses import implied
+from dev.rust_sources import source, sources
+from dev.statements.statement_forms import WIDTH, contract_lines, joined, shown_parts, split_at, type_lines, with_comment
+
+
+class Chapter:
+    """A chapter of a page: its sentence, what has to hold for it, its clauses, what ties them to the sources, and what the
+    toolchain says of it."""
+
+    def __init__(self, said):
+        self.title, self.said, self.premises, self.clauses = (said[key] for key in ("title", "said", "premises", "clauses"))
+        self.ties, self.kit = said.get("tie", ()), said.get("kit", ())
+
+
+class Page:
+    """A page in docs/: its file, its title, its introduction and its chapters."""
+
+    def __init__(self, name, title, said, chapters):
+        self.name, self.title, self.said, self.chapters = name, title, said, chapters
+
+
+def page_of(said):
+    """Returns the page that a table of statement_pages.toml describes."""
+    return Page(said["file"], said["title"], said["said"], [Chapter(one) for one in said["chapter"]])
+
+
+WORDS = tomllib.loads(pathlib.Path(__file__).with_suffix(".toml").read_text())
+# The page that explains signs and words, the signs that a reader has to know, the definitions whose first line is all that
+# the pages print, the words of the kit's library, and the page with one clause and all that it rests on.
+SIGNS, LEGEND, BRIEF, KIT, WHOLE = (WORDS[key] for key in ("signs_page", "signs", "brief", "words", "whole"))
+# The types and traits of the kit that the pages name.
+KIT_TYPES = WORDS["types"]
+PAGES = [page_of(said) for said in WORDS["page"]]
+PLAIN = {"Bool", "Err", "List", "None", "Ok", "Option", "Result", "Some", "false", "true", "none", "some", "ℕ"}
+
+
+# A field of a struct, on one line.
+FIELD = re.compile(r"\s*(?:pub(?:\(\w+\))? )?(\w+):")
+
+
+class Tie:
+    """Members of an `impl`, or fields of a struct, that tie a definition to the sources: read like a clause."""
+
+    def __init__(self, file, head, members, said):
+        self.file, self.said = CRATES / file, said
+        item = next(item for item in source(self.file).items if item.lines[0] == head + " {")
+        parts = {one.name: one.lines for one in item.members()}
+        if item.kind == "struct":
+            parts = {field[1]: [line] for line in item.lines if (field := FIELD.match(line))}
+        if missing := set(members) - set(parts):
+            sys.exit(f"dev/statements/statement: {head}: no " + ", ".join(sorted(missing)))
+        kept = [line for name in members for line in parts[name]]
+        self.lines = [item.lines[0], *kept, "}"]
+
+    def shown(self):
+        """Returns its lines in a fence."""
+        return with_comment(*type_lines(commented("///", wrapped(self.said, width=WIDTH - 4)), self.lines))
+
+    def rests_on(self):
+        ghosts, text = imports(source(self.file).text), "\n".join(self.lines[1:-1])
+        found, head = list(words_of(text, {}, ghosts)), self.lines[0] if self.lines[0].startswith("impl") else ""
+        for word in re.findall(r"(?<![\w.])[A-Z]\w*", head + text):
+            found += [] if word in ghosts else rust_named(self.file, word)
+        return [one for one in unique(found) if isinstance(one, Definition)]
+
+
+class Clause:
+    """The contract of a public function: its comment, its clauses, and what they rest on. A page leaves out what
+    dev/statements/implied_clauses.py computes."""
+
+    def __init__(self, said, is_whole=True):
+        path, _, label = said.partition(".")
+        parts = path.split("::")
+        if len(parts) < 3 or parts[0] not in all_crates():
+            sys.exit(f"dev/statements/statement: {said}: not CRATE::MODULE::FUNCTION or CRATE::TYPE::FUNCTION")
+        function = public_function(parts[0], *parts[-2:])
+        if not function:
+            sys.exit(f"dev/statements/statement: no public function {said}")
+        self.name, self.owner = said, parts[-2]
+        self.file, self.comment = function.file, function.comment()
+        self.head, self.clauses = parts_of_contract(function, function.owner)
+        if label:
+            self.clauses = [one for one in self.clauses if re.match(rf"\s*(requires\b|ensures\*? {label}\b)", one[0])]
+            if not any("ensures" in clause[0] for clause in self.clauses):
+                sys.exit(f"dev/statements/statement: {said}: no such label")
+        self.implied = [] if label or is_whole else implied(self.file, self.head, self.clauses)
+
+    def shown(self):
+        """Returns its lines in a fence."""
+        printed = [one for one in self.clauses if not is_labelled(one, self.implied)]
+        also = f"// also: {', '.join(self.implied)}" if self.implied else ""
+        return contract_lines(self.head, printed, commented("///", self.comment), also)
+
+    def rests_on(self):
+        ghosts = imports(source(self.file).text)
+        terms = "\n".join(re.sub(r"^\s*(requires|ensures)\*?( \w+)? \{", "{", "\n".join(clause))
+                          for clause in self.clauses)
+        found = list(words_of(terms, {}, ghosts))
+        head = "\n".join(self.head)
+        rust = re.findall(r"[A-Z]\w*", head) + [self.owner] * bool(re.search(r"\bself\b", head))
+        for term in re.findall(r"⟦(.*?)⟧", terms, re.S):
+            rust += re.findall(r"[A-Z]\w*", term)
+        rust += [word for word in re.findall(r"(?<![\w.])[A-Z]\w*", terms) if word not in ghosts]
+        for word in rust:
+            found += rust_named(self.file, word)
+        return unique(found)
+
+
+def is_labelled(clause, labels):
+    return any(re.match(rf"\s*ensures\*? {label}\b", clause[0]) for label in labels)
+
+
+# The words before `fn` that the clauses of a page have in common.
+PUBLIC = re.compile(r'^pub (extern "C" )?')
+# What a line of a head doesn't end with, and the space after it while the head is filled into lines.
+KEPT, HELD = re.compile(r"(->|:|&(?:'\w+ )?mut|&'\w+|\bfn|\bmut) "), "\u00a0"
+
+
+def parts_of_contract(function, owner=None):
+    """The lines of a function's head and those of each clause, without its margin. The head has the type of a method, if it
+    is given, and is filled into lines; that the function is public, or an export, isn't said."""
+    head, clauses = [], []
+    for line in function.written()[:function.clauses_end()]:
+        if re.match(r"\s*(requires|ensures)\b", line):
+            clauses.append([])
+        (clauses[-1] if clauses else head).append(line[function.margin:])
+    if not any("//" in line for line in head):
+        whole = PUBLIC.sub("", joined(head).replace(",)", ")", 1))
+        whole = whole.replace(f"fn {function.name}", f"fn {owner}::{function.name}", 1) if owner else whole
+        head = [line.replace(HELD, " ") for line in wrapped(KEPT.sub(rf"\1{HELD}", whole), "        ")]
+    return head, clauses
+
+
+def public_function(crate, owner, name):
+    """The function of this name that is of this type, or of no type in a file of this name."""
+    return next((one for source in sources(crate) for one in source.functions
+                 if one.is_pub and one.name == name and owner == (one.owner or source.file.stem)), None)
+
+
+def in_order(speakers, known, brief=()):
+    """Returns the definitions that clauses, ties and definitions use, each after all its users: those that aren't known,
+    and those that are; and the library's words. Of a brief definition only the first line is shown, so its own uses don't
+    count."""
+    order, library, visited = [], {}, set()
+
+    def visit(definition):
+        visited.add(definition.key)
+        if definition.key not in brief:
+            look_at(definition)
+        order.append(definition)
+
+    def look_at(speaker):
+        for one in reversed(speaks_of(speaker)):
+            if not isinstance(one, Definition):
+                library.setdefault(one[0], set()).add(one[1])
+            elif one.key not in visited:
+                visit(one)
+
+    for speaker in reversed(speakers):
+        look_at(speaker)
+    order.reverse()
+    return [one for one in order if one.key not in known], [one for one in order if one.key in known], library
+
+
+def by_file(order, brief):
+    """The definitions, each below all that speak of it, those of a crate together as far as that allows, and in it those
+    of a file."""
+    uses = {one.key: () if one.key in brief else {used.key for used in speaks_of(one) if isinstance(used, Definition)}
+            for one in order}
+    found, waiting = [], list(order)
+    while waiting:
+        ready = [one for one in waiting if not any(one.key in uses[other.key] for other in waiting if other is not one)]
+        ready = ready or waiting[:1]
+        near = [one for one in ready if found and place_of(one) == place_of(found[-1])]
+        found.append(next((one for one in near if one.file == found[-1].file), (near or ready)[0]))
+        waiting.remove(found[-1])
+    return found
+
+
+def place_of(one):
+    """Returns the crate of a definition, or that of the toolchain."""
+    return name_of_file(one.file).parts[0]
+
+
+def speaks_of(one):
+    return rests_on(one) if isinstance(one, Definition) else one.rests_on()
+
+
+def shown(definition, brief=(), contexts=None):
+    """The lines of a definition in a fence: its comment, the parameters around it, and itself. `contexts` has the parameters
+    that the fence gives further up, by name: of these only the names are printed."""
+    is_spec = definition.file.suffix == ".antt"
+    mark, (comment, lines) = "--" if is_spec else "///", shown_parts(definition)
+    if definition.key in brief:
+        lines = [re.sub(r" (where|\{)$", "", definition.lines[0])]
+        comment += wrapped(f"Only its first line: {brief[definition.key]}", width=116)
+    if definition.context and is_spec:
+        said = f"for every {', '.join(context_of(definition, {} if contexts is None else contexts))}"
+        fits = comment and len(f"-- {comment[-1]}; {said}") <= WIDTH
+        comment[-1:] = [f"{comment[-1]}; {said}"] if fits else [*comment[-1:], said]
+    return with_comment(commented(mark, comment), lines)
+
+
+def context_of(definition, contexts):
+    """Yields the parameters around a definition: the names of those that `contexts` has, and others with their types."""
+    for parameter in split_at(" ".join(definition.context), " "):
+        names, _, kind = parameter[1:-1].partition(" : ")
+        given = dict.fromkeys(names.split(), (parameter[0], kind))
+        yield names if given.items() <= contexts.items() else parameter
+        contexts.update(given)
+
+
+def count(definition):
+    """Returns the number of lines of a definition, without those of comments."""
+    lines = with_comment([], shown_parts(definition)[1])
+    return sum(not line.strip().startswith(("--", "//")) for line in lines)
+
+
+# A link of a comment to another part of the sources, which leads nowhere on a page.
+SOURCE_LINK = re.compile(r"\[(`[^`]+`)\]\([\w:]+\)")
+
+
+def commented(mark, lines):
+    return [f"{mark} {SOURCE_LINK.sub(lambda link: link[1], line)}" for line in lines if line.strip()]
+
+
+def below_crates(mark, ones, lines_of):
+    """Returns the lines of each of these, with a line above the first of each crate that names the files, in order."""
+    lines = []
+    for _, group in itertools.groupby(ones, place_of):
+        group = list(group)
+        lines += [*wrapped(f"{mark}{mark} {files_of(group)}", f"{mark}{mark}   "),
+                  *(line for one in group for line in lines_of(one))]
+    return lines
+
+
+def files_of(group):
+    """Returns the files of definitions of a crate, as the line above them names these."""
+    folders = {}
+    for file in dict.fromkeys(name_of_file(one.file).with_suffix("") for one in group):
+        folders.setdefault(file.parts[1], []).append("/".join(file.parts[2:]))
+    return f"{place_of(group[0])}: " + "; ".join(f"{folder}/ {', '.join(files)}" for folder, files in folders.items())
+
+
+def name_of_file(file):
+    """A file of a crate, or of the toolchain, as a page names it."""
+    return file.relative_to(CRATES if file.is_relative_to(CRATES) else prover.kit() / "rattle")
+
+
+def fenced(language, lines):
+    """A fence with these lines; nothing without lines."""
+    return [f"```{language}", *lines, "```"] if lines else []
+
+
+def wrapped(prose, margin="", width=120):
+    """The lines of a sentence or an item of a list."""
+    return textwrap.wrap(prose, width, subsequent_indent=margin, break_long_words=False, break_on_hyphens=False)
+
+
+def named(definitions):
+    return ", ".join(f"`{one.name}`" for one in definitions)
+
+
+class Written:
+    """What is written so far: the page of each definition, and the kit's words of each page."""
+
+    def __init__(self, page=None):
+        self.page, self.home, self.library = page, {}, {}
+        self.definitions = self.lines = 0
+
+    def turn_to(self, page):
+        self.page, self.library, self.definitions, self.lines, self.has_implied = page, {}, 0, 0, False
+
+    def has(self, definition, brief):
+        self.home[definition.key] = None if definition.key in brief else self.page
+        self.counts(1, 1 if definition.key in brief else count(definition))
+
+    def counts(self, definitions, lines):
+        self.definitions += definitions
+        self.lines += lines
+
+
+def from_others(old, spoken_of, written):
+    """Returns the lines that name definitions of other pages that are used here, with the names of the pages."""
+    pages = {}
+    for one in old:
+        if one.key in spoken_of:
+            pages.setdefault(written.home[one.key] or written.page, []).append(one)
+    said = [f"from [{page.title}]({page.name}): {named(definitions)}" for page, definitions in pages.items()
+            if page is not written.page]
+    whole = "; ".join(said)
+    return ["", *wrapped(f"{whole[0].upper()}{whole[1:]}, and what these rest on.")] if said else []
+
+
+def definitions_of(speakers, written, brief):
+    """What the speakers rest on, as far as it isn't further up."""
+    new, old, words = in_order(speakers, written.home, brief)
+    new = by_file(new, brief)
+    bare = [one.key for one in new if not one.comment]
+    if bare:
+        sys.exit("dev/statements/statement: no comment says what this is: " + ", ".join(bare))
+    spoken_of = {one.key for speaker in speakers + new for one in speaks_of(speaker) if isinstance(one, Definition)}
+    out = from_others(old, spoken_of, written)
+    contexts = {}
+    out += fenced("agda", below_crates("--", new, lambda definition: shown(definition, brief, contexts)))
+    for definition in new:
+        written.has(definition, brief)
+    for module, names in words.items():
+        written.library.setdefault(module, set()).update(names)
+    return out
+
+
+def chapter(one, written):
+    """A chapter: its sentence and its premises, its clauses, and what they rest on."""
+    speakers = [*(Clause(said, is_whole=False) for said in one.clauses), *(Tie(**tie) for tie in one.ties)]
+    written.has_implied |= any(isinstance(one, Clause) and one.implied for one in speakers)
+    out = ["", f"## {one.title}", "", *wrapped(f"{one.said} *Premises:* {one.premises}")]
+    out += fenced("rust", below_crates("//", speakers, lambda one: one.shown()))
+    for said in one.kit:
+        out += of_kit(written=written, **said)
+    return out + definitions_of(speakers, written, BRIEF)
+
+
+def lines_in_all(one):
+    """How many lines a chapter's clauses and ties rest on, wherever they are printed, and those of the toolchain."""
+    speakers = [*map(Clause, one.clauses), *(Tie(**tie) for tie in one.ties)]
+    rest, _, _ = in_order(speakers, (), BRIEF)
+    of_toolchain = [part for said in one.kit for parts in kit_parts(**said) for part in parts]
+    return sum(1 if part.key in BRIEF else count(part) for part in rest) + sum(map(count, of_toolchain))
+
+
+def kit_parts(types, definitions, **_):
+    """The types and the definitions that a chapter takes from the toolchain: tables of files with names of each."""
+    return ([one for file, names in types.items() for one in kit_types(file, names)],
+            [one for file, names in definitions.items() for one in kit_definitions(file, names)])
+
+
+def of_kit(said, types, functions, definitions, written):
+    """What the toolchain says of a chapter: its types and the contracts of its functions, and the definitions in these.
+    Each table has files, with the names to show from each."""
+    kinds, terms = kit_parts(types, definitions)
+    written.counts(len(kinds + terms), sum(map(count, kinds + terms)))
+    calls = [call for file, names in functions.items() for call in kit_functions(file, names)]
+    code = [*below_crates("//", kinds, shown_of_kit), *below_crates("//", calls, shown_function)]
+    return ["", *wrapped(said), *fenced("rust", code), *fenced("agda", below_crates("--", terms, shown_of_kit))]
+
+
+def shown_of_kit(definition):
+    """The lines of a definition of the toolchain, below its comment."""
+    mark, (comment, lines) = "--" if definition.file.suffix == ".antt" else "///", shown_parts(definition)
+    return [*(f"{mark} {line}" for line in wrapped(" ".join(comment), width=116)), *lines]
+
+
+def shown_function(function):
+    return contract_lines(*parts_of_contract(function), commented("///", function.comment()))
+
+
+def kit_definitions(file, names):
+    found = parse_module(file, prover.kit() / "rattle" / file)
+    return [found[name] for name in names]
+
+
+def kit_types(file, names):
+    items = {item.name: item for item in source(prover.kit() / "rattle" / file).items if item.kind in ("struct", "trait")}
+    return [type_of(file.partition("/")[0], items[name]) for name in names]
+
+
+def kit_functions(file, names):
+    found = {one.name: one for one in source(prover.kit() / "rattle" / file).functions if one.is_pub}
+    return [found[name] for name in names]
+
+
+def check_words(written):
+    """Ends with a fault if a page uses a word of the kit that its table of words lacks, and that isn't Rust's."""
+    told = {word for words in KIT for word in re.findall(r"[^\W\d][\w?]*", words)}
+    used = {name for names in written.library.values() for name in names if name and "◌" not in name}
+    if missing := used - told - PLAIN:
+        sys.exit("dev/statements/statement: statement_pages.toml has no meaning for: " + ", ".join(sorted(missing)))
+
+
+def signs_page():
+    """The page that explains the signs and the kit's words of the other pages, with a list of these."""
+    return page_text([
+        f"# {SIGNS['title']}", "", *wrapped(SIGNS["said"]), "", *(f"- [{page.title}]({page.name})" for page in PAGES), "",
+        "## Form", "", *wrapped(SIGNS["form"]), "", "## Signs", "", "| Sign | How to read it |", "|---|---|", *rows(LEGEND), "",
+        "## Words of the kit's library", "", "| Word | What it says |", "|---|---|",
+        *rows({f"`{word}`": said for word, said in {**KIT, **KIT_TYPES}.items()})])
+
+
+def rows(table):
+    return [f"| {word} | {said} |" for word, said in table.items()]
+
+
+def head_of(page, table, written):
+    return [f"# {page.title}", "", *wrapped(
+        f"{page.said} To judge the clauses, read them and the definitions below them, on this page {written.lines} lines in "
+        f"{written.definitions} definitions and types. [{SIGNS['title']}]({SIGNS['file']}) explains their form and signs."), "",
+        "| Chapter | New definitions | Their lines | Lines in all |", "|---|---|---|---|", *table,
+        *["", *wrapped(WORDS["implied"]["said"])] * written.has_implied]
+
+
+def anchor(title):
+    return re.sub(r"[^\w -]", "", title).lower().replace(" ", "-")
+
+
+def statement_page(page, written):
+    """A page of chapters."""
+    written.turn_to(page)
+    body, table = [], []
+    for one in page.chapters:
+        definitions, lines = written.definitions, written.lines
+        body += chapter(one, written)
+        counts = f"{written.definitions - definitions} | {written.lines - lines} | {lines_in_all(one)}"
+        table.append(f"| [{one.title}](#{anchor(one.title)}) | {counts} |")
+    check_words(written)
+    return page_text(head_of(page, table, written) + body)
+
+
+def page_text(lines):
+    return "\n".join(lines).rstrip("\n") + "\n"
+
+
+def pages(written):
+    """The text of each page, and how many lines of definitions it has; `written` says afterwards what the pages have."""
+    for page in PAGES:
+        yield page, statement_page(page, written), written.lines
+
+
+def figures(page, lines):
+    """Yields each number of lines that README.md may give for a page, with the pattern of its link: the page's, and that of
+    each chapter. README.md names only some chapters."""
+    link = r"\[(\d+){}\]\(docs/" + re.escape(page.name) + r"{}\)"
+    yield re.compile(link.format(r"\slines", "")), lines
+    for one in page.chapters:
+        yield re.compile(link.format("", "#" + anchor(one.title))), lines_in_all(one)
+
+
+def check():
+    """Ends with a fault if a page that is kept or a number of lines on the front page differs. Returns what the pages have."""
+    readme, written = (TOP / "README.md").read_text(), Written()
+    check_page(SIGNS["file"], signs_page())
+    check_page(WHOLE["file"], whole_promise())
+    for page, text, lines in pages(written):
+        check_page(page.name, text)
+        (whole, lines), *chapters = figures(page, lines)
+        if not whole.search(readme):
+            sys.exit(f"README.md: docs/{page.name} has {lines} lines of definitions")
+        for pattern, wanted in [(whole, lines), *chapters]:
+            for said in pattern.finditer(readme):
+                if int(said[1]) != wanted:
+                    sys.exit(f"README.md: {said[0]} has {wanted} lines of definitions")
+    return written
+
+
+def page_file(name):
+    return TOP / "docs" / name
+
+
+def check_page(name, text):
+    file = page_file(name)
+    if not file.exists() or file.read_text() != text:
+        sys.exit(f"docs/{name} is not what dev/statements/statement --write would write")
+
+
+def write():
+    readme = TOP / "README.md"
+    page_file(SIGNS["file"]).write_text(signs_page())
+    page_file(WHOLE["file"]).write_text(whole_promise())
+    for page, text, lines in pages(Written()):
+        page_file(page.name).write_text(text)
+        for pattern, number in figures(page, lines):
+            readme.write_text(pattern.sub(lambda old: old[0].replace(old[1], str(number), 1), readme.read_text()))
+        print(f"docs/{page.name}: {lines} lines")
+
+
+def of_clauses(said):
+    """Returns the lines of any clauses and of what they rest on, and the numbers of these definitions and of their lines."""
+    speakers, written = [Clause(one) for one in said], Written(PAGES[0])
+    out = fenced("rust", below_crates("//", speakers, lambda one: one.shown())) + definitions_of(speakers, written, BRIEF)
+    library = [f"- `{module}`: " + ", ".join(f"`{name}`" for name in sorted(name for name in names if name))
+               for module, names in sorted(written.library.items())]
+    return [*out, "", "Words of the kit's library:", "", *library], written.definitions, written.lines
+
+
+def print_clauses(said):
+    """Prints any clauses and what they rest on."""
+    lines, definitions, count_of_lines = of_clauses(said)
+    print("\n".join([*lines, f"{definitions} definitions, {count_of_lines} lines"]))
+
+
+def whole_promise():
+    """Returns the text of the page that prints one clause with all that it rests on, with these lines and their numbers."""
+    lines, definitions, count_of_lines = of_clauses([WHOLE["clause"]])
+    head, _, rest = page_file(WHOLE["file"]).read_text().partition("```rust\n")
+    head = re.sub(r"\d+ definitions of \d+ lines", f"{definitions} definitions of {count_of_lines} lines", head)
+    return "\n".join([*head.splitlines(), *lines, "", "## " + rest.partition("\n## ")[2]])
