@@ -76,11 +76,19 @@ def differences(records, others, whole):
         yield from (f"{line}: isn't in tests/expected.txt" for line in sorted(others - expected_others))
 
 
+def gone():
+    """Returns a line for each expected test whose module is gone."""
+    modules = runner.modules()
+    for test in sorted(read()[0]):
+        if not any(test.startswith(f"{module}.") for module in modules):
+            yield f"{test}: is in tests/expected.txt, and its module is gone"
+
+
 def keep(records):
     """Keeps the records of tests for `./test --expected`."""
     RECORDS.mkdir(parents=True, exist_ok=True)
     for record in records:
-        if record["test"].isidentifier() or " " not in record["test"]:
+        if " " not in record["test"]:  # a test, and not what sets up a class
             (RECORDS / f"{record['test']}.json").write_text(json.dumps(record))
 
 

@@ -301,7 +301,7 @@ class Gate:
             self.count(0, 1, "dev/build/verdict same")
         expected.keep(self.records)
         others = None if self.mode == "quick" else self.others
-        for line in expected.differences(self.records, others, self.whole):
+        for line in [*expected.gone(), *expected.differences(self.records, others, self.whole)]:
             self.count(0, 1, line)
         if self.failing:
             self.say("test: these FAILED:\n" + "".join(f"  {line}" for text in self.failing for line in text.splitlines(keepends=True)))
