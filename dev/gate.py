@@ -308,7 +308,7 @@ class Gate:
         used = resource.getrusage(resource.RUSAGE_CHILDREN)
         self.say(f"test: {int(time.monotonic() - self.began) // 60} minutes on the clock, "
                  f"{round((used.ru_utime + used.ru_stime) / 60)} of processor time; "
-                 f"at most {(self.free - self.least) // 1_000_000} GB of memory at once")
+                 f"at most {(self.free - self.least) // 1_000_000_000} GB of memory at once")
         (self.notes / "whole").touch()
         self.say(f"{self.passed} passed, {self.failed} failed" + ("; nothing was proved" if self.mode == "quick" else ""))
         return int(self.failed > 0)
