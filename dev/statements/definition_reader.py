@@ -137,6 +137,7 @@ class ModuleReader:
             self.found[name], self.comment = self.current, []
 
 
+@functools.cache
 def constructors(definition):
     if not re.match(r"(pub )?data ", definition.lines[0]):
         return set()
