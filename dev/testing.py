@@ -10,6 +10,7 @@ Tests are `unittest` test cases in files `test_*.py`. `./test --only PATTERN` ru
 import functools
 import os
 import pathlib
+import re
 import shutil
 import subprocess
 import tempfile
@@ -62,6 +63,26 @@ def program():
     if built.returncode or not built.stdout.strip():
         raise unittest.SkipTest("the unproved program can't be built here; ./try says why")
     return pathlib.Path(built.stdout.strip())
+
+
+def compiled(folder, source, *options):
+    """Compiles a source in C of this repository with gcc into the directory, and returns the path of the program, or with
+    -shared of a library that is loaded before one."""
+    target = folder / pathlib.Path(source).stem
+    subprocess.run(["gcc", "-O2", *options, "-o", target, TOP / source], check=True)
+    return target
+
+
+def launched(subcommand="run", limited=False):
+    """Returns the setting that the launchers make before they start the program with this subcommand, as in ./yarib's own
+    lines: arenas of large pages, which request address space in large pieces if several are filled and it isn't limited."""
+    launcher = (TOP / "yarib").read_text()
+    arenas = {word: (number, asks) for words, number, asks in re.findall(r"([\w*| ]+)\) arenas=(\d+) limits=(.*?) ;;", launcher)
+              for word in words.split(" in ")[-1].replace(" ", "").split("|")}
+    number, asks = arenas.get(subcommand, arenas["*"])
+    pieces = "" if limited or "ulimit" not in asks else re.search(r"^case \$limits in .*?\) pieces=(\S+) ;;", launcher, re.M)[1]
+    setting = re.search(r'^export GLIBC_TUNABLES="(.*?)\$\{', launcher, re.M)[1]
+    return {"GLIBC_TUNABLES": setting.replace("$arenas", number).replace("$pieces", pieces)}
 
 
 def is_unproved():

@@ -170,7 +170,7 @@ class Release:
     def add_sources(self):
         """Adds the bindings for Go and Rust, each with the library and the test vectors, where it and its tests look for them."""
         # It needs the sources of the crates, and ./release --verify has none.
-        from . import table_vectors
+        from dev.models import table_vectors
         vectors = table_vectors.text()
         for language, name in (("go", "go"), ("rust", "cargo")):
             tree = Tree()
@@ -233,8 +233,8 @@ def tools():
     tree = Tree()
     for folder in ("convert", "map"):
         scripts = sorted((TOP / folder).glob("*-to-*"))
-        for path in {*scripts, *(module for script in scripts for module in imported(script)), *(TOP / folder).glob("*.html")}:
-            tree.copy(path, f"share/yarib/{folder}/{path.name}")
+        for path in {*scripts, *(module for script in scripts for module in imported(script)), *(TOP / folder).glob("yarib_map/*.*")}:
+            tree.copy(path, f"share/yarib/{path.relative_to(TOP)}")
         for script in scripts:
             tree.link(f"bin/yarib-{script.name}", f"../share/yarib/{folder}/{script.name}")
             tree.add(f"share/man/man1/yarib-{script.name}.1", manual(script))

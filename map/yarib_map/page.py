@@ -15,8 +15,8 @@ import re
 import sys
 import zlib
 
-import chart
-from reading import ROUTE_TEXT, Refused
+from . import chart
+from .reading import ROUTE_TEXT, Refused
 
 NAME = os.path.basename(sys.argv[0])
 TEMPLATE = pathlib.Path(__file__).resolve().parent / "page.html"

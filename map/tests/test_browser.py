@@ -1,18 +1,21 @@
-"""Checks that a browser that opens a page draws and shows what `yarib lookup` answers. A script that is added at the
-end of a copy of the page checks it, and writes what it finds into the page."""
+"""Tests that a browser that opens a page draws and shows what `yarib lookup` answers. A script that is added at the end of a
+copy of the page looks at it, and writes what it finds into the page."""
 import bisect
 import html
 import itertools
 import json
 import random
 import re
-import subprocess
+import shutil
+import unittest
 
-import chart
-from readback import END, Failed, Page, expect, row, run, text_of
-from test_answers import DENSE, cases, check_comparison, check_table
-from test_colours import schemes
+from map.tests.answers import COMPARISONS, DENSE, TABLES, AnswerCase, files_of
+from map.tests.pages import END, row, text_of
+from map.tests.test_colours import schemes_of
 
+NEEDS = {"program"}
+BROWSERS = ("chromium", "chromium-browser", "google-chrome")
+BROWSER = next(filter(None, map(shutil.which, BROWSERS)), None)
 # the number of cells that are checked in each view
 CELLS_ASKED = 150
 MOST_NAMED = 12
@@ -89,7 +92,7 @@ begun.then(async () => {
 });
 </script>
 """
-STEPS_OF = b"""10.0.0.0-10.0.255.255 via 192.0.2.1 -> via 192.0.2.2
+STEPS_OF = """10.0.0.0-10.0.255.255 via 192.0.2.1 -> via 192.0.2.2
 10.2.0.0-10.8.255.255 no route -> via 192.0.2.2
 10.10.0.0-10.255.255.255 via 192.0.2.1 -> no route
 """
@@ -123,8 +126,6 @@ STEPS = [
     ("alone(1)", "#nowhere", "", 2),
     ("by(2)", "#nowhere", "", 3),
 ]
-
-
 # Steps on the same page that lead only to ranges of the legend's only shown line, and the counts of the view.
 FILTER_STEPS = [
     ("0", "", "", 4, "10.0.0.0/8", "131,072 65,536 458,752 16,121,856"),
@@ -158,11 +159,11 @@ HOMES = [
 ]
 
 
-def views(page, said):
+def views(page, expected):
     """Yields the views to be compared, with some of their dots: those where an answer begins or ends, the last, and random
     ones."""
     draw = random.Random(61)
-    begins = [address for address in said if page.firsts[page.range_of(address)] == address]
+    begins = [address for address in expected if page.firsts[page.range_of(address)] == address]
     bases = {(0, 0)} | {(draw.choice(begins) >> 32 - length << 32 - length, length) for length in (8, 16) for _ in range(3)}
     for base, length in sorted(bases):
         order = min(page.about["order"], (32 - length) // 2)
@@ -179,20 +180,20 @@ def views(page, said):
         yield {"base": base, "length": length, "size": size, "side": side, "dots": sorted(dots), "places": places}
 
 
-class Said:
-    """The answers of all addresses: for each of these addresses the answer and the colours, which hold up to the
+class Ranges:
+    """The expected answers of all addresses: for each of these addresses the answer and the colours, which hold up to the
     next."""
 
-    def __init__(self, said):
-        self.addresses = sorted(said)
-        self.said = [said[address] for address in self.addresses]
+    def __init__(self, expected):
+        self.addresses = sorted(expected)
+        self.expected = [expected[address] for address in self.addresses]
 
     def parts(self, first, last):
-        """The ranges within these addresses with a single text, each with that text."""
+        """Yields the ranges within these addresses with a single text, each with that text."""
         at = bisect.bisect(self.addresses, first) - 1
         while first <= last:
             behind = self.addresses[at + 1] if at + 1 < len(self.addresses) else END
-            yield first, min(behind - 1, last), self.said[at]
+            yield first, min(behind - 1, last), self.expected[at]
             first, at = behind, at + 1
 
 
@@ -207,13 +208,13 @@ def mixed(scheme, colour, share, is_table):
     return "#" + "".join(f"{int(ground + (own - ground) * strength + 0.5):02x}" for ground, own in parts)
 
 
-def expected_colours(scheme, colouring, said, first, last, is_table):
+def expected_colours(scheme, colouring, ranges, first, last, is_table):
     """Returns the commonest colour of addresses but for the ground's, or the first in the legend of several such
     colours. Then the colour if only the legend's last line is shown: that one, if any address has it."""
     legend = colouring["legend"]
     texts = {text: number for number, (text, *_) in enumerate(legend)}
     counts = [0] * (len(texts) + 1)
-    for begin, end, (_, colours) in said.parts(first, last):
+    for begin, end, (_, colours) in ranges.parts(first, last):
         counts[texts.get(colours[colouring["name"]], len(texts) - 1)] += end + 1 - begin
     most = max(range(1, len(counts)), key=lambda number: counts[number])
     alone, size = len(legend) - 1, last + 1 - first
@@ -222,11 +223,11 @@ def expected_colours(scheme, colouring, said, first, last, is_table):
             for number, share in zip((most, alone), shares)]
 
 
-def expected_words(said, first, size, length):
-    """The name of a cell, and the answers that are shown of it."""
+def expected_words(ranges, first, size, length):
+    """Returns the name of a cell, and the answers that are shown of it."""
     last, lines = first + size - 1, []
     # neighbours with the same text are a single range of a comparison, and of a table if a single route is the answer
-    for answer, found in itertools.groupby(said.parts(first, last), key=lambda part: part[2][0]):
+    for answer, found in itertools.groupby(ranges.parts(first, last), key=lambda part: part[2][0]):
         found = list(found)
         lines.append((f"{text_of(found[0][0])}-{text_of(found[-1][1])} " if size > 1 else "") + answer)
     more = len(lines) - MOST_NAMED
@@ -235,65 +236,80 @@ def expected_words(said, first, size, length):
     return [f"{text_of(first)}/{length}" if size > 1 else text_of(first), lines]
 
 
-def found_by(browser, made, page, script, dark):
-    """The results of a script at the end of the page."""
-    file = made / "asked.html"
-    file.write_text(page.text.replace("</body>", script + "</body>"))
-    scheme = f"--blink-settings=preferredColorScheme={0 if dark else 1}"
-    command = [browser, "--headless", "--no-sandbox", "--disable-gpu", scheme,
-               "--virtual-time-budget=60000", "--window-size=1600,1200", "--dump-dom", file.as_uri()]
-    shown = subprocess.run(command, capture_output=True, text=True, timeout=300).stdout
-    found = re.search(r'<pre id="found">(.*?)</pre>', shown, re.S)
-    if not found or not found[1]:
-        raise Failed(f"{browser} shows no answer: {shown[-500:]}")
-    return json.loads(html.unescape(found[1]))
+@unittest.skipUnless(BROWSER, f"none of {', '.join(BROWSERS)} on PATH")
+class Browser(AnswerCase):
+    """What a browser draws of pages and shows on them."""
 
+    def found_by_browser(self, page, script, is_dark=False):
+        """Returns the results of a script at the end of the page."""
+        self.write({"page.html": page.text.replace("</body>", script + "</body>")})
+        scheme = f"--blink-settings=preferredColorScheme={0 if is_dark else 1}"
+        ended = self.call(BROWSER, "--headless", "--no-sandbox", "--disable-gpu", scheme, "--virtual-time-budget=60000",
+                          "--window-size=1600,1200", "--dump-dom", (self.folder / "page.html").as_uri(), timeout=300)
+        found = re.search(r'<pre id="found">(.*?)</pre>', ended.stdout, re.S)
+        self.assertTrue(found and found[1], f"{BROWSER} shows no answer: {ended.stdout[-500:]} {ended.stderr[-500:]}")
+        return json.loads(html.unescape(found[1]))
 
-def check_steps(browser, made, page, steps):
-    """Buttons, keys and queries lead to the right view."""
-    script = ", ".join(f"() => {{ {step}; }}" for step, *_ in steps)
-    done = found_by(browser, made, page, DOING.replace("STEPS", f"[{script}]"), False)
-    for (step, *wanted), found in zip(steps, done, strict=True):
-        expect(f"what is found after {step}", found[: len(wanted)], wanted)
+    def assert_steps(self, steps):
+        """Fails unless buttons, keys and queries lead to the right view."""
+        functions = ", ".join(f"() => {{ {step}; }}" for step, *_ in steps)
+        page = self.page_of("diff-to-map", STEPS_OF)
+        done = self.found_by_browser(page, DOING.replace("STEPS", f"[{functions}]"))
+        for number, ((step, *wanted), found) in enumerate(zip(steps, done, strict=True), 1):
+            with self.subTest(f"step {number}: {step}"):
+                self.assertEqual(found[: len(wanted)], wanted)
 
+    def test_steps(self):
+        self.assert_steps(STEPS)
 
-def check_homes(browser, made):
-    """A page opens where the routes are."""
-    for prefixes, view in HOMES:
-        table = "".join(row(prefix) for prefix in prefixes.split())
-        page = Page(run("table-to-map", data=table.encode())[1])
-        (*_, found, _), = found_by(browser, made, page, DOING.replace("STEPS", "[() => {}]"), False)
-        expect(f"where the page of {prefixes} opens", found, view)
+    def test_steps_within_a_line_of_the_legend(self):
+        self.assert_steps(FILTER_STEPS)
 
+    def test_homes(self):
+        """A page opens where the routes are."""
+        for prefixes, view in HOMES:
+            with self.subTest(prefixes or "no route"):
+                table = "".join(map(row, prefixes.split()))
+                page = self.page_of_output("table-to-map", table)
+                (*_, found, _), = self.found_by_browser(page, DOING.replace("STEPS", "[() => {}]"))
+                self.assertEqual(found, view)
 
-def check_shown(browser, made, page, said, dark):
-    asking, said = list(views(page, said)), Said(said)
-    scheme = schemes(page)[dark]
-    script = ASKING.replace("ASKED", json.dumps(asking))
-    for view, found in zip(asking, found_by(browser, made, page, script, dark), strict=True):
+    def assert_shown(self, page, _, expected, is_dark):
+        """Fails unless the browser draws and shows what is expected of each address."""
+        asking, ranges = list(views(page, expected)), Ranges(expected)
+        scheme = schemes_of(page)[is_dark]
+        script = ASKING.replace("ASKED", json.dumps(asking))
+        for view, found in zip(asking, self.found_by_browser(page, script, is_dark), strict=True):
+            with self.subTest(f"the view of {text_of(view['base'])}/{view['length']}"):
+                self.assert_view(page, scheme, ranges, view, found)
+                self.assertEqual(found["hash"], f"#{found['pointed'][-1][-1]}")
+
+    def assert_view(self, page, scheme, ranges, view, found):
+        """Fails unless the dots of a view have their colours, and their cells their words and the target of a click."""
         base, length, size = view["base"], view["length"], view["size"]
-        cell = 1 << 16 - length
+        cell, is_table = 1 << 16 - length, page.about["kind"] == "table"
         for number, dot in enumerate(view["dots"]):
             first = base + dot * size
-            where = f"dot {dot} of {text_of(base)}/{length}"
             for colouring, colours in zip(page.about["colourings"], found["colours"], strict=True):
-                expect(f"the colours of {where} by {colouring['name']}", [shown[number] for shown in colours],
-                       expected_colours(scheme, colouring, said, first, first + size - 1, page.about["kind"] == "table"))
+                self.assertEqual([shown[number] for shown in colours],
+                                 expected_colours(scheme, colouring, ranges, first, first + size - 1, is_table),
+                                 f"dot {dot} by {colouring['name']}")
             begin = first - first % cell
-            goes = text_of(begin) + (f"/{length + 16}" if length < 16 else "")
-            expect(f"what is said of {where}, and where a click goes", found["pointed"][number],
-                   [*expected_words(said, begin, cell, length + 16), goes])
-        expect("where the page goes", found["hash"], f"#{found['pointed'][-1][-1]}")
+            target = text_of(begin) + (f"/{length + 16}" if length < 16 else "")
+            self.assertEqual(found["pointed"][number], [*expected_words(ranges, begin, cell, length + 16), target], f"dot {dot}")
 
 
-def check(program, made, browser):
-    tables, comparisons = cases(made)
-    changes = Page(run("diff-to-map", data=STEPS_OF)[1])
-    check_steps(browser, made, changes, STEPS)
-    check_steps(browser, made, changes, FILTER_STEPS)
-    check_homes(browser, made)
-    for dark in (False, True):
-        for files in (tables[0], tables[-1]):
-            check_shown(browser, made, *check_table(program, made, files), dark)
-        for by, (old, new) in itertools.product(("hop", "route"), (comparisons[0], comparisons[-1])):
-            check_shown(browser, made, *check_comparison(program, made, old, new, by), dark)
+def table_test(names, is_dark):
+    return lambda self: self.assert_shown(*self.table(files_of(names)), is_dark)
+
+
+def comparison_test(old, new, by, is_dark):
+    return lambda self: self.assert_shown(*self.comparison(files_of(old), files_of(new), by), is_dark)
+
+
+for is_dark, scheme in enumerate(("light", "dark")):
+    for name in ("three files", "random routes"):
+        setattr(Browser, f"test_table_of_{name.replace(' ', '_')}_{scheme}", table_test(TABLES[name], bool(is_dark)))
+    for by, name in itertools.product(("hop", "route"), ("a file more", "random routes")):
+        setattr(Browser, f"test_comparison_of_{name.replace(' ', '_')}_by_{by}_{scheme}",
+                comparison_test(*COMPARISONS[name], by, bool(is_dark)))

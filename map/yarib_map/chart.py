@@ -4,7 +4,7 @@ import functools
 import itertools
 import operator
 
-from reading import DISCARD, END, NO_FEED, NO_LENGTH, NO_ROUTE, SAME_FEED, SAME_LENGTH, UNCHANGED
+from .reading import DISCARD, END, NO_FEED, NO_LENGTH, NO_ROUTE, SAME_FEED, SAME_LENGTH, UNCHANGED
 
 # The curve of Hilbert (1891) goes through the four quarters of a square, and through each in the same way, turned. For
 # each way: the quarters in order, by column and row, and the way through each. The first way begins at the top left and
@@ -17,7 +17,7 @@ WAYS = (
 )
 # The colours of each scheme. Kinds of things (`kind`) have hues near those of Okabe and Ito (2008), lengths (`length`)
 # go from one end of the lightness to the other. `ground` is where nothing is to be shown, `rest` what has no colour of
-# its own, `ink` what is written with, and the colour of `discard`. map/test says what is tested of them.
+# its own, `ink` what is written with, and the colour of `discard`. map/tests/test_colours.py says what is tested of them.
 SCHEMES = {
     "light": {
         "page": "#ffffff", "ground": "#ececec", "ink": "#000000", "quiet": "#595959", "rest": "#7c7c7c",
