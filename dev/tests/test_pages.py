@@ -202,6 +202,16 @@ class Sources(Rules):
                          for word in sorted({name, *re.findall(r"^ +(?:-\w, )?(--[\w-]+)", text, re.M)})
                          for page in pages if not re.search(rf"(?<![\w-]){word}(?![\w-])", texts[page]))
 
+    def test_command_for_a_field_finds_every_place(self):
+        """The command of CONTRIBUTING.md names each file in which a route's fields follow one another."""
+        pattern = re.search(r"git grep -lwiE '(.*)' --", (TOP / "CONTRIBUTING.md").read_text())[1]
+        texts = {file: file.read_text(errors="replace") for file in files_of_repository() if file.is_file()
+                 and file.suffix in (".c", ".go", ".in", ".py", ".rs", ".rt") and not file.is_relative_to(TOP / "convert/samples")}
+        routes = {file: text for file, text in texts.items() if re.search(r"\d/\d+ \d+ \d+\.\d+\.", text)}
+        self.assertGreater(len(routes), 20)
+        self.assert_none(f"{name_of(file)} has a route, and the command doesn't name it" for file, text in routes.items()
+                         if not re.search(rf"\b(?:{pattern})\b", text, re.I))
+
     def test_trust_has_each_unsafe_line(self):
         page = (TOP / "docs/TRUST.md").read_text()
         self.assert_none(f"{name_of(file)}: `{line}` isn't in docs/TRUST.md" for file in sorted(CRATES.glob("*/src/**/*.rt"))
