@@ -87,7 +87,7 @@ class Copy:
                 path = self.top / "crates" / crate / file
                 path.parent.mkdir(parents=True)
                 path.write_text("//\n")
-        common = ["dev/__init__.py", "dev/build/__init__.py", "dev/build/built.py", "dev/build/building.py", *(f"dev/{name}.py" for name in ("crates", "prover", "versions"))]
+        common = ["dev/__init__.py", "dev/build/__init__.py", "dev/build/built.py", "dev/build/building.py", "dev/build/machine.py", *(f"dev/{name}.py" for name in ("crates", "prover", "versions"))]
         for name in ("yarib", "VERSION", "crates.txt", "dev/build/build", *common, "bindings/build",
                      "bindings/c/yarib.map", "bindings/c/yarib.h", "bindings/c/layer.h",
                      "bindings/c/places.c", "bindings/c/handles.c", "bindings/c/readers.c", "bindings/c/copies.c", "bindings/c/files.c", "bindings/c/about.c",

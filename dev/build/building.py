@@ -15,6 +15,7 @@ import tempfile
 import time
 
 from dev.build.built import LOGIC, PARTS, STATE, discard, is_read, is_whole, own, product, put, sources_sum
+from dev.build.machine import provers
 from dev.crates import CRATES, below, is_program, is_static, needs
 from dev.prover import kit, linking_words, words_for
 
@@ -110,10 +111,8 @@ class Copy:
 # -- the prover's calls
 
 
-def lanes():
-    """Returns the number of concurrent provers: one per processor, with 4 GB of memory each."""
-    memory = os.sysconf("SC_PAGE_SIZE") * os.sysconf("SC_PHYS_PAGES")
-    return max(1, min(len(os.sched_getaffinity(0)), memory // 4_000_000_000))
+# The number of concurrent provers, as the machine was when the build began.
+lanes = functools.cache(provers)
 
 
 def commands(copy, crate, jobs, niceness):
