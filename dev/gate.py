@@ -50,7 +50,7 @@ class Gate:
         self.changed = threading.Condition()
         self.environment = {name: value for name, value in os.environ.items()
                             if not name.startswith("YARIB_") and name not in ("CFLAGS", "PYTHONPATH", "LANGUAGE")}
-        self.environment |= {"LC_ALL": "C", "RT_JOBS": os.environ.get("RT_JOBS", str(provers()))}
+        self.environment = self.environment | {"LC_ALL": "C", "RT_JOBS": os.environ.get("RT_JOBS", str(provers()))}
 
     def say(self, text):
         print(text, flush=True)
@@ -67,6 +67,7 @@ class Gate:
     def start(self, command, output, nice=0, **settings):
         """Starts a command in a process group of its own, with its output in a file of the notes."""
         command = [*(["nice", "-n", str(nice)] if nice else []), *map(str, command)]
+        # The environment is replaced, and never changed, since other threads read it.
         with open(self.notes / output, "wb") as file:
             process = subprocess.Popen(command, cwd=TOP, env=self.environment, stdin=subprocess.DEVNULL, stdout=file,
                                        stderr=subprocess.STDOUT, start_new_session=True, **settings)
@@ -217,12 +218,12 @@ class Gate:
             return False
         archive = self.notes / "libyarib_c.a"
         shutil.copyfile(CRATES / "yarib_c/out/libyarib_c.a", archive)
-        self.environment["YARIB_ARCHIVE"] = str(archive)
+        self.environment = self.environment | {"YARIB_ARCHIVE": str(archive)}
         status, _ = self.end(self.start([TOP / "bindings/build", self.notes / "library"], "output.library"))
         if status:
             self.count(0, 1, "bindings/build", (self.notes / "output.library").read_text(errors="replace"))
             return False
-        self.environment["YARIB_LIBRARY"] = str(self.notes / "library")
+        self.environment = self.environment | {"YARIB_LIBRARY": str(self.notes / "library")}
         return True
 
     def has(self, built):
@@ -275,7 +276,7 @@ class Gate:
         library.start()
         self.prove()
         shutil.copy(CRATES / "rt_app/out/rt_app", self.notes / "rt_app")
-        self.environment["YARIB_PROGRAM"] = str(self.notes / "rt_app")
+        self.environment = self.environment | {"YARIB_PROGRAM": str(self.notes / "rt_app")}
         self.has_proved = True
         self.has("program")
         definitions = self.start([TOP / "dev/mutants/definitions", "--gate", *anew], "definitions", 10)
@@ -296,7 +297,7 @@ class Gate:
             self.say("test: the unproved program was not built; ./try says why")
             raise Stopped(1)
         shutil.copy(program, self.notes / "yarib")
-        self.environment |= {"YARIB_PROGRAM": str(self.notes / "yarib"), "YARIB_UNPROVED": "1"}
+        self.environment = self.environment | {"YARIB_PROGRAM": str(self.notes / "yarib"), "YARIB_UNPROVED": "1"}
         self.has_proved = True
         self.has("program")
         left_out = [module for module in runner.modules() if runner.about(module)[1] or "library" in runner.about(module)[0]]
