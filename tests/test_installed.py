@@ -7,9 +7,9 @@ import shutil
 import subprocess
 import unittest
 
-from dev.checks import library_stub
 from dev.crates import TOP
 from dev.testing import TestCase, call, environment, is_unproved, launched, needs_command, program
+from dev.tests.stub_toolchain import library_stub
 from dev.versions import VERSION, build_line
 from tests.copies import CopyCase, build, built_in, files_below, first_on_path, write_script
 from tests.texts import ROW, ROW_OUT
