@@ -242,6 +242,8 @@ E1 = "E1: the first field is no command of this version"
 E3 = "E3: the field is no prefix or address"
 # What follows the message of a fault whose field ends with a carriage return.
 HAS_CR = " (the CR of CRLF is part of it)"
+# What follows the message of a fault whose field has `::`.
+IPV6 = " (IPv6 isn't supported)"
 E8 = "E8: the line has over 128 bytes"
 NOT_TAKEN = {
     "full": "adds over the limit", "exists": "duplicate adds",

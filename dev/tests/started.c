@@ -1,4 +1,4 @@
-/* The program that tests/launcher.py has ./yarib build: it writes how it was started, and ends with the status STARTED_STATUS.
+/* The program that tests of the launcher have ./yarib build: it writes how it was started, and ends with the status STARTED_STATUS.
    Each of these ends with a NUL: how many words there are, the words, its folder, GLIBC_TUNABLES, and all of standard input. */
 #include <stdio.h>
 #include <stdlib.h>
